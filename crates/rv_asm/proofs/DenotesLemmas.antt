@@ -1,4 +1,4 @@
--- The words of a text are those that it denotes, and no others.
+-- The words of a text are the words that it denotes, and it denotes no others.
 use Rattle.std.proofs.Common.{◌≡◌, ◌∙◌, sym, ap, ap₂, refl, ℕ, ◌+◌, Bool, true, false, if◌then◌else◌, List, [], ◌∷◌, ◌++◌, length, take, drop}
 use Rattle.std.proofs.Common.{Option, Some, None, is_some, Result, Ok, Err, append_assoc, append-nil, length-append, take-append-drop, drop-drop}
 use Rattle.std.proofs.Common.{drop_at, drop_of_length-le, arith}
@@ -38,7 +38,7 @@ no_fault_in fault before (line ∷ prefix) after none =
     let others = no_fault_in fault (before ++ line ∷ []) prefix after first.1 in
     (rw first.0 others.0, rw (← append_assoc before (line ∷ []) prefix) others.1)
 
--- before a line, and at it
+-- no line before a line has an error, nor does the line itself
 no_fault_at : (fault : List Reading → Reading → Option AsmFaultKind) (all before after : List Reading) (line : Reading)
     → all ≡ before ++ line ∷ after → first_line_fault fault [] all ≡ None → (first_line_fault fault [] before ≡ None) × (fault before line ≡ None)
 no_fault_at fault all before after line split none =
@@ -78,9 +78,9 @@ stands labels all before after line split none =
     ok ∙ ap Ok (sym part) ∙ ap (λ ws. Ok (take (line_size line) (drop (words_in before) ws)))
     (sym (ap (words_from labels []) split ∙ words_from-append labels [] before (line ∷ after)))
 
--- ---- the places of labels
+-- ---- the addresses of labels
 
--- a line's label stands before it or at it
+-- the label of a line was defined before the line, or is defined at it
 labelled : (all before after : List Reading) (line : Line) (name : List ℕ) → all ≡ before ++ Ok line ∷ after → line.label ≡ Some name
     → place_in all name ≡ option_case (place_in before name) (Some (words_in before)) Some
 labelled all before after line name split is =
@@ -92,7 +92,7 @@ once before line name is none = none_from_is_some (place_in before name) (untold
   untold true is = cc
   untold false is = refl
 
--- the line at which a label is found
+-- the line that defines a label
 abbrev FoundIn : List Reading → List ℕ → ℕ → Type 0
 FoundIn all name place =
     (before : List Reading) × (line : Line) × ((after : List Reading) × (all ≡ before ++ Ok line ∷ after)) × (line.label ≡ Some name)
@@ -119,7 +119,7 @@ found all before (line ∷ lines) name place split is =
     found_either (has_label name line) (words_in before) place (place_from (before ++ line ∷ []) lines name) (found_here all before lines line name place split)
     (found all (before ++ line ∷ []) lines name place (split ∙ sym (append_assoc before (line ∷ []) lines))) is
 
--- ---- the words are those that the text denotes
+-- ---- the assembled words are words that the text denotes
 
 none_before : {F : Type 0} (o p : Option F) → option_case o p Some ≡ None → (o ≡ None) × (p ≡ None)
 none_before None p is = (refl, is)
@@ -157,7 +157,7 @@ denotes_assembled text words is =
     let made = words_if (fault_in (readings text)) (words_of_lines (readings text)) words is in
     rw (← made.1) (denotes_words_of text made.0)
 
--- ---- and no others
+-- ---- the text denotes no other words
 
 agree : (o p : Option ℕ) → ((n : ℕ) → p ≡ Some n → o ≡ Some n) → ((n : ℕ) → o ≡ Some n → is_some p ≡ true) → o ≡ p
 agree o (Some n) is some = is n refl

@@ -1,4 +1,4 @@
--- What is found among rows that are lent is what is found in the table.
+-- A lookup among borrowed rows finds what a lookup in the table finds.
 use Rattle.std.proofs.Common.{◌≡◌, ◌∙◌, ℕ, Bool, true, false, cond, List, [], ◌∷◌, map, Option, Some, None, Bor, refl, ap}
 use Rattle.std.specs.Option.{option_map}
 use Rattle.std.specs.List.{find}
@@ -14,7 +14,7 @@ found_in_map : {A B : Type 0} (f : A → B) (test : B → Bool) (xs : List A) �
 found_in_map f test [] = refl
 found_in_map f test (x ∷ xs) = mapped_if f (test (f x)) x (find (λ x. test (f x)) xs) (find test (map f xs)) (found_in_map f test xs)
 
--- a row as the table has it
+-- a borrowed row, as the table has it
 abbrev pub row_of : {A : Type 0} → Bor (List ℕ) × A → List ℕ × A
 row_of row = (row.0.now, row.1)
 

@@ -1,4 +1,4 @@
--- The map of labels after one more, and the places of labels among one more line.
+-- Lemmas about the map of labels after one more name, and the addresses of labels after one more line.
 use Rattle.std.proofs.Common.{◌≡◌, ◌∙◌, sym, ap, refl, ℕ, ◌+◌, Bool, true, false, cond, List, [], ◌∷◌, ◌++◌, length, Option, Some, None, is_some}
 use Rattle.std.proofs.Common.{option_map, append_assoc, append-nil, length-append, arith, ◌≤◌, nat_lt, Ok, if◌then◌else◌}
 use Rattle.std.specs.Str.{bytes_eq}
@@ -28,7 +28,7 @@ added : (b : Bool) (old : Option ℕ) (words : ℕ) → (b ≡ true → old ≡ 
 added true old words none = rw (none refl) refl
 added false old words none = sym (option_case-some old)
 
--- a name that the map did not have
+-- adding a name that the map does not have changes only the value of that name
 pub adds_new : (places : List ℕ → Option ℕ) (name other : List ℕ) (words : ℕ) → is_some (places name) ≡ false
     → cond (bytes_eq name other) (Some words) (places other) ≡ option_case (places other) (cond (bytes_eq name other) (Some words) None) Some
 adds_new places name other words absent =
@@ -48,11 +48,11 @@ place_from-append before (line ∷ prefix) after name =
     let others = place_from-append (before ++ line ∷ []) prefix after name in
     rw (others, append_assoc before (line ∷ []) prefix) (some_stays (has_label name line) (words_in before) (place_from (before ++ line ∷ []) prefix name) _)
 
--- a fault of the line after so many
+-- an error of the line after `count` lines
 abbrev pub fault_after : ℕ → AsmFaultKind → AsmFault
 fault_after count kind = record { line = count + 1; kind = kind }
 
--- the first fault of lines by the first of them: it has none, or one
+-- if the first line has no error, the first error is that of the other lines
 pub fault_later : (fault : List Reading → Reading → Option AsmFaultKind) (before lines : List Reading) (line : Reading) → fault before line ≡ None
     → first_line_fault fault before (line ∷ lines) ≡ first_line_fault fault (before ++ line ∷ []) lines
 fault_later fault before lines line sound = rw sound refl
@@ -118,7 +118,7 @@ pub own_fault-none : (before : List Reading) (line : Line) (words : ℕ) → wor
 own_fault-none before line words is few =
     let fits : nat_lt 65536 (words_in before + line_size (Ok line)) ≡ false = grind (arith, nat_tests) in rw fits refl
 
--- a line whose label has not stood before
+-- a line whose label is not in the map does not repeat a label
 not_repeated : (pass : FirstPass) (before : List Reading) (label : Option (List ℕ)) → HasRead pass before
     → option_case label false (λ name. is_some (places_of pass.labels name)) ≡ false → repeated_name before label ≡ None
 not_repeated pass before None has absent = refl

@@ -1,4 +1,4 @@
--- The first pass, line after line.
+-- Lemmas about the first pass, line by line.
 use Rattle.std.proofs.Common.{◌≡◌, ◌∙◌, refl, sym, ap, ℕ, ◌+◌, ◌≤◌, List, [], ◌∷◌, ◌++◌, length, length-append}
 use Rattle.std.proofs.Common.{None, append_assoc, map, arith}
 use Rattle.rv_asm.specs.LineReading.{line_read}
@@ -8,7 +8,7 @@ use Rattle.rv_asm.specs.Program.{Reading, readings, own_fault, first_line_fault}
 use Rattle.rv_asm.specs.declared.first_pass.FirstPass.{FirstPass}
 use Rattle.rv_asm.proofs.LabelLemmas.{fault_later, first_fault-push}
 
--- Lines were read, none of them faulty by itself, and the rest is still to be read.
+-- Some lines were read, and none has an error of its own. The remaining text has the other lines.
 pub record HasReadUpTo (pass : FirstPass) (text rest : List ℕ) : Type 0 where
   pub before : List Reading
   pub read : HasRead pass before

@@ -18,7 +18,7 @@ use Rattle.rv_asm.proofs.LabelLemmas.{fault_after}
 pub length-readings : (text : List ℕ) → length (readings text) ≡ length (lines_of text)
 length-readings text = length-map (lines_of text) line_read
 
--- the line of a fault is one of the lines
+-- the line of an error is one of the lines
 abbrev IsWithin : ℕ → ℕ → AsmFault → Type 0
 IsWithin before count fault = (before + 1 ≤ fault.line) × (fault.line ≤ before + count)
 
@@ -42,12 +42,12 @@ fault_line fault before (line ∷ lines) found is =
     (first_line_fault fault (before ++ line ∷ []) lines) found (length-append before (line ∷ [])) (fault_line fault (before ++ line ∷ []) lines found) is in
     (bounds.0, omega (arith, bounds.1))
 
--- a fault of its own
+-- the result if a line has an error of its own
 pub own_decides : (text : List ℕ) (fault : AsmFault) → first_line_fault own_fault [] (readings text) ≡ Some fault → assembled text ≡ Err fault
 unfolding assembled
 own_decides text fault is = rw is refl
 
--- a label that stood before
+-- the result if a label is repeated
 pub twice_decides : (text : List ℕ) (pass : FirstPass) (line : ℕ) → HasRead pass (readings text) → first_line_fault own_fault [] (readings text) ≡ None
     → pass.repeated ≡ Some line → assembled text ≡ Err (label_twice line)
 unfolding assembled
@@ -61,7 +61,7 @@ twice_line text pass line has is =
     let bounds = fault_line label_fault [] (readings text) (label_twice line) (has.repeated ∙ ap (option_map label_twice) is) in
     (omega (arith, bounds.0), omega (arith, bounds.1, length-readings text))
 
--- a name, or the words
+-- the result if no label is repeated: the error of a name, or the words
 not_twice : (text : List ℕ) (pass : FirstPass) → HasRead pass (readings text) → pass.repeated ≡ None → first_line_fault label_fault [] (readings text) ≡ None
 not_twice text pass has is = has.repeated ∙ ap (option_map label_twice) is
 
@@ -92,13 +92,13 @@ pub words_decide_if : {Z : Type 0} (text : List ℕ) (pass : FirstPass) (r : Res
 words_decide_if text pass (Ok words) has none once found = words_decide text pass words.items has none once found.1 found.0
 words_decide_if text pass (Err fault) has none once found = tt
 
--- the first pass fails for an error of a line's own, or for memory
+-- the first pass fails because a line has an error of its own, or because memory is exhausted
 pub own_fails : (text : List ℕ) (fault : AsmFault) → (first_line_fault own_fault [] (readings text) ≡ Some fault) ⊎ OutOfMemoryForLabel (readings text) fault
     → FailsFor text fault
 own_fails text fault (inl own) = inl (own_decides text fault own)
 own_fails text fault (inr out_of_memory) = inr (inl out_of_memory)
 
--- the second for a name, or for memory
+-- the second pass fails because of a name, or because memory is exhausted
 pub name_fails_if : {A : Type 0} (text : List ℕ) (pass : FirstPass) (r : Result A AsmFault) → HasRead pass (readings text)
     → first_line_fault own_fault [] (readings text) ≡ None → pass.repeated ≡ None
     → IfErr r (λ fault. (first_line_fault (name_fault (places_of pass.labels)) [] (readings text) ≡ Some fault)

@@ -1,5 +1,5 @@
--- The pieces of a line that the disassembler writes: no byte of one is a blank, a comma, the start of a comment, the end of
--- a label or a line's end.
+-- Lemmas about the pieces of a line that the disassembler writes. No byte of a piece is a blank, a comma, the start of a comment, the end of a
+-- label or the end of a line.
 use Rattle.std.proofs.Common.{◌≡◌, ℕ, zero, suc, ◌<◌, ◌≤◌, Bool, true, false, List, [], ◌∷◌, ◌++◌, length, reverse, map, All, refl, ap, ◌∙◌, arith, append-nil}
 use Rattle.std.specs.Prelude.{◌==◌, ◌&&◌, ◌||◌, not, slice_index_or, nat_lt, nat_le, codes, if◌then◌else◌}
 use Rattle.std.specs.List.{list_all, flat_map, slice_split}
@@ -13,7 +13,7 @@ use Rattle.std.proofs.lemmas.List.Sums.{AllPass-from_list_all}
 use Rattle.rv_text.specs.GoodLines.{is_blank}
 use Rattle.rv_asm.specs.Cuts.{after_blanks, before_blanks, trimmed, comma_fields, operands_in}
 
--- a letter of lower case, a digit, a parenthesis, `-` or `.`, or one of `*`, `+` and `/`
+-- a lower-case letter, a digit, a parenthesis, or one of `*`, `+`, `-`, `.` and `/`
 abbrev pub is_plain : ℕ → Bool
 is_plain b = nat_le 40 b && nat_le b 57 && not (b == 44) || nat_le 97 b && nat_le b 122
 
@@ -33,7 +33,7 @@ abbrev pub ArePieces : List (List ℕ) → Type 0
 ArePieces [] = Unit {0}
 ArePieces (text ∷ texts) = IsPiece text × ArePieces texts
 
--- ---- what a plain byte is not
+-- ---- bytes that are not plain
 
 pub is_plain-comma : (b : ℕ) → is_plain b ≡ true → (b == 44) ≡ false
 is_plain-comma b plain = grind (arith, nat_tests)
@@ -41,7 +41,7 @@ is_plain-comma b plain = grind (arith, nat_tests)
 pub is_plain-blank : (b : ℕ) → is_plain b ≡ true → is_blank b ≡ false
 is_plain-blank b plain = grind (arith, nat_tests)
 
--- no byte of a text passes what no plain byte passes
+-- a condition that no plain byte meets is met by no byte of a plain text
 pub out_of_memory : (q : ℕ → Bool) (text : List ℕ) → ((b : ℕ) → is_plain b ≡ true → q b ≡ false) → list_all is_plain text ≡ true → All (λ b. q b ≡ false) text
 out_of_memory q text other plain = λ k d below. other _ (AllPass-from_list_all is_plain text plain k d below)
 
@@ -71,7 +71,7 @@ trimmed-padded : (text : List ℕ) → list_all is_plain text ≡ true → trimm
 unfolding trimmed
 trimmed-padded text plain = ap before_blanks (after_blanks-plain text plain) ∙ before_blanks-plain text plain
 
--- a text that ends in a byte that is no blank has one left
+-- a text that ends in a plain byte is not empty after its leading blanks are removed
 after_blanks-end : (prefix : List ℕ) (b : ℕ) → is_plain b ≡ true → 0 < length (after_blanks (prefix ++ b ∷ []))
 after_blanks-end [] b plain = let first = is_plain-blank b plain in rw first (omega arith)
 after_blanks-end (c ∷ prefix) b plain = either (is_blank c) (after_blanks-end prefix b plain)
@@ -88,12 +88,12 @@ trimmed-some b text plain =
     ∙ ap (λ t. length (after_blanks t)) (reverse_onto text b []) in
     rw kept (after_blanks-end (reverse text) b plain)
 
--- ---- the operands, as they stand after a mnemonic
+-- ---- the operands, in the text after a mnemonic
 
 abbrev pub spaced : List ℕ → List (List ℕ) → List ℕ
 spaced first more = 32 ∷ (first ++ flat_map (λ operand. codes ", " ++ operand) more)
 
--- no comma stands in a blank and a piece
+-- a blank and a piece have no comma
 no_comma : (text : List ℕ) → list_all is_plain text ≡ true → (k d : ℕ) → k < length (32 ∷ text) → (slice_index_or (32 ∷ text) k d == 44) ≡ false
 no_comma text plain zero d below = refl
 no_comma text plain (suc k) d below = out_of_memory (λ b. b == 44) text is_plain-comma plain k d (omega (arith, below))

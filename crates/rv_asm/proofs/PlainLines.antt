@@ -1,4 +1,4 @@
--- A line of pieces, blanks and commas is one line, good, without a comment or a label: it says what its statement says.
+-- A line of pieces, blanks and commas is a single well-formed line without a comment or a label, and has only a statement.
 use Rattle.std.proofs.Common.{◌≡◌, ℕ, suc, ◌≤◌, Bool, true, false, List, [], ◌∷◌, length, Some, None, Ok, refl, ap, arith}
 use Rattle.std.specs.Prelude.{◌==◌, ◌||◌, nat_lt}
 use Rattle.std.specs.List.{list_all, position_or_len}
@@ -25,7 +25,7 @@ line_byte-text : (b : ℕ) → is_line_byte b ≡ true → is_text b ≡ true
 unfolding is_text
 line_byte-text b of_line = grind (arith, nat_tests)
 
--- a byte of a line is none that no line has
+-- a byte that is no line byte differs from each byte of the line
 line_byte-other : (b other : ℕ) → is_line_byte other ≡ false → is_line_byte b ≡ true → (b == other) ≡ false
 line_byte-other b other bad of_line = false_from_ne_true (b == other) (λ same. clash (equal b other same))
   where
@@ -83,7 +83,7 @@ whole_statement : (b : ℕ) (line : List ℕ) → is_plain b ≡ true → list_a
 unfolding statement_text
 whole_statement b line plain of_line = let none = no_colon (b ∷ line) of_line in rw none (after_blanks-start b line plain)
 
--- ---- what it says
+-- ---- the statement of the line
 
 good_line : (line : List ℕ) → length line ≤ 120 → list_all is_line_byte line ≡ true → is_good_line line ≡ true
 good_line line short of_line = grind (arith, nat_tests, are_text line of_line)
@@ -99,9 +99,9 @@ line_at-plain b line s plain of_line short says =
     let not_none : (suc (length line) == 0) ≡ false = grind (arith, nat_tests) in
     rw (good, bare, label, whole, says, not_none) refl
 
--- ---- what it stands for
+-- ---- the words of the line
 
--- a text of one line that says an instruction, or a word
+-- the words of a text of one line, which is an instruction or a word
 pub assembled-instruction : (text : List ℕ) (instr : Instr) → lines_of text ≡ text ∷ []
     → line_read text ≡ Ok (record { label = None; statement = Some (Instruction instr) }) → assembled text ≡ Ok (word_of instr ∷ [])
 unfolding assembled statement_size statement_words

@@ -1,4 +1,4 @@
--- The mnemonics that the disassembler writes are pieces of a line, and read back.
+-- Each mnemonic that the disassembler writes is a piece of a line, and is read back as the same mnemonic.
 use Rattle.std.proofs.Common.{◌≡◌, ℕ, true, List, ◌∷◌, ◌++◌, refl}
 use Rattle.rv_encoding.specs.Listing.{name_of}
 use Rattle.rv_encoding.specs.declared.kind.BranchKind.TheVariants.{Beq, Bne, Blt, Bge, Bltu, Bgeu}
@@ -40,7 +40,7 @@ mnemonic_of instr.Mret = mnemonic.Mret
 mnemonic_of instr.Wfi = mnemonic.Wfi
 mnemonic_of (instr.SfenceVma a b) = mnemonic.SfenceVma
 
--- ---- it is a piece of a line
+-- ---- the mnemonic is a piece of a line
 
 pub piece-name : (i : Instr) → IsPiece (name_of i)
 piece-name i = IsPiece-from_test (name_of i) (test i)
@@ -105,7 +105,7 @@ piece-name i = IsPiece-from_test (name_of i) (test i)
     test instr.Wfi = refl
     test (instr.SfenceVma a b) = refl
 
--- ---- and is read back
+-- ---- the mnemonic is read back
 
 pub read-name : (i : Instr) (rest : List ℕ) → statement_at (name_of i ++ 32 ∷ rest) ≡ statement_of (mnemonic_of i) (operands_in (32 ∷ rest))
 unfolding statement_at mnemonics is_name is_name_byte

@@ -1,4 +1,4 @@
--- The numbers that the disassembler writes read back.
+-- Each number that the disassembler writes is read back as the same number.
 use Rattle.std.proofs.Common.{◌≡◌, ℕ, ◌-◌, ◌%◌, ◌/◌, ◌^◌, ◌<◌, ◌≤◌, Bool, true, false, List, [], ◌∷◌, ◌++◌}
 use Rattle.std.proofs.Common.{length, Some, Ok, refl, ap, sym, ◌∙◌, arith, decimal}
 use Rattle.std.specs.Prelude.{◌&&◌, nat_lt, nat_le, nat_eq, codes, if◌then◌else◌}
@@ -31,7 +31,7 @@ list_all-digits base (c ∷ text) digits = and_from _ _ (below digits.0) (list_a
 pub digit_between : (c : ℕ) → digit_value c < 10 → (48 ≤ c) × (c ≤ 57)
 digit_between c small = (grind (arith, nat_tests), grind (arith, nat_tests))
 
--- digits do not begin as other numbers do
+-- decimal digits do not begin with `0x` or `-`
 and_false : (t : Bool) → (t && false) ≡ false
 and_false true = refl
 and_false false = refl
@@ -120,7 +120,7 @@ written-hex places n some few small =
     let not_many : nat_le places 8 ≡ true = grind (arith, nat_tests) in
     rw (size, not_none, not_many, all, value) refl
 
--- a number of at most 20 bits, without leading zeros
+-- a hexadecimal number of at most 20 bits, without leading zeros, is read back
 pub written-hex_text : (n : ℕ) → n < 2 ^ 20 → written_number (hex_text n) ≡ Some (plus n)
 written-hex_text n small = by_size (nat_lt n 0x10) (nat_lt n 0x100) (nat_lt n 0x1000) (nat_lt n 0x10000) refl refl refl refl
   where

@@ -1,4 +1,4 @@
--- The operands that the disassembler writes are pieces of a line, and read back.
+-- Each operand that the disassembler writes is a piece of a line, and is read back as the same operand.
 use Rattle.std.proofs.Common.{◌≡◌, ℕ, zero, suc, ◌+◌, ◌-◌, ◌/◌, ◌%◌, ◌^◌, ◌<◌, ◌≤◌, Bool, true, false, List, [], ◌∷◌, ◌++◌, length, map}
 use Rattle.std.proofs.Common.{Some, Ok, refl, ap, sym, ◌∙◌, subst, arith, decimal, append_assoc, length-append}
 use Rattle.std.specs.Prelude.{◌==◌, ◌&&◌, nat_lt, nat_le, codes, if◌then◌else◌}
@@ -26,7 +26,7 @@ use Rattle.rv_disassembler.proofs.HexTexts.{one_digit, two_digits, three_digits,
 use Rattle.rv_asm.proofs.Plain.{is_plain, is_piece, IsPiece, IsPiece-from_test}
 use Rattle.rv_asm.proofs.ReadNumbers.{digit_between, signed_number, written-signed, written-hex, written-hex_text, written-decimal}
 
--- ---- facts on each number below a bound, by computing
+-- ---- properties of each number below a bound, by computation
 
 maps_agree : {A : Type 0} (f g : ℕ → A) (count start n : ℕ) → n < count → map f (range_with_len start count) ≡ map g (range_with_len start count)
     → f (start + n) ≡ g (start + n)
@@ -43,7 +43,7 @@ maps_agree f g (suc count) start (suc n) below same =
 below_is : {A : Type 0} (f g : ℕ → A) (count n : ℕ) → n < count → map f (range_with_len 0 count) ≡ map g (range_with_len 0 count) → f n ≡ g n
 below_is f g count n below same = let here : 0 + n ≡ n = omega arith in rw here at (maps_agree f g count 0 n below same)
 
--- ---- registers, small numbers and the accesses of fences
+-- ---- registers, small numbers, and the access sets of fences
 
 pub piece-register : (n : ℕ) → n < 32 → IsPiece (register_operand_text n)
 unfolding digits
@@ -209,7 +209,7 @@ piece-address offset base small small_base =
     } in
     subst IsPiece (sym (address-parts offset base)) both
 
--- the first parenthesis stands behind the offset
+-- the first parenthesis follows the offset
 opening-signed : (prefix back : List ℕ) → list_all is_signed prefix ≡ true → opening (prefix ++ 40 ∷ back) ≡ length prefix
 opening-signed [] back signed = refl
 opening-signed (c ∷ prefix) back signed =

@@ -1,4 +1,4 @@
--- What the disassembler writes of a word assembles to that word.
+-- Assembling the disassembly of a word gives that word.
 use Rattle.std.proofs.Common.{◌≡◌, ℕ, ◌*◌, ◌/◌, ◌^◌, ◌<◌, ◌≤◌, Bool, true, false, List, [], ◌∷◌, ◌++◌, length, Some}
 use Rattle.std.proofs.Common.{None, Ok, refl, ap, ◌∙◌, arith, decimal, append_assoc, length-append}
 use Rattle.std.specs.Prelude.{◌==◌, ◌&&◌, ◌||◌, codes, Option, IfSome, if◌then◌else◌}
@@ -40,7 +40,7 @@ use Rattle.rv_asm.proofs.ReadNumbers.{immediate-signed, branch_offset-signed, ju
 use Rattle.rv_asm.proofs.ReadOperands.{piece-register, read-register, piece-small, read-small, piece-accesses, read-accesses, piece-hex, read-hex}
 use Rattle.rv_asm.proofs.ReadOperands.{piece-hex_text, read-hex_text, read-csr, piece-signed, read-signed, read-target, piece-address, read-address}
 
--- ---- a line of a mnemonic and operands
+-- ---- a line with a mnemonic and operands
 
 line-plain : (text : List ℕ) → list_all is_plain text ≡ true → list_all is_line_byte text ≡ true
 line-plain [] plain = refl
@@ -84,7 +84,7 @@ length-spaced name first more of_name of_first of_more few =
       length-append first (flat_map (λ operand. codes ", " ++ operand) more),
     )
 
--- such a line says what its statement says
+-- a text has one line, and this statement
 record Says (text : List ℕ) (s : Statement) : Type 0 where
   one : lines_of text ≡ text ∷ []
   says : line_read text ≡ Ok (record { label = None; statement = Some s })
@@ -102,7 +102,7 @@ line_text-is : (name first : List ℕ) (more : List (List ℕ)) → line_text na
 unfolding line_text
 line_text-is name first more = append_assoc name (32 ∷ []) (first ++ flat_map (λ operand. codes ", " ++ operand) more)
 
--- an instruction with operands
+-- an instruction with operands assembles to its word
 assembled-line : (i : Instr) (first : List ℕ) (more : List (List ℕ)) → IsPiece first → ArePieces more → length more ≤ 2
     → statement_of (mnemonic_of i) (first ∷ more) ≡ Ok (Instruction i) → assembled (line_text (name_of i) (first ∷ more)) ≡ Ok (word_of i ∷ [])
 assembled-line i first more of_first of_more few read =
@@ -217,7 +217,7 @@ assembled-Op kind rd rs1 rs2 fields =
     assembled-line (Op kind rd rs1 rs2) (register_operand_text rd) (register_operand_text rs1 ∷ register_operand_text rs2 ∷ []) (piece-register rd fields.0)
     (piece-register rs1 fields.1, (piece-register rs2 fields.2, tt)) (omega arith) (rw (a, b, c) refl)
 
--- a fence whose other fields are 0
+-- a fence whose other fields are 0 assembles to its word
 assembled-Fence : (pred succ : ℕ) → pred < 16 → succ < 16 → assembled (instr_text (Fence 0 pred succ 0 0)) ≡ Ok (word_of (Fence 0 pred succ 0 0) ∷ [])
 unfolding instr_text
 assembled-Fence pred succ small_pred small_succ =
@@ -257,7 +257,7 @@ assembled-SfenceVma rs1 rs2 fields =
     assembled-line (SfenceVma rs1 rs2) (register_operand_text rs1) (register_operand_text rs2 ∷ [])
     (piece-register rs1 fields.0) (piece-register rs2 fields.1, tt) (omega arith) (rw (a, b) refl)
 
--- a mnemonic alone
+-- an instruction without operands assembles to its word
 assembled-alone : (i : Instr) → lines_of (name_of i) ≡ name_of i ∷ []
     → line_read (name_of i) ≡ Ok (record { label = None; statement = Some (Instruction i) }) → assembled (line_text (name_of i) []) ≡ Ok (word_of i ∷ [])
 unfolding line_text
@@ -283,7 +283,7 @@ alone-Wfi : line_read (name_of Wfi) ≡ Ok (record { label = None; statement = S
 unfolding line_read is_text label_text statement_text statement_at mnemonics is_name is_name_byte trimmed
 alone-Wfi = refl
 
--- ---- instructions, and words by their number
+-- ---- instructions, and words as numbers
 
 fence-told : (fm rd rs1 : ℕ) → ((fm == 0) && (rd == 0) && (rs1 == 0)) ≡ true → (fm ≡ 0) × (rd ≡ 0) × (rs1 ≡ 0)
 fence-told fm rd rs1 told = (grind (arith, nat_tests, told), grind (arith, nat_tests, told), grind (arith, nat_tests, told))
@@ -333,7 +333,7 @@ assembled-word_text word small =
     ap assembled (line_text-is (codes ".word") (codes "0x" ++ hex_digits 8 word) [])
     ∙ assembled-word (codes ".word" ++ spaced (codes "0x" ++ hex_digits 8 word) []) word line.one line.says
 
--- ---- whatever a word is spelled
+-- ---- any disassembly of a word
 
 assembled-told : (word : ℕ) (i : Instr) (told : Bool) → is_told_by_operands i ≡ told → word < 2 ^ 32 → Encodes word i
     → assembled (if told then instr_text i else word_text word) ≡ Ok (word ∷ [])

@@ -1,4 +1,4 @@
--- The second pass, line after line.
+-- Lemmas about the second pass, line by line.
 use Rattle.std.proofs.Common.{◌≡◌, ◌⊎◌, inl, inr, ◌∙◌, sym, ap, refl, ℕ, ◌+◌, ◌≤◌, nat_lt, Bool, true, false, if◌then◌else◌, List, [], ◌∷◌, ◌++◌}
 use Rattle.std.proofs.Common.{length, length-append, take, Option, Some, None, Result, Ok, Err, IsOk, append_assoc, map, arith}
 use Rattle.std.proofs.lemmas.Bool.Decides.{nat_tests}
@@ -13,7 +13,7 @@ use Rattle.rv_asm.specs.declared.fault.AsmFaultKind.{AsmFaultKind}
 use Rattle.rv_asm.specs.declared.fault.AsmFaultKind.TheVariants.{TooLong, NoMemory}
 use Rattle.rv_asm.proofs.LabelLemmas.{fault_after, fault_later, fault_here, first_fault-push}
 
--- The words of lines are written, and the rest is still to be read.
+-- The words of some lines are written. The remaining text has the other lines.
 pub record HasWrittenUpTo (labels : List ℕ → Option ℕ) (words : List ℕ) (lines : ℕ) (text rest : List ℕ) : Type 0 where
   pub before : List Reading
   pub count : lines ≡ length before
@@ -30,7 +30,7 @@ pub no_fault : (o : Option AsmFaultKind) (f : AsmFaultKind → AsmFault) (rest :
 no_fault None f rest is = (refl, is)
 no_fault (Some kind) f rest is = cc
 
--- a line that has no fault of its own leaves no more than 65536 words
+-- after a line without an error of its own there are at most 65536 words
 stays_few : (before : List Reading) (line : Reading) → own_fault before line ≡ None → words_in before + line_size line ≤ 65536
 stays_few before (Err kind) is = cc
 stays_few before (Ok line) is = few (nat_lt 65536 (words_in before + line_size (Ok line))) refl is where
@@ -81,7 +81,7 @@ no_name_fault : (words : Result (List ℕ) AsmFaultKind) → IsOk words → resu
 no_name_fault (Ok found) is = refl
 no_name_fault (Err kind) is = cc
 
--- no line through this one names what is not there
+-- no line up to and including this one has an error in a name
 none_through : (labels : List ℕ → Option ℕ) (words : List ℕ) (lines : ℕ) (text rest after line : List ℕ)
     → (has : HasWrittenUpTo labels words lines text rest) → lines_of rest ≡ line ∷ lines_of after
     → IsOk (line_words labels (length words) (line_read line)) → first_line_fault (name_fault labels) [] (take (lines + 1) (readings text)) ≡ None
@@ -95,7 +95,7 @@ none_through labels words lines text rest after line has is gives =
     let here : name_fault labels has.before this ≡ None = no_name_fault (line_words labels (words_in has.before) this) (rw (← has.place) gives) in
     ap (first_line_fault (name_fault labels) []) prefix ∙ (first_fault-push (name_fault labels) [] has.before this ∙ rw (has.none, here) refl)
 
--- the fault at a line is that of the text, or memory was refused there
+-- the second pass fails at a line because of its error, or because memory is exhausted
 pub fails_or_out_of_memory : (labels : List ℕ → Option ℕ) (words : List ℕ) (lines : ℕ) (text rest after line : List ℕ) (kind : AsmFaultKind)
     → (has : HasWrittenUpTo labels words lines text rest) → lines_of rest ≡ line ∷ lines_of after
     → (line_words labels (length words) (line_read line) ≡ Err kind) ⊎ ((kind ≡ NoMemory) × IsOk (line_words labels (length words) (line_read line)))

@@ -1,5 +1,5 @@
--- The names of the control and status registers that an assembler text may use: Privileged Architecture 20211203,
--- section 2.2, tables 2.3, 2.5 and 2.6. Of the performance counters, their upper halves and events it uses the numbers.
+-- The names of control and status registers in an assembler text (RISC-V Privileged Architecture 20211203, section 2.2, tables 2.3, 2.5 and
+-- 2.6). The event counters, their upper halves and the event selectors have no name here; a text uses their numbers.
 use Rattle.std.specs.Prelude.{ℕ, List, [], ◌∷◌, map, Option, unwrap_or}
 use Rattle.rv_state.specs.CsrTable.{name_of_number}
 use Rattle.rv_asm.specs.Tables.{looked_up}
@@ -17,10 +17,10 @@ named_csrs =
     -- table 2.6
     ∷ 0xB00 ∷ 0xB02 ∷ 0xB80 ∷ 0xB82 ∷ 0x320 ∷ []
 
--- each with the name that it has in the listing of the registers
+-- each number with its name in the listing of the registers
 unfoldable pub csrs : List (List ℕ × ℕ)
 csrs = map (λ number. (unwrap_or (name_of_number number) [], number)) named_csrs
 
--- the number of a name, if there is one; upper and lower case differ
+-- the number of a name, if there is one; names are case-sensitive
 abbrev pub csr_named : List ℕ → Option ℕ
 csr_named name = looked_up csrs name

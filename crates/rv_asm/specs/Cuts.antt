@@ -1,4 +1,4 @@
--- How a line of an assembler text falls into pieces. (This project's own grammar.)
+-- The pieces of a line of an assembler text. (This project's own grammar.)
 use Rattle.std.specs.Prelude.{ℕ, Bool, false, ◌+◌, ◌==◌, ◌||◌, ◌&&◌, nat_le, nat_lt, List, [], ◌∷◌, length}
 use Rattle.std.specs.Prelude.{take, drop, map, reverse, Option, Some, None, if◌then◌else◌}
 use Rattle.std.specs.List.{slice_split, position_or_len, list_all}
@@ -7,46 +7,46 @@ use Rattle.rv_text.specs.GoodLines.{is_blank}
 
 -- ---- blanks and commas
 
--- the text without the blanks at its front
+-- the text without leading blanks
 abbrev pub after_blanks : List ℕ → List ℕ
 after_blanks [] = []
 after_blanks (b ∷ text) = if is_blank b then after_blanks text else b ∷ text
 
--- the text up to the last byte that is no blank
+-- the text without trailing blanks
 abbrev pub before_blanks : List ℕ → List ℕ
 before_blanks text = reverse (after_blanks (reverse text))
 
 unfoldable pub trimmed : List ℕ → List ℕ
 trimmed text = before_blanks (after_blanks text)
 
--- what stands between the commas, without the blanks around it
+-- the fields between commas, without leading and trailing blanks
 unfoldable pub comma_fields : List ℕ → List (List ℕ)
 comma_fields text = map trimmed (slice_split (λ b. b == comma) text)
 
--- the operands: none where there are only blanks
+-- the operands; a text of blanks alone has none
 abbrev pub operands_in : List ℕ → List (List ℕ)
 operands_in text = if length (trimmed text) == 0 then [] else comma_fields text
 
 -- ---- comment and label
 
--- the line up to the first `#`
+-- the line before the first `#`
 abbrev pub before_comment : List ℕ → List ℕ
 before_comment line = take (position_or_len (λ b. b == number_sign) line) line
 
 abbrev pub colon_place : List ℕ → ℕ
 colon_place text = position_or_len (λ b. b == colon) text
 
--- what stands before the first `:`, if there is one, without the blanks at its front
+-- the text before the first `:`, if there is one, without leading blanks
 unfoldable pub label_text : List ℕ → Option (List ℕ)
 label_text text = if nat_lt (colon_place text) (length text) then Some (after_blanks (take (colon_place text) text)) else None
 
--- what stands after it, or all, without the blanks at its front
+-- the text after the first `:`, or the whole text if there is none, without leading blanks
 unfoldable pub statement_text : List ℕ → List ℕ
 statement_text text = after_blanks (if nat_lt (colon_place text) (length text) then drop (colon_place text + 1) text else text)
 
 -- ---- mnemonic and operands
 
--- a statement's bytes up to the first blank
+-- the bytes of a statement before the first blank
 abbrev pub first_word : List ℕ → List ℕ
 first_word text = take (position_or_len is_blank text) text
 
@@ -59,11 +59,11 @@ after_word text = drop (position_or_len is_blank text) text
 abbrev pub is_letter : ℕ → Bool
 is_letter b = nat_le 97 b && nat_le b 122 || nat_le 65 b && nat_le b 90 || b == low_line || b == full_stop
 
--- or a digit
+-- a letter, `_`, `.` or a digit
 unfoldable pub is_name_byte : ℕ → Bool
 is_name_byte b = is_letter b || nat_le 48 b && nat_le b 57
 
--- at most 32 of these bytes, of which the first is no digit
+-- a name: 1 to 32 of these bytes, and the first is no digit
 unfoldable pub is_name : List ℕ → Bool
 is_name [] = false
 is_name (b ∷ text) = is_letter b && list_all is_name_byte text && nat_lt (length text) 32

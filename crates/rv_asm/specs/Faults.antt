@@ -1,4 +1,4 @@
--- The numbers of the assembler's faults, as this project's surface gives them. (No public standard numbers them.)
+-- The numbers of the assembler's errors. (This project's own.)
 use Rattle.std.specs.Prelude.{ℕ}
 use Rattle.rv_asm.specs.declared.fault.AsmFaultKind.{AsmFaultKind}
 use Rattle.rv_asm.specs.declared.fault.AsmFaultKind.TheVariants.{BadText, UnknownName, BadOperand, OutOfRange, UnknownLabel, LabelTwice, TooLong, NoMemory}

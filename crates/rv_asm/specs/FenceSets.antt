@@ -1,5 +1,5 @@
--- The sets of accesses that a fence orders: RISC-V Unprivileged ISA 20191213, section 2.7: device input 8, device output
--- 4, memory reads 2, memory writes 1.
+-- The sets of accesses that a fence orders (RISC-V Unprivileged ISA 20191213, section 2.7): device input 8, device output 4, memory reads 2,
+-- memory writes 1.
 use Rattle.std.specs.Prelude.{ℕ, List, [], ◌∷◌, codes}
 
 unfoldable pub fence_sets : List (List ℕ × ℕ)

@@ -1,4 +1,4 @@
--- The labels of a text as a map that is kept by their names: what it has for a name. (This project's own assembler.)
+-- The labels of a text, as a map from names to addresses. (This project's own assembler.)
 use Rattle.std.specs.Prelude.{ℕ, List, Option}
 use Rattle.std.specs.BTreeMap.{BTreeMap, get_by}
 use Rattle.std.specs.Cmp.Lexicographic.{slice_cmp}

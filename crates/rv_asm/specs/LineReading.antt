@@ -1,5 +1,5 @@
--- What a line of an assembler text says: an optional label, an optional statement, and a comment. (This project's own
--- grammar; RISC-V Unprivileged ISA 20191213, chapter 25, for the statements.)
+-- The content of a line of an assembler text: an optional label, an optional statement, and a comment. (This project's own grammar; RISC-V
+-- Unprivileged ISA 20191213, chapter 25, for the statements.)
 use Rattle.std.specs.Prelude.{ℕ, ◌==◌, List, length, Option, Some, None, Result, Ok, Err, if◌then◌else◌}
 use Rattle.rv_asm.specs.Cuts.{before_comment, label_text, statement_text, is_name}
 use Rattle.rv_text.specs.GoodLines.{is_good_line}
@@ -24,6 +24,6 @@ uncommented_line_at text = do
   statement ← optional_statement_at (statement_text text)
   Ok (record { label = label; statement = statement })
 
--- what a line says, or the first of its own faults
+-- the content of a line, or the first of its own errors
 unfoldable pub line_read : List ℕ → Result Line AsmFaultKind
 line_read text = if is_good_line text then uncommented_line_at (before_comment text) else Err BadText

@@ -1,5 +1,5 @@
--- The mnemonics: the names of the instructions, RISC-V Unprivileged ISA 20191213, chapter 24, and Privileged Architecture
--- 20211203, chapter "RISC-V Privileged Instruction Set Listings"; and four more, the Unprivileged ISA's chapter 25.
+-- The mnemonics: the names of the instructions, and four more of the assembler. RISC-V Unprivileged ISA 20191213, chapters 24 and 25; Privileged
+-- Architecture 20211203, chapter "RISC-V Privileged Instruction Set Listings".
 use Rattle.std.specs.Prelude.{ℕ, List, [], ◌∷◌, ◌++◌, map, codes, Option}
 use Rattle.rv_encoding.specs.Codes.{branch_name, load_name, store_name, op_imm_name, shift_name, op_name, csr_name, csr_imm_name}
 use Rattle.rv_encoding.specs.Codes.{branch_kinds, load_kinds, store_kinds, op_imm_kinds, shift_kinds, rv32i_op_kinds, rv32m_op_kinds, csr_kinds}
@@ -10,7 +10,7 @@ use Rattle.rv_asm.specs.declared.mnemonic.Mnemonic.{Mnemonic}
 use Rattle.rv_asm.specs.declared.mnemonic.Mnemonic.TheVariants.{Lui, Auipc, Jal, Jalr, Branch, Load, Store, OpImm, ShiftImm, Op, Fence, Csr, CsrImm}
 use Rattle.rv_asm.specs.declared.mnemonic.Mnemonic.TheVariants.{Ecall, Ebreak, Sret, Mret, Wfi, SfenceVma, Word, Nop, Ret, Li}
 
--- The name of each: that of its instructions in the listing, and four names that an assembler adds.
+-- the name of each mnemonic: that of its instructions in the listing, or one of four names of the assembler
 abbrev pub mnemonic_name : Mnemonic → List ℕ
 mnemonic_name Lui = name_of (instr.Lui 0 0)
 mnemonic_name Auipc = name_of (instr.Auipc 0 0)
@@ -47,13 +47,13 @@ all_mnemonics =
     ++ Sret ∷ Mret ∷ Wfi ∷ SfenceVma
     -- RV32M
     ∷ map Op rv32m_op_kinds
-    -- what an assembler adds
+    -- names that the assembler adds
     ++ Word ∷ Nop ∷ Ret ∷ Li ∷ []
 
 -- the table of names
 unfoldable pub mnemonics : List (List ℕ × Mnemonic)
 mnemonics = map (λ mnemonic. (mnemonic_name mnemonic, mnemonic)) all_mnemonics
 
--- the mnemonic that a name is, if it is one; upper and lower case differ
+-- the mnemonic of a name, if there is one; names are case-sensitive
 abbrev pub mnemonic_named : List ℕ → Option Mnemonic
 mnemonic_named name = looked_up mnemonics name

@@ -1,4 +1,4 @@
--- Numbers as an assembler text writes them, in the digits of ASCII, ISO/IEC 646.
+-- Numbers in an assembler text, in ASCII digits (ISO/IEC 646).
 use Rattle.std.specs.Prelude.{ℕ, ◌-◌, ◌^◌, true, false, ◌&&◌, List, length, drop, min, codes, nat_eq, Option, Some, None, nat_lt, if◌then◌else◌}
 use Rattle.std.specs.List.{list_all, starts_with}
 use Rattle.std.specs.Option.{option_map}
@@ -14,12 +14,12 @@ plus magnitude = record { is_negative = false; magnitude = magnitude }
 abbrev pub minus : ℕ → Number
 minus magnitude = record { is_negative = true; magnitude = magnitude }
 
--- one decimal digit or more; what is above every range counts as 2^64 - 1, which is above every range too
+-- the value of one or more decimal digits; a value above 2^64 - 1, which is out of every range, counts as 2^64 - 1
 unfoldable pub decimal_digits : List ℕ → Option ℕ
 decimal_digits text =
     if nat_lt 0 (length text) && list_all (λ c. is_digit c 10) text then Some (min (digits_value 10 text) (2 ^ 64 - 1)) else None
 
--- `0x` and one to eight hexadecimal digits of either case, or decimal digits, perhaps after `-`
+-- a number: `0x` and one to eight hexadecimal digits of either case, or decimal digits with an optional `-` before them
 unfoldable pub written_number : List ℕ → Option Number
 written_number text =
     if starts_with nat_eq text (codes "0x") then option_map plus (number_of_digits 16 8 (drop 2 text))

@@ -1,5 +1,5 @@
--- The ranges of the numbers that operands write, and the fields that they stand for: RISC-V Unprivileged ISA 20191213,
--- sections 2.3 (immediates), 2.4 (shift amounts) and 9.1 (numbers and immediates of CSR instructions).
+-- The ranges of numbers in operands, and the fields that they encode. (RISC-V Unprivileged ISA 20191213, sections 2.3 (immediates), 2.4 (shift
+-- amounts) and 9.1 (numbers and immediates of CSR instructions).)
 use Rattle.std.specs.Prelude.{ℕ, ◌-◌, ◌*◌, ◌%◌, ◌^◌, Bool, ◌&&◌, ◌==◌, nat_le, Result, Ok, Err, if◌then◌else◌}
 use Rattle.rv_asm.specs.declared.number.Number.{Number}
 use Rattle.rv_asm.specs.declared.fault.AsmFaultKind.{AsmFaultKind}
@@ -9,7 +9,7 @@ use Rattle.rv_asm.specs.declared.fault.AsmFaultKind.TheVariants.{OutOfRange}
 abbrev pub is_number_within : ℕ → ℕ → Number → Bool
 is_number_within below above number = if number.is_negative then nat_le number.magnitude below else nat_le number.magnitude above
 
--- the number modulo another, as a field of that many values has it
+-- the number modulo `modulus`, as a field with that many values has it
 abbrev pub residue : ℕ → Number → ℕ
 residue modulus number =
     if number.is_negative then (modulus - number.magnitude % modulus) % modulus else number.magnitude % modulus

@@ -1,5 +1,5 @@
--- What the operands of a statement write: RISC-V Unprivileged ISA 20191213, chapter 25 (the syntax of assembly programs),
--- in this project's grammar. Each operand has one of these forms, or is a fault.
+-- The operands of a statement (RISC-V Unprivileged ISA 20191213, chapter 25 (the syntax of assembly programs), in this project's grammar). An
+-- operand that has none of these forms is an error.
 use Rattle.std.specs.Prelude.{ℕ, ◌-◌, ◌==◌, List, length, take, drop, codes, nat_eq, Option, Some, None, option_and_then, Result, Ok, if◌then◌else◌}
 use Rattle.std.specs.Option.{ok_or, option_map}
 use Rattle.std.specs.List.{starts_with, ends_with, position_or_len}
@@ -17,7 +17,7 @@ use Rattle.rv_asm.specs.declared.operand.Target.TheVariants.{Label, Offset}
 use Rattle.rv_asm.specs.declared.fault.AsmFaultKind.{AsmFaultKind}
 use Rattle.rv_asm.specs.declared.fault.AsmFaultKind.TheVariants.{BadOperand}
 
--- an operand of some form, or a fault
+-- the operand that was read, or an error
 abbrev pub operand : {A : Type 0} → Option A → Result A AsmFaultKind
 operand read = ok_or read BadOperand
 
@@ -50,7 +50,7 @@ offset_and_base text =
 abbrev pub address_operand : List ℕ → Result (Number × ℕ) AsmFaultKind
 address_operand text = operand (offset_and_base text)
 
--- what has the form of a name is a label, whatever the name
+-- the target of a jump or branch: an operand with the form of a name is a label, even if it names a register
 unfoldable pub target_at : List ℕ → Result Target AsmFaultKind
 target_at text = if is_name text then Ok (Label text) else operand (option_map Offset (written_number text))
 

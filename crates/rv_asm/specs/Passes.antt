@@ -1,4 +1,4 @@
--- The state of the first pass over the lines of an assembler text. (This project's own assembler.)
+-- The state of the assembler's first pass, which reads each line. (This project's own assembler.)
 use Rattle.std.specs.Prelude.{◌≡◌, ℕ, ◌+◌, ◌≤◌, [], List, length, Option, Some, None, is_some, option_map, if◌then◌else◌}
 use Rattle.rv_word.specs.Cases.{option_case}
 use Rattle.rv_asm.specs.LabelMap.{places_of}
@@ -10,8 +10,8 @@ use Rattle.rv_asm.specs.declared.fault.AsmFaultKind.TheVariants.{LabelTwice}
 abbrev pub label_twice : ℕ → AsmFault
 label_twice line = record { line = line; kind = LabelTwice }
 
--- The state after just these lines: their number and that of their words, the addresses of their labels, and the first line that repeats a
--- label.
+-- The state of the first pass after exactly these lines: the counts of lines and words, the addresses of the labels, and the first line that
+-- repeats a label. (The words are at most 65536.)
 pub record HasRead (pass : FirstPass) (lines : List Reading) : Type 0 where
   pub count : pass.lines ≡ length lines
   pub words : pass.words ≡ words_in lines
@@ -25,7 +25,7 @@ repeated_with pass None = pass.repeated
 repeated_with pass (Some name) =
     if is_some (places_of pass.labels name) then option_case pass.repeated (Some (pass.lines + 1)) Some else pass.repeated
 
--- the next line has this label, or none
+-- the state after the label of the next line, if it has one
 pub record AddsLabel (old new : FirstPass) (label : Option (List ℕ)) : Type 0 where
   pub count : new.lines ≡ old.lines
   pub words : new.words ≡ old.words

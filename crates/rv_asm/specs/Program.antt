@@ -1,5 +1,5 @@
--- What an assembler text stands for: the words, or the fault. (This project's own assembler; the words of instructions
--- are those of RISC-V Unprivileged ISA 20191213, chapter 24.)
+-- The words of an assembler text, or its error. (This project's own assembler; RISC-V Unprivileged ISA 20191213, chapter 24, defines the words
+-- of instructions.)
 use Rattle.std.specs.Prelude.{ℕ, ◌+◌, ◌-◌, ◌*◌, ◌%◌, ◌^◌, ◌==◌, ◌||◌, Bool, false, nat_lt, nat_le, List, [], ◌∷◌, ◌++◌, length}
 use Rattle.std.specs.Prelude.{map, sum_by, Option, Some, None, is_some, Result, Ok, Err, if◌then◌else◌}
 use Rattle.std.specs.Option.{ok_or}
@@ -25,8 +25,8 @@ use Rattle.rv_asm.specs.declared.fault.AsmFaultKind.TheVariants.{UnknownLabel, L
 
 -- ---- the words of a statement
 
--- The instructions that load a word: one addi where its signed value is from -2048 to 2047; else a lui of what is left
--- without the low part, which is the sign-extended low twelve bits, and an addi of the low part unless that is 0.
+-- The instructions that load a word. If its signed value is from -2048 to 2047, there is one addi. Otherwise a lui loads the word minus its low
+-- part, the sign-extended low twelve bits, and an addi adds the low part unless it is 0.
 abbrev pub is_short : ℕ → Bool
 is_short value = nat_lt value 2048 || nat_le (2 ^ 32 - 2048) value
 
@@ -38,7 +38,7 @@ li_code rd value =
     if is_short value then OpImm Addi rd 0 (value % 2 ^ 12) ∷ []
     else Lui rd (without_low_part value) ∷ (if value % 2 ^ 12 == 0 then [] else OpImm Addi rd rd (value % 2 ^ 12) ∷ [])
 
--- how many words a statement stands for
+-- the number of words of a statement
 unfoldable pub statement_size : Statement → ℕ
 statement_size (Instruction instruction) = 1
 statement_size (JumpTo rd name) = 1
@@ -46,11 +46,11 @@ statement_size (BranchTo kind rs1 rs2 name) = 1
 statement_size (Li rd value) = length (li_code rd value)
 statement_size (Word word) = 1
 
--- from one place to another, in bytes; places count words
+-- the distance from one address to another, in bytes; addresses count words
 abbrev pub distance : ℕ → ℕ → Number
 distance here there = if nat_lt there here then minus (4 * (here - there)) else plus (4 * (there - here))
 
--- the words of a statement at a place, the labels being at theirs
+-- the words of a statement at an address, with these addresses of the labels
 unfoldable pub statement_words : (List ℕ → Option ℕ) → ℕ → Statement → Result (List ℕ) AsmFaultKind
 statement_words labels place (Instruction instruction) = Ok (word_of instruction ∷ [])
 statement_words labels place (JumpTo rd name) = do
@@ -64,7 +64,7 @@ statement_words labels place (BranchTo kind rs1 rs2 name) = do
 statement_words labels place (Li rd value) = Ok (map word_of (li_code rd value))
 statement_words labels place (Word word) = Ok (word ∷ [])
 
--- ---- lines, each a fault or what it says
+-- ---- lines, each an error or its content
 
 abbrev pub Reading : Type 0
 Reading = Result Line AsmFaultKind
@@ -76,7 +76,7 @@ abbrev pub line_size : Reading → ℕ
 line_size (Ok line) = option_case line.statement 0 statement_size
 line_size (Err kind) = 0
 
--- how many words lines stand for: the place of the line after them
+-- the number of words of the lines, which is the address of the line after them
 abbrev pub words_in : List Reading → ℕ
 words_in lines = sum_by line_size lines
 
@@ -88,7 +88,7 @@ abbrev pub has_label : List ℕ → Reading → Bool
 has_label name (Ok line) = is_label name line.label
 has_label name (Err kind) = false
 
--- Where a label stands, before being the lines before these: the place of the first line that has it.
+-- the address of a label: that of the first line that has it; `before` has the lines before these
 abbrev pub place_from : List Reading → List Reading → List ℕ → Option ℕ
 place_from before [] name = None
 place_from before (line ∷ lines) name =
@@ -97,19 +97,19 @@ place_from before (line ∷ lines) name =
 abbrev pub place_in : List Reading → List ℕ → Option ℕ
 place_in lines name = place_from [] lines name
 
--- the words of a line at a place
+-- the words of a line at an address
 abbrev pub line_words : (List ℕ → Option ℕ) → ℕ → Reading → Result (List ℕ) AsmFaultKind
 line_words labels place (Ok line) = option_case line.statement (Ok []) (statement_words labels place)
 line_words labels place (Err kind) = Err kind
 
--- ---- the fault of a text
+-- ---- the error of a text
 
--- the fault of a line by itself, or that there are too many words with it
+-- the error of a line by itself, or `TooLong` if there are more than 65536 words with it
 abbrev pub own_fault : List Reading → Reading → Option AsmFaultKind
 own_fault before (Ok line) = if nat_lt 65536 (words_in before + line_size (Ok line)) then Some TooLong else None
 own_fault before (Err kind) = Some kind
 
--- its label stood before
+-- the error of a label that a line before has
 abbrev pub repeated_name : List Reading → Option (List ℕ) → Option AsmFaultKind
 repeated_name before None = None
 repeated_name before (Some name) = if is_some (place_in before name) then Some LabelTwice else None
@@ -118,18 +118,18 @@ abbrev pub label_fault : List Reading → Reading → Option AsmFaultKind
 label_fault before (Ok line) = repeated_name before line.label
 label_fault before (Err kind) = None
 
--- the fault of what it names
+-- the error of the label that a line uses
 abbrev pub name_fault : (List ℕ → Option ℕ) → List Reading → Reading → Option AsmFaultKind
 name_fault labels before line = result_case (line_words labels (words_in before) line) (λ words. None) Some
 
--- The fault of the first of these lines that has one, before being the lines before these. Lines are counted from 1.
+-- the first error of these lines, in their order; `before` has the lines before these, and lines are counted from 1
 abbrev pub first_line_fault : (List Reading → Reading → Option AsmFaultKind) → List Reading → List Reading → Option AsmFault
 first_line_fault fault before [] = None
 first_line_fault fault before (line ∷ lines) =
     option_case (fault before line) (first_line_fault fault (before ++ line ∷ []) lines)
     (λ kind. Some (record { line = length before + 1; kind = kind }))
 
--- the first line with a fault of its own; else the first whose label stood before; else the first that names what is not there
+-- the error of the lines: the first error of a line by itself; otherwise the first repeated label; otherwise the first error of a used label
 abbrev pub fault_in : List Reading → Option AsmFault
 fault_in lines =
     option_case (first_line_fault own_fault [] lines)
@@ -140,7 +140,7 @@ fault_in lines =
 abbrev pub words_or_none : Result (List ℕ) AsmFaultKind → List ℕ
 words_or_none words = result_case words (λ found. found) (λ kind. [])
 
--- the words of these lines, one line after another, before being the lines before these
+-- the words of these lines, one line after another; `before` has the lines before these
 abbrev pub words_from : (List ℕ → Option ℕ) → List Reading → List Reading → List ℕ
 words_from labels before [] = []
 words_from labels before (line ∷ lines) =
@@ -149,6 +149,6 @@ words_from labels before (line ∷ lines) =
 abbrev pub words_of_lines : List Reading → List ℕ
 words_of_lines lines = words_from (place_in lines) [] lines
 
--- the words that a text stands for, or its fault
+-- the words of a text, or its error
 unfoldable pub assembled : List ℕ → Result (List ℕ) AsmFault
 assembled text = option_case (fault_in (readings text)) (Ok (words_of_lines (readings text))) Err

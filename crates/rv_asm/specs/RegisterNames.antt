@@ -1,10 +1,10 @@
--- The names of the integer registers: RISC-V Unprivileged ISA 20191213, section 2.1 and chapter 25, table 25.1.
+-- The names of the integer registers (RISC-V Unprivileged ISA 20191213, section 2.1, and chapter 25, table 25.1).
 use Rattle.std.specs.Prelude.{ℕ, List, [], ◌∷◌, codes, Option}
 use Rattle.rv_asm.specs.Tables.{looked_up}
 
 unfoldable pub registers : List (List ℕ × ℕ)
 registers =
-    -- those by number
+    -- the names by number
     (codes "x0", 0) ∷ (codes "x1", 1) ∷ (codes "x2", 2) ∷ (codes "x3", 3)
     ∷ (codes "x4", 4) ∷ (codes "x5", 5) ∷ (codes "x6", 6) ∷ (codes "x7", 7)
     ∷ (codes "x8", 8) ∷ (codes "x9", 9) ∷ (codes "x10", 10) ∷ (codes "x11", 11)
@@ -13,7 +13,7 @@ registers =
     ∷ (codes "x20", 20) ∷ (codes "x21", 21) ∷ (codes "x22", 22) ∷ (codes "x23", 23)
     ∷ (codes "x24", 24) ∷ (codes "x25", 25) ∷ (codes "x26", 26) ∷ (codes "x27", 27)
     ∷ (codes "x28", 28) ∷ (codes "x29", 29) ∷ (codes "x30", 30) ∷ (codes "x31", 31)
-    -- those of the calling convention
+    -- the names of the calling convention
     ∷ (codes "zero", 0) ∷ (codes "ra", 1) ∷ (codes "sp", 2) ∷ (codes "gp", 3) ∷ (codes "tp", 4)
     ∷ (codes "t0", 5) ∷ (codes "t1", 6) ∷ (codes "t2", 7)
     ∷ (codes "s0", 8) ∷ (codes "fp", 8) ∷ (codes "s1", 9)
@@ -24,6 +24,6 @@ registers =
     ∷ (codes "t3", 28) ∷ (codes "t4", 29) ∷ (codes "t5", 30) ∷ (codes "t6", 31)
     ∷ []
 
--- the register of a name, if there is one; upper and lower case differ
+-- the register of a name, if there is one; names are case-sensitive
 abbrev pub register_named : List ℕ → Option ℕ
 register_named name = looked_up registers name

@@ -1,5 +1,5 @@
--- What a statement asks for, by its mnemonic and its operands: RISC-V Unprivileged ISA 20191213, chapters 24 and 25, in
--- this project's grammar. The forms of all operands are asked before the range of any.
+-- The statement of a mnemonic and its operands (RISC-V Unprivileged ISA 20191213, chapters 24 and 25, in this project's grammar). The forms of
+-- all operands are checked before the range of any.
 use Rattle.std.specs.Prelude.{ℕ, List, [], ◌∷◌, Result, Ok, Err, if◌then◌else◌}
 use Rattle.std.specs.Option.{ok_or}
 use Rattle.rv_word.specs.Cases.{result_case}
@@ -141,7 +141,7 @@ sfence_statement (rs1 ∷ rs2 ∷ []) = do
   Ok (Instruction (instr.SfenceVma rs1 rs2))
 sfence_statement _ = Err BadOperand
 
--- a mnemonic alone
+-- a mnemonic without operands
 abbrev pub plain_statement : Instr → List (List ℕ) → Result Statement AsmFaultKind
 plain_statement instruction [] = Ok (Instruction instruction)
 plain_statement instruction _ = Err BadOperand
@@ -163,7 +163,7 @@ li_statement (rd ∷ n ∷ []) = do
   Ok (Li rd word)
 li_statement _ = Err BadOperand
 
--- the table of statements
+-- the table of statements, by mnemonic
 abbrev pub statement_of : Mnemonic → List (List ℕ) → Result Statement AsmFaultKind
 statement_of mnemonic.Lui operands = do
   read ← upper_operands operands
@@ -201,11 +201,11 @@ statement_of mnemonic.Nop operands = plain_statement (instr.OpImm Addi 0 0 0) op
 statement_of mnemonic.Ret operands = plain_statement (instr.Jalr 0 1 0) operands
 statement_of mnemonic.Li operands = li_statement operands
 
--- the mnemonic that a word of a statement is
+-- the mnemonic of the first word of a statement
 abbrev pub mnemonic_at : List ℕ → Result Mnemonic AsmFaultKind
 mnemonic_at word = if is_name word then ok_or (mnemonic_named word) UnknownName else Err BadText
 
--- the statement that a text is, which has no blanks at its front
+-- the statement of a text without leading blanks
 unfoldable pub statement_at : List ℕ → Result Statement AsmFaultKind
 statement_at text = do
   mnemonic ← mnemonic_at (first_word text)

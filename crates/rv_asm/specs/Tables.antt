@@ -1,4 +1,4 @@
--- Looking a name up in a table. (No standard's: a way of writing.)
+-- Lookup of a name in a table. (Not defined by a standard.)
 use Rattle.std.specs.Prelude.{ℕ, List, find, Option}
 use Rattle.std.specs.Option.{option_map}
 use Rattle.std.specs.Str.{bytes_eq}

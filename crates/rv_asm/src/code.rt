@@ -1,4 +1,4 @@
-//! The words of a statement.
+//! Assembles statements to words.
 
 ghost use Rattle.std.specs.Prelude.{◌≡◌, ◌≤◌, ◌%◌, ◌^◌, ◌∷◌, [], IfOk, MatchResult, Ok, Err, length, map};
 ghost use Rattle.rv_word.specs.Cases.{option_case};
@@ -17,27 +17,27 @@ use rv_encoding::{BranchOffset, Imm12, Instr, OpImmKind, UpperImm, encode};
 use rv_word::{Reg, sext};
 use std::collections::BTreeMap;
 
-/// The places of labels, in words from the front of the text.
+/// The addresses of labels, in words from the start of the text.
 pub(crate) type Labels = BTreeMap<ArrayVec<u8, 32>, u32>;
 
 /// The one or two words of a statement.
 pub(crate) type Words = ArrayVec<u32, 2>;
 
-/// Whether one addi loads the word: its signed value is from -2048 to 2047.
+/// Returns whether one addi loads the word: its signed value is from -2048 to 2047.
 fn is_short(value: u32) -> bool
     ensures { result ≡ is_short_of value }
 {
     value < 2048 || value >= 0xffff_f800
 }
 
-/// What a lui loads of the word: the word less its sign-extended low twelve bits.
+/// Returns the operand of the lui that loads the word: the word minus its sign-extended low twelve bits.
 fn without_low_part(value: u32) -> UpperImm
     ensures { result ≡ without_low_part_of value }
 {
     UpperImm::new(value.wrapping_sub(sext(value, 12)))
 }
 
-/// One word.
+/// Returns a list of one word.
 fn one(word: u32) -> Words
     ensures { result.items ≡ word ∷ [] }
 {
@@ -46,7 +46,7 @@ fn one(word: u32) -> Words
     words
 }
 
-/// The addi of the low part of a word.
+/// Returns the addi of the low twelve bits of a word.
 fn low_part(rd: Reg, rs1: Reg, value: u32) -> u32
     ensures { result ≡ word_of (Instr.OpImm OpImmKind.Addi rd rs1 (value % 2 ^ 12)) }
 {
@@ -58,7 +58,7 @@ fn low_part(rd: Reg, rs1: Reg, value: u32) -> u32
     })
 }
 
-/// The words that load a word into a register.
+/// Returns the words of the instructions that load a word into a register.
 #[tactic(auto, unfolding(crate::specs::Program::li_code))]
 fn load_words(rd: Reg, value: u32) -> Words
     ensures words { result.items ≡ map word_of (li_code rd value) }
@@ -75,7 +75,7 @@ fn load_words(rd: Reg, value: u32) -> Words
     words
 }
 
-/// How many words a statement stands for.
+/// Returns the number of words of a statement.
 #[tactic(auto, unfolding(crate::specs::Program::statement_size, crate::specs::Program::li_code))]
 pub(crate) fn statement_size(statement: &Statement) -> u32
     ensures value { result ≡ size_of statement.now }
@@ -87,7 +87,7 @@ pub(crate) fn statement_size(statement: &Statement) -> u32
     }
 }
 
-/// From one place to another, in bytes; places count words.
+/// Returns the distance from one address to another, in bytes. Addresses count words.
 fn distance(here: u32, there: u32) -> Number
     ensures { result ≡ distance_of here there }
 {
@@ -98,11 +98,11 @@ fn distance(here: u32, there: u32) -> Number
     }
 }
 
-/// The distance to a label.
+/// Returns the distance to a label, in bytes.
 ///
 /// # Errors
 ///
-/// `UnknownLabel` where no line has it.
+/// `UnknownLabel`, if no line has the label.
 fn distance_to(labels: &Labels, here: u32, label: &Name) -> Result<Number, AsmFaultKind>
     ensures { result ≡ option_case (places_of labels.now label.now) (Err AsmFaultKind.UnknownLabel) (λ there. Ok (distance_of here there)) }
 {
@@ -112,11 +112,12 @@ fn distance_to(labels: &Labels, here: u32, label: &Name) -> Result<Number, AsmFa
     }
 }
 
-/// The word of a jal to a label.
+/// Returns the word of a jal to a label.
 ///
 /// # Errors
 ///
-/// `UnknownLabel` where no line has the label, and then `OutOfRange` where it is too far.
+/// - `UnknownLabel`, if no line has the label.
+/// - `OutOfRange`, if the label is too far away.
 #[tactic(auto, unfolding(crate::specs::Program::statement_words))]
 fn jump_words(labels: &Labels, place: u32, rd: Reg, label: &Name) -> Result<Words, AsmFaultKind>
     ensures value { MatchResult result (λ words. words_of (places_of labels.now) place (Statement.JumpTo rd label.now) ≡ Ok words.items)
@@ -127,22 +128,24 @@ fn jump_words(labels: &Labels, place: u32, rd: Reg, label: &Name) -> Result<Word
     Ok(one(encode(&Instr::Jal { rd, offset })))
 }
 
-/// The offset of a branch to a label.
+/// Returns the offset of a branch to a label.
 ///
 /// # Errors
 ///
-/// `UnknownLabel` where no line has the label, and then `OutOfRange` where it is too far.
+/// - `UnknownLabel`, if no line has the label.
+/// - `OutOfRange`, if the label is too far away.
 fn branch_offset_to(labels: &Labels, place: u32, label: &Name) -> Result<BranchOffset, AsmFaultKind>
     ensures { result ≡ option_case (places_of labels.now label.now) (Err AsmFaultKind.UnknownLabel) (λ there. branch_offset_of (distance_of place there)) }
 {
     distance_to(labels, place, label)?.branch_offset()
 }
 
-/// The words of a statement at a place.
+/// Returns the words of a statement at an address.
 ///
 /// # Errors
 ///
-/// `UnknownLabel` where no line has the label that it names, and then `OutOfRange` where the label is too far.
+/// - `UnknownLabel`, if no line has the label that the statement uses.
+/// - `OutOfRange`, if the label is too far away.
 #[tactic(auto, unfolding(crate::specs::Program::statement_words, crate::specs::Program::statement_size, crate::specs::Program::li_code))]
 pub(crate) fn statement_words(
     labels: &Labels,

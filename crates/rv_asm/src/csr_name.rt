@@ -66,7 +66,7 @@ const CSRS: [(&str, u16); 56] = [
     ("mcountinhibit", 0x320),
 ];
 
-/// The control and status register of a name, if there is one. Upper and lower case differ.
+/// Returns the control and status register of a name, if there is one. Names are case-sensitive.
 #[tactic(auto, using(crate::proofs::Numbered::csrs_in_range), unfolding(crate::specs::CsrNames::csrs, rv_state::specs::CsrTable::csr_listing))]
 pub(crate) fn csr_named(name: &[u8]) -> Option<CsrNumber>
     ensures { result ≡ csr_of name.now }

@@ -1,4 +1,4 @@
-//! The pieces of a line of an assembler text.
+//! Splits a line of an assembler text into pieces.
 
 ghost use Rattle.std.specs.Prelude.{◌≡◌, ◌==◌, ◌≤◌, length, map, take, option_map};
 ghost use Rattle.std.specs.List.{position_or_len, list_all};
@@ -10,10 +10,10 @@ ghost use Rattle.rv_asm.specs.Cuts.{is_name_byte as is_name_byte_of, is_name as 
 use arrayvec::ArrayVec;
 use rv_text::{is_blank, position_of};
 
-/// How many operands are read of a statement: one more than any has.
+/// The number of operands that are read from a statement: one more than any statement has.
 pub(crate) const MOST_OPERANDS: usize = 4;
 
-/// The text without the blanks at its front.
+/// Returns the text without leading blanks.
 fn after_blanks(text: &[u8]) -> &[u8]
     ensures { result.now ≡ after_blanks_of text.now }
 {
@@ -26,7 +26,7 @@ fn after_blanks(text: &[u8]) -> &[u8]
     rest
 }
 
-/// The text without the blanks at its end.
+/// Returns the text without trailing blanks.
 fn before_blanks(text: &[u8]) -> &[u8]
     ensures { result.now ≡ before_blanks_of text.now }
 {
@@ -39,7 +39,7 @@ fn before_blanks(text: &[u8]) -> &[u8]
     rest
 }
 
-/// The text without the blanks at its ends.
+/// Returns the text without leading and trailing blanks.
 #[tactic(auto, unfolding(crate::specs::Cuts::trimmed))]
 fn trimmed(text: &[u8]) -> &[u8]
     ensures { result.now ≡ trimmed_of text.now }
@@ -47,7 +47,7 @@ fn trimmed(text: &[u8]) -> &[u8]
     before_blanks(after_blanks(text))
 }
 
-/// Where the first blank stands, or the length.
+/// Returns the position of the first blank, or the length of the text if there is none.
 pub(crate) fn blank_position(text: &[u8]) -> usize
     ensures value { result ≡ position_or_len is_blank_of text.now }
     ensures within { result ≤ length text.now }
@@ -57,7 +57,7 @@ pub(crate) fn blank_position(text: &[u8]) -> usize
         .unwrap_or(text.len())
 }
 
-/// What stands between the commas, without the blanks around it, at most `MOST_OPERANDS`.
+/// Returns the first `MOST_OPERANDS` fields between commas, or all if there are fewer, without leading and trailing blanks.
 fn first_fields(text: &[u8]) -> ArrayVec<&[u8], MOST_OPERANDS>
     ensures { map (λ field. field.now) result.items ≡ take MOST_OPERANDS (comma_fields text.now) }
 {
@@ -71,7 +71,7 @@ fn first_fields(text: &[u8]) -> ArrayVec<&[u8], MOST_OPERANDS>
     fields
 }
 
-/// The operands in what follows a mnemonic, at most `MOST_OPERANDS`: none where there are only blanks.
+/// Returns the operands in the text after a mnemonic, at most `MOST_OPERANDS`. A text of blanks alone has none.
 pub(crate) fn first_operands(text: &[u8]) -> ArrayVec<&[u8], MOST_OPERANDS>
     ensures { map (λ operand. operand.now) result.items ≡ take MOST_OPERANDS (operands_in text.now) }
 {
@@ -81,15 +81,15 @@ pub(crate) fn first_operands(text: &[u8]) -> ArrayVec<&[u8], MOST_OPERANDS>
     first_fields(text)
 }
 
-/// The line up to its comment, which begins with `#`.
+/// Returns the line without its comment, which begins with `#`.
 pub(crate) fn before_comment(line: &[u8]) -> &[u8]
     ensures { result.now ≡ before_comment_of line.now }
 {
     &line[..position_of(line, b'#')]
 }
 
-/// A line without its comment, as a label, if there is one, and a statement, of no bytes if there is none. Neither has
-/// blanks at its front.
+/// Splits a line without comment into a label, if it has one, and the text of a statement, which is empty if there is none. Neither has leading
+/// blanks.
 #[tactic(auto, unfolding(crate::specs::Cuts::label_text, crate::specs::Cuts::statement_text))]
 pub(crate) fn split_label(text: &[u8]) -> (Option<&[u8]>, &[u8])
     ensures label { option_map (λ label. label.now) result.0 ≡ label_text text.now }
@@ -106,14 +106,14 @@ pub(crate) fn split_label(text: &[u8]) -> (Option<&[u8]>, &[u8])
     }
 }
 
-/// Whether a name can begin with the byte.
+/// Returns whether a name can begin with the byte.
 fn is_letter(byte: u8) -> bool
     ensures { result ≡ is_letter_of byte }
 {
     matches!(byte, b'a'..=b'z' | b'A'..=b'Z' | b'_' | b'.')
 }
 
-/// Whether the byte can stand in a name.
+/// Returns whether a name can have the byte.
 #[tactic(auto, unfolding(crate::specs::Cuts::is_name_byte))]
 fn is_name_byte(byte: u8) -> bool
     ensures { result ≡ is_name_byte_of byte }
@@ -121,14 +121,14 @@ fn is_name_byte(byte: u8) -> bool
     is_letter(byte) || byte.is_ascii_digit()
 }
 
-/// Whether each byte may stand in a name.
+/// Returns whether a name can have each of these bytes.
 fn are_name_bytes(text: &[u8]) -> bool
     ensures { result ≡ list_all is_name_byte_of text.now }
 {
     text.iter().all(|byte| is_name_byte(*byte))
 }
 
-/// Whether the text is a name: at most 32 letters, digits, `_` and `.`, of which the first is no digit.
+/// Returns whether the text is a name: 1 to 32 letters, digits, `_` and `.`, and the first is no digit.
 #[tactic(auto, unfolding(crate::specs::Cuts::is_name))]
 pub(crate) fn is_name(text: &[u8]) -> bool
     ensures { result ≡ is_name_of text.now }

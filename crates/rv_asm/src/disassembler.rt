@@ -1,4 +1,4 @@
-//! The text of each word, which assembles to it.
+//! Disassembles a word to a text that assembles to it.
 
 ghost use Rattle.std.specs.Prelude.{◌≡◌, [], ◌∷◌, Ok};
 ghost use Rattle.rv_disassembler.specs.Spelling.{spelling};
@@ -6,8 +6,8 @@ ghost use Rattle.rv_asm.specs.Program.{assembled};
 
 use arrayvec::ArrayString;
 
-/// Puts the text of a word in place of what `out` held, as `rv_disassembler::disassemble` does (Unprivileged ISA, chapters
-/// 24 and 25). The text, assembled, is the word alone.
+/// Sets `out` to the text of a word, as `rv_disassembler::disassemble` does (Unprivileged ISA, chapters 24 and 25). The text assembles to this
+/// word alone.
 ///
 /// ```text
 /// disassemble(0xfff0_8093, &mut out); // addi x1, x1, -1

@@ -1,32 +1,31 @@
-//! Why a text is not assembled.
+//! The errors of an assembler text.
 
 ghost use Rattle.std.specs.Prelude.{◌≡◌, ℕ};
 ghost use Rattle.rv_asm.specs.Faults.{asm_fault_number};
 
-/// What is wrong with a line of an assembler text.
+/// The kind of an error in a line of an assembler text.
 #[derive(Clone, Copy, Debug, PartialEq, Eq)]
 pub enum AsmFaultKind {
-    /// 1: the line has more than 120 bytes, or one that is neither a tab nor from 20 to 7E; or its label or its mnemonic
-    /// is not a name.
+    /// 1: the line has more than 120 bytes, or a byte that is neither a tab nor from 0x20 to 0x7E. Or its label or its mnemonic is not a name.
     BadText,
     /// 2: the mnemonic is not known.
     UnknownName,
-    /// 3: the number or the form of the operands is not the mnemonic's, or a register or CSR name is not known.
+    /// 3: the mnemonic does not have this number or form of operands, or a register or CSR name is not known.
     BadOperand,
     /// 4: a number is out of its range, or an offset is odd.
     OutOfRange,
     /// 5: no line has the label.
     UnknownLabel,
-    /// 6: the label stood before.
+    /// 6: an earlier line has the same label.
     LabelTwice,
     /// 7: with this line there are more than 65536 words.
     TooLong,
-    /// 8: memory was refused.
+    /// 8: memory is exhausted.
     NoMemory,
 }
 
 impl AsmFaultKind {
-    /// The number of the fault, 1 to 8.
+    /// Returns the number of the error, 1 to 8.
     pub const fn number(self) -> u8
         ensures { result ≡ asm_fault_number self }
     {
@@ -43,11 +42,11 @@ impl AsmFaultKind {
     }
 }
 
-/// The fault of an assembler text: the line, counted from 1, and what is wrong with it.
+/// An error of an assembler text: the line, counted from 1, and the kind.
 #[derive(Clone, Copy, Debug, PartialEq, Eq)]
 pub struct AsmFault {
     /// The number of the line, from 1.
     pub line: usize,
-    /// What is wrong with it.
+    /// The kind of the error.
     pub kind: AsmFaultKind,
 }

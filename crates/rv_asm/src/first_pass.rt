@@ -1,4 +1,4 @@
-//! The first pass over the lines of a text. It finds the errors of each line alone, and the addresses of the labels.
+//! The first pass of the assembler. It reads each line, and finds the errors of each line by itself and the addresses of the labels.
 
 ghost use Rattle.std.specs.Prelude.{◌≡◌, ◌⊎◌, ◌≤◌, ◌<◌, ◌+◌, ◌^◌, ◌-◌, ◌∷◌, [], ◌++◌, IfOk, IfErr, OnOk, OnErr, Some, None, length, List, false, is_some};
 ghost use Rattle.rv_word.specs.Cases.{option_case};
@@ -16,7 +16,7 @@ use crate::statement::Statement;
 use rv_text::split_line;
 use std::alloc::{AllocError, Global};
 
-/// The most words that a text may have.
+/// The maximal number of words of a text.
 const MAX_WORDS: u32 = 65536;
 
 /// The state of the first pass after some lines.
@@ -32,7 +32,7 @@ pub(crate) struct FirstPass {
     pub(crate) words: u32,
 }
 
-/// Returns how many words the statement of a line assembles to, 0 without a statement.
+/// Returns the number of words of a line's statement, 0 if it has none.
 fn optional_size(statement: &Option<Statement>) -> u32
     ensures value { result ≡ option_case statement.now 0 statement_size_of }
     ensures small { result ≤ 2 }
@@ -60,7 +60,7 @@ impl FirstPass {
     ///
     /// # Errors
     ///
-    /// Where memory was refused.
+    /// `AllocError`, if memory is exhausted.
     fn add_name(&mut self, name: Name) -> Result<(), AllocError>
         requires { self.old.lines < 2 ^ 64 - 1 }
         ensures ok { OnOk result (AddsLabel self.old self.new (Some name)) }
@@ -82,7 +82,7 @@ impl FirstPass {
     ///
     /// # Errors
     ///
-    /// Where memory was refused.
+    /// `AllocError`, if memory is exhausted.
     fn add_label(&mut self, label: Option<Name>) -> Result<(), AllocError>
         requires { self.old.lines < 2 ^ 64 - 1 }
         ensures ok { OnOk result (AddsLabel self.old self.new label) }
@@ -98,7 +98,9 @@ impl FirstPass {
     ///
     /// # Errors
     ///
-    /// The first of the line's own faults, or `TooLong` where there are too many words with it, or `NoMemory`.
+    /// - The first error of the line by itself.
+    /// - `TooLong`, if there are more than 65536 words with this line.
+    /// - `NoMemory`, if memory is exhausted.
     fn add_line(&mut self, text: &[u8]) -> Result<(), AsmFault>
         requires count { self.old.lines < 2 ^ 64 - 1 }
         requires few { self.old.words ≤ MAX_WORDS }
@@ -136,8 +138,8 @@ impl FirstPass {
     ///
     /// # Errors
     ///
-    /// The fault of the first line that has one of its own, or with which there are too many words, or `NoMemory` at the
-    /// line in hand.
+    /// - The first error of a line by itself, or `TooLong` at the first line with which there are more than 65536 words.
+    /// - `NoMemory`, at the line at which memory is exhausted.
     pub(crate) fn over(alloc: Global, text: &[u8]) -> Result<FirstPass, AsmFault>
         ensures ok { IfOk result (λ pass. HasRead pass (readings text.now) × (first_line_fault own_fault [] (readings text.now) ≡ None)) }
         ensures fault { IfErr result (λ fault. (first_line_fault own_fault [] (readings text.now) ≡ Some fault) ⊎ OutOfMemoryForLabel (readings text.now) fault) }

@@ -1,5 +1,5 @@
-//! The formats of statements: what the operands after each mnemonic are. Each call refuses another number or form of
-//! operands with `BadOperand`, and then a number out of its range with `OutOfRange`.
+//! The operand formats of statements. Each function returns `BadOperand` if the number or the form of the operands is wrong, and then
+//! `OutOfRange` if a number is out of its range.
 
 ghost use Rattle.std.specs.Prelude.{◌≡◌, ◌∷◌, [], Ok, Err, map};
 ghost use Rattle.rv_word.specs.Cases.{result_case};
@@ -20,7 +20,7 @@ use rv_encoding::{
 };
 use rv_word::Reg;
 
-/// The two registers that operands name.
+/// Reads two registers from operands.
 fn registers(first: &[u8], second: &[u8]) -> Result<(Reg, Reg), AsmFaultKind>
     ensures { result ≡ result_case (register_at first.now) (λ first. result_case (register_at second.now) (λ second. Ok (first, second)) Err) Err }
 {
@@ -29,21 +29,21 @@ fn registers(first: &[u8], second: &[u8]) -> Result<(Reg, Reg), AsmFaultKind>
     Ok((first, second))
 }
 
-/// The immediate that an operand writes.
+/// Reads an immediate from an operand.
 fn immediate(n: &[u8]) -> Result<Imm12, AsmFaultKind>
     ensures { result ≡ result_case (number_operand n.now) immediate_of_number Err }
 {
     number(n)?.immediate()
 }
 
-/// The word that an operand writes.
+/// Reads a word from an operand.
 fn word(n: &[u8]) -> Result<u32, AsmFaultKind>
     ensures { result ≡ result_case (number_operand n.now) word_of_number Err }
 {
     number(n)?.word()
 }
 
-/// `rd, n` of lui and auipc.
+/// Reads the operands `rd, n` of lui and auipc.
 pub(crate) fn upper_operands(operands: &[&[u8]]) -> Result<(Reg, UpperImm), AsmFaultKind>
     ensures { result ≡ upper_operands_of (map (λ operand. operand.now) operands.now) }
 {
@@ -53,7 +53,7 @@ pub(crate) fn upper_operands(operands: &[&[u8]]) -> Result<(Reg, UpperImm), AsmF
     }
 }
 
-/// The register and the number of lui and auipc, each in its operand.
+/// Reads the register and the number of lui and auipc, each from its operand.
 fn upper_operands_in(rd: &[u8], n: &[u8]) -> Result<(Reg, UpperImm), AsmFaultKind>
     ensures { result ≡ upper_operands_of (rd.now ∷ n.now ∷ []) }
 {
@@ -62,7 +62,7 @@ fn upper_operands_in(rd: &[u8], n: &[u8]) -> Result<(Reg, UpperImm), AsmFaultKin
     Ok((rd, imm))
 }
 
-/// `r, n(rs1)` of jalr, loads and stores: r, rs1 and n.
+/// Reads the operands `r, n(rs1)` of jalr, loads and stores, and returns r, rs1 and n.
 pub(crate) fn address_operands(operands: &[&[u8]]) -> Result<(Reg, Reg, Imm12), AsmFaultKind>
     ensures { result ≡ address_operands_of (map (λ operand. operand.now) operands.now) }
 {
@@ -72,7 +72,7 @@ pub(crate) fn address_operands(operands: &[&[u8]]) -> Result<(Reg, Reg, Imm12), 
     }
 }
 
-/// The registers and the offset of `r, n(rs1)`, each in its operand.
+/// Reads the registers and the offset of `r, n(rs1)`, each from its operand.
 fn address_operands_in(r: &[u8], place: &[u8]) -> Result<(Reg, Reg, Imm12), AsmFaultKind>
     ensures { result ≡ address_operands_of (r.now ∷ place.now ∷ []) }
 {
@@ -81,7 +81,7 @@ fn address_operands_in(r: &[u8], place: &[u8]) -> Result<(Reg, Reg, Imm12), AsmF
     Ok((r, base, offset.immediate()?))
 }
 
-/// The jump to a target.
+/// Returns the jal to a target.
 fn jump(rd: Reg, target: Target) -> Result<Statement, AsmFaultKind>
     ensures { result ≡ jump_of rd target }
 {
@@ -94,7 +94,7 @@ fn jump(rd: Reg, target: Target) -> Result<Statement, AsmFaultKind>
     }
 }
 
-/// `jal rd, t`.
+/// Reads the operands of `jal rd, t`.
 pub(crate) fn jal_statement(operands: &[&[u8]]) -> Result<Statement, AsmFaultKind>
     ensures { result ≡ jal_of (map (λ operand. operand.now) operands.now) }
 {
@@ -104,7 +104,7 @@ pub(crate) fn jal_statement(operands: &[&[u8]]) -> Result<Statement, AsmFaultKin
     }
 }
 
-/// The jal of its operands.
+/// Reads the operands of a jal, each from its text.
 fn jal(rd: &[u8], t: &[u8]) -> Result<Statement, AsmFaultKind>
     ensures { result ≡ jal_of (rd.now ∷ t.now ∷ []) }
 {
@@ -112,7 +112,7 @@ fn jal(rd: &[u8], t: &[u8]) -> Result<Statement, AsmFaultKind>
     jump(rd, jump_target(t)?)
 }
 
-/// The branch to a target.
+/// Returns the branch to a target.
 fn branch(kind: BranchKind, rs1: Reg, rs2: Reg, target: Target) -> Result<Statement, AsmFaultKind>
     ensures { result ≡ branch_of kind rs1 rs2 target }
 {
@@ -135,7 +135,7 @@ fn branch(kind: BranchKind, rs1: Reg, rs2: Reg, target: Target) -> Result<Statem
     }
 }
 
-/// `beq rs1, rs2, t` and the other branches.
+/// Reads the operands of `beq rs1, rs2, t` and the other branches.
 pub(crate) fn branch_statement(
     kind: BranchKind,
     operands: &[&[u8]],
@@ -148,7 +148,7 @@ pub(crate) fn branch_statement(
     }
 }
 
-/// The branch of its operands.
+/// Reads the operands of a branch, each from its text.
 fn branch_in(kind: BranchKind, rs1: &[u8], rs2: &[u8], t: &[u8]) -> Result<Statement, AsmFaultKind>
     ensures { result ≡ branch_statement_of kind (rs1.now ∷ rs2.now ∷ t.now ∷ []) }
 {
@@ -156,7 +156,7 @@ fn branch_in(kind: BranchKind, rs1: &[u8], rs2: &[u8], t: &[u8]) -> Result<State
     branch(kind, rs1, rs2, jump_target(t)?)
 }
 
-/// `addi rd, rs1, n` and the other operations on an immediate.
+/// Reads the operands of `addi rd, rs1, n` and the other operations on an immediate.
 pub(crate) fn immediate_statement(
     kind: OpImmKind,
     operands: &[&[u8]],
@@ -169,7 +169,7 @@ pub(crate) fn immediate_statement(
     }
 }
 
-/// The operation on an immediate, of its operands.
+/// Reads the operands of an operation on an immediate, each from its text.
 fn immediate_operation(
     kind: OpImmKind,
     rd: &[u8],
@@ -183,7 +183,7 @@ fn immediate_operation(
     Ok(Statement::Instruction(Instr::OpImm { kind, rd, rs1, imm }))
 }
 
-/// `slli rd, rs1, n` and the other shifts by an immediate.
+/// Reads the operands of `slli rd, rs1, n` and the other shifts by an immediate.
 pub(crate) fn shift_statement(
     kind: ShiftKind,
     operands: &[&[u8]],
@@ -196,7 +196,7 @@ pub(crate) fn shift_statement(
     }
 }
 
-/// The shift by an immediate, of its operands.
+/// Reads the operands of a shift by an immediate, each from its text.
 fn shift(kind: ShiftKind, rd: &[u8], rs1: &[u8], n: &[u8]) -> Result<Statement, AsmFaultKind>
     ensures { result ≡ shift_of kind (rd.now ∷ rs1.now ∷ n.now ∷ []) }
 {
@@ -210,7 +210,7 @@ fn shift(kind: ShiftKind, rd: &[u8], rs1: &[u8], n: &[u8]) -> Result<Statement, 
     }))
 }
 
-/// `add rd, rs1, rs2` and the other operations on two registers.
+/// Reads the operands of `add rd, rs1, rs2` and the other operations on two registers.
 pub(crate) fn register_statement(
     kind: OpKind,
     operands: &[&[u8]],
@@ -223,7 +223,7 @@ pub(crate) fn register_statement(
     }
 }
 
-/// The operation on two registers, of its operands.
+/// Reads the operands of an operation on two registers, each from its text.
 fn operation(kind: OpKind, rd: &[u8], rs1: &[u8], rs2: &[u8]) -> Result<Statement, AsmFaultKind>
     ensures { result ≡ register_of kind (rd.now ∷ rs1.now ∷ rs2.now ∷ []) }
 {
@@ -232,7 +232,7 @@ fn operation(kind: OpKind, rd: &[u8], rs1: &[u8], rs2: &[u8]) -> Result<Statemen
     Ok(Statement::Instruction(Instr::Op { kind, rd, rs1, rs2 }))
 }
 
-/// `fence p, s`.
+/// Reads the operands of `fence p, s`.
 pub(crate) fn fence_statement(operands: &[&[u8]]) -> Result<Statement, AsmFaultKind>
     ensures { result ≡ fence_of (map (λ operand. operand.now) operands.now) }
 {
@@ -242,7 +242,7 @@ pub(crate) fn fence_statement(operands: &[&[u8]]) -> Result<Statement, AsmFaultK
     }
 }
 
-/// The fence of its operands.
+/// Reads the operands of a fence, each from its text.
 fn fence(p: &[u8], s: &[u8]) -> Result<Statement, AsmFaultKind>
     ensures { result ≡ fence_of (p.now ∷ s.now ∷ []) }
 {
@@ -259,7 +259,7 @@ fn fence(p: &[u8], s: &[u8]) -> Result<Statement, AsmFaultKind>
     }))
 }
 
-/// `csrrw rd, c, rs1`, csrrs and csrrc.
+/// Reads the operands of `csrrw rd, c, rs1`, csrrs and csrrc.
 pub(crate) fn csr_statement(kind: CsrKind, operands: &[&[u8]]) -> Result<Statement, AsmFaultKind>
     ensures { result ≡ csr_of kind (map (λ operand. operand.now) operands.now) }
 {
@@ -269,7 +269,7 @@ pub(crate) fn csr_statement(kind: CsrKind, operands: &[&[u8]]) -> Result<Stateme
     }
 }
 
-/// The change of a control and status register by a register, of its operands.
+/// Reads the operands of csrrw, csrrs or csrrc, each from its text.
 fn csr_by_register(
     kind: CsrKind,
     rd: &[u8],
@@ -285,7 +285,7 @@ fn csr_by_register(
     Ok(Statement::Instruction(Instr::Csr { kind, rd, rs1, csr }))
 }
 
-/// `csrrwi rd, c, n`, csrrsi and csrrci.
+/// Reads the operands of `csrrwi rd, c, n`, csrrsi and csrrci.
 pub(crate) fn csr_immediate_statement(
     kind: CsrKind,
     operands: &[&[u8]],
@@ -298,7 +298,7 @@ pub(crate) fn csr_immediate_statement(
     }
 }
 
-/// The change of a control and status register by an immediate, of its operands.
+/// Reads the operands of csrrwi, csrrsi or csrrci, each from its text.
 fn csr_by_immediate(kind: CsrKind, rd: &[u8], c: &[u8], n: &[u8]) -> Result<Statement, AsmFaultKind>
     ensures { result ≡ csr_immediate_of kind (rd.now ∷ c.now ∷ n.now ∷ []) }
 {
@@ -315,7 +315,7 @@ fn csr_by_immediate(kind: CsrKind, rd: &[u8], c: &[u8], n: &[u8]) -> Result<Stat
     }))
 }
 
-/// `sfence.vma rs1, rs2`.
+/// Reads the operands of `sfence.vma rs1, rs2`.
 pub(crate) fn sfence_statement(operands: &[&[u8]]) -> Result<Statement, AsmFaultKind>
     ensures { result ≡ sfence_of (map (λ operand. operand.now) operands.now) }
 {
@@ -325,7 +325,7 @@ pub(crate) fn sfence_statement(operands: &[&[u8]]) -> Result<Statement, AsmFault
     }
 }
 
-/// The sfence.vma of its operands.
+/// Reads the operands of sfence.vma, each from its text.
 fn sfence(rs1: &[u8], rs2: &[u8]) -> Result<Statement, AsmFaultKind>
     ensures { result ≡ sfence_of (rs1.now ∷ rs2.now ∷ []) }
 {
@@ -333,7 +333,7 @@ fn sfence(rs1: &[u8], rs2: &[u8]) -> Result<Statement, AsmFaultKind>
     Ok(Statement::Instruction(Instr::SfenceVma { rs1, rs2 }))
 }
 
-/// An instruction whose mnemonic stands alone.
+/// Returns an instruction whose mnemonic has no operands.
 pub(crate) fn plain_statement(
     instruction: Instr,
     operands: &[&[u8]],
@@ -347,7 +347,7 @@ pub(crate) fn plain_statement(
     }
 }
 
-/// `.word n`.
+/// Reads the operand of `.word n`.
 pub(crate) fn word_statement(operands: &[&[u8]]) -> Result<Statement, AsmFaultKind>
     ensures { result ≡ word_of (map (λ operand. operand.now) operands.now) }
 {
@@ -357,7 +357,7 @@ pub(crate) fn word_statement(operands: &[&[u8]]) -> Result<Statement, AsmFaultKi
     }
 }
 
-/// The word of its operand, as it is.
+/// Reads the word of `.word` from its text.
 fn written_word(n: &[u8]) -> Result<Statement, AsmFaultKind>
     ensures { result ≡ word_of (n.now ∷ []) }
 {
@@ -365,7 +365,7 @@ fn written_word(n: &[u8]) -> Result<Statement, AsmFaultKind>
     Ok(Statement::Word(word))
 }
 
-/// `li rd, n`.
+/// Reads the operands of `li rd, n`.
 pub(crate) fn li_statement(operands: &[&[u8]]) -> Result<Statement, AsmFaultKind>
     ensures { result ≡ li_of (map (λ operand. operand.now) operands.now) }
 {
@@ -375,7 +375,7 @@ pub(crate) fn li_statement(operands: &[&[u8]]) -> Result<Statement, AsmFaultKind
     }
 }
 
-/// The li of its operands.
+/// Reads the operands of li, each from its text.
 fn li(rd: &[u8], n: &[u8]) -> Result<Statement, AsmFaultKind>
     ensures { result ≡ li_of (rd.now ∷ n.now ∷ []) }
 {

@@ -1,6 +1,5 @@
-//! The assembler and the disassembler of the bench: text to words and words to text (RISC-V Unprivileged ISA 20191213,
-//! chapters 24 and 25, in this project's own grammar). They are inverse as far as they can be: the disassembly of any word,
-//! assembled, is that word alone.
+//! The assembler and the disassembler of the bench: text to words, and words to text (RISC-V Unprivileged ISA 20191213, chapters 24 and 25, in
+//! this project's own grammar). The disassembly of any word assembles to that word alone.
 //!
 //! ```text
 //! let words = assemble(alloc, b"loop: addi x1, x1, -1\nbne x1, x0, loop\n")?; // [0xfff0_8093, 0xfe00_9ee3]

@@ -1,4 +1,4 @@
-//! A line of an assembler text.
+//! Reads a line of an assembler text.
 
 ghost use Rattle.std.specs.Prelude.{◌≡◌, option_map};
 ghost use Rattle.rv_asm.specs.LineReading.{label_at, optional_statement_at, line_read};
@@ -10,16 +10,16 @@ use crate::reading::read_statement;
 use crate::statement::Statement;
 use rv_text::is_good_line;
 
-/// What a line says.
+/// The content of a line.
 #[derive(Drop)]
 pub(crate) struct Line {
     /// The name before `:`.
     pub(crate) label: Option<Name>,
-    /// What follows it.
+    /// The statement after the label.
     pub(crate) statement: Option<Statement>,
 }
 
-/// The label of a line, if there is one.
+/// Returns the label of a line, if there is one, or `BadText` if it is not a name.
 fn optional_label(text: Option<&[u8]>) -> Result<Option<Name>, AsmFaultKind>
     ensures { result ≡ label_at (option_map (λ name. name.now) text.entry) }
 {
@@ -32,7 +32,7 @@ fn optional_label(text: Option<&[u8]>) -> Result<Option<Name>, AsmFaultKind>
     }
 }
 
-/// The statement of a line, if there is one.
+/// Reads the statement of a line, if there is one.
 fn optional_statement(text: &[u8]) -> Result<Option<Statement>, AsmFaultKind>
     ensures { result ≡ optional_statement_at text.now }
 {
@@ -43,11 +43,11 @@ fn optional_statement(text: &[u8]) -> Result<Option<Statement>, AsmFaultKind>
     Ok(Some(statement))
 }
 
-/// What a line says.
+/// Reads the content of a line.
 ///
 /// # Errors
 ///
-/// The first of its own faults: `BadText`, `UnknownName`, `BadOperand` or `OutOfRange`.
+/// The first error of the line by itself: `BadText`, `UnknownName`, `BadOperand` or `OutOfRange`.
 #[tactic(auto, unfolding(crate::specs::LineReading::line_read))]
 pub(crate) fn read_line(text: &[u8]) -> Result<Line, AsmFaultKind>
     ensures { result ≡ line_read text.now }

@@ -6,7 +6,7 @@ ghost use Rattle.rv_asm.specs.Mnemonics.{mnemonic_named};
 use crate::tables::looked_up;
 use rv_encoding::{BranchKind, CsrKind, LoadKind, OpImmKind, OpKind, ShiftKind, StoreKind};
 
-/// The first word of a statement. Those of one format are one variant, which has a kind.
+/// The first word of a statement. Mnemonics of one format are one variant, which has a kind.
 #[derive(Clone, Copy)]
 pub(crate) enum Mnemonic {
     Lui,
@@ -28,9 +28,9 @@ pub(crate) enum Mnemonic {
     Mret,
     Wfi,
     SfenceVma,
-    /// `.word`: a word as it is.
+    /// `.word`: a word given as a number.
     Word,
-    /// `nop`: an addi that does nothing.
+    /// `nop`: an addi without effect.
     Nop,
     /// `ret`: a jump to the address in x1.
     Ret,
@@ -102,7 +102,7 @@ const MNEMONICS: [(&str, Mnemonic); 62] = [
     ("divu", Mnemonic::Op(OpKind::Divu)),
     ("rem", Mnemonic::Op(OpKind::Rem)),
     ("remu", Mnemonic::Op(OpKind::Remu)),
-    // what an assembler adds
+    // names that the assembler adds
     (".word", Mnemonic::Word),
     ("nop", Mnemonic::Nop),
     ("ret", Mnemonic::Ret),
@@ -110,7 +110,7 @@ const MNEMONICS: [(&str, Mnemonic); 62] = [
 ];
 
 impl Mnemonic {
-    /// The mnemonic that a name is, if it is one. Upper and lower case differ.
+    /// Returns the mnemonic of a name, if there is one. Names are case-sensitive.
     #[tactic(auto, unfolding(crate::specs::Mnemonics::mnemonics))]
     pub(crate) fn named(name: &[u8]) -> Option<Mnemonic>
         ensures { result ≡ mnemonic_named name.now }

@@ -7,7 +7,7 @@ use crate::cuts::is_name;
 use arrayvec::ArrayVec;
 use std::marker::Model;
 
-/// The name of a label: at most 32 letters, digits, `_` and `.`, of which the first is no digit.
+/// The name of a label: 1 to 32 letters, digits, `_` and `.`, and the first is no digit.
 #[derive(Drop)]
 pub(crate) struct Name {
     bytes: ArrayVec<u8, 32>,
@@ -22,7 +22,7 @@ impl Model for Name {
 }
 
 impl Name {
-    /// The name that a text is, if it is one.
+    /// Returns the name with this text, if the text is a name.
     #[tactic(auto, unfolding(crate::specs::Cuts::is_name))]
     pub(crate) fn new(text: &[u8]) -> Option<Name>
         ensures { result ≡ (if is_name_of text.now then Some text.now else None) }
@@ -34,14 +34,14 @@ impl Name {
         Some(Name { bytes })
     }
 
-    /// Its bytes, in ASCII.
+    /// Returns the bytes of the name, in ASCII.
     pub(crate) fn bytes(&self) -> &ArrayVec<u8, 32>
         ensures { result.now.items ≡ self.now }
     {
         &self.bytes
     }
 
-    /// Its bytes, in ASCII.
+    /// Returns the bytes of the name, in ASCII.
     pub(crate) fn into_bytes(self) -> ArrayVec<u8, 32>
         ensures { result.items ≡ self }
     {

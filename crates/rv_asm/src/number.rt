@@ -1,4 +1,4 @@
-//! Numbers as texts write them.
+//! Reads numbers from a text.
 
 ghost use Rattle.std.specs.Prelude.{◌≡◌, ℕ};
 ghost use Rattle.rv_asm.specs.Numbers.{plus, minus, decimal_digits as decimal_digits_of, written_number as written_number_of};
@@ -8,14 +8,14 @@ use rv_text::digits;
 /// A number with its sign.
 #[derive(Clone, Copy)]
 pub(crate) struct Number {
-    /// Whether a `-` stands before it.
+    /// Whether there is a `-` before it.
     pub(crate) is_negative: bool,
-    /// Its absolute value; a larger one than a `u64` holds counts as the greatest `u64`.
+    /// Its absolute value. A value above the largest `u64` counts as the largest `u64`.
     pub(crate) magnitude: u64,
 }
 
 impl Number {
-    /// The number that is not negative.
+    /// Returns a number that is not negative.
     pub(crate) const fn plus(magnitude: u64) -> Self
         ensures { result ≡ plus magnitude }
     {
@@ -25,7 +25,7 @@ impl Number {
         }
     }
 
-    /// The negative number.
+    /// Returns a number with the sign `-`.
     pub(crate) const fn minus(magnitude: u64) -> Self
         ensures { result ≡ minus magnitude }
     {
@@ -36,7 +36,7 @@ impl Number {
     }
 }
 
-/// The value of decimal digits, one or more and nothing else; a larger one than a `u64` holds counts as the greatest `u64`.
+/// Returns the value of a text of one or more decimal digits. A value above the largest `u64` counts as the largest `u64`.
 #[tactic(auto, unfolding(crate::specs::Numbers::decimal_digits))]
 fn decimal_digits(text: &[u8]) -> Option<u64>
     ensures { result ≡ decimal_digits_of text.now }
@@ -52,8 +52,7 @@ fn decimal_digits(text: &[u8]) -> Option<u64>
     Some(value)
 }
 
-/// The number that a text writes: `0x` and one to eight hexadecimal digits of either case, or decimal digits, perhaps
-/// after `-`.
+/// Reads a number: `0x` and one to eight hexadecimal digits of either case, or decimal digits with an optional `-` before them.
 #[tactic(auto, unfolding(crate::specs::Numbers::written_number))]
 pub(crate) fn written_number(text: &[u8]) -> Option<Number>
     ensures { result ≡ written_number_of text.now }

@@ -1,4 +1,4 @@
-//! What the operands of a statement write.
+//! Reads the operands of statements.
 
 ghost use Rattle.std.specs.Prelude.{◌≡◌};
 ghost use Rattle.rv_asm.specs.Operands.{register_at, number_operand, csr_operand, base_of, offset_and_base, address_operand, target_at, fence_set_at};
@@ -13,12 +13,12 @@ use rv_encoding::FenceSet;
 use rv_text::position_of;
 use rv_word::Reg;
 
-/// Where a jump or a branch goes.
+/// The target of a jump or a branch.
 #[derive(Drop)]
 pub(crate) enum Target {
-    /// To the statement that follows the label.
+    /// The statement after the label.
     Label(Name),
-    /// So many bytes further.
+    /// An offset in bytes.
     Offset(Number),
 }
 
@@ -42,33 +42,33 @@ const FENCE_SETS: [(&str, u8); 16] = [
     ("iorw", 15),
 ];
 
-/// The register that an operand names.
+/// Reads a register.
 ///
 /// # Errors
 ///
-/// `BadOperand` where it names none.
+/// `BadOperand`, if the operand is not the name of a register.
 pub(crate) fn register(text: &[u8]) -> Result<Reg, AsmFaultKind>
     ensures { result ≡ register_at text.now }
 {
     register_named(text).ok_or(AsmFaultKind::BadOperand)
 }
 
-/// The number that an operand writes.
+/// Reads a number.
 ///
 /// # Errors
 ///
-/// `BadOperand` where it is no number.
+/// `BadOperand`, if the operand is not a number.
 pub(crate) fn number(text: &[u8]) -> Result<Number, AsmFaultKind>
     ensures { result ≡ number_operand text.now }
 {
     written_number(text).ok_or(AsmFaultKind::BadOperand)
 }
 
-/// The number of the control and status register that an operand names or numbers.
+/// Reads a control and status register, by its name or its number, and returns its number.
 ///
 /// # Errors
 ///
-/// `BadOperand` where it is neither a known name nor a number.
+/// `BadOperand`, if the operand is neither a known name nor a number.
 pub(crate) fn csr(text: &[u8]) -> Result<Number, AsmFaultKind>
     ensures { result ≡ csr_operand text.now }
 {
@@ -78,7 +78,7 @@ pub(crate) fn csr(text: &[u8]) -> Result<Number, AsmFaultKind>
     }
 }
 
-/// The register between `(` and `)`.
+/// Reads the register between `(` and `)`.
 #[tactic(auto, unfolding(crate::specs::Operands::base_of))]
 fn base(text: &[u8]) -> Option<Reg>
     ensures { result ≡ base_of text.now }
@@ -88,7 +88,7 @@ fn base(text: &[u8]) -> Option<Reg>
     register_named(name)
 }
 
-/// The offset and the base register of `n(rs1)`.
+/// Reads the offset and the base register of `n(rs1)`.
 #[tactic(auto, unfolding(crate::specs::Operands::offset_and_base))]
 fn offset_and_base(text: &[u8]) -> Option<(Number, Reg)>
     ensures { result ≡ offset_and_base text.now }
@@ -99,22 +99,22 @@ fn offset_and_base(text: &[u8]) -> Option<(Number, Reg)>
     Some((offset, base))
 }
 
-/// The offset and the base register that an operand `n(rs1)` writes, without blanks.
+/// Reads an operand `n(rs1)` without blanks, and returns the offset and the base register.
 ///
 /// # Errors
 ///
-/// `BadOperand` where it has another form.
+/// `BadOperand`, if the operand has another form.
 pub(crate) fn address(text: &[u8]) -> Result<(Number, Reg), AsmFaultKind>
     ensures { result ≡ address_operand text.now }
 {
     offset_and_base(text).ok_or(AsmFaultKind::BadOperand)
 }
 
-/// Where a jump or a branch goes.
+/// Reads the target of a jump or a branch.
 ///
 /// # Errors
 ///
-/// `BadOperand` where the operand is neither a name nor a number.
+/// `BadOperand`, if the operand is neither a name nor a number.
 #[tactic(auto, unfolding(crate::specs::Operands::target_at))]
 pub(crate) fn jump_target(text: &[u8]) -> Result<Target, AsmFaultKind>
     ensures { result ≡ target_at text.now }
@@ -125,11 +125,11 @@ pub(crate) fn jump_target(text: &[u8]) -> Result<Target, AsmFaultKind>
     Ok(Target::Offset(number(text)?))
 }
 
-/// The set of accesses that an operand of fence writes.
+/// Reads a set of accesses of fence.
 ///
 /// # Errors
 ///
-/// `BadOperand` where it is neither `0` nor letters of `iorw` in this order.
+/// `BadOperand`, if the operand is neither `0` nor letters of `iorw` in this order.
 #[tactic(auto, unfolding(crate::specs::FenceSets::fence_sets))]
 pub(crate) fn fence_set(text: &[u8]) -> Result<FenceSet, AsmFaultKind>
     ensures { result ≡ fence_set_at text.now }

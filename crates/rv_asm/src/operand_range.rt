@@ -1,4 +1,4 @@
-//! The ranges of the numbers that operands write (Unprivileged ISA, sections 2.3, 2.4 and 9.1).
+//! Checks the ranges of numbers in operands (Unprivileged ISA, sections 2.3, 2.4 and 9.1).
 
 ghost use Rattle.std.specs.Prelude.{◌≡◌, ◌<◌, ◌≤◌, ◌^◌};
 ghost use Rattle.rv_asm.specs.OperandRanges.{is_number_within as is_within_of, residue as residue_of, immediate_of, upper_immediate_of, five_bits_of};
@@ -9,7 +9,7 @@ use crate::number::Number;
 use rv_encoding::{BranchOffset, CsrNumber, Imm12, JumpOffset, Shamt, Uimm, UpperImm};
 
 impl Number {
-    /// Whether the number is from `-below` to `above`.
+    /// Returns whether the number is from `-below` to `above`.
     fn is_within(self, below: u64, above: u64) -> bool
         ensures { result ≡ is_within_of below above self }
     {
@@ -20,7 +20,7 @@ impl Number {
         }
     }
 
-    /// The number modulo another.
+    /// Returns the number modulo `modulus`.
     fn residue(self, modulus: u64) -> u32
         requires some { 0 < modulus }
         requires fits { modulus ≤ 2 ^ 32 }
@@ -35,11 +35,11 @@ impl Number {
         }
     }
 
-    /// The immediate of formats I and S: -2048 to 2047.
+    /// Returns the immediate of formats I and S: -2048 to 2047.
     ///
     /// # Errors
     ///
-    /// `OutOfRange` for any other number.
+    /// `OutOfRange`, for any other number.
     pub(crate) fn immediate(self) -> Result<Imm12, AsmFaultKind>
         ensures { result ≡ immediate_of self }
     {
@@ -49,11 +49,11 @@ impl Number {
         Ok(Imm12::new(self.residue(1 << 12)))
     }
 
-    /// The immediate of lui and auipc, of which the number is bits 31 to 12: 0 to 1048575.
+    /// Returns the immediate of lui and auipc. The number is bits 31 to 12 of it: 0 to 1048575.
     ///
     /// # Errors
     ///
-    /// `OutOfRange` for any other number.
+    /// `OutOfRange`, for any other number.
     pub(crate) fn upper_immediate(self) -> Result<UpperImm, AsmFaultKind>
         ensures { result ≡ upper_immediate_of self }
     {
@@ -63,11 +63,11 @@ impl Number {
         Ok(UpperImm::new(self.magnitude as u32 * 4096))
     }
 
-    /// A shift amount: 0 to 31.
+    /// Returns the shift amount: 0 to 31.
     ///
     /// # Errors
     ///
-    /// `OutOfRange` for any other number.
+    /// `OutOfRange`, for any other number.
     pub(crate) fn shift_amount(self) -> Result<Shamt, AsmFaultKind>
         ensures { result ≡ five_bits_of self }
     {
@@ -77,11 +77,11 @@ impl Number {
         Ok(Shamt::new(self.residue(32)))
     }
 
-    /// The immediate of a CSR instruction: 0 to 31.
+    /// Returns the immediate of a CSR instruction: 0 to 31.
     ///
     /// # Errors
     ///
-    /// `OutOfRange` for any other number.
+    /// `OutOfRange`, for any other number.
     pub(crate) fn csr_immediate(self) -> Result<Uimm, AsmFaultKind>
         ensures { result ≡ five_bits_of self }
     {
@@ -91,11 +91,11 @@ impl Number {
         Ok(Uimm::new(self.residue(32)))
     }
 
-    /// The number of a control and status register: 0 to 4095.
+    /// Returns the number of a control and status register: 0 to 4095.
     ///
     /// # Errors
     ///
-    /// `OutOfRange` for any other number.
+    /// `OutOfRange`, for any other number.
     pub(crate) fn csr_number(self) -> Result<CsrNumber, AsmFaultKind>
         ensures { result ≡ csr_number_field self }
     {
@@ -105,11 +105,11 @@ impl Number {
         Ok(CsrNumber::new(self.residue(1 << 12) as u16))
     }
 
-    /// The offset of a branch in bytes: an even number from -4096 to 4094.
+    /// Returns the offset of a branch in bytes: an even number from -4096 to 4094.
     ///
     /// # Errors
     ///
-    /// `OutOfRange` for any other number.
+    /// `OutOfRange`, for any other number.
     pub(crate) fn branch_offset(self) -> Result<BranchOffset, AsmFaultKind>
         ensures { result ≡ branch_offset_of self }
     {
@@ -119,11 +119,11 @@ impl Number {
         Ok(BranchOffset::new(self.residue(1 << 13)))
     }
 
-    /// The offset of a jump in bytes: an even number from -1048576 to 1048574.
+    /// Returns the offset of a jump in bytes: an even number from -1048576 to 1048574.
     ///
     /// # Errors
     ///
-    /// `OutOfRange` for any other number.
+    /// `OutOfRange`, for any other number.
     pub(crate) fn jump_offset(self) -> Result<JumpOffset, AsmFaultKind>
         ensures { result ≡ jump_offset_of self }
     {
@@ -133,11 +133,11 @@ impl Number {
         Ok(JumpOffset::new(self.residue(1 << 21)))
     }
 
-    /// A word: -2147483648 to 4294967295, modulo 2^32.
+    /// Returns the word: -2147483648 to 4294967295, modulo 2^32.
     ///
     /// # Errors
     ///
-    /// `OutOfRange` for any other number.
+    /// `OutOfRange`, for any other number.
     pub(crate) fn word(self) -> Result<u32, AsmFaultKind>
         ensures { result ≡ word_of_number self }
     {

@@ -1,4 +1,4 @@
-//! A statement, read from its text.
+//! Reads a statement from its text.
 
 ghost use Rattle.std.specs.Prelude.{◌≡◌, map};
 ghost use Rattle.rv_asm.specs.Statements.{statement_of as statement_of_operands, mnemonic_at, statement_at};
@@ -15,7 +15,7 @@ use crate::statement::Statement;
 use rv_encoding::{Imm12, Instr, LoadKind, OpImmKind, StoreKind};
 use rv_word::Reg;
 
-/// `lui rd, n`.
+/// Reads the operands of `lui rd, n`.
 fn lui_statement(operands: &[&[u8]]) -> Result<Statement, AsmFaultKind>
     ensures { result ≡ statement_of_operands Mnemonic.Lui (map (λ operand. operand.now) operands.now) }
 {
@@ -23,7 +23,7 @@ fn lui_statement(operands: &[&[u8]]) -> Result<Statement, AsmFaultKind>
     Ok(Statement::Instruction(Instr::Lui { rd, imm }))
 }
 
-/// `auipc rd, n`.
+/// Reads the operands of `auipc rd, n`.
 fn auipc_statement(operands: &[&[u8]]) -> Result<Statement, AsmFaultKind>
     ensures { result ≡ statement_of_operands Mnemonic.Auipc (map (λ operand. operand.now) operands.now) }
 {
@@ -31,7 +31,7 @@ fn auipc_statement(operands: &[&[u8]]) -> Result<Statement, AsmFaultKind>
     Ok(Statement::Instruction(Instr::Auipc { rd, imm }))
 }
 
-/// `jalr rd, n(rs1)`.
+/// Reads the operands of `jalr rd, n(rs1)`.
 fn jalr_statement(operands: &[&[u8]]) -> Result<Statement, AsmFaultKind>
     ensures { result ≡ statement_of_operands Mnemonic.Jalr (map (λ operand. operand.now) operands.now) }
 {
@@ -39,7 +39,7 @@ fn jalr_statement(operands: &[&[u8]]) -> Result<Statement, AsmFaultKind>
     Ok(Statement::Instruction(Instr::Jalr { rd, rs1, offset }))
 }
 
-/// `lw rd, n(rs1)` and the other loads.
+/// Reads the operands of `lw rd, n(rs1)` and the other loads.
 fn load_statement(kind: LoadKind, operands: &[&[u8]]) -> Result<Statement, AsmFaultKind>
     ensures { result ≡ statement_of_operands (Mnemonic.Load kind) (map (λ operand. operand.now) operands.now) }
 {
@@ -52,7 +52,7 @@ fn load_statement(kind: LoadKind, operands: &[&[u8]]) -> Result<Statement, AsmFa
     }))
 }
 
-/// `sw rs2, n(rs1)` and the other stores.
+/// Reads the operands of `sw rs2, n(rs1)` and the other stores.
 fn store_statement(kind: StoreKind, operands: &[&[u8]]) -> Result<Statement, AsmFaultKind>
     ensures { result ≡ statement_of_operands (Mnemonic.Store kind) (map (λ operand. operand.now) operands.now) }
 {
@@ -65,7 +65,7 @@ fn store_statement(kind: StoreKind, operands: &[&[u8]]) -> Result<Statement, Asm
     }))
 }
 
-/// `nop`, which is `addi x0, x0, 0`.
+/// Returns the statement `nop`, which is `addi x0, x0, 0`.
 fn nop_statement(operands: &[&[u8]]) -> Result<Statement, AsmFaultKind>
     ensures { result ≡ statement_of_operands Mnemonic.Nop (map (λ operand. operand.now) operands.now) }
 {
@@ -78,7 +78,7 @@ fn nop_statement(operands: &[&[u8]]) -> Result<Statement, AsmFaultKind>
     plain_statement(nop, operands)
 }
 
-/// `ret`, which is `jalr x0, 0(x1)`.
+/// Returns the statement `ret`, which is `jalr x0, 0(x1)`.
 fn ret_statement(operands: &[&[u8]]) -> Result<Statement, AsmFaultKind>
     ensures { result ≡ statement_of_operands Mnemonic.Ret (map (λ operand. operand.now) operands.now) }
 {
@@ -90,12 +90,12 @@ fn ret_statement(operands: &[&[u8]]) -> Result<Statement, AsmFaultKind>
     plain_statement(ret, operands)
 }
 
-/// The statement of a mnemonic and its operands.
+/// Returns the statement of a mnemonic and its operands.
 ///
 /// # Errors
 ///
-/// `BadOperand` where the number or the form of the operands is another, and then `OutOfRange` where a number is out of
-/// its range or an offset is odd.
+/// - `BadOperand`, if the number or the form of the operands is wrong.
+/// - `OutOfRange`, if a number is out of its range, or an offset is odd.
 fn statement_of(mnemonic: Mnemonic, operands: &[&[u8]]) -> Result<Statement, AsmFaultKind>
     ensures { result ≡ statement_of_operands mnemonic (map (λ operand. operand.now) operands.now) }
 {
@@ -126,11 +126,12 @@ fn statement_of(mnemonic: Mnemonic, operands: &[&[u8]]) -> Result<Statement, Asm
     }
 }
 
-/// The mnemonic that the first word of a statement is.
+/// Returns the mnemonic of the first word of a statement.
 ///
 /// # Errors
 ///
-/// `BadText` where it is no name, and then `UnknownName` where it is no mnemonic.
+/// - `BadText`, if the word is no name.
+/// - `UnknownName`, if the name is no mnemonic.
 fn mnemonic_of(word: &[u8]) -> Result<Mnemonic, AsmFaultKind>
     ensures { result ≡ mnemonic_at word.now }
 {
@@ -140,11 +141,11 @@ fn mnemonic_of(word: &[u8]) -> Result<Mnemonic, AsmFaultKind>
     Mnemonic::named(word).ok_or(AsmFaultKind::UnknownName)
 }
 
-/// The statement that a text is, which has no blanks at its front.
+/// Reads a statement from a text without leading blanks.
 ///
 /// # Errors
 ///
-/// Those of its mnemonic, and then those of its operands.
+/// The error of its mnemonic, or that of its operands.
 #[tactic(auto, unfolding(crate::specs::Statements::statement_at))]
 pub(crate) fn read_statement(text: &[u8]) -> Result<Statement, AsmFaultKind>
     ensures { result ≡ statement_at text.now }

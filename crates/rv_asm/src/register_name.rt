@@ -6,7 +6,7 @@ ghost use Rattle.rv_asm.specs.RegisterNames.{register_named as register_of};
 use crate::tables::looked_up;
 use rv_word::Reg;
 
-/// The names by number, and those of the calling convention.
+/// The names by number, and the names of the calling convention.
 const REGISTERS: [(&str, u8); 65] = [
     ("x0", 0),
     ("x1", 1),
@@ -75,7 +75,7 @@ const REGISTERS: [(&str, u8); 65] = [
     ("t6", 31),
 ];
 
-/// The register of a name, if there is one. Upper and lower case differ, and `x01` is no name.
+/// Returns the register of a name, if there is one. Names are case-sensitive, and `x01` is no name.
 #[tactic(auto, unfolding(crate::specs::RegisterNames::registers))]
 pub(crate) fn register_named(name: &[u8]) -> Option<Reg>
     ensures { result ≡ register_of name.now }

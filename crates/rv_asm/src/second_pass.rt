@@ -1,4 +1,4 @@
-//! The second pass over the lines of a text. It makes the words, with the labels of the first pass.
+//! The second pass of the assembler. It assembles the words of each line, with the labels of the first pass.
 
 ghost use Rattle.std.specs.Prelude.{◌≡◌, ◌⊎◌, ◌≤◌, ◌+◌, ◌++◌, [], None, Some, Ok, Err, IfOk, IfErr, IsOk, OnOk, List, ℕ, length, take};
 ghost use Rattle.rv_asm.specs.LabelMap.{places_of};
@@ -13,11 +13,13 @@ use crate::statement::Statement;
 use rv_text::split_line;
 use std::alloc::Global;
 
-/// Adds the words of a statement to those before it.
+/// Appends the words of a statement.
 ///
 /// # Errors
 ///
-/// `UnknownLabel`, or `OutOfRange` where the label that it names is too far, or `NoMemory`.
+/// - `UnknownLabel`, if no line has the label that the statement uses.
+/// - `OutOfRange`, if the label is too far away.
+/// - `NoMemory`, if memory is exhausted.
 fn add_statement(
     words: &mut Vec<u32>,
     labels: &Labels,
@@ -39,11 +41,14 @@ fn add_statement(
     }
 }
 
-/// Adds the words of a line to those of the lines before it.
+/// Appends the words of a line.
 ///
 /// # Errors
 ///
-/// Its own fault, or `UnknownLabel`, or `OutOfRange` where the label that it names is too far, or `NoMemory`.
+/// - The first error of the line by itself.
+/// - `UnknownLabel`, if no line has the label that the line uses.
+/// - `OutOfRange`, if the label is too far away.
+/// - `NoMemory`, if memory is exhausted.
 fn add_words(words: &mut Vec<u32>, labels: &Labels, text: &[u8]) -> Result<(), AsmFaultKind>
     requires { length words.old.items ≤ 65536 }
     ensures ok { OnOk result
@@ -60,12 +65,12 @@ fn add_words(words: &mut Vec<u32>, labels: &Labels, text: &[u8]) -> Result<(), A
     }
 }
 
-/// The words of all lines of a text, none of which has a fault of its own.
+/// Returns the words of all lines of a text. No line may have an error by itself.
 ///
 /// # Errors
 ///
-/// The fault of the first line that names a label which no line has, or which is too far, or `NoMemory` at the line in
-/// hand.
+/// - `UnknownLabel` or `OutOfRange`, at the first line that uses a label which no line has, or which is too far away.
+/// - `NoMemory`, at the line at which memory is exhausted.
 pub(crate) fn words_of(alloc: Global, text: &[u8], labels: &Labels) -> Result<Vec<u32>, AsmFault>
     requires { first_line_fault own_fault [] (readings text.now) ≡ None }
     ensures ok { IfOk result

@@ -1,10 +1,10 @@
-//! What a statement asks for.
+//! The statements of an assembler text.
 
 use crate::name::Name;
 use rv_encoding::{BranchKind, Instr};
 use rv_word::Reg;
 
-/// A statement of an assembler text, its operands read and in their ranges.
+/// A statement of an assembler text. Its operands are read and in their ranges.
 #[derive(Drop)]
 pub(crate) enum Statement {
     /// An instruction with all its fields.
@@ -26,6 +26,6 @@ pub(crate) enum Statement {
         rd: Reg,
         value: u32,
     },
-    /// A word as it is.
+    /// A word given as a number.
     Word(u32),
 }

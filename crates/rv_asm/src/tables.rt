@@ -1,9 +1,9 @@
-//! Tables from names to what they name.
+//! Looks names up in tables.
 
 ghost use Rattle.std.specs.Prelude.{◌≡◌, map};
 ghost use Rattle.rv_asm.specs.Tables.{looked_up as looked_up_in};
 
-/// The value in the row of a name, if there is one. Upper and lower case differ.
+/// Returns the value in the row of a name, if there is one. Names are case-sensitive.
 pub(crate) fn looked_up<T: Copy>(rows: &[(&str, T)], name: &[u8]) -> Option<T>
     ensures { result ≡ looked_up_in (map (λ row. (row.0.now, row.1)) rows.now) name.now }
 {

@@ -1,9 +1,9 @@
-//! A reader and a writer of std that give and take a byte at a time, and tell their bytes.
+//! A reader and a writer of std that move one byte in each call, and whose bytes are specified.
 ghost use Rattle.std.specs.Prelude.{Some};
 
 use std::io::{self, Read, Write};
 
-/// A reader of these bytes.
+/// A reader that returns these bytes.
 #[derive(Drop)]
 pub(crate) struct ByteReader<'a> {
     rest: &'a [u8],
@@ -27,7 +27,7 @@ impl<'a> Read for ByteReader<'a> {
     }
 }
 
-/// A writer that keeps its bytes in a vector.
+/// A writer that appends its bytes to a vector.
 #[derive(Drop)]
 pub(crate) struct ByteWriter {
     bytes: Vec<u8>,

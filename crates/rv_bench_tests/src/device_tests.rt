@@ -1,4 +1,5 @@
-//! Whole runs, under the monitor and of two benches too, over devices that move so many bytes a call and fail at each call in turn.
+//! Tests of whole runs, also under the monitor and with two benches. The devices move a limited number of bytes in each call, and fail at each
+//! call in turn.
 use crate::expecting::{expect_beginning, expect_bytes, expect_number, expect_outcome};
 use crate::faulty::{AtSetCall, FaultySink, FaultySource};
 use rv_bench::{BenchFault, Lines, MemorySink, MemorySource, run_job, run_twin};
@@ -6,7 +7,7 @@ use rv_command_line::{Harts, ImageKind, Job, Setup};
 use std::alloc::Global;
 use std::process::Abort;
 
-/// An input, what it is answered, and how many lines of the answer each of its lines has.
+/// An input, its output, and for each line of the input the number of output lines.
 struct Example {
     job: Job,
     input: &'static [u8],
@@ -14,7 +15,7 @@ struct Example {
     told: &'static [usize],
 }
 
-/// A bench alone.
+/// A bench without the monitor.
 const BARE: Example = Example {
     job: Job::Run(Setup {
         kind: ImageKind::Auto,
@@ -46,7 +47,7 @@ const MONITORED: Example = Example {
     told: &[0, 0, 1, 1, 1, 1, 1, 1, 1, 1, 1, 1, 1, 1],
 };
 
-/// Two benches, and a destroy of the enclave in which they differ. The line that ends the run is no line's.
+/// Two benches, and a destroy of the enclave in which they differ. The line that ends the run belongs to no line of the input.
 const TWIN: Example = Example {
     job: Job::Twin(
         Setup {
@@ -69,7 +70,7 @@ const TWIN: Example = Example {
     told: &[0, 0, 1, 1, 1, 1, 1, 1, 0, 1, 2, 2, 2, 2],
 };
 
-/// Two benches of two harts, and a destroy by the one that did not create. The first hart's call before that fails.
+/// Two benches of two harts. One hart creates an enclave, the other destroys it. An earlier call of the first hart fails.
 const TWIN_OF_TWO_HARTS: Example = Example {
     job: Job::Twin(
         Setup {
@@ -93,7 +94,7 @@ const TWIN_OF_TWO_HARTS: Example = Example {
     told: &[0, 0, 1, 1, 1, 1, 1, 1, 0, 2, 2, 2, 2, 4],
 };
 
-/// A setup of two benches of one hart.
+/// The setup of two benches of one hart.
 const OF_ONE_HART: Setup = Setup {
     kind: ImageKind::Auto,
     ram: 196_608,
@@ -101,23 +102,23 @@ const OF_ONE_HART: Setup = Setup {
     harts: Harts::One,
 };
 
-/// Two benches, and a run that enters the enclave in which they differ, which is the last that is read.
+/// The input for two benches, with a run that enters the enclave in which they differ. This line is the last that is read.
 const ENTERED: &[u8] =
     b"7300000073000000\n--\nsetreg 17 0a454e43\nsetreg 16 1\nsetreg 10 80020000\n\
     setreg 11 1000\nsetreg 14 80020000\nstep 1\n--\nsetreg 16 3\nrun 1\nfly\n";
 
-/// What is written for them.
+/// The output for this input.
 const ENTERED_OUTPUT: &[u8] = b"ok\nok\nok\nok\nok\n\
     ran 1 pc=80010004 mode=S world=host why=done trap=00000009:00000000\n\
     a: ok\nb: ok\ntwin entered 2\n";
 
-/// How many bytes a device moves at most in a call.
+/// The maximal numbers of bytes that a device moves in one call.
 const MOST: [usize; 3] = [1, 7, 100];
 
-/// The most bytes that an example writes.
+/// The maximal number of bytes that an example writes.
 const ROOM: usize = 600;
 
-/// How many line feeds there are in the first bytes of a text.
+/// Returns the number of line feeds in the first bytes of a text.
 fn lines_within(text: &[u8], len: usize) -> usize {
     let mut count = 0usize;
     for byte in &text[..len.min(text.len())] {
@@ -128,7 +129,7 @@ fn lines_within(text: &[u8], len: usize) -> usize {
     count
 }
 
-/// The beginning of a text that has so many lines.
+/// Returns the first `count` lines of a text.
 fn first_lines(text: &[u8], count: usize) -> &[u8] {
     let mut left = count;
     let mut len = 0usize;
@@ -144,7 +145,7 @@ fn first_lines(text: &[u8], count: usize) -> &[u8] {
     &text[..len.min(text.len())]
 }
 
-/// What there is to tell of the lines that are complete in the first bytes of the input.
+/// Returns the output for the lines that are complete in the first bytes of the input.
 fn told_of(example: &Example, read: usize) -> &'static [u8] {
     let lines = lines_within(example.input, read);
     let mut count = 0usize;
@@ -154,7 +155,7 @@ fn told_of(example: &Example, read: usize) -> &'static [u8] {
     first_lines(example.output, count)
 }
 
-/// Devices that never fail: the number of calls of the source, and of the sink.
+/// Runs an example with devices that never fail, and returns the numbers of calls of the source and of the sink.
 fn calls_of(rt: &impl Abort, alloc: Global, example: &Example, most: usize) -> (u64, u64) {
     let mut buffer = [0u8; ROOM];
     let mut sink = FaultySink::new(&mut buffer, most, 0, AtSetCall::Fail);
@@ -166,7 +167,7 @@ fn calls_of(rt: &impl Abort, alloc: Global, example: &Example, most: usize) -> (
     (source.calls(), sink.calls())
 }
 
-/// The source fails at each of its calls in turn: the complete lines have their replies, and nothing else is written.
+/// Runs an example with a source that fails at each of its calls in turn. The output has the replies to the complete lines, and nothing else.
 fn fail_to_read(rt: &impl Abort, alloc: Global, example: &Example, most: usize, calls: u64) {
     for set_call in 1..=calls {
         let mut buffer = [0u8; ROOM];
@@ -180,7 +181,7 @@ fn fail_to_read(rt: &impl Abort, alloc: Global, example: &Example, most: usize, 
     }
 }
 
-/// The sink fails, or takes nothing, at each of its calls in turn: a beginning of the answer is written.
+/// Runs an example with a sink that fails, or takes nothing, at each of its calls in turn. A prefix of the output is written.
 fn fail_to_write(
     rt: &impl Abort,
     alloc: Global,
@@ -190,7 +191,7 @@ fn fail_to_write(
     at: AtSetCall,
 ) {
     for set_call in 1..=calls {
-        // the last call is that of `flush`, of which no byte is taken
+        // the last call is `flush`, which takes no byte
         if set_call == calls && at == AtSetCall::TakeNothing {
             continue;
         }
@@ -208,7 +209,7 @@ fn fail_to_write(
     }
 }
 
-/// All of the above, for each number of bytes a call.
+/// Runs all of these tests, for each maximal number of bytes in a call.
 fn fails_at_each_call(rt: &impl Abort, alloc: Global, example: &Example) {
     for most in MOST {
         let (reads, writes) = calls_of(rt, alloc, example, most);

@@ -1,18 +1,19 @@
-//! What calls must answer. The assertions that compare stand here, once for each type: in each test they would make its proof long.
+//! Expectations of the tests. The assertions are in functions of their own, one for each type, because they would lengthen the proof of each
+//! test.
 use rv_bench::{BenchFault, Lines, Source};
 use std::process::Abort;
 
-/// These bytes and no others.
+/// Expects exactly these bytes.
 pub(crate) fn expect_bytes(rt: &impl Abort, found: &[u8], want: &[u8], case: u64) {
     assert_eq!(rt; found, want, "case {case}");
 }
 
-/// The beginning of these bytes.
+/// Expects a prefix of these bytes.
 pub(crate) fn expect_beginning(rt: &impl Abort, found: &[u8], want: &[u8], case: u64) {
     assert!(rt; want.starts_with(found), "case {case}");
 }
 
-/// This outcome.
+/// Expects this outcome.
 pub(crate) fn expect_outcome(
     rt: &impl Abort,
     found: Result<(), BenchFault>,
@@ -22,12 +23,12 @@ pub(crate) fn expect_outcome(
     assert_eq!(rt; found, want, "case {case}");
 }
 
-/// This number.
+/// Expects this number.
 pub(crate) fn expect_number(rt: &impl Abort, found: u64, want: u64, case: u64) {
     assert_eq!(rt; found, want, "case {case}");
 }
 
-/// A line of these bytes.
+/// Expects that the next line has these bytes.
 pub(crate) fn expect_line<S: Source>(
     rt: &impl Abort,
     lines: &mut Lines<S>,
@@ -38,7 +39,7 @@ pub(crate) fn expect_line<S: Source>(
     expect_bytes(rt, line.as_slice(), want, case);
 }
 
-/// No line more.
+/// Expects the end of the lines.
 pub(crate) fn expect_no_line<S: Source>(rt: &impl Abort, lines: &mut Lines<S>) {
     assert!(rt; lines.next_line() == Ok(None));
 }

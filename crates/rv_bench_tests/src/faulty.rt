@@ -1,18 +1,18 @@
-//! A source and a sink over memory for tests: they move few bytes a call, and fail at a set call.
+//! A source and a sink over memory for tests. They move few bytes in each call, and fail at a given call.
 ghost use Rattle.std.specs.Prelude.{◌≡◌, ◌<◌, [], ⊤, length};
 ghost use Rattle.rv_streams.specs.MemoryStreams.{rest_in_memory, bytes_taken, has_flushed};
 
 use rv_bench::{DeviceFault, MemorySink, MemorySource, Sink, Source};
 
-/// What a sink does at the set call.
+/// The behaviour of a sink at the given call.
 #[derive(Clone, Copy, Debug, PartialEq, Eq)]
 pub(crate) enum AtSetCall {
     Fail,
     TakeNothing,
 }
 
-/// A source over memory that gives at most a set number of bytes a call, and fails at a set call, counted from 1; at call 0
-/// means never.
+/// A source over memory that returns at most a given number of bytes in each call. It fails at a given call, counted from 1. Call 0 means that
+/// it never fails.
 #[derive(Drop)]
 pub(crate) struct FaultySource<'a> {
     source: MemorySource<'a>,
@@ -24,7 +24,7 @@ pub(crate) struct FaultySource<'a> {
 }
 
 impl<'a> FaultySource<'a> {
-    /// A device that was not called yet.
+    /// Returns a source without any calls yet.
     pub(crate) fn new(bytes: &'a [u8], most: usize, set_call: u64) -> FaultySource<'a>
         requires { 0 < most }
     {
@@ -37,12 +37,12 @@ impl<'a> FaultySource<'a> {
         }
     }
 
-    /// How many calls were made.
+    /// Returns the number of calls.
     pub(crate) fn calls(&self) -> u64 {
         self.calls
     }
 
-    /// The bytes that are still to come.
+    /// Returns the bytes that are not yet read.
     pub(crate) fn rest(&self) -> &[u8] {
         self.source.rest()
     }
@@ -73,8 +73,8 @@ impl<'a> Source for FaultySource<'a> {
     }
 }
 
-/// A sink over memory that takes at most a set number of bytes a call, and fails or takes nothing at a set call, counted
-/// from 1; at call 0 means never.
+/// A sink over memory that takes at most a given number of bytes in each call. It fails or takes nothing at a given call, counted from 1. Call 0
+/// means never.
 #[derive(Drop)]
 pub(crate) struct FaultySink<'a> {
     sink: MemorySink<'a>,
@@ -87,7 +87,7 @@ pub(crate) struct FaultySink<'a> {
 }
 
 impl<'a> FaultySink<'a> {
-    /// A device that was not called yet.
+    /// Returns a sink without any calls yet.
     pub(crate) fn new(
         buffer: &'a mut [u8],
         most: usize,
@@ -105,12 +105,12 @@ impl<'a> FaultySink<'a> {
         }
     }
 
-    /// How many calls were made, those of `flush` among them.
+    /// Returns the number of calls, including those of `flush`.
     pub(crate) fn calls(&self) -> u64 {
         self.calls
     }
 
-    /// The bytes that were taken.
+    /// Returns the bytes that were taken.
     pub(crate) fn bytes(&self) -> &[u8] {
         self.sink.bytes()
     }
@@ -158,7 +158,7 @@ impl<'a> Sink for FaultySink<'a> {
     }
 }
 
-/// A source of so many `#`, which takes no memory for them.
+/// A source of a given number of `#` bytes, which are not stored in memory.
 #[derive(Drop)]
 pub(crate) struct FeedSource {
     left: usize,
@@ -167,7 +167,7 @@ pub(crate) struct FeedSource {
 }
 
 impl FeedSource {
-    /// A device that was not called yet.
+    /// Returns a source without any calls yet.
     pub(crate) fn new(left: usize) -> FeedSource {
         FeedSource {
             left,
@@ -176,7 +176,7 @@ impl FeedSource {
         }
     }
 
-    /// How many bytes were given.
+    /// Returns the number of bytes that were returned.
     pub(crate) fn given(&self) -> usize {
         self.given
     }

@@ -1,4 +1,4 @@
-//! Images of each kind, and those that do not load.
+//! Tests of images of each format, and of images that cannot be loaded.
 use crate::expecting::{expect_bytes, expect_outcome};
 use rv_bench::{BenchFault, Lines, MemorySink, MemorySource, run_bench};
 use rv_command_line::{ImageKind, Setup};
@@ -6,7 +6,7 @@ use rv_elf::ElfFault;
 use std::alloc::Global;
 use std::process::Abort;
 
-/// An ELF file of one segment: addi x1, x0, -1 at address 80000000, and four zeros behind it.
+/// An ELF file with one segment: addi x1, x0, -1 at address 80000000, followed by four zeros.
 const FILE: [u8; 88] =
     *b"\x7fELF\x01\x01\x01\0\0\0\0\0\0\0\0\0\x02\0\xf3\0\x01\0\0\0\0\0\0\x80\x34\0\0\0\
     \0\0\0\0\0\0\0\0\x34\0\x20\0\x01\0\x28\0\0\0\0\0\
@@ -15,15 +15,15 @@ const FILE: [u8; 88] =
 
 const SCRIPT: &[u8] = b"step 1\nmem 80000000 8\n";
 
-/// The replies where the file was loaded.
+/// The replies if the file is loaded.
 const LOADED: &[u8] =
     b"ran 1 pc=80000004 mode=M world=bare why=done trap=-\n80000000: 93 00 f0 ff 00 00 00 00\n";
 
-/// The replies where the file's own bytes are the memory: its first word is no instruction.
+/// The replies if the bytes of the file are the memory. Its first word is no instruction.
 const AS_RAW: &[u8] =
     b"ran 1 pc=00000000 mode=M world=bare why=done trap=00000002:464c457f\n80000000: 7f 45 4c 46 01 01 01 00\n";
 
-/// The kind that an image is taken as, which bytes of the file it is, its fault, and the replies.
+/// The format that an image is read as, the range of the file's bytes that it has, its error, and the replies.
 const IMAGES: &[(ImageKind, usize, usize, Option<ElfFault>, &[u8])] = &[
     (ImageKind::Auto, 0, 88, None, LOADED),
     (ImageKind::Elf, 0, 88, None, LOADED),
@@ -42,7 +42,7 @@ const IMAGES: &[(ImageKind, usize, usize, Option<ElfFault>, &[u8])] = &[
     ),
 ];
 
-/// Runs the script over an image that is taken as of a kind: its fault, and the replies.
+/// Runs the script with an image in a format, and expects its error and the replies.
 fn expect_image(
     rt: &impl Abort,
     alloc: Global,

@@ -1,4 +1,4 @@
-//! Jobs over memory, and over devices that move few bytes a call and fail at each call in turn.
+//! Tests of jobs over memory, and over devices that move few bytes in each call and fail at each call in turn.
 use crate::expecting::{expect_beginning, expect_bytes, expect_number, expect_outcome};
 use crate::faulty::{AtSetCall, FaultySink, FaultySource, FeedSource};
 use rv_asm::{AsmFault, AsmFaultKind};
@@ -18,10 +18,10 @@ const INPUT: &[u8] = b"9300f0ff\n--\nstep 1\nreg 1\n";
 
 const OUTPUT: &[u8] = b"ran 1 pc=80000004 mode=M world=bare why=done trap=-\nx1=ffffffff\n";
 
-/// How many words the long image has: their lines are written in several parts.
+/// The number of words of the long image. Their lines are written in several parts.
 const LONG_WORDS: usize = 200;
 
-/// The text of an image of 200 words.
+/// Returns the text of an image of 200 words.
 fn long_image() -> [u8; 9 * LONG_WORDS] {
     let line = b"93800000\n";
     let mut text = [0u8; 9 * LONG_WORDS];
@@ -31,7 +31,7 @@ fn long_image() -> [u8; 9 * LONG_WORDS] {
     text
 }
 
-/// Does a job over memory: its outcome, what it writes, and what is left of the text.
+/// Executes a job over memory, and expects its outcome, its output, and the rest of the text.
 fn expect_job(
     rt: &impl Abort,
     alloc: Global,
@@ -49,7 +49,7 @@ fn expect_job(
     expect_bytes(rt, source.rest(), left, 0);
 }
 
-/// Assembles a text that has a fault, or has none.
+/// Assembles a text, and expects its error or none.
 fn expect_assembly(
     rt: &impl Abort,
     alloc: Global,
@@ -67,7 +67,7 @@ fn expect_assembly(
     }
 }
 
-/// Disassembles an image that has a fault, or has none.
+/// Disassembles an image, and expects its error or none.
 fn expect_disassembly(
     rt: &impl Abort,
     alloc: Global,
@@ -88,7 +88,7 @@ fn assembles_a_text(rt: HostRuntime) {
 }
 
 #[test]
-fn tells_the_fault_of_a_text(rt: HostRuntime) {
+fn reports_the_error_of_a_text(rt: HostRuntime) {
     let fault = AsmFault {
         line: 2,
         kind: AsmFaultKind::UnknownName,
@@ -155,7 +155,7 @@ fn refuses_a_setup(rt: HostRuntime) {
     expect_bytes(&rt, sink.bytes(), b"", 0);
 }
 
-/// The source fails at a call: nothing is written, and each call before that gave one byte.
+/// Runs a job whose source fails at a call. Nothing is written, and each call before that returned one byte.
 fn fail_to_read(rt: &impl Abort, alloc: Global, job: &Job, text: &[u8], set_call: u64) {
     let mut buffer = [0u8; 128];
     let mut sink = FaultySink::new(&mut buffer, 100, 0, AtSetCall::Fail);
@@ -182,7 +182,7 @@ fn writes_nothing_after_a_failed_read(rt: HostRuntime) {
     }
 }
 
-/// The sink fails, or takes nothing, at a call: a beginning of the answer is written.
+/// Runs a job whose sink fails, or takes nothing, at a call. A prefix of the output is written.
 fn fail_to_write(
     rt: &impl Abort,
     alloc: Global,
@@ -200,7 +200,7 @@ fn fail_to_write(
     expect_beginning(rt, sink.bytes(), whole, set_call);
 }
 
-/// The sink fails, or takes nothing, at each of its calls in turn.
+/// Runs a job whose sink fails, or takes nothing, at each of its calls in turn.
 fn fail_at_each_call(rt: &impl Abort, alloc: Global, job: &Job, text: &[u8]) {
     let mut whole = [0u8; 60 * LONG_WORDS];
     let mut sink = FaultySink::new(&mut whole, 100, 0, AtSetCall::Fail);
@@ -217,7 +217,7 @@ fn fail_at_each_call(rt: &impl Abort, alloc: Global, job: &Job, text: &[u8]) {
             set_call,
             AtSetCall::Fail,
         );
-        // the last call is that of `flush`, of which no byte is taken
+        // the last call is `flush`, which takes no byte
         if set_call < calls {
             fail_to_write(
                 rt,
@@ -239,7 +239,7 @@ fn writes_a_beginning_before_a_failed_write(rt: HostRuntime) {
     fail_at_each_call(&rt, rt.alloc(), &Job::Dis, &long_image());
 }
 
-/// How many line feeds a text has, each behind the line of the one word.
+/// Returns the number of line feeds in a text. Each follows the line of the only word.
 fn count_lines(rt: &impl Abort, text: &[u8]) -> u64 {
     let mut count = 0u64;
     for line in text.split_inclusive(|byte| *byte == b'\n') {
@@ -260,7 +260,7 @@ fn gathers_the_lines(rt: HostRuntime) {
     expect_number(&rt, count_lines(&rt, sink.bytes()), LONG_WORDS as u64, 0);
 }
 
-/// Does a job without input, whose sink fails at a call, or never: its outcome, and the calls of the sink.
+/// Runs a job without input, whose sink fails at a call, or never. Expects its outcome and the number of calls of the sink.
 fn expect_calls(
     rt: &impl Abort,
     alloc: Global,

@@ -1,4 +1,4 @@
-//! What the program does with its words: the job, the lines of its faults, the statuses, and that it flushes.
+//! Tests of the program with its arguments: the job, the lines of errors, the exit statuses, and the flush.
 use crate::expecting::{expect_bytes, expect_number};
 use crate::faulty::{AtSetCall, FaultySink, FaultySource};
 use rv_bench::{MemorySink, MemorySource, WordsFault, perform, refuse};
@@ -9,7 +9,7 @@ const INPUT: &[u8] = b"9300f0ff\n--\nstep 1\nreg 1\n";
 
 const OUTPUT: &[u8] = b"ran 1 pc=80000004 mode=M world=bare why=done trap=-\nx1=ffffffff\n";
 
-/// Does what words ask for over memory: what it writes, and its status.
+/// Executes the job of arguments over memory, and expects its output and exit status.
 fn expect_performed(
     rt: &impl Abort,
     alloc: Global,
@@ -63,7 +63,7 @@ fn refuses_other_words(rt: HostRuntime) {
 }
 
 #[test]
-fn tells_the_faults_of_inputs(rt: HostRuntime) {
+fn reports_the_errors_of_inputs(rt: HostRuntime) {
     let asm = ["rvbench", "asm"];
     expect_performed(
         &rt,
@@ -108,7 +108,7 @@ fn gives_help(rt: HostRuntime) {
     assert!(&rt; sink.bytes().len() > 500);
 }
 
-/// A reason why words name no job is told so, with this status.
+/// Expects the line and the exit status for an error of the arguments.
 fn expect_refused(rt: &impl Abort, fault: &WordsFault, written: &[u8], status: u8) {
     let mut buffer = [0u8; 64];
     let mut sink = FaultySink::new(&mut buffer, 64, 0, AtSetCall::Fail);
@@ -123,7 +123,7 @@ fn expect_refused(rt: &impl Abort, fault: &WordsFault, written: &[u8], status: u
 }
 
 #[test]
-fn tells_why_words_are_refused(rt: HostRuntime) {
+fn reports_why_arguments_are_refused(rt: HostRuntime) {
     expect_refused(&rt, &WordsFault::Refused, b"rvbench: command line\n", 2);
     expect_refused(&rt, &WordsFault::NoMemory, b"rvbench: memory\n", 1);
     let help = String::from_str(rt.alloc(), "help\n").expect(&rt, "a text");
@@ -131,7 +131,7 @@ fn tells_why_words_are_refused(rt: HostRuntime) {
 }
 
 #[test]
-fn tells_a_failed_read(rt: HostRuntime) {
+fn reports_a_failed_read(rt: HostRuntime) {
     let mut buffer = [0u8; 128];
     let mut sink = FaultySink::new(&mut buffer, 128, 0, AtSetCall::Fail);
     let source = FaultySource::new(INPUT, 1, 21);
@@ -141,7 +141,7 @@ fn tells_a_failed_read(rt: HostRuntime) {
     expect_bytes(&rt, sink.bytes(), written, 0);
 }
 
-/// The sink fails at a call: what is written then, the status, and that nothing is called after it.
+/// Expects the output and the exit status if the sink fails at a call, and that it is not called after that.
 fn expect_failed_write(
     rt: &impl Abort,
     alloc: Global,
@@ -159,12 +159,12 @@ fn expect_failed_write(
 }
 
 #[test]
-fn tells_a_failed_write_by_its_status(rt: HostRuntime) {
-    // the first reply, the second, and the flush behind them
+fn reports_a_failed_write_by_its_status(rt: HostRuntime) {
+    // the first reply, the second, and the flush after them
     expect_failed_write(&rt, rt.alloc(), INPUT, 1, b"", 1);
     expect_failed_write(&rt, rt.alloc(), INPUT, 2, &OUTPUT[..52], 1);
     expect_failed_write(&rt, rt.alloc(), INPUT, 3, OUTPUT, 1);
-    // the line of a fault, and the flush behind it
+    // the line of an error, and the flush after it
     expect_failed_write(&rt, rt.alloc(), b"0\n", 1, b"", 1);
     expect_failed_write(&rt, rt.alloc(), b"0\n", 2, b"rvbench: hex\n", 1);
 }

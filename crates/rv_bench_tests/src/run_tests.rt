@@ -1,4 +1,4 @@
-//! Whole runs over memory, and over devices that move few bytes a call and fail at each call in turn.
+//! Tests of whole runs over memory, and over devices that move few bytes in each call and fail at each call in turn.
 use crate::expecting::{expect_bytes, expect_number, expect_outcome};
 use crate::faulty::{AtSetCall, FaultySink, FaultySource};
 use rv_bench::{BenchFault, Lines, MemorySink, MemorySource, run_bench, run_stream};
@@ -14,7 +14,7 @@ const STEPPED: &[u8] = b"ran 1 pc=80000004 mode=M world=bare why=done trap=-\n";
 
 const OUTPUT: &[u8] = b"ran 1 pc=80000004 mode=M world=bare why=done trap=-\nx1=ffffffff\n";
 
-/// The replies to the lines that are complete in the first bytes of the input.
+/// Returns the replies to the lines that are complete in the first bytes of the input.
 fn replies_within(read: usize) -> &'static [u8] {
     match read {
         0..19 => b"",
@@ -23,7 +23,7 @@ fn replies_within(read: usize) -> &'static [u8] {
     }
 }
 
-/// Runs a script over an image: it ends well, and these are its replies.
+/// Runs a script over an image, and expects success and these replies.
 fn expect_replies(
     rt: &impl Abort,
     alloc: Global,
@@ -40,7 +40,7 @@ fn expect_replies(
     expect_bytes(rt, sink.bytes(), want, 0);
 }
 
-/// Runs an image and a script: how it ends, and what is written.
+/// Runs an image and a script, and expects the outcome and the output.
 fn expect_stream(
     rt: &impl Abort,
     alloc: Global,
@@ -61,20 +61,20 @@ fn expect_stream(
 }
 
 #[test]
-fn answers_a_stream(rt: HostRuntime) {
+fn replies_to_a_stream(rt: HostRuntime) {
     expect_stream(&rt, rt.alloc(), &Setup::default(), INPUT, Ok(()), OUTPUT);
 }
 
 #[test]
-fn answers_a_script(rt: HostRuntime) {
+fn replies_to_a_script(rt: HostRuntime) {
     let image = b"\x93\x00\xf0\xff";
     let script = b"step 1\nreg 1";
     expect_replies(&rt, rt.alloc(), &Setup::default(), image, script, OUTPUT);
 }
 
-/// The image is the host above the monitor: it begins in mode S at 80010000, and its load of the monitor's range is passed on to it.
+/// The image is the host above the monitor. It starts in mode S at 80010000, and its load from the monitor's range traps to mode S.
 #[test]
-fn answers_under_the_monitor(rt: HostRuntime) {
+fn replies_under_the_monitor(rt: HostRuntime) {
     let setup = Setup {
         monitored: true,
         ..Setup::default()
@@ -86,7 +86,7 @@ fn answers_under_the_monitor(rt: HostRuntime) {
 }
 
 #[test]
-fn answers_csr_and_timer(rt: HostRuntime) {
+fn replies_to_csr_and_timer(rt: HostRuntime) {
     let script = b"csr 344\ntimer on\ncsr 344\ntimer off\ncsr 344\ncsr 301\ncsr 7a0";
     let want = b"csr 344=00000000\nok\ncsr 344=00000080\nok\ncsr 344=00000000\n\
           csr 301=40141100\nerror csr\n";
@@ -94,7 +94,7 @@ fn answers_csr_and_timer(rt: HostRuntime) {
 }
 
 #[test]
-fn answers_pmp_and_access(rt: HostRuntime) {
+fn replies_to_pmp_and_access(rt: HostRuntime) {
     // writes x1 to pmpaddr0 and x2 to pmpcfg0: four bytes from 80000100 on, for each kind of access
     let image = b"\x73\x90\x00\x3b\x73\x10\x01\x3a";
     let script = b"setreg 1 20000040\nsetreg 2 17\nstep 2\n\
@@ -131,7 +131,7 @@ fn answers_pmp_and_access(rt: HostRuntime) {
 /// The host makes two calls and loads from the address in x6.
 const HOST: &[u8] = b"\x73\x00\x00\x00\x73\x00\x00\x00\x83\x22\x03\x00";
 
-/// A monitor over so many harts.
+/// Returns the setup of a monitor over `harts` harts.
 const fn over(harts: Harts) -> Setup {
     Setup {
         kind: ImageKind::Raw,
@@ -141,8 +141,8 @@ const fn over(harts: Harts) -> Setup {
     }
 }
 
-/// Hart 1 begins with its number in x10. It can neither end nor read an enclave that runs on hart 0, and the entries of each hart are
-/// those of its own world.
+/// Hart 1 starts with its number in x10. It can neither destroy nor read an enclave that runs on hart 0. Each hart has the PMP entries of its
+/// own world.
 #[test]
 fn keeps_an_enclave_from_the_other_hart(rt: HostRuntime) {
     let script = b"setreg 17 0a454e43\nsetreg 16 1\nsetreg 10 80020000\nsetreg 11 1000\n\
@@ -163,7 +163,7 @@ fn keeps_an_enclave_from_the_other_hart(rt: HostRuntime) {
     expect_replies(&rt, rt.alloc(), &over(Harts::Two), HOST, script, want);
 }
 
-/// Hart 0 creates an enclave and would enter it, and hart 1 would destroy it: who comes first does.
+/// Hart 0 creates an enclave and would enter it, and hart 1 would destroy it. The first of them succeeds.
 #[test]
 fn steps_harts_in_order(rt: HostRuntime) {
     let first_hart_1 = b"setreg 17 0a454e43\nsetreg 16 1\nsetreg 10 80020000\nsetreg 11 1000\n\
@@ -202,7 +202,7 @@ fn steps_harts_in_order(rt: HostRuntime) {
     );
 }
 
-/// There is a hart 1 only where the monitor is over two: a bench without it has one hart, whatever the setup says.
+/// There is a hart 1 only under a monitor over two harts. A bench without the monitor has one hart, whatever the setup has.
 #[test]
 fn has_no_hart_more(rt: HostRuntime) {
     let script = b"hart 1\nsched 01\nreg 10\nhart 0\ncsr f14\n";
@@ -226,7 +226,7 @@ fn flushes_once(rt: HostRuntime) {
     expect_number(&rt, sink.calls(), OUTPUT.len() as u64 + 1, 0);
 }
 
-/// The source gives one byte a call, and fails at a set call: the lines that are complete have their replies.
+/// Runs a script whose source returns one byte in each call, and fails at a given call. The output has the replies to the complete lines.
 fn fail_to_read(rt: &impl Abort, alloc: Global, set_call: usize) {
     let mut buffer = [0u8; 128];
     let mut lines = Lines::new(FaultySource::new(INPUT, 1, set_call as u64));
@@ -244,7 +244,8 @@ fn stops_at_a_failed_read(rt: HostRuntime) {
     }
 }
 
-/// The sink takes one byte a call, and fails or takes nothing at a set call: what it took before that is written.
+/// Runs a script whose sink takes one byte in each call, and fails or takes nothing at a given call. The bytes that it took before that are
+/// written.
 fn fail_to_write(rt: &impl Abort, alloc: Global, set_call: usize, at_set_call: AtSetCall) {
     let mut buffer = [0u8; 128];
     let mut lines = Lines::new(MemorySource::new(INPUT));
@@ -283,7 +284,7 @@ fn stops_at_a_full_sink(rt: HostRuntime) {
     expect_bytes(&rt, sink.bytes(), &OUTPUT[..60], 0);
 }
 
-/// The refusal of an input over a RAM of a size, before anything is written.
+/// Expects the error of an input over a RAM of this size, before anything is written.
 fn expect_refusal(rt: &impl Abort, alloc: Global, input: &[u8], ram: u32, want: BenchFault) {
     let setup = Setup {
         ram,
@@ -309,7 +310,7 @@ fn refuses_in_order(rt: HostRuntime) {
     }
 }
 
-/// Loads an image into a RAM of 65536 bytes, and asks for its last byte: how it ends, and what is written.
+/// Loads an image into a RAM of 65536 bytes and shows its last byte. Expects the outcome and the output.
 fn expect_last_byte(
     rt: &impl Abort,
     alloc: Global,
@@ -337,7 +338,7 @@ fn refuses_an_image_past_the_ram(rt: HostRuntime) {
     expect_last_byte(&rt, rt.alloc(), &image, Err(fault), b"");
 }
 
-/// Whether a RAM can be made of a size, and has it.
+/// Returns whether a RAM can be made in this size, and has it.
 fn is_made(alloc: Global, size: u32) -> Result<bool, RamFault> {
     let ram = Ram::new(alloc, size)?;
     Ok(ram.size() == size)

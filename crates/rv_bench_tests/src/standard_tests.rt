@@ -1,4 +1,5 @@
-//! Jobs by the program's own devices, over readers and writers of std: slices, cursors, vectors, and such that move a byte at a time.
+//! Tests of jobs with the program's own devices, over readers and writers of std: slices, cursors, vectors, and some that move one byte in each
+//! call.
 use crate::byte_by_byte::{ByteReader, ByteWriter};
 use crate::expecting::{expect_bytes, expect_outcome};
 use rv_bench::{BenchFault, StandardSink, StandardSource, run_in_memory, run_job};
@@ -51,7 +52,7 @@ const DIS: Example = Example {
     output: b"0ff0000f fence iorw, iorw\n",
 };
 
-/// Does a job from a reader to a writer, and gives the writer back.
+/// Executes a job from a reader to a writer, and returns the writer.
 fn written<R: Read + Drop, W: Write>(
     rt: &impl Abort,
     alloc: Global,
@@ -65,7 +66,7 @@ fn written<R: Read + Drop, W: Write>(
     sink.into_writer()
 }
 
-/// Does a job over each kind of reader and of writer.
+/// Executes a job over each kind of reader and of writer.
 fn expect_everywhere(rt: &impl Abort, alloc: Global, example: &Example) {
     let Example { job, input, output } = example;
     let slice = written(rt, alloc, job, *input, Vec::new(alloc));
@@ -113,7 +114,7 @@ fn disassembles_over_readers_and_writers(rt: HostRuntime) {
 }
 
 #[test]
-fn tells_the_fault_of_an_input(rt: HostRuntime) {
+fn reports_the_error_of_an_input(rt: HostRuntime) {
     for (job, input, want) in [
         (Job::Run(MONITORED), b"0\n--\n".as_slice(), BenchFault::Hex),
         (Job::Dis, b"000000\n".as_slice(), BenchFault::Hex),
@@ -126,8 +127,8 @@ fn tells_the_fault_of_an_input(rt: HostRuntime) {
     }
 }
 
-/// A create, and then a key that is poked into the enclave, with a line between its bytes; what follows passes over the enclave, ends it,
-/// and creates and enters another one in its place.
+/// A create, and then a key that is poked into the enclave, with a line between its bytes. The later commands do not access the enclave, destroy
+/// it, and create and enter another enclave in its slot.
 const WITH_A_KEY: &[u8] = b"73000000730000007300000073000000\n--\n\
     setreg 17 0a454e43\nsetreg 16 1\nsetreg 10 80020000\nsetreg 11 1000\nsetreg 14 80020000\nstep 1\n\
     poke 80020000 41\n# between\nreg 10\npoke 80020ffc 42\n\

@@ -1,4 +1,4 @@
-//! Lines, texts and images over devices that move few bytes a call and fail.
+//! Tests of lines, texts and images over devices that move few bytes in each call and fail.
 use crate::expecting::{
     expect_beginning, expect_bytes, expect_line, expect_no_line, expect_number,
 };
@@ -22,7 +22,7 @@ const IMAGE: &[u8] = b"9380f0ff\ne39e00fe\n";
 
 const LINES: &[&[u8]] = &[b"00ff", b"", b"", b"step 1\rx", b"--", b"last\r"];
 
-/// The lines of the text, which comes in parts of at most so many bytes.
+/// Expects the lines of the text, which is read in parts of at most `most` bytes.
 fn expect_lines(rt: &impl Abort, most: usize) {
     let mut lines = Lines::new(FaultySource::new(TEXT, most.max(1), 0));
     for want in LINES {
@@ -39,7 +39,7 @@ fn reads_lines_in_parts(rt: HostRuntime) {
     }
 }
 
-/// A line of these bytes, at the first call or, where that one fails, at the second; whether it failed.
+/// Expects a line of these bytes at the first call, or at the second if the first fails. Returns whether the first failed.
 fn expect_line_in_two(
     rt: &impl Abort,
     lines: &mut Lines<FaultySource<'_>>,
@@ -56,7 +56,7 @@ fn expect_line_in_two(
     false
 }
 
-/// The lines of the text, where the source fails once, at a set call: no byte is lost.
+/// Expects the lines of the text if the source fails once, at a given call: no byte is lost.
 fn expect_lines_past(rt: &impl Abort, set_call: u64) {
     let mut lines = Lines::new(FaultySource::new(TEXT, 1, set_call));
     let mut failures = 0u64;
@@ -78,7 +78,7 @@ fn goes_on_after_a_failed_read(rt: HostRuntime) {
     }
 }
 
-/// How many bytes are shown of a line of so many, with an ending behind it.
+/// Expects the number of bytes that are shown of a line of `len` bytes with an ending after it.
 fn expect_shown(rt: &impl Abort, len: usize, ending: &[u8], shown: usize) {
     let mut text = [b'a'; 502];
     let end = len.saturating_add(ending.len());
@@ -105,7 +105,8 @@ fn shows_the_prefix_of_a_long_line(rt: HostRuntime) {
     }
 }
 
-/// The sink takes two bytes a call, and fails or takes nothing at a set call: what it took before that is written.
+/// Writes to a sink that takes two bytes in each call, and fails or takes nothing at a given call. The bytes that it took before that are
+/// written.
 fn fail_to_write(rt: &impl Abort, alloc: Global, set_call: u64, at_set_call: AtSetCall) {
     let mut buffer = [0u8; 32];
     let mut sink = FaultySink::new(&mut buffer, 2, set_call, at_set_call);
@@ -142,7 +143,7 @@ fn a_full_sink_takes_nothing(rt: HostRuntime) {
     expect_bytes(&rt, sink.bytes(), b"abcde", 0);
 }
 
-/// A text, its bytes or none where it is faulty, and what is left of it.
+/// A text, its bytes or none if it has an error, and the rest of it.
 const TEXTS: &[(&[u8], Option<&[u8]>, &[u8])] = &[
     (b"", Some(b""), b""),
     (
@@ -170,7 +171,7 @@ const TEXTS: &[(&[u8], Option<&[u8]>, &[u8])] = &[
     (b"00\xa0\n", None, b""),
 ];
 
-/// Reads an image from a text: its bytes, or none where it is faulty, and what is left of the text.
+/// Reads an image from a text, and expects its bytes or none if it has an error, and the rest of the text.
 fn expect_image(rt: &impl Abort, alloc: Global, text: &[u8], want: Option<&[u8]>, rest: &[u8]) {
     let mut lines = Lines::new(MemorySource::new(text));
     match (read_image(alloc, &mut lines), want) {
@@ -188,7 +189,7 @@ fn reads_an_image(rt: HostRuntime) {
     }
 }
 
-/// Whether `--`, spaces up to so many bytes, and a line feed are the line that ends an image.
+/// Returns whether a line of `--` and spaces, `len` bytes in total, ends an image.
 fn ends_image(rt: &impl Abort, alloc: Global, len: usize) -> bool {
     let mut text = [b' '; 122];
     text[0] = b'-';
@@ -211,7 +212,7 @@ fn a_padded_separator_is_a_bad_line(rt: HostRuntime) {
     assert!(rt; !ends_image(&rt, rt.alloc(), 121));
 }
 
-/// What is answered to an image whose source fails at a set call.
+/// Reads an image whose source fails at a given call, and returns the result.
 fn read_with(alloc: Global, set_call: u64) -> Result<(), BenchFault> {
     let text = b"9300\nf0ff\n--\nstep";
     let mut lines = Lines::new(FaultySource::new(text, 1, set_call));
@@ -251,7 +252,7 @@ fn streams_of_std_pass_all_bytes(rt: HostRuntime) {
     expect_no_line(&rt, &mut lines);
 }
 
-/// The number of a fault, and its line.
+/// Expects the number and the line of an error.
 fn expect_fault(rt: &impl Abort, alloc: Global, fault: BenchFault, number: u64, line: &[u8]) {
     expect_number(rt, u64::from(fault.number()), number, number);
     let shown = format!(in alloc; "{fault}").expect(rt, "memory");

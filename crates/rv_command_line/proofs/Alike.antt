@@ -1,5 +1,5 @@
--- A command line reads the names that an option takes alike, wherever they lie in memory; and where it takes the words, each value
--- that an option of the subcommand is given is one that is read. Both are said of a rule, and then of a walk over words by such rules.
+-- The reading of a command line does not depend on where in memory the names of an option are. If the arguments are accepted, each given value
+-- of an option of the subcommand is readable. Both are proved for a rule, and then for the reading of all arguments with such rules.
 use Rattle.std.proofs.Common.{◌∷◌, ◌≡◌, ◌&&◌, ◌||◌, [], ap, Bool, cond, drop, false, length, List, map, None, not, ℕ, Option, option_map, refl}
 use Rattle.std.proofs.Common.{Some, suc, sym, true, zero}
 use Rattle.std.specs.List.{AllByRecursion}
@@ -25,7 +25,7 @@ use Rattle.clap.specs.declared.error.kind.ErrorKind.TheVariants as kind
 use Rattle.rv_command_line.proofs.Readable.{Good}
 use Rattle.rv_command_line.specs.CommandLine.{kind_names, lent, Names}
 
--- ---- the names of an option, put elsewhere
+-- ---- the names of an option at another address
 
 abbrev pub first : Names
 first = lent (map lent kind_names)
@@ -40,8 +40,8 @@ rule_at names a = record a { parser = option_map (with_names names) a.parser }
 abbrev pub shape_at : Names → Shape → Shape
 shape_at names s = record s { rules = map (rule_at names) s.rules }
 
--- what a step of the reading comes to is the same with the names here and where the definition has them; and where it has no fault,
--- rows whose values are read stay so
+-- The result of a step of the reading is the same with the names at this address and at the address of the definition. If the step has no error,
+-- rows with readable values stay readable.
 pub record Alike (here : Names) {X : Type 0} (rows : X → List Row) (before : List Row) (fault : Names → Kinds) (met : Names → X) : Type 0 where
   pub faults : fault here ≡ fault first
   pub same : met here ≡ met first
@@ -56,13 +56,13 @@ of_held h = h.rows
 abbrev of_walk : Walk → List Row
 of_walk w = w.held.rows
 
--- a rule is used alike
+-- the use of a rule does not depend on the address of the names
 pub record Fits (here : Names) (a : Rule) : Type 0 where
   pub uses : (again : Bool) (values : List Text) (rows : List Row)
       → Alike here itself rows (λ n. use_fault again (rule_at n a) values rows) (λ n. used (rule_at n a) values rows)
   pub default : (rows : List Row) → Alike here itself rows (λ n. default_fault rows (rule_at n a)) (λ n. with_default rows (rule_at n a))
 
--- where no fault is the first, neither part has one
+-- if a sequence of two has no error, neither part has one
 pub parts : (a b : Kinds) → or_else a b ≡ [] → (a ≡ []) × (b ≡ [])
 parts [] b e = (refl, e)
 parts (k ∷ ks) b e = cc
@@ -76,7 +76,7 @@ module _ {here : Names} {X Y : Type 0} {rows : X → List Row} {rows' : Y → Li
     kept = λ e good. let both = parts (f first) (g first (m first)) e in (two (m first)).kept both.1 (one.kept both.0 good);
   }
 
-  -- without a fault of its own
+  -- a step without an error of its own, followed by another
   thence : {m' : Names → X → Y} → Alike here rows before f m → ((x : X) → Alike here rows' (rows x) (λ _. []) (λ n. m' n x))
       → Alike here rows' before f (λ n. m' n (m n))
   thence one two = record {
@@ -97,7 +97,7 @@ module _ {here : Names} {X : Type 0} {rows : X → List Row} where
   stays : {fault : Kinds} {x : X} → Alike here rows (rows x) (λ _. fault) (λ _. x)
   stays = record { faults = refl; same = refl; kept = λ e good. good }
 
--- what is done with the one that is found is alike, where it is so with each and with none
+-- an operation on the element that is found does not depend on the address, if this holds for each element and for none
 found : {X : Type 0} (at : Names → X → X) (Is : X → Type 0) (P : (Names → Option X) → Type 0) (test : X → Bool)
     → ((n : Names) (x : X) → test (at n x) ≡ test x) → P (λ _. None) → ((x : X) → Is x → P (λ n. Some (at n x)))
     → (xs : List X) → AllByRecursion Is xs → P (λ n. find test (map (at n) xs))
@@ -109,7 +109,7 @@ found at Is P test same none some (x ∷ xs) all = go (test x) (λ n. same n x) 
     go true e rest = simp e (some x all.0)
     go false e rest = simp e rest
 
--- ---- the walk over the words of a subcommand
+-- ---- reading the arguments of a subcommand
 
 module _ (here : Names) (s : Shape) (fits : AllByRecursion (Fits here) s.rules) where
   abbrev shape : Names → Shape

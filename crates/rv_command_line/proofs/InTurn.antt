@@ -1,4 +1,4 @@
--- Subcommands that a command is given in turn.
+-- Lemmas about subcommands that are added to a command one after another.
 use Rattle.std.proofs.Common.{◌≡◌, ◌∙◌, Err, IfOk, List, [], ◌∷◌, Ok, Result, ap, fold, map, refl}
 use Rattle.std.proofs.lemmas.List.Elements.{All-head, All-tail}
 use Rattle.std.specs.List.{All}
@@ -13,7 +13,7 @@ added_in_turn (first ∷ others) old new (added, step, rest) local =
     added_in_turn others added new rest (All-tail IsLocal first others local)
     ∙ ap (λ app. fold with_subcommand app (map shape_of others)) (step.shape (All-head IsLocal first others local))
 
--- and so where memory may be refused for them
+-- the same if memory may be exhausted
 pub told_in_turn : {E : Type 0} (app : App) (shapes : List Shape) (subcommands : List Command) (old : Command) → app_of old ≡ app
     → map shape_of subcommands ≡ shapes → All IsLocal subcommands
     → (r : Result Command E) → IfOk r (AddsInTurn AddsSubcommand old subcommands) → IfOk r (λ new. app_of new ≡ fold with_subcommand app shapes)

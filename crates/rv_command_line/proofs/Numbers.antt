@@ -1,4 +1,4 @@
--- What a typed getter of `clap` reads of an option's text.
+-- The value that a typed getter of `clap` returns for an option's text.
 use Rattle.std.proofs.Common.{◌≡◌, ◌∙◌, ◌&&◌, ◌∷◌, ◌^◌, ◌<◌, [], ap, Bool, cond, Err, false, length, List, None, ℕ, Ok, Option, refl, Result, Some, true}
 use Rattle.std.proofs.Common.{sym, true≢false}
 use Rattle.std.proofs.lemmas.Bool.Decides.{Decides-and, Decides-ltb}
@@ -13,7 +13,7 @@ use Rattle.clap.specs.Words.{one_of, one_text, ReadsOne, rows_of, Text}
 use Rattle.clap.specs.declared.parser.matches.Found.{Found}
 use Rattle.rv_command_line.specs.Job.{number_in_text}
 
--- what a getter gives of the text that it is given, if it is given one
+-- the value that a getter returns for the option's text, if the option is given
 pub got : {X : Type 0} (read : Text → Option X) (f : Found) (id : Text) (r : Option X) → (one_text f id ≡ None → r ≡ None)
     → ((text : Text) → one_text f id ≡ Some text → r ≡ read text) → r ≡ option_and_then read (one_of id (rows_of f))
 got read f id r none some = rw (sym (one_text-rows f id)) (go (one_text f id) refl)
@@ -37,7 +37,7 @@ module _ (bits : ℕ) (text : Text) where
   word = Decides-and _ _ (Decides-and _ _ (Decides-ltb 0 (length (without_leading_plus text))) (digits (without_leading_plus text)))
       (Decides-ltb value (2 ^ bits))
 
-  -- the value that `get_one` reads of a text as a number of so many bits
+  -- the value that `get_one` returns for a text as a number of `bits` bits
   pub reads_number : {E : Type 0} (G : Text → Result ℕ E → Type 0) (r : Option ℕ) → ReadsOne G text r
       → ((x : Result ℕ E) → G text x → ParsesUnsigned bits 10 text x) → r ≡ number_in_text bits text
   reads_number G (Some n) read only = let is = only (Ok n) read in rw (word.1 is.0) (ap Some is.1)
@@ -47,7 +47,7 @@ module _ (bits : ℕ) (text : Text) where
       go true e = absurd (only (Err read.0) read.1 (word.0 e))
       go false e = refl
 
-  -- which number it is, as a fact of a text
+  -- this value, for every text
   pub number_reads : ReadsOne {E = Bool} (λ u x. ParsesUnsigned bits 10 u x) text (number_in_text bits text)
   number_reads = go is_word refl
     where

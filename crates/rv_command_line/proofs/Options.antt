@@ -1,4 +1,4 @@
--- The rules of the program's options: each is used alike wherever the names of the kinds lie, and gives values that are read.
+-- The rules of the program's options: the use of each does not depend on the address of the names of the kinds, and gives readable values.
 use Rattle.std.proofs.Common.{◌==◌, ◌∙◌, ◌∷◌, ◌≡◌, ◌≤◌, ◌<◌, ◌^◌, ◌||◌, [], ap, arith, Bool, codes, cond, false, length, List, None, ℕ, Option, option_map}
 use Rattle.std.proofs.Common.{refl, Some, suc, true}
 use Rattle.std.proofs.lemmas.Bool.{lt-ltb}
@@ -33,7 +33,7 @@ use Rattle.rv_platform.specs.Harts.{counted_harts}
 use Rattle.rv_command_line.specs.declared.image_kind.ImageKind.{ImageKind}
 use Rattle.rv_command_line.specs.declared.image_kind.ImageKind.TheVariants as image
 
--- ---- what the parsers accept is read
+-- ---- accepted values are readable
 
 kind_read : (v : Text) → accepts false (parser.Names first) v ≡ true → is_some (kind_of v) ≡ true
 kind_read v = go (bytes_eq (codes "auto") v) (bytes_eq (codes "raw") v) (bytes_eq (codes "elf") v)
@@ -45,7 +45,7 @@ kind_read v = go (bytes_eq (codes "auto") v) (bytes_eq (codes "raw") v) (bytes_e
     go false false true e = refl
     go false false false e = e
 
--- a text that a parser accepts between two numbers is read as one of them
+-- a text that the parser for a range of numbers accepts is read as a number of the range
 number_between : (bits low high : ℕ) → high < 2 ^ bits → (v : Text) → accepts false (parser.Signed (pos low) (pos high)) v ≡ true
     → (n : ℕ) × (number_in_text bits (without_minus v) ≡ Some n) × (low ≤ n) × (n ≤ high)
 number_between bits low high fits v e =
@@ -77,7 +77,7 @@ passed p test each (v ∷ vs) e = let both = parts _ _ e in rw (each v (taken (a
     taken true e = refl
     taken false e = cc
 
--- whatever follows `help` is no value of an option
+-- the arguments after `help` are not values of an option
 topics_read : (vs : List Text) → are_values (codes "subcommand") vs ≡ true
 topics_read [] = refl
 topics_read (v ∷ vs) = topics_read vs
@@ -101,7 +101,7 @@ module _ (here : Names) (alike : texts here.now ≡ kind_names) where
   values_same p [] = refl
   values_same p (v ∷ vs) = rw (value_same p v, values_same p vs) refl
 
-  -- what reads no names
+  -- a step that does not use the names
   nameless : {rows after : List Row} {fault : Kinds} → (fault ≡ [] → Good rows → Good after) → Alike here itself rows (λ _. fault) (λ _. after)
   nameless kept = record { faults = refl; same = refl; kept = kept }
 
@@ -160,7 +160,7 @@ module _ (here : Names) (alike : texts here.now ≡ kind_names) where
         ((slot, (kind, (ram, (harts, (help_fits, tt))))), ((help_fits, tt), ((help_fits, tt), ((topic_fits, tt), tt)))),
       )
 
--- ---- the program, with the names where they are and where the definition has them
+-- ---- the program, with the names at any address and at that of the definition
 
 abbrev stop_at : List Text → Option (Text × List Text)
 stop_at words = let a = built rvbench in stop_after a.top.rules (names_of a) (argument_words a words)
@@ -169,7 +169,7 @@ pub program_alike : (here : Names) → texts here.now ≡ kind_names → (words 
     → (fault_of (program here) words ≡ faults_of words) × (subcommand_of (program here) words ≡ subcommand_of rvbench words)
 program_alike here alike words = let entered = enters here alike (stop_at words) in (rw (entered.same, entered.faults) refl, entered.same)
 
--- where the words are taken, the options of the subcommand have values that are read
+-- if the arguments are accepted, the options of the subcommand have readable values
 pub taken_good : (words : List Text) → faults_of words ≡ [] → Good (entered_rows (subcommand_of rvbench words))
 taken_good words e =
     let a = built rvbench in

@@ -1,4 +1,4 @@
--- The rows of options whose values are read.
+-- The rows of options whose values are readable.
 use Rattle.std.proofs.Common.{◌∷◌, ◌≡◌, ◌||◌, ◌++◌, [], Bool, codes, cond, false, List, Option, option_map, refl, Some, sym, true}
 use Rattle.std.proofs.lemmas.List.Folds.{list_all-append}
 use Rattle.std.proofs.lemmas.Slice.Eq.{bytes_eq-Decides}
@@ -14,11 +14,11 @@ use Rattle.clap.specs.declared.builder.value_parser.Reading.TheVariants as readi
 use Rattle.clap.specs.declared.parser.matches.ValueSource.{ValueSource}
 use Rattle.rv_command_line.specs.Job.{harts_in_text, is_slot, kind_of, number_in_text, truth_in_text}
 
--- how the value of an option is read, by the option's id
+-- how the value of an option is read, by the id of the option
 abbrev pub how : Text → Reading
 how id = cond (bytes_eq id (codes "ram") || bytes_eq id (codes "harts") || bytes_eq id (codes "slot")) reading.WithoutMinus reading.AsWritten
 
--- and whether a text is the value of one
+-- whether a text is a readable value of the option
 abbrev pub is_read : Text → Text → Bool
 is_read id text =
     cond (bytes_eq id (codes "kind")) (is_some (kind_of text))
@@ -60,7 +60,7 @@ values_good id s values (r ∷ rs) new good = go (bytes_eq r.id id) refl (values
         ((good.0.0, rw (list_all-append (λ v. is_read r.id (read_as (how r.id) v)) r.values values, good.0.1, same) new), good.1)
     go false e rest = (good.0, rest)
 
--- what is so of each good row of an id is so of the one that is found
+-- a property of each good row with an id holds of the row that is found
 row_read : (id : Text) (text : Row → Option Text) → ((r : Row) → r.id ≡ id → GoodRow r → option_map_or (is_read id) (text r) true ≡ true)
     → (rows : List Row) → Good rows → option_map_or (is_read id) (option_and_then text (find (λ r. bytes_eq r.id id) rows)) true ≡ true
 row_read id text each [] good = refl
@@ -71,7 +71,7 @@ row_read id text each (r ∷ rs) good = go (bytes_eq r.id id) refl (row_read id 
     go true e rest = each r ((bytes_eq-Decides r.id id).0 e) good.0
     go false e rest = rest
 
--- the first of values that are read, as it is read
+-- the first of several readable values is readable
 first_read : (id : Text) (vs : List Text) → are_values id vs ≡ true
     → option_map_or (is_read id) (option_map (read_as (how id)) (slice_get vs 0)) true ≡ true
 first_read id [] e = refl

@@ -1,4 +1,4 @@
--- Where the words are taken, each option of `run` and of `twin` that is given has a value that is read; and what is answered.
+-- If the arguments are accepted, each given option of `run` and of `twin` has a readable value. The clauses of `read_words` follow.
 use Rattle.std.proofs.Common.{◌≡◌, [], Bool, codes, cond, false, List, None, Option, refl, Some, true}
 use Rattle.std.specs.Option.{option_map_or}
 use Rattle.std.specs.Prelude.{Err, IfErr, IfOk, nat_lt, Ok, OnOk, option_and_then, Result, unwrap_or, ℕ}
@@ -36,7 +36,7 @@ taken_read words e =
       one_read (codes "slot") _ (good (codes "twin")),
     ) refl
 
--- the slot that is named
+-- the slot in the arguments is below 13
 slot_below : (o : Option Text) → option_map_or is_slot o true ≡ true → nat_lt (unwrap_or (option_and_then (number_in_text 8) o) 0) 13 ≡ true
 slot_below None e = refl
 slot_below (Some text) e = go (number_in_text 8 text) e

@@ -1,4 +1,4 @@
--- The command line of the program, and which words it takes, as the crate `clap` defines it of a command.
+-- The command line of the program, and the arguments that it accepts, based on the crate `clap`.
 use Rattle.std.specs.Prelude.{List, [], ◌∷◌, codes, fold, map, Some, pos}
 use Rattle.std.specs.Borrow.{Bor}
 use Rattle.clap.specs.Kinds.{Kinds}
@@ -9,18 +9,18 @@ use Rattle.clap.specs.declared.builder.value_parser.ValueParser.TheVariants as p
 use Rattle.rv_command_line.specs.declared.image_kind.ImageKind.{ImageKind}
 use Rattle.rv_command_line.specs.declared.image_kind.ImageKind.TheVariants as image
 
--- the kinds of image, and what the command line calls them
+-- the kinds of image, and their names in the command line
 abbrev pub kinds : List (Text × ImageKind)
 kinds = (codes "auto", image.Auto) ∷ (codes "raw", image.Raw) ∷ (codes "elf", image.Elf) ∷ []
 
 abbrev pub kind_names : List Text
 kind_names = map (λ row. row.0) kinds
 
--- names that lie somewhere in memory
+-- names at some address in memory
 abbrev pub Names : Type 0
 Names = Bor (List (Bor Text))
 
--- `--NAME VALUE`, where the value is what this parser takes, and the flag `--NAME`
+-- `--NAME VALUE`, with a value that this parser accepts, and the flag `--NAME`
 abbrev pub valued : Text → ValueParser → Rule
 valued name parser = record (new_rule name) { long = Some name; value_names = 1; parser = Some parser }
 
@@ -31,7 +31,7 @@ flag_rule name = record (new_rule name) { long = Some name; action = Some action
 abbrev pub kind : Names → Rule
 kind names = valued (codes "kind") (parser.Names names)
 
--- `--ram BYTES`: one number of 32 bits
+-- `--ram BYTES`: a number of 32 bits
 abbrev pub ram : Rule
 ram = valued (codes "ram") (parser.Signed (pos 0) (pos 4294967295))
 
@@ -39,15 +39,15 @@ ram = valued (codes "ram") (parser.Signed (pos 0) (pos 4294967295))
 abbrev pub monitor : Rule
 monitor = flag_rule (codes "monitor")
 
--- `--harts HARTS`: one number, 1 or 2
+-- `--harts HARTS`: a number, 1 or 2
 abbrev pub harts : Rule
 harts = valued (codes "harts") (parser.Signed (pos 1) (pos 2))
 
--- `--slot K`: one number from 0 to 12
+-- `--slot K`: a number from 0 to 12
 abbrev pub slot : Rule
 slot = valued (codes "slot") (parser.Signed (pos 0) (pos 12))
 
--- a command of this name with these options
+-- a command with this name and these options
 abbrev pub command : Text → List Rule → App
 command name options = fold with_rule (new_app name) options
 
@@ -60,15 +60,15 @@ program names = fold with_subcommand (new_app (codes "rvbench"))
     ∷ (command (codes "dis") []).top
     ∷ [])
 
--- what lies at the first address: a command line reads names alike wherever they lie
+-- a value at the first address; the reading of a command line does not depend on the address of names
 abbrev pub lent : {X : Type 0} → X → Bor X
 lent x = record { ref_ptr = (0, 0); now = x }
 
--- the program, whose options have the names of the kinds
+-- the program, with the names of the image kinds as values of its options
 abbrev pub rvbench : App
 rvbench = program (lent (map lent kind_names))
 
--- why it does not take the words, the program's name first: the list is empty where it takes them, and has the request for
--- help where they make it
+-- The errors of the arguments. The first argument is the program's name. The list is empty if the arguments are accepted. It has the request for
+-- help if they make one.
 abbrev pub faults_of : List Text → Kinds
 faults_of = fault_of rvbench

@@ -1,4 +1,4 @@
--- What `clap` is told by the rows of the program's table of commands and options.
+-- The `clap` commands and options of the rows in the program's table.
 use Rattle.std.specs.Prelude.{◌≡◌, false, map}
 use Rattle.std.specs.Option.{option_map_or}
 use Rattle.clap.specs.Words.{App, Rule, Shape}
@@ -17,6 +17,6 @@ app_in row = command row.name.now (map rule_in row.options.now)
 abbrev pub shape_in : CommandRow → Shape
 shape_in row = (app_in row).top
 
--- a command whose options are no options of its subcommands
+-- a command without options that also belong to its subcommands
 abbrev pub IsLocal : Command → Type 0
 IsLocal command = (fields_of command).has_globals ≡ false

@@ -1,4 +1,4 @@
--- The faults of a command line, and their numbers. (This project's own command line.)
+-- The errors of a command line, and their numbers. (This project's own command line.)
 use Rattle.std.specs.Prelude.{◌≡◌, ⊤, ℕ, Bool, true, false, not}
 use Rattle.std.specs.List.{list_any}
 use Rattle.clap.specs.Kinds.{Kinds}
@@ -16,7 +16,7 @@ abbrev pub is_help : ErrorKind → Bool
 is_help kind.DisplayHelp = true
 is_help _ = false
 
--- the fault is one that is among these: a mistake, or a request for help; memory may be refused at any words
+-- the error is among these, as a mistake or as a request for help; memory may be exhausted for any arguments
 abbrev pub IsFaultOf : Kinds → WordsFault → Type 0
 IsFaultOf faults fault.Refused = list_any (λ fault. not (is_help fault)) faults ≡ true
 IsFaultOf faults fault.NoMemory = ⊤

@@ -1,4 +1,4 @@
--- The job that the words of a command line name. (This project's own command line.)
+-- The job of the arguments of a command line. (This project's own command line.)
 use Rattle.std.specs.Prelude.{◌&&◌, ◌||◌, ◌==◌, ◌^◌, ℕ, Bool, true, false, List, [], codes, find, is_some, nat_lt}
 use Rattle.std.specs.Prelude.{Option, Some, None, if◌then◌else◌, option_and_then, option_map, unwrap_or}
 use Rattle.std.specs.Option.{option_map_or}
@@ -16,27 +16,27 @@ use Rattle.rv_command_line.specs.declared.job.Job.{Job}
 use Rattle.rv_command_line.specs.declared.job.Job.TheVariants as job
 use Rattle.rv_command_line.specs.declared.setup.Setup.{Setup}
 
--- the kind of a name
+-- the image kind with a name
 abbrev pub kind_of : Text → Option ImageKind
 kind_of name = option_map (λ row. row.1) (find (λ row. bytes_eq row.0 name) kinds)
 
--- the number of so many bits that a text of decimal digits spells, after a plus or none
+-- the number that a text of decimal digits, with an optional plus before them, has in `bits` bits
 abbrev pub number_in_text : ℕ → Text → Option ℕ
 number_in_text bits text =
     let digits = without_leading_plus text in
     if is_numeral digits && nat_lt (digits_value 10 digits) (2 ^ bits) then Some (digits_value 10 digits) else None
 
--- the harts whose number a text spells
+-- the number of harts in a text
 abbrev pub harts_in_text : Text → Option Harts
 harts_in_text text = option_and_then counted_harts (number_in_text 8 text)
 
--- the truth that a text spells
+-- the Boolean in a text
 abbrev pub truth_in_text : Text → Option Bool
 truth_in_text text =
     if bytes_eq text (codes "true") then Some true
     else (if bytes_eq text (codes "false") then Some false else None)
 
--- the setup that `--kind`, `--ram` and `--harts` give, with the monitor or without it
+-- the setup from `--kind`, `--ram` and `--harts`, with or without the monitor
 abbrev pub setup_of : Bool → List Row → Setup
 setup_of monitored options = record {
   kind = unwrap_or (option_and_then kind_of (first_of (codes "kind") options)) image.Auto;
@@ -45,15 +45,15 @@ setup_of monitored options = record {
   harts = unwrap_or (option_and_then harts_in_text (one_of (codes "harts") options)) harts.One;
 }
 
--- what `run` asks for with its options: without the monitor unless they say so
+-- the job of `run` with its options; without the monitor unless they have `--monitor`
 abbrev pub run_of : List Row → Job
 run_of options = job.Run (setup_of (unwrap_or (option_and_then truth_in_text (one_of (codes "monitor") options)) false) options)
 
--- what `twin` asks for with its options: always with the monitor, and slot 0 unless they name another
+-- the job of `twin` with its options; always with the monitor, and slot 0 by default
 abbrev pub twin_of : List Row → Job
 twin_of options = job.Twin (setup_of true options) (unwrap_or (option_and_then (number_in_text 8) (one_of (codes "slot") options)) 0)
 
--- the job of a subcommand with its options, or of none
+-- the job of a subcommand with its options, or the job without a subcommand
 abbrev pub named_job : Option (Text × List Row) → Job
 named_job None = run_of []
 named_job (Some (name, options)) =
@@ -61,16 +61,16 @@ named_job (Some (name, options)) =
     else (if bytes_eq name (codes "dis") then job.Dis
     else (if bytes_eq name (codes "twin") then twin_of options else run_of options))
 
--- the job that the words name, the program's name first
+-- the job of the arguments; the first argument is the program's name
 abbrev pub job_of : List Text → Job
 job_of words = named_job (subcommand_of rvbench words)
 
--- the options that the words give to the subcommand of this name
+-- the options for the subcommand with this name in the arguments
 abbrev pub options_of : Text → List Text → List Row
 options_of name words = option_map_or (λ met. if bytes_eq met.0 name then met.1 else []) (subcommand_of rvbench words) []
 
--- the values of `--kind` and `--ram`, of `--harts`, of `--monitor` and of `--slot`, each where it is given, are values that are
--- read, so that a default stands only for an option that is not given
+-- Each given value of `--kind` and `--ram`, of `--harts`, of `--monitor` and of `--slot` is readable, so a default is used only for an option
+-- that is not given.
 abbrev pub is_image_read : List Row → Bool
 is_image_read options = option_map_or (λ text. is_some (kind_of text)) (first_of (codes "kind") options) true
     && option_map_or (λ text. is_some (number_in_text 32 text)) (one_of (codes "ram") options) true
@@ -84,7 +84,7 @@ is_setup_read options = is_image_read options && are_harts_read options
 abbrev pub is_monitor_read : List Row → Bool
 is_monitor_read options = option_map_or (λ text. is_some (truth_in_text text)) (one_of (codes "monitor") options) true
 
--- a slot is one of thirteen
+-- whether a text is the number of one of the thirteen slots
 abbrev pub is_slot : Text → Bool
 is_slot text = option_map_or (λ n. nat_lt n 13) (number_in_text 8 text) false
 
@@ -97,20 +97,20 @@ are_run_read options = is_setup_read options && is_monitor_read options
 abbrev pub are_twin_read : List Row → Bool
 are_twin_read options = is_setup_read options && is_slot_read options
 
--- this is so of all options that the words give
+-- this holds for all options in the arguments
 abbrev pub are_options_read : List Text → Bool
 are_options_read words = are_run_read (options_of (codes "run") words) && are_twin_read (options_of (codes "twin") words)
 
--- a job that names a slot names one of the thirteen, and a bench with the monitor
+-- a job with a slot has one of the thirteen, and a setup with the monitor
 abbrev pub is_valid_job : Job → Bool
 is_valid_job (job.Twin setup slot) = setup.monitored && nat_lt slot 13
 is_valid_job _ = true
 
--- a bench of two harts has the monitor
+-- a setup with two harts has the monitor
 abbrev pub has_valid_harts : Setup → Bool
 has_valid_harts setup = setup.monitored || number_of_harts setup.harts == 1
 
--- and so it is in a job
+-- the same for the setup of a job
 abbrev pub has_its_monitor : Job → Bool
 has_its_monitor (job.Run setup) = has_valid_harts setup
 has_its_monitor (job.Twin setup slot) = has_valid_harts setup

@@ -1,4 +1,4 @@
-//! The command line, as `clap` is told of it: a command for the program, and one for each subcommand.
+//! Makes the command line for `clap`: a command for the program, and one for each subcommand.
 
 ghost use Rattle.std.specs.Prelude.{◌≡◌, false, IfOk, List, map, true};
 ghost use Rattle.std.specs.List.{All};
@@ -11,10 +11,10 @@ use crate::subcommands::{CommandRow, OptionRow, PROGRAM, SUBCOMMANDS};
 use clap::{Arg, ArgAction, Command};
 use std::alloc::{AllocError, Global};
 
-/// What was made, or that memory was refused for it.
+/// A value, or the error of exhausted memory.
 type Made<T> = Result<T, AllocError>;
 
-/// The option of a row.
+/// Makes the option of a row.
 fn option_of<'a>(alloc: Global, row: &OptionRow<'a>) -> Arg<'a>
     ensures rule { rule_of result ≡ rule_in row.now }
     ensures local { result.global ≡ false }
@@ -26,7 +26,7 @@ fn option_of<'a>(alloc: Global, row: &OptionRow<'a>) -> Arg<'a>
     }
 }
 
-/// The command of a row, without its options.
+/// Makes the command of a row, without its options.
 fn named_command<'a>(alloc: Global, row: &CommandRow<'a>) -> Command<'a>
     ensures app { app_of result ≡ new_app row.now.name.now }
     ensures local { (fields_of result).has_globals ≡ false }
@@ -36,7 +36,7 @@ fn named_command<'a>(alloc: Global, row: &CommandRow<'a>) -> Command<'a>
         .after_help(row.after_help)
 }
 
-/// The command of a row, with its options.
+/// Makes the command of a row, with its options.
 fn command_of<'a>(alloc: Global, row: &CommandRow<'a>) -> Made<Command<'a>>
     ensures app { IfOk result (λ command. app_of command ≡ app_in row.now) }
     ensures local { IfOk result (λ command. (fields_of command).has_globals ≡ false) }
@@ -48,7 +48,7 @@ fn command_of<'a>(alloc: Global, row: &CommandRow<'a>) -> Made<Command<'a>>
     Ok(command)
 }
 
-/// The commands of these rows.
+/// Makes the commands of these rows.
 fn commands_of<'a>(alloc: Global, rows: &[CommandRow<'a>]) -> Made<Vec<Command<'a>>>
     ensures shapes { IfOk result (λ commands. map shape_of commands.items ≡ map shape_in rows.now) }
     ensures local { IfOk result (λ commands. All IsLocal commands.items) }
@@ -60,7 +60,7 @@ fn commands_of<'a>(alloc: Global, rows: &[CommandRow<'a>]) -> Made<Vec<Command<'
     Ok(commands)
 }
 
-/// The command line of the program.
+/// Makes the command line of the program.
 pub(crate) fn rvbench_command<'a>(alloc: Global) -> Made<Command<'a>>
     ensures simple { IfOk result (λ command. is_simple (app_of command) ≡ true) }
     ensures free { IfOk result (λ command. is_simple_and_free (app_of command) ≡ true) }

@@ -1,24 +1,24 @@
-//! How an image is read.
+//! The format of an image.
 
 ghost use Rattle.std.specs.Prelude.{◌≡◌};
 ghost use Rattle.rv_command_line.specs.Job.{kind_of};
 
-/// How the bytes of an image are read.
+/// The format of an image.
 #[derive(Clone, Copy, Debug, PartialEq, Eq)]
 pub enum ImageKind {
-    /// As an ELF file exactly where the first four bytes are 7F 45 4C 46, else as a raw image.
+    /// An ELF file if the first four bytes are 7F 45 4C 46, otherwise a raw image.
     Auto,
-    /// As the bytes that lie in the RAM from the image's first address on.
+    /// The bytes of the RAM, from the image's first address on.
     Raw,
-    /// As an ELF file.
+    /// An ELF file.
     Elf,
 }
 
-/// What the command line calls the kinds.
+/// The names of the formats in the command line.
 pub(crate) const KIND_NAMES: &[&str] = &["auto", "raw", "elf"];
 
 impl ImageKind {
-    /// The kind that the command line calls `name`, or `None` where it calls none so.
+    /// Returns the format with this name in the command line, or `None` if there is none.
     pub(crate) fn named(name: &str) -> Option<ImageKind>
         ensures { result ≡ kind_of name.now }
     {
@@ -32,7 +32,7 @@ impl ImageKind {
 }
 
 impl Default for ImageKind {
-    /// `Auto`.
+    /// Returns `Auto`.
     fn default() -> Self
         ensures { result ≡ ImageKind.Auto }
     {

@@ -1,16 +1,16 @@
-//! What a command line asks of the program.
+//! The jobs of the program.
 
 ghost use Rattle.std.specs.Prelude.{◌≡◌};
 ghost use Rattle.rv_command_line.specs.Job.{has_its_monitor};
 
 use crate::setup::Setup;
 
-/// What the program's words ask for.
+/// The job that the arguments of the program select.
 #[derive(Clone, Copy, Debug, PartialEq, Eq)]
 pub enum Job {
-    /// `run`, or no subcommand: run a bench of this setup.
+    /// `run`, or no subcommand: run a bench with this setup.
     Run(Setup),
-    /// `twin`: run two benches of this setup, which has the monitor, that differ in one enclave alone: the one in this slot, 0 to 12.
+    /// `twin`: run two benches with this setup, which has the monitor. They differ only in the enclave in this slot, 0 to 12.
     Twin(Setup, u8),
     /// `asm`: assemble.
     Asm,
@@ -19,7 +19,7 @@ pub enum Job {
 }
 
 impl Job {
-    /// Whether its benches have the monitor where they are to have two harts.
+    /// Returns whether the benches of the job have the monitor if they have two harts.
     pub(crate) fn has_its_monitor(&self) -> bool
         ensures { result ≡ has_its_monitor self.now }
     {

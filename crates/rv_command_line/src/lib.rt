@@ -1,16 +1,22 @@
-//! The command line of the bench: what the program's words ask for, read with the crate `clap`.
+//! The command line of the bench, read with the crate `clap`:
+//! - `rvbench` and `rvbench run` run the bench.
+//! - `rvbench run --ram 65536` runs it with a RAM of this size in bytes.
+//! - `rvbench run --kind elf` runs it with an ELF file as its image.
+//! - `rvbench run --monitor` runs the image as the host above the monitor.
+//! - `rvbench run --monitor --harts 2` runs it with two harts under the monitor.
+//! - `rvbench twin` runs two monitored benches that differ in one enclave.
+//! - `rvbench twin --slot 3` runs two that differ in the enclave in slot 3.
+//! - `rvbench twin --harts 2` runs two with two harts each.
+//! - `rvbench asm` assembles, and `rvbench dis` disassembles.
 //!
-//! `rvbench` and `rvbench run` run the bench, `rvbench run --ram 65536` with a RAM of that size, `rvbench run --kind elf` with an ELF
-//! file as its image, `rvbench run --monitor` with the image as the host above the monitor and `rvbench run --monitor --harts 2`
-//! with two harts under it. `rvbench twin` runs two monitored benches that differ in one enclave, `rvbench twin --slot 3` in the one
-//! in slot 3, `rvbench twin --harts 2` of two harts each. `rvbench asm` assembles and `rvbench dis` disassembles. The specs name what
-//! the words mean: `CommandLine` defines the command line, `Job` the job that it gives to words, and `Refusals` why words name none.
+//! In the specs, `CommandLine` defines the command line, `Job` the job of its arguments, and `Refusals` the errors of arguments that give no
+//! job.
 //!
 //! ```text
 //! read_words(alloc, &["rvbench", "run", "--ram", "65536"])?; // Job::Run(Setup { ram: 65536, ..Setup::default() })
 //! read_words(alloc, &["rvbench", "twin", "--slot", "3"])?; // Job::Twin(Setup { monitored: true, ..Setup::default() }, 3)
 //! read_words(alloc, &["rvbench", "dis"])?; // Job::Dis
-//! read_words(alloc, &["rvbench", "run", "--harts", "2"]); // Err(WordsFault::Refused): two harts are under the monitor alone
+//! read_words(alloc, &["rvbench", "run", "--harts", "2"]); // Err(WordsFault::Refused): two harts need the monitor
 //! read_words(alloc, &["rvbench", "fly"]); // Err(WordsFault::Refused)
 //! ```
 #![tactic(auto)]

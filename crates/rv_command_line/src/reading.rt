@@ -1,4 +1,4 @@
-//! How words become a job.
+//! Reads the job from the arguments.
 
 ghost use Rattle.std.specs.Prelude.{◌≡◌, if◌then◌else◌, IfErr, IfOk, OnOk, Ok, Err, List, [], codes, option_and_then, true};
 ghost use Rattle.clap.specs.Kinds.{HasKind, Kinds};
@@ -19,42 +19,42 @@ use clap::{ArgMatches, Error};
 use rv_platform::Harts;
 use std::alloc::Global;
 
-/// The kind of image that the options name, if they name one.
+/// Returns the image format in the options, if it is given.
 fn matched_kind(matches: &ArgMatches<'_>) -> Option<ImageKind>
     ensures { result ≡ option_and_then kind_of (first_of (codes "kind") (rows_of (found_of matches.now))) }
 {
     ImageKind::named(matches.get_str("kind")?)
 }
 
-/// The number that an option names, if it is given.
+/// Returns the number that an option has, if it is given.
 fn matched_number(matches: &ArgMatches<'_>, id: &str) -> Option<u32>
     ensures { result ≡ option_and_then (number_in_text 32) (one_of id.now (rows_of (found_of matches.now))) }
 {
     matches.get_one(id)
 }
 
-/// The small number that an option names, if it is given.
+/// Returns the number of 8 bits that an option has, if it is given.
 fn matched_byte(matches: &ArgMatches<'_>, id: &str) -> Option<u8>
     ensures { result ≡ option_and_then (number_in_text 8) (one_of id.now (rows_of (found_of matches.now))) }
 {
     matches.get_one(id)
 }
 
-/// The number of harts that the options name, if they name one.
+/// Returns the number of harts in the options, if it is given.
 fn matched_harts(matches: &ArgMatches<'_>) -> Option<Harts>
     ensures { result ≡ option_and_then harts_in_text (one_of (codes "harts") (rows_of (found_of matches.now))) }
 {
     Harts::counted(matched_byte(matches, "harts")?)
 }
 
-/// Whether a flag is set, if the command line has it.
+/// Returns whether a flag is set, if the command line has it.
 fn matched_flag(matches: &ArgMatches<'_>, id: &str) -> Option<bool>
     ensures { result ≡ option_and_then truth_in_text (one_of id.now (rows_of (found_of matches.now))) }
 {
     matches.get_one(id)
 }
 
-/// The setup that the options `--kind`, `--ram` and `--harts` give, with the monitor or without it.
+/// Returns the setup from the options `--kind`, `--ram` and `--harts`, with or without the monitor.
 fn matched_setup(matches: &ArgMatches<'_>, monitored: bool) -> Setup
     ensures { result ≡ setup_of monitored (rows_of (found_of matches.now)) }
 {
@@ -67,7 +67,7 @@ fn matched_setup(matches: &ArgMatches<'_>, monitored: bool) -> Setup
     }
 }
 
-/// What the options of `run` ask for.
+/// Returns the job of `run` with its options.
 fn matched_run(matches: &ArgMatches<'_>) -> Job
     ensures { result ≡ run_of (rows_of (found_of matches.now)) }
 {
@@ -75,7 +75,7 @@ fn matched_run(matches: &ArgMatches<'_>) -> Job
     Job::Run(matched_setup(matches, monitored))
 }
 
-/// What the options of `twin` ask for: the bench always has the monitor.
+/// Returns the job of `twin` with its options. Its benches always have the monitor.
 fn matched_twin(matches: &ArgMatches<'_>) -> Job
     ensures { result ≡ twin_of (rows_of (found_of matches.now)) }
 {
@@ -85,7 +85,7 @@ fn matched_twin(matches: &ArgMatches<'_>) -> Job
     )
 }
 
-/// The job of the subcommand that was met.
+/// Returns the job of the subcommand in the arguments.
 fn matched_job(matches: &ArgMatches<'_>) -> Job
     ensures { result ≡ named_job (subcommand_rows_of matches.now) }
 {
@@ -98,7 +98,7 @@ fn matched_job(matches: &ArgMatches<'_>) -> Job
     }
 }
 
-/// The job, or `Refused` where it is of two harts without the monitor.
+/// Returns the job, or `Refused` if it has two harts without the monitor.
 fn with_its_monitor(job: Job) -> Result<Job, WordsFault>
     ensures { result ≡ if has_its_monitor job then Ok job else Err WordsFault.Refused }
 {
@@ -109,7 +109,7 @@ fn with_its_monitor(job: Job) -> Result<Job, WordsFault>
     }
 }
 
-/// The fault that an error of `clap` is.
+/// Converts an error of `clap`.
 fn fault(alloc: Global, error: &Error) -> WordsFault
     ensures { (faults : Kinds) → HasKind faults error.now → IsFaultOf faults result }
 {
@@ -123,12 +123,15 @@ fn fault(alloc: Global, error: &Error) -> WordsFault
     }
 }
 
-/// The job that the words of a command line name, the program's name first.
+/// Reads the job from the arguments of a command line. The first argument is the program's name. A default is used only for an option that is
+/// not given. A job with two benches has the monitor, and one of the thirteen slots.
 ///
-/// Words that the command line takes give their job, where a default stands only for an option that is not given; a job of two
-/// benches is of benches with the monitor and names one of the thirteen slots. Words that ask for help give its text, and any
-/// others are refused, and so are those that ask for two harts without the monitor, which alone is over two.
-/// Memory may be refused at any words.
+/// # Errors
+///
+/// One of these, and only if its condition holds:
+/// - `Help` with its text: the arguments ask for help.
+/// - `Refused`: the command line does not accept the arguments, or they have two harts without the monitor.
+/// - `NoMemory`: memory is exhausted, which may happen with any arguments.
 pub fn read_words<'a>(alloc: Global, words: &'a [&'a str]) -> Result<Job, WordsFault>
     ensures taken { OnOk result (refusals_of (texts words.entry.now) ≡ []) }
     ensures job { IfOk result (λ job. job ≡ job_of (texts words.entry.now)) }

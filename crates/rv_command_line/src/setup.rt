@@ -1,4 +1,4 @@
-//! How a bench is set up.
+//! The setup of a bench.
 
 ghost use Rattle.std.specs.Prelude.{◌≡◌, false};
 
@@ -8,13 +8,13 @@ use rv_platform::Harts;
 /// The setup of a bench.
 #[derive(Clone, Copy, Debug, PartialEq, Eq)]
 pub struct Setup {
-    /// How the image is read.
+    /// The format of the image.
     pub kind: ImageKind,
     /// The size of the RAM in bytes.
     pub ram: u32,
-    /// Whether the image is the host above the monitor, and begins in mode S; else it runs alone, from mode M.
+    /// Whether there is a monitor. If so, the image is the host above it and starts in mode S. Otherwise it runs alone, and starts in mode M.
     pub monitored: bool,
-    /// How many harts the monitor is over. Without the monitor the bench has one hart, whatever stands here.
+    /// The number of harts under the monitor. Without the monitor the bench has one hart, whatever this value is.
     pub harts: Harts,
 }
 
@@ -22,7 +22,7 @@ impl Setup {
     ghost use Rattle.std.specs.Prelude.{◌≡◌};
     ghost use Rattle.rv_command_line.specs.Job.{has_valid_harts};
 
-    /// Whether the bench has the monitor where it is to have two harts.
+    /// Returns whether the bench has the monitor if it has two harts.
     pub(crate) fn has_valid_harts(&self) -> bool
         ensures { result ≡ has_valid_harts self.now }
     {
@@ -31,7 +31,7 @@ impl Setup {
 }
 
 impl Default for Setup {
-    /// The kind `Auto`, a RAM of 1048576 bytes, no monitor, and one hart.
+    /// Returns the setup with the kind `Auto`, a RAM of 1048576 bytes, no monitor, and one hart.
     fn default() -> Self
         ensures kind { result.kind ≡ ImageKind.Auto }
         ensures ram { result.ram ≡ 1048576 }

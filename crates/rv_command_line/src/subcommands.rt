@@ -1,4 +1,4 @@
-//! What `clap` is told of the command line: the program, its subcommands and their options, with the texts of their help.
+//! The table of the command line for `clap`: the program, its subcommands and their options, with their help texts.
 
 use crate::image_kind::KIND_NAMES;
 use clap::builder::ValueParser;
@@ -7,7 +7,7 @@ use clap::builder::ValueParser;
 pub(crate) struct OptionRow<'a> {
     pub(crate) name: &'a str,
     pub(crate) help: &'a str,
-    /// What help calls its value, and what the value has to be; a flag has none.
+    /// The name of the value in the help text, and the values that are accepted. None for a flag.
     pub(crate) value: Option<(&'a str, ValueParser<'a>)>,
 }
 
@@ -15,29 +15,29 @@ pub(crate) struct OptionRow<'a> {
 pub(crate) struct CommandRow<'a> {
     pub(crate) name: &'a str,
     pub(crate) about: &'a str,
-    /// What its help ends with.
+    /// The end of its help text.
     pub(crate) after_help: &'a str,
     pub(crate) options: &'a [OptionRow<'a>],
 }
 
-/// What the program does.
+/// The description of the program.
 const ABOUT_PROGRAM: &str =
     "An instruction-exact bench for a RISC-V hart, or for two under its monitor, driven by a script of commands";
 
-/// What `run` does.
+/// The description of `run`.
 const ABOUT_RUN: &str =
     "Read an image in hexadecimal, a line -- and a script, and write the replies (the default)";
 
-/// What `twin` does.
+/// The description of `twin`.
 const ABOUT_TWIN: &str =
     "Give a script to two monitored benches that differ in one enclave alone, and write the replies of both";
 
-/// What the help of the program ends with: a first input.
+/// The end of the program's help text: an example.
 const FIRST_EXAMPLE: &str =
     "Example: one instruction, addi x1, x0, -1, and a script of two commands:\n  \
     printf '9300f0ff\\n--\\nstep 1\\nreg 1\\n' | rvbench";
 
-/// What the help of `run` ends with: a first input, and the commands of a script.
+/// The end of the help text of `run`: an example, and the commands of a script.
 const FIRST_SCRIPT: &str =
     "Example: a loop of two instructions, sw x1, 0(x2) and a jump back, under a watch:\n  \
     printf '232011006ff0dfff\\n--\\nsetreg 2 80000100\\nwatch 80000102\\nrun 9\\nregs\\n' | rvbench run\n\n\
@@ -54,7 +54,7 @@ const FIRST_SCRIPT: &str =
     enclaves                 show the live enclaves\n  \
     hart H, sched W          choose the hart that is meant, step the harts in a given order";
 
-/// What the help of `twin` ends with: what is read and written, and a first input.
+/// The end of the help text of `twin`: its input and output, and an example.
 const FIRST_TWIN: &str =
     "The input is an image, a line --, a script for both benches, a line --, and a script that both answer. Between the scripts\n\
     the enclave of the second bench is made another. Replies are written after a: and b:, and end where the enclave is entered.\n\n\
@@ -62,55 +62,55 @@ const FIRST_TWIN: &str =
     printf '7300000073000000\\n--\\nsetreg 17 0a454e43\\nsetreg 16 1\\nsetreg 10 80020000\\nsetreg 11 1000\\n\
     setreg 14 80020000\\nstep 1\\n--\\nsetreg 16 2\\nsetreg 10 0\\nstep 1\\nmem 80020000 4\\n' | rvbench twin";
 
-/// What the help of `asm` ends with: a first input.
+/// The end of the help text of `asm`: an example.
 const FIRST_SOURCE: &str = "Example: a loop of two instructions:\n  \
     printf 'loop: addi x1, x1, -1\\n bne x1, x0, loop\\n' | rvbench asm";
 
-/// What the help of `dis` ends with: a first input.
+/// The end of the help text of `dis`: an example.
 const FIRST_IMAGE: &str = "Example: the word ffff0093, lowest byte first:\n  \
     printf '9300f0ff\\n' | rvbench dis";
 
-/// What help says of `--kind`.
+/// The help text of `--kind`.
 const HELP_OF_KIND: &str =
     "How the image is read; auto: as ELF where its first bytes are 7F 45 4C 46, else raw [default: auto]";
 
-/// What help says of `--ram`.
+/// The help text of `--ram`.
 const HELP_OF_RAM: &str =
     "The size of the RAM, a multiple of 65536, from 65536 to 16777216 [default: 1048576]";
 
-/// What help says of `--slot`.
+/// The help text of `--slot`.
 const HELP_OF_SLOT: &str =
     "The slot of the enclave in which the two benches differ, from 0 to 12 [default: 0]";
 
-/// `--kind`, by default what `Setup::default` has.
+/// `--kind`. The default is that of `Setup::default`.
 const KIND: OptionRow<'_> = OptionRow {
     name: "kind",
     help: HELP_OF_KIND,
     value: Some(("KIND", ValueParser::Names(KIND_NAMES))),
 };
 
-/// `--ram`, by default what `Setup::default` has.
+/// `--ram`. The default is that of `Setup::default`.
 const RAM: OptionRow<'_> = OptionRow {
     name: "ram",
     help: HELP_OF_RAM,
     value: Some(("BYTES", ValueParser::Signed(0, 4_294_967_295))),
 };
 
-/// `--monitor`, by default what `Setup::default` has.
+/// `--monitor`. The default is that of `Setup::default`.
 const MONITOR: OptionRow<'_> = OptionRow {
     name: "monitor",
     help: "Run the image as the host above the monitor, from 80010000 on and in mode S",
     value: None,
 };
 
-/// `--slot`, by default slot 0.
+/// `--slot`. The default is slot 0.
 const SLOT: OptionRow<'_> = OptionRow {
     name: "slot",
     help: HELP_OF_SLOT,
     value: Some(("K", ValueParser::Signed(0, 12))),
 };
 
-/// The value of `--harts`, by default what `Setup::default` has.
+/// The value of `--harts`. The default is that of `Setup::default`.
 const HARTS: Option<(&str, ValueParser<'_>)> = Some(("HARTS", ValueParser::Signed(1, 2)));
 
 /// `--harts` of `run` and of `twin`.
@@ -134,7 +134,7 @@ pub(crate) const PROGRAM: &CommandRow<'_> = &CommandRow {
     options: &[],
 };
 
-/// Its subcommands, in the order in which help lists them.
+/// The subcommands, in the order in which the help text lists them.
 pub(crate) const SUBCOMMANDS: &[CommandRow<'_>] = &[
     CommandRow {
         name: "run",

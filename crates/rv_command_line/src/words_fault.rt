@@ -1,21 +1,21 @@
-//! Why words name no job.
+//! The errors of arguments that give no job.
 
 ghost use Rattle.std.specs.Prelude.{◌≡◌};
 ghost use Rattle.rv_command_line.specs.Faults.{words_fault_number};
 
-/// Why words name no job.
+/// Why arguments give no job.
 #[derive(Debug, Drop)]
 pub enum WordsFault {
-    /// 1: the command line does not take the words.
+    /// 1: the command line does not accept the arguments.
     Refused,
-    /// 2: memory was refused.
+    /// 2: memory is exhausted.
     NoMemory,
-    /// 3: the words ask for help, and this is its text.
+    /// 3: the arguments ask for help, and this is its text.
     Help(String),
 }
 
 impl WordsFault {
-    /// The number of the fault, 1 to 3.
+    /// Returns the number of the error, 1 to 3.
     pub fn number(&self) -> u8
         ensures { result ≡ words_fault_number self.now }
     {

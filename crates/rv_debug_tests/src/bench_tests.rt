@@ -1,4 +1,4 @@
-//! Lines and commands of a bench, over small programs.
+//! Tests of lines and commands of a bench, with small programs.
 
 use crate::benches::{Line, expect, expect_lines, expect_text, with_words};
 use rv_debug::{Bench, Command, StepCount};
@@ -6,14 +6,14 @@ use rv_text::Reply;
 use rv_word::Reg;
 use std::process::Abort;
 
-/// Gives a command to a bench, which must have this reply.
+/// Gives a command to a bench, and expects this reply.
 fn expect_reply(rt: &impl Abort, bench: &mut Bench, command: &Command, want: &[u8]) {
     let mut reply = Reply::new();
     bench.command(command, &mut reply);
     expect_text(rt, &reply, want);
 }
 
-/// Gives a command to a bench, whose reply must have so many bytes.
+/// Gives a command to a bench, and expects a reply with this number of bytes.
 fn expect_len(rt: &impl Abort, bench: &mut Bench, command: &Command, len: usize) {
     let mut reply = Reply::new();
     bench.command(command, &mut reply);
@@ -101,7 +101,8 @@ const WATCHES_WHAT_IS_ACCESSED: &[Line] = &[
     ),
 ];
 
-/// A fetched byte is watched in vain, and so is one beside those that are loaded. lw x1, 0(x2); lh x1, 4(x2); lb x1, 6(x2)
+/// A watchpoint stops nothing if its byte is only fetched, or is next to those that are loaded. The program is lw x1, 0(x2); lh x1, 4(x2); lb
+/// x1, 6(x2).
 #[test]
 fn watches_what_is_accessed(rt: HostRuntime) {
     expect_lines(
@@ -193,7 +194,8 @@ const HAS_HART_0_ALONE: &[Line] = &[
     ),
 ];
 
-/// A hart that there is not is refused, and nothing is done; a schedule stops at no watch and no break. lw x1, 4(x2); addi x1, x0, -1
+/// A hart that does not exist is refused, and nothing is done. A schedule stops at no watchpoint and no breakpoint. lw x1, 4(x2); addi x1, x0,
+/// -1
 #[test]
 fn has_hart_0_alone(rt: HostRuntime) {
     let words = &[0x0041_2083, 0xfff0_0093];
@@ -209,7 +211,7 @@ const TELLS_THE_FAULTS_OF_LINES: &[Line] = &[
 ];
 
 #[test]
-fn tells_the_faults_of_lines(rt: HostRuntime) {
+fn reports_the_errors_of_lines(rt: HostRuntime) {
     expect_lines(&rt, rt.alloc(), &[0xfff0_0093], TELLS_THE_FAULTS_OF_LINES);
 }
 

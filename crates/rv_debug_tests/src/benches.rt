@@ -1,5 +1,5 @@
-//! Benches over small programs, and the replies that they must give. The tables of the tests are constants, and the benches are
-//! made here: in a test they would make its proof long.
+//! Makes benches with small programs, and checks their replies. The tables of the tests are constants, and the benches are made here, because
+//! both would lengthen the proof of a test.
 
 use rv_debug::Bench;
 use rv_hart::Machine;
@@ -10,7 +10,7 @@ use rv_word::le_bytes;
 use std::alloc::Global;
 use std::process::Abort;
 
-/// Puts words into memory, one after another from an address on.
+/// Writes words to memory, one after another from an address on.
 pub(crate) fn poke_words(ram: &mut Ram, address: u32, words: &[u32]) {
     let mut address = address;
     for word in words {
@@ -21,27 +21,27 @@ pub(crate) fn poke_words(ram: &mut Ram, address: u32, words: &[u32]) {
     }
 }
 
-/// A machine over the words of a program, in a mode.
+/// Returns a machine with the words of a program, in a mode.
 pub(crate) fn machine_with(rt: &impl Abort, alloc: Global, words: &[u32], mode: Mode) -> Machine {
     let mut ram = Ram::new(alloc, 65_536).expect(rt, "a RAM");
     poke_words(&mut ram, RAM_BASE, words);
     Machine::new(ram, RAM_BASE, mode)
 }
 
-/// A bench over the words of a program, in mode M.
+/// Returns a bench with the words of a program, in mode M.
 pub(crate) fn with_words(rt: &impl Abort, alloc: Global, words: &[u32]) -> Bench {
     Bench::bare(machine_with(rt, alloc, words, Mode::M))
 }
 
-/// The text of a reply. The assertion stands here alone: in each test it would make its proof long.
+/// Expects the text of a reply. The assertion is in a function of its own, because it would lengthen the proof of each test.
 pub(crate) fn expect_text(rt: &impl Abort, reply: &Reply, want: &[u8]) {
     assert_eq!(rt; reply.as_slice(), want);
 }
 
-/// A line, the reply that it must have, and the slots that it must enter: bit k for slot k.
+/// A line, the expected reply, and the slots that it is expected to enter: bit k for slot k.
 pub(crate) type Line = (&'static [u8], &'static [u8], u16);
 
-/// Gives lines to a bench, each with the reply that it must have and the slots that it must enter.
+/// Gives lines to a bench, and expects for each its reply and the slots that it enters.
 pub(crate) fn expect(rt: &impl Abort, bench: &mut Bench, lines: &[Line]) {
     let mut reply = Reply::new();
     for (line, wanted, slots) in lines {
@@ -51,7 +51,7 @@ pub(crate) fn expect(rt: &impl Abort, bench: &mut Bench, lines: &[Line]) {
     }
 }
 
-/// Gives lines to a bench over the words of a program, in mode M.
+/// Gives lines to a bench with the words of a program, in mode M.
 pub(crate) fn expect_lines(rt: &impl Abort, alloc: Global, words: &[u32], lines: &[Line]) {
     let mut bench = with_words(rt, alloc, words);
     expect(rt, &mut bench, lines);

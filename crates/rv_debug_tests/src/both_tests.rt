@@ -1,5 +1,5 @@
-//! One list of commands for two benches, and the second bench that is made for it. The tables are constants, and each test is a
-//! call or two: tables and benches in a test would make its proof long.
+//! Tests of commands that two benches execute, and of the second bench that is made for them. The tables are constants, and each test is a call
+//! or two, because tables and benches would lengthen the proof of a test.
 
 use crate::benches::{expect_text, poke_words, with_words};
 use rv_debug::{Bench, Both, BothLine, BothWhy, Command, both_command, both_line, parse, run_both};
@@ -9,28 +9,28 @@ use rv_text::Reply;
 use std::alloc::Global;
 use std::process::Abort;
 
-/// Where the host begins.
+/// The first address of the host.
 const FIRST: u32 = 0x8001_0000;
 
-/// How a bench is made.
+/// The way to make a bench.
 #[derive(Clone, Copy)]
 enum Made {
-    /// Without the monitor, over addi x1, x0, -1.
+    /// Without the monitor, with addi x1, x0, -1.
     Bare,
     /// Under the monitor, with no enclave.
     Free,
     /// Under the monitor, with an enclave in slot 0.
     Live,
-    /// The same, with the enclave's secret complemented.
+    /// Under the monitor, with an enclave in slot 0 whose secret is complemented.
     Other,
     /// With two harts, and an enclave in slot 0.
     Two,
 }
 
-/// Two benches that differ in nothing but the enclave's secret.
+/// Two benches that differ only in the enclave's secret.
 const PAIR: (Made, Made) = (Made::Live, Made::Other);
 
-/// A create of an enclave of 4096 bytes at 80020000, without a window. The host goes on at 80010004.
+/// A create of an enclave of 4096 bytes at 80020000, without a window. The host continues at 80010004.
 const CREATE: &[&[u8]] = &[
     b"setreg 17 0a454e43",
     b"setreg 16 1",
@@ -43,13 +43,13 @@ const CREATE: &[&[u8]] = &[
 /// The registers of a call to run the enclave of slot 0.
 const RUN: &[&[u8]] = &[b"setreg 17 0a454e43", b"setreg 16 3", b"setreg 10 0"];
 
-/// A command for two benches, how it ends, and the replies of the first and of the second.
+/// A command for two benches, the reason why it ends, and the replies of the first and of the second.
 type Row = (&'static [u8], BothWhy, &'static [u8], &'static [u8]);
 
-/// A line that each bench is given by itself, and the replies of the first and of the second.
+/// A line that each bench executes by itself, and the replies of the first and of the second.
 type After = (&'static [u8], &'static [u8], &'static [u8]);
 
-/// Gives lines to a bench, whatever it replies.
+/// Gives lines to a bench, and ignores its replies.
 fn give(bench: &mut Bench, lines: &[&[u8]]) {
     let mut reply = Reply::new();
     for line in lines {
@@ -57,26 +57,26 @@ fn give(bench: &mut Bench, lines: &[&[u8]]) {
     }
 }
 
-/// A bench of 196608 bytes under the monitor, whose host begins with four ecalls.
+/// Returns a bench of 196608 bytes under the monitor, whose host starts with four ecalls.
 fn bench_of_calls(rt: &impl Abort, alloc: Global, harts: Harts) -> Bench {
     let mut ram = Ram::new(alloc, 196_608).expect(rt, "a RAM");
     poke_words(&mut ram, FIRST, &[0x73; 4]);
     Bench::monitored(MonitoredMachine::new(ram, FIRST, harts))
 }
 
-/// A bench with an enclave in slot 0.
+/// Returns a bench with an enclave in slot 0.
 fn bench_with_enclave(rt: &impl Abort, alloc: Global, harts: Harts) -> Bench {
     let mut bench = bench_of_calls(rt, alloc, harts);
     give(&mut bench, CREATE);
     bench
 }
 
-/// The slot of a number.
+/// Returns the slot with a number.
 fn slot(rt: &impl Abort, number: u32) -> Slot {
     Slot::new(number).expect(rt, "a slot")
 }
 
-/// A bench that is made so, and then is given lines.
+/// Makes a bench, and gives it lines.
 fn bench_of(rt: &impl Abort, alloc: Global, made: Made, lines: &[&[u8]]) -> Bench {
     let mut bench = match made {
         Made::Bare => with_words(rt, alloc, &[0xfff0_0093]),
@@ -91,14 +91,14 @@ fn bench_of(rt: &impl Abort, alloc: Global, made: Made, lines: &[&[u8]]) -> Benc
     bench
 }
 
-/// Gives a line to a bench, which must have this reply.
+/// Gives a line to a bench, and expects this reply.
 fn expect_reply(rt: &impl Abort, bench: &mut Bench, line: &[u8], want: &[u8]) {
     let mut reply = Reply::new();
     let _ = bench.execute_line(line, &mut reply);
     expect_text(rt, &reply, want);
 }
 
-/// Gives lines to each of two benches by itself.
+/// Gives lines to each of two benches by itself, and expects their replies.
 fn expect_after(rt: &impl Abort, a: &mut Bench, b: &mut Bench, after: &[After]) {
     for (line, first, second) in after {
         expect_reply(rt, a, line, first);
@@ -106,10 +106,10 @@ fn expect_after(rt: &impl Abort, a: &mut Bench, b: &mut Bench, after: &[After]) 
     }
 }
 
-/// Gives a command to two benches.
+/// Gives a command to two benches, and expects its outcome.
 fn expect_row(rt: &impl Abort, a: &mut Bench, b: &mut Bench, number: u32, row: &Row) {
     let (line, why, first_want, second_want) = *row;
-    // what the buffers hold before is replaced
+    // the old content of the buffers is replaced
     let mut first = Reply::new();
     let mut second = Reply::new();
     first.push(b'?');
@@ -140,7 +140,7 @@ fn expect_both(
     expect_after(rt, &mut a, &mut b, after);
 }
 
-/// The commands of lines, of which there are at most four.
+/// Returns the commands of at most four lines.
 fn commands_of(rt: &impl Abort, lines: &[&[u8]]) -> [Command; 4] {
     let mut commands = [Command::Blank; 4];
     for (command, line) in commands.iter_mut().zip(lines) {
@@ -160,7 +160,7 @@ fn expect_list(rt: &impl Abort, alloc: Global, lines: &[&[u8]], want: Both, afte
     expect_after(rt, &mut a, &mut b, after);
 }
 
-/// Gives lines to a bench, scrambles it so many times, each with this answer, and gives it lines again.
+/// Gives lines to a bench, scrambles it several times, expects the same result each time, and gives it lines again.
 fn expect_scrambled(
     rt: &impl Abort,
     alloc: Global,
@@ -203,7 +203,7 @@ const ALIKE: &[Row] = &[
     ),
 ];
 
-/// All but the region and the kept registers is equal, and so is what commands show of it.
+/// The benches are equal except for the region and the saved registers, and so are the replies that show other state.
 #[test]
 fn alike_benches_reply_alike(rt: HostRuntime) {
     expect_both(&rt, rt.alloc(), PAIR, &[], 0, ALIKE, &[]);
@@ -238,9 +238,9 @@ const BESIDE: &[Row] = &[
     ),
 ];
 
-/// What ends right before the region, or begins right behind it, is done.
+/// A command whose bytes end directly before the region, or start directly after it, is executed.
 #[test]
-fn what_is_beside_the_region_is_blind(rt: HostRuntime) {
+fn a_command_next_to_the_region_is_blind(rt: HostRuntime) {
     expect_both(&rt, rt.alloc(), PAIR, &[], 0, BESIDE, &[]);
 }
 
@@ -259,7 +259,7 @@ const SECRETS: &[After] = &[
     (b"mem 80020fff 1", b"80020fff: 00\n", b"80020fff: ff\n"),
 ];
 
-/// One byte of the region is enough, at either end. Nothing is done, and both replies are empty.
+/// A command with one byte of the region, at either end, is not executed. Both replies are empty.
 #[test]
 fn what_names_a_byte_of_the_region_is_not_blind(rt: HostRuntime) {
     expect_both(&rt, rt.alloc(), PAIR, &[], 0, INSIDE, SECRETS);
@@ -272,7 +272,7 @@ const SHOWN: &[Row] = &[(
     b"80020000: ff\n",
 )];
 
-/// A slot without a live enclave has no region: both benches show the bytes in which they differ.
+/// A slot without a live enclave has no region. Both benches show the bytes in which they differ.
 #[test]
 fn a_free_slot_hides_nothing(rt: HostRuntime) {
     for number in [1, 12] {
@@ -287,9 +287,9 @@ const IN_ONE: &[Row] = &[
 
 const ZEROS: &[After] = &[(b"mem 80020000 1", b"80020000: 00\n", b"80020000: 00\n")];
 
-/// The region of one bench is enough, and neither does the command.
+/// If the byte is in the region of only one bench, neither executes the command.
 #[test]
-fn blindness_is_asked_of_both(rt: HostRuntime) {
+fn a_command_must_be_blind_in_both_benches(rt: HostRuntime) {
     for made in [(Made::Live, Made::Free), (Made::Free, Made::Live)] {
         expect_both(&rt, rt.alloc(), made, &[], 0, IN_ONE, ZEROS);
     }
@@ -307,7 +307,7 @@ const FAULTS: &[Row] = &[
     (b"", BothWhy::All, b"", b""),
 ];
 
-/// What is refused for its own sake, or has no reply, is done.
+/// A command that is refused for another reason, or that has no reply, counts as executed.
 #[test]
 fn faults_and_blanks_are_replies(rt: HostRuntime) {
     expect_both(&rt, rt.alloc(), PAIR, &[], 0, FAULTS, &[]);
@@ -337,9 +337,9 @@ const ENTERED: &[u8] = b"ran 1 pc=80020000 mode=S world=e0 why=done trap=0000000
 
 const ENTERS: &[Row] = &[(b"step 1", BothWhy::Entered, ENTERED, ENTERED)];
 
-/// The step of the call ends in the enclave, at its entry, in both.
+/// The step of the call ends in the enclave, at its entry, in both benches.
 #[test]
-fn an_entry_is_told(rt: HostRuntime) {
+fn an_entry_is_reported(rt: HostRuntime) {
     expect_both(&rt, rt.alloc(), PAIR, RUN, 0, ENTERS, &[]);
 }
 
@@ -350,13 +350,13 @@ const ENTERS_AND_LEAVES: &[Row] = &[
     (b"step 2", BothWhy::Entered, LEFT, LEFT),
 ];
 
-/// The timer stops the enclave before its first instruction, so that the host runs before the command and after it.
+/// The timer stops the enclave before its first instruction, so the host runs both before and after the command.
 #[test]
-fn an_entry_within_a_command_is_told(rt: HostRuntime) {
+fn an_entry_within_a_command_is_reported(rt: HostRuntime) {
     expect_both(&rt, rt.alloc(), PAIR, RUN, 0, ENTERS_AND_LEAVES, &[]);
 }
 
-/// The same registers of hart 0, and hart 1 chosen.
+/// The same registers of hart 0, with hart 1 selected.
 const RUN_BESIDE: &[&[u8]] = &[
     b"setreg 17 0a454e43",
     b"setreg 16 3",
@@ -376,9 +376,9 @@ const ENTERS_BESIDE: &[Row] = &[(
 
 const ON_HART_1: &[After] = &[(b"csr f14", b"csr f14=00000001\n", b"csr f14=00000001\n")];
 
-/// A step of the hart that is not chosen enters the slot, and the next step does not.
+/// A step of the hart that is not selected enters the slot, and the next step does not.
 #[test]
-fn an_entry_on_the_other_hart_is_told(rt: HostRuntime) {
+fn an_entry_on_the_other_hart_is_reported(rt: HostRuntime) {
     let made = (Made::Two, Made::Two);
     expect_both(
         &rt,
@@ -393,7 +393,7 @@ fn an_entry_on_the_other_hart_is_told(rt: HostRuntime) {
 
 const ENTERS_ANOTHER: &[Row] = &[(b"step 1", BothWhy::All, ENTERED, ENTERED)];
 
-/// Only the slot that is named counts.
+/// Only the given slot counts.
 #[test]
 fn an_entry_of_another_slot_is_none(rt: HostRuntime) {
     let made = (Made::Live, Made::Live);
@@ -408,9 +408,9 @@ const FIRST_ENTERS: &[Row] = &[(b"step 1", BothWhy::Entered, ENTERED, REFUSED)];
 
 const SECOND_ENTERS: &[Row] = &[(b"step 1", BothWhy::Entered, REFUSED, ENTERED)];
 
-/// An entry in one bench is enough; the other, which has no enclave to run, refuses the call, and goes on past it.
+/// An entry in one bench is enough. The other bench has no enclave to run; it refuses the call and continues after it.
 #[test]
-fn entries_are_asked_of_both(rt: HostRuntime) {
+fn an_entry_in_either_bench_counts(rt: HostRuntime) {
     let made = (Made::Live, Made::Free);
     expect_both(&rt, rt.alloc(), made, RUN, 0, FIRST_ENTERS, &[]);
     let made = (Made::Free, Made::Live);
@@ -425,7 +425,7 @@ const PASSED: &[After] = &[
     (b"mem 80020000 1", b"80020000: 00\n", b"80020000: ff\n"),
 ];
 
-/// Each command that was done is counted, also one without a reply and one that is refused, and what it did is there to be seen.
+/// Each command that was executed is counted, including one without a reply and one that is refused. Its effects are visible.
 #[test]
 fn a_list_passes_by(rt: HostRuntime) {
     let why = BothWhy::All;
@@ -440,7 +440,7 @@ const STOPPED: &[After] = &[
     (b"mem 80020000 1", b"80020000: 00\n", b"80020000: ff\n"),
 ];
 
-/// The next command is neither done nor counted, nor is one behind it.
+/// The next command is neither executed nor counted, nor are those after it.
 #[test]
 fn a_list_stops_before_one_that_is_not_blind(rt: HostRuntime) {
     let why = BothWhy::NotBlind;
@@ -454,8 +454,8 @@ const IN_THE_ENCLAVE: &[After] = &[
     (b"reg 5", b"x5=00000000\n", b"x5=ffffffff\n"),
 ];
 
-/// The entering command is done and counted, and none behind it. What the enclave then has in a0 is its region's base, or the
-/// complement of that.
+/// The command that enters is executed and counted, and no command after it is. The enclave then has its region's base in a0, or the complement
+/// of it.
 #[test]
 fn a_list_stops_at_the_entry(rt: HostRuntime) {
     let why = BothWhy::Entered;
@@ -479,7 +479,7 @@ const ENDED: &[After] = &[
     ),
 ];
 
-/// A destroy zeroes the region, which is nobody's from then on: a command that names it is blind, and the benches are equal.
+/// A destroy zeroes the region, which then belongs to no enclave. A command with its bytes is blind, and the benches are equal.
 #[test]
 fn a_list_may_end_the_enclave(rt: HostRuntime) {
     let why = BothWhy::All;
@@ -498,7 +498,7 @@ const TWICE: &[After] = &[
     (b"mem 80020fff 2", b"80020fff: 00 5a\n", b""),
 ];
 
-/// Each byte of the region and no other; twice is as before.
+/// Each byte of the region is complemented, and no other. Scrambling twice restores the bench.
 #[test]
 fn scramble_complements_the_region(rt: HostRuntime) {
     expect_scrambled(&rt, rt.alloc(), (Made::Live, POKES), 0, (1, true), ONCE);
@@ -529,7 +529,7 @@ const KEPT: &[After] = &[
     (b"reg 11", b"x11=ffffefff\n", b""),
 ];
 
-/// The registers of a stopped enclave are complemented; pc, the mode, the host's registers and the record are not.
+/// The registers of a stopped enclave are complemented. pc, the mode, the host's registers and the record are not.
 #[test]
 fn scramble_complements_what_is_kept(rt: HostRuntime) {
     expect_scrambled(&rt, rt.alloc(), (Made::Live, STOP), 0, (1, true), KEPT);
@@ -561,7 +561,7 @@ const RUNNING: &[After] = &[
     (b"reg 10", b"x10=80020000\n", b""),
 ];
 
-/// The enclave that runs.
+/// The enclave that runs is refused.
 #[test]
 fn scramble_refuses_the_slot_that_runs(rt: HostRuntime) {
     expect_scrambled(&rt, rt.alloc(), (Made::Live, ENTER), 0, (1, false), RUNNING);
@@ -575,14 +575,14 @@ const RUNNING_BESIDE: &[After] = &[
     (b"reg 10", b"x10=80020000\n", b""),
 ];
 
-/// The enclave that runs on the hart that is not chosen.
+/// The enclave that runs on the hart that is not selected is refused.
 #[test]
 fn scramble_refuses_the_slot_that_runs_on_the_other_hart(rt: HostRuntime) {
     let made = (Made::Two, ENTER_BESIDE);
     expect_scrambled(&rt, rt.alloc(), made, 0, (1, false), RUNNING_BESIDE);
 }
 
-/// A line, what it was, and what either bench is told to reply.
+/// A line, its outcome, and the expected replies of both benches.
 type LineRow = (&'static [u8], BothLine, &'static [u8], &'static [u8]);
 
 const DONE: BothLine = BothLine::Given {
@@ -611,10 +611,10 @@ const LINES: &[LineRow] = &[
     (b"reg 5", DONE, b"x5=00000007\n", b"x5=00000007\n"),
 ];
 
-/// Gives a line to two benches.
+/// Gives a line to two benches, and expects its outcome.
 fn expect_line(rt: &impl Abort, a: &mut Bench, b: &mut Bench, row: &LineRow) {
     let (line, what, first_want, second_want) = *row;
-    // what the buffers hold before is replaced
+    // the old content of the buffers is replaced
     let mut first = Reply::new();
     let mut second = Reply::new();
     first.push(b'?');
@@ -625,7 +625,7 @@ fn expect_line(rt: &impl Abort, a: &mut Bench, b: &mut Bench, row: &LineRow) {
     expect_text(rt, &second, second_want);
 }
 
-/// A fault is told once, a line without a command is no command, and one that is not blind is skipped.
+/// An error is reported once. A line without a command counts as no command, and a command that is not blind is skipped.
 #[test]
 fn a_line_is_given_to_both(rt: HostRuntime) {
     let mut a = bench_of(&rt, rt.alloc(), PAIR.0, &[]);

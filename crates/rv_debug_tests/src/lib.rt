@@ -1,4 +1,4 @@
-//! The tests of `rv_debug`, over its public calls alone. They stand in a crate of their own, so that the library is proved once.
+//! The tests of `rv_debug`, through its public functions. They are in a crate of their own, so that the library is proved only once.
 #![tactic(auto)]
 
 #[cfg(test)]

@@ -1,4 +1,4 @@
-//! Lines of a bench over a monitored machine: enclaves are made, entered, left and ended.
+//! Tests of lines of a monitored bench, which create, enter, exit and destroy enclaves.
 
 use crate::benches::{Line, expect, poke_words};
 use rv_debug::Bench;
@@ -7,17 +7,17 @@ use rv_monitor::{Harts, MonitoredMachine};
 use std::alloc::Global;
 use std::process::Abort;
 
-/// Where the host begins.
+/// The first address of the host.
 const FIRST: u32 = 0x8001_0000;
 
-/// A bench over a monitored machine whose hosts begin with the words of a program.
+/// Returns a bench over a monitored machine. The hosts of its harts start with the words of a program.
 fn bench_of(rt: &impl Abort, alloc: Global, words: &[u32], harts: Harts) -> Bench {
     let mut ram = Ram::new(alloc, 1_048_576).expect(rt, "a RAM");
     poke_words(&mut ram, FIRST, words);
     Bench::monitored(MonitoredMachine::new(ram, FIRST, harts))
 }
 
-/// Gives lines to a bench over a monitored machine whose host begins with four ecalls, of which the first creates an enclave.
+/// Gives lines to a monitored bench whose host starts with four ecalls. The first ecall creates an enclave.
 fn expect_created(rt: &impl Abort, alloc: Global, lines: &[Line]) {
     let mut bench = bench_of(rt, alloc, &[0x73; 4], Harts::One);
     expect(rt, &mut bench, &[(b"enclaves", b"", 0)]);
@@ -25,7 +25,7 @@ fn expect_created(rt: &impl Abort, alloc: Global, lines: &[Line]) {
     expect(rt, &mut bench, lines);
 }
 
-/// Gives lines to a bench of two harts, whose hosts begin with two ecalls and lw x5, 0(x6); the first ecall of hart 0 creates an enclave.
+/// Gives lines to a bench of two harts, whose hosts start with two ecalls and lw x5, 0(x6). The first ecall of hart 0 creates an enclave.
 fn expect_two_harts(rt: &impl Abort, alloc: Global, lines: &[Line]) {
     let mut bench = bench_of(rt, alloc, &[0x73, 0x73, 0x0003_2283], Harts::Two);
     expect(rt, &mut bench, CREATE);
@@ -122,9 +122,9 @@ const TELLS_THE_SLOTS_ENTERED_IN_ONE_COMMAND: &[Line] = &[
     ),
 ];
 
-/// One command enters and leaves: the timer stops the enclave before its first instruction.
+/// One command enters and leaves an enclave: the timer stops it before its first instruction.
 #[test]
-fn tells_the_slots_entered_in_one_command(rt: HostRuntime) {
+fn reports_the_slots_entered_in_one_command(rt: HostRuntime) {
     expect_created(&rt, rt.alloc(), TELLS_THE_SLOTS_ENTERED_IN_ONE_COMMAND);
 }
 
@@ -153,7 +153,7 @@ const WATCHES_NO_WRITES_OF_THE_MONITOR: &[Line] = &[
     (b"enclaves", b"", 0),
 ];
 
-/// A watch on bytes that destroy zeroes and measure writes stays silent, for those are no loads or stores of an instruction.
+/// A watchpoint on bytes that destroy zeroes and measure writes does not trigger, since these are no loads or stores of an instruction.
 #[test]
 fn watches_no_writes_of_the_monitor(rt: HostRuntime) {
     expect_created(&rt, rt.alloc(), WATCHES_NO_WRITES_OF_THE_MONITOR);
@@ -168,9 +168,9 @@ const TELLS_WHAT_IS_IN_REACH: &[Line] = &[
     (b"poke 80020000 z", b"error operand\n", 0),
 ];
 
-/// `access` is permitted in S where the world reaches, and nowhere else.
+/// `access` in mode S is permitted exactly in the memory that the world may access.
 #[test]
-fn tells_what_is_in_reach(rt: HostRuntime) {
+fn shows_what_is_accessible(rt: HostRuntime) {
     expect_created(&rt, rt.alloc(), TELLS_WHAT_IS_IN_REACH);
 }
 
@@ -186,7 +186,7 @@ const HAS_ONE_HART: &[Line] = &[
     ),
 ];
 
-/// Example 40, with one hart: a hart that there is not is refused, and nothing is done.
+/// Example 40, with one hart: a hart that does not exist is refused, and nothing is done.
 #[test]
 fn has_one_hart(rt: HostRuntime) {
     expect_created(&rt, rt.alloc(), HAS_ONE_HART);
@@ -229,13 +229,13 @@ const HAS_TWO_HARTS: &[Line] = &[
     (b"csr 3a3", b"csr 3a3=00000000\n", 0),
 ];
 
-/// Example 40: two harts, one memory and one table, and entries of each.
+/// Example 40: two harts with one memory and one table, each with its own PMP entries.
 #[test]
 fn has_two_harts(rt: HostRuntime) {
     expect_two_harts(&rt, rt.alloc(), HAS_TWO_HARTS);
 }
 
-/// The registers of a call of hart 0 to run the enclave, and of a call of hart 1 to end it.
+/// The registers of a call of hart 0 to run the enclave, and of a call of hart 1 to destroy it.
 const BOTH_CALL: &[Line] = &[
     (b"setreg 16 3", b"ok\n", 0),
     (b"setreg 10 0", b"ok\n", 0),
@@ -269,7 +269,7 @@ const RUNS_AND_ENDS: &[Line] = &[
     (b"reg 10", b"x10=fffffff8\n", 0),
 ];
 
-/// Gives lines to a bench of two harts, of which hart 0 is to run the enclave and hart 1 is to end it.
+/// Gives lines to a bench of two harts. Hart 0 will run the enclave, and hart 1 will destroy it.
 fn expect_both_call(rt: &impl Abort, alloc: Global, lines: &[Line]) {
     let mut bench = bench_of(rt, alloc, &[0x73; 2], Harts::Two);
     expect(rt, &mut bench, CREATE);

@@ -1,4 +1,4 @@
-//! The texts of the replies, whole.
+//! Tests of the complete texts of replies.
 
 use crate::benches::{Line, expect, expect_lines, machine_with};
 use rv_debug::Bench;
@@ -7,14 +7,14 @@ use rv_pmp::Mode;
 use std::alloc::Global;
 use std::process::Abort;
 
-/// Writes control and status registers of a machine in mode M; that it was done shows in the replies.
+/// Writes control and status registers of a machine in mode M. The replies show whether the writes succeeded.
 fn put(machine: &mut Machine, words: &[(u16, u32)]) {
     for (number, word) in words {
         let _ = machine.csrs_mut().write(*number, *word, Mode::M);
     }
 }
 
-/// Gives lines to a bench over a nop in a mode, with control and status registers as they were put.
+/// Gives lines to a bench with a nop, in a mode and with these control and status registers.
 fn expect_of(rt: &impl Abort, alloc: Global, mode: Mode, words: &[(u16, u32)], lines: &[Line]) {
     let mut machine = machine_with(rt, alloc, &[0x0000_0013], mode);
     put(&mut machine, words);
@@ -34,7 +34,7 @@ const IN_S: &[Line] = &[(
     0,
 )];
 
-/// Entry 0 lets each mode do all everywhere.
+/// Entry 0 permits every access everywhere in each mode.
 #[test]
 fn prints_modes(rt: HostRuntime) {
     let words = [(0x3b0, 0xffff_ffff), (0x3a0, 0x1f)];
@@ -111,7 +111,7 @@ const PRINTS_VERDICTS: &[Line] = &[
     (b"access M r 8000ffff 2", b"denied outside\n", 0),
 ];
 
-/// Entry 0 is NAPOT and readable, the 4096 bytes from 80000000 on; entry 15 is NAPOT and locked, the 8 bytes from 80001000 on.
+/// Entry 0 is NAPOT and readable, for the 4096 bytes from 80000000 on. Entry 15 is NAPOT and locked, for the 8 bytes from 80001000 on.
 #[test]
 fn prints_verdicts(rt: HostRuntime) {
     let words = [

@@ -1,4 +1,4 @@
--- The hexadecimal digits of a number without leading zeros are its last ones, so many as it has.
+-- The hexadecimal digits of a number without leading zeros are as many of its last digits as it has.
 use Rattle.std.proofs.Common.{◌≡◌, ℕ, zero, suc, ◌/◌, ◌%◌, ◌^◌, ◌<◌, ◌≤◌, false, List, [], ◌∷◌, ◌++◌, sym, ◌∙◌, arith, append_assoc, append-nil}
 use Rattle.std.specs.Char.{digit_char}
 use Rattle.std.specs.Fmt.{digits, digits_onto}
@@ -12,7 +12,7 @@ onto_last k n after small = grind (arith, nat_tests)
 onto_step : (k n : ℕ) (after : List ℕ) → 16 ≤ n → digits_onto (suc k) 16 false n after ≡ digits_onto k 16 false (n / 16) (digit_char (n % 16) ∷ after)
 onto_step k n after large = grind (arith, nat_tests)
 
--- a number of two digits or more has one more than its quotient
+-- a number of two digits or more has one digit more than its quotient by 16
 more : (k places n : ℕ) (after : List ℕ) → 16 ≤ n
     → ((rest : List ℕ) → digits_onto k 16 false (n / 16) rest ≡ hex_digits places (n / 16) ++ rest)
     → digits_onto (suc k) 16 false n after ≡ hex_digits (suc places) n ++ after

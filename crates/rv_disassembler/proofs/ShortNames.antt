@@ -1,4 +1,4 @@
--- The names of the instructions are short.
+-- The names of all instructions have at most 10 bytes.
 use Rattle.std.proofs.Common.{◌≤◌, length, arith}
 use Rattle.rv_encoding.specs.Listing.{name_of}
 use Rattle.rv_encoding.specs.declared.instr.Instr.{Instr}

@@ -1,4 +1,4 @@
--- What some words are spelled.
+-- Examples: words with their disassembly.
 use Rattle.std.proofs.Common.{◌≡◌, ℕ, List, ◌∷◌, [], map, refl}
 use Rattle.std.specs.Prelude.{codes}
 use Rattle.std.specs.Fmt.{digits}

@@ -1,6 +1,6 @@
--- The one text of each word, in the assembly language of RISC-V Unprivileged ISA 20191213: its mnemonics are those of
--- chapter 24, its registers and the letters of fences those of chapter 25. (No standard lays out a line: the blanks,
--- the commas and the form of each number are this project's own.)
+-- The disassembly of each word, in the assembly language of the RISC-V Unprivileged ISA (20191213, chapters 24 and 25). Chapter 24 defines the
+-- mnemonics, and chapter 25 the registers and the letters of fences. No standard defines the layout of a line: the blanks, the commas and the
+-- form of numbers are this project's own.
 use Rattle.std.specs.Prelude.{ℕ, ◌-◌, ◌/◌, ◌%◌, ◌^◌, ◌==◌, Bool, true, false, ◌&&◌, List, [], ◌∷◌, ◌++◌, codes, decimal, nat_lt, if◌then◌else◌}
 use Rattle.std.specs.Fmt.{digits}
 use Rattle.std.specs.List.{join_by}
@@ -26,15 +26,15 @@ hex_text n = codes "0x" ++ digits 16 false n
 abbrev pub csr_operand_text : ℕ → List ℕ
 csr_operand_text number = codes "0x" ++ hex3 number
 
--- the signed number that a field of so many bits is in two's complement
+-- the signed number of a field of `width` bits, in two's complement
 abbrev pub signed_text : ℕ → ℕ → List ℕ
 signed_text width field = if nat_lt field (2 ^ (width - 1)) then decimal field else codes "-" ++ decimal (2 ^ width - field)
 
--- an offset of twelve bits from a register
+-- a signed offset of 12 bits and a base register
 abbrev pub address_text : ℕ → ℕ → List ℕ
 address_text offset base = signed_text 12 offset ++ codes "(" ++ register_operand_text base ++ codes ")"
 
--- a letter where a set has the bit
+-- the letter if the set has the bit, otherwise nothing
 abbrev pub letter_text : ℕ → ℕ → List ℕ → List ℕ
 letter_text set bit letter = if set / bit % 2 == 1 then letter else []
 
@@ -68,25 +68,25 @@ operand_texts (SfenceVma rs1 rs2) = register_operand_text rs1 ∷ register_opera
 
 -- ---- lines
 
--- a mnemonic, and after a blank its operands with a comma and a blank between each two
+-- a mnemonic, followed by a blank and the operands if there are any; operands are separated by a comma and a blank
 unfoldable pub line_text : List ℕ → List (List ℕ) → List ℕ
 line_text name [] = name
 line_text name (first ∷ more) = name ++ codes " " ++ join_by (λ operand. operand) (codes ", ") (first ∷ more)
 
--- an instruction is spelled by its mnemonic and operands
+-- the text of an instruction: its mnemonic and operands
 unfoldable pub instr_text : Instr → List ℕ
 instr_text instr = line_text (name_of instr) (operand_texts instr)
 
--- a word is spelled by its number, in eight digits
+-- the text of a word as a number of eight digits
 unfoldable pub word_text : ℕ → List ℕ
 word_text word = line_text (codes ".word") ((codes "0x" ++ hex8 word) ∷ [])
 
--- a fence's operands do not tell its mode and its register fields, so each of these must be 0
+-- whether the operands determine the instruction: the operands of a fence do not have its mode and register fields, so these must be 0
 abbrev pub is_told_by_operands : Instr → Bool
 is_told_by_operands (Fence fm pred succ rd rs1) = (fm == 0) && (rd == 0) && (rs1 == 0)
 is_told_by_operands _ = true
 
--- the instruction that a word is; a word that is none, or one that its operands do not tell, is spelled by its number
+-- the disassembly of a word: its instruction, or `.word` and its number if it is no instruction or the operands do not determine it
 unfoldable pub spelling : ℕ → List ℕ
 spelling word =
     option_case (decoded word) (word_text word)

@@ -1,4 +1,4 @@
-//! The one text of each word.
+//! Disassembles words.
 
 mod instruction_text;
 mod mnemonic;
@@ -19,10 +19,10 @@ use operand::Line;
 use rv_encoding::{Instr, decode};
 use rv_text::hex;
 
-/// Puts the text of a word in place of what `out` held: its instruction in assembly language (Unprivileged ISA, chapters
-/// 24 and 25), or `.word` and its number where it is none.
+/// Sets `out` to the disassembly of a word: its instruction in assembly language (Unprivileged ISA, chapters 24 and 25), or `.word` and its
+/// number if it is no instruction.
 ///
-/// A fence whose mode or register fields are not 0 is shown by its number too, since its operands do not tell them.
+/// A fence is also shown as a number if its mode or its register fields are not 0, since its operands do not have them.
 ///
 /// ```text
 /// disassemble(0xfff0_8093, &mut out); // addi x1, x1, -1
@@ -31,7 +31,7 @@ use rv_text::hex;
 #[tactic(auto, unfolding(crate::specs::Spelling::spelling))]
 pub fn disassemble(word: u32, out: &mut ArrayString<48>)
     ensures text { out.new.bytes ≡ spelling word }
-    // An instruction that is shown is spelled by the word.
+    // The word encodes the instruction that is shown.
     ensures shown { IfSome (decoded word) (Encodes word) }
 {
     match decode(word) {
@@ -40,7 +40,7 @@ pub fn disassemble(word: u32, out: &mut ArrayString<48>)
     }
 }
 
-/// Whether the operands tell every field: all but a fence's mode and register fields, which must be 0.
+/// Returns whether the operands determine every field. The operands of a fence do not have its mode and register fields, which must be 0.
 fn is_told(instr: &Instr) -> bool
     ensures { result ≡ is_told_by_operands instr.now }
 {
@@ -52,7 +52,7 @@ fn is_told(instr: &Instr) -> bool
     }
 }
 
-/// The number of a word.
+/// Writes the number of a word.
 #[tactic(auto, unfolding(crate::specs::Spelling::word_text, crate::specs::Spelling::line_text))]
 fn put_word(out: &mut Line, word: u32)
     ensures { out.new.bytes ≡ word_text word }
@@ -62,7 +62,7 @@ fn put_word(out: &mut Line, word: u32)
     out.push_str(hex(word, 8).as_str());
 }
 
-/// The mnemonic and operands of an instruction.
+/// Writes the mnemonic and the operands of an instruction.
 #[tactic(auto, unfolding(crate::specs::Spelling::instr_text))]
 fn put_instr(out: &mut Line, instr: &Instr)
     ensures { out.new.bytes ≡ instr_text instr.now }

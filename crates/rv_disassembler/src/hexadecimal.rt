@@ -4,7 +4,7 @@ ghost use Rattle.std.specs.Prelude.{◌≡◌, ℕ, ◌^◌, ◌<◌, ◌≤◌,
 ghost use Rattle.std.specs.Fmt.{digits};
 ghost use Rattle.rv_text.specs.Digits.{hex_digits};
 
-/// How many hexadecimal digits write a number of at most 20 bits without leading zeros.
+/// Returns the number of hexadecimal digits of a number of at most 20 bits without leading zeros.
 #[tactic(auto, using(crate::proofs::HexTexts::hex_texts))]
 pub(crate) fn digit_count(value: u32) -> usize
     requires { value < 2 ^ 20 }

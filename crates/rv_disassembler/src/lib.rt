@@ -1,6 +1,5 @@
-//! The disassembler of the bench: the one text of each word (RISC-V Unprivileged ISA 20191213, chapters 24 and 25, in this
-//! project's own grammar). In the specs `Spelling` says what that text is. That it assembles to the word is told by the
-//! assembler, `rv_asm`.
+//! The disassembler of the bench: the text of each word (RISC-V Unprivileged ISA 20191213, chapters 24 and 25, in this project's own grammar).
+//! In the specs, `Spelling` defines the text. The contracts of the assembler, `rv_asm`, state that the text assembles to the word.
 //!
 //! ```text
 //! let mut text = ArrayString::new();

@@ -1,4 +1,4 @@
--- A file of one segment that can be followed by hand: addi x1, x0, -1 at address 80000000, and four zeros behind it.
+-- Example: a file with one segment, addi x1, x0, -1 at address 80000000, followed by four zeros.
 use Rattle.std.proofs.Common.{◌≡◌, ℕ, true, false, List, [], ◌∷◌, ◌++◌, take, Ok, Err, refl}
 use Rattle.rv_elf.specs.declared.elf_fault.ElfFault.TheVariants.{SegmentTruncated, SegmentOutside}
 use Rattle.rv_elf.specs.Faults.{header_faults, segment_faults, place_faults}
@@ -6,7 +6,7 @@ use Rattle.rv_elf.specs.Places.{meets_reserved}
 use Rattle.rv_elf.specs.Plans.{file_plan}
 use Rattle.rv_elf.specs.Segments.{segments_of, occupying}
 
--- e_ident, e_type and e_machine, e_version, e_entry, e_phoff, e_shoff and e_flags, the six halves behind them
+-- e_ident, e_type and e_machine, e_version, e_entry, e_phoff, e_shoff and e_flags, and the six halves after them
 abbrev elf_header : List ℕ
 elf_header =
     0x7f ∷ 0x45 ∷ 0x4c ∷ 0x46 ∷ 1 ∷ 1 ∷ 1 ∷ 0 ∷ 0 ∷ 0 ∷ 0 ∷ 0 ∷ 0 ∷ 0 ∷ 0 ∷ 0
@@ -32,7 +32,7 @@ loads : file_plan file 1048576 false ≡ Ok (record {
 unfolding header_faults segment_faults place_faults segments_of occupying meets_reserved
 loads = refl
 
--- a byte of the file is missing; the segment is larger than the RAM; and it meets the range of a monitor
+-- the errors if a byte of the file is missing, if the segment is larger than the RAM, and if it meets the range of a monitor
 cut : file_plan (take 87 file) 1048576 false ≡ Err SegmentTruncated
 unfolding header_faults segment_faults place_faults segments_of occupying meets_reserved
 cut = refl

@@ -1,4 +1,4 @@
--- The first of the faults whose condition holds, in parts of the table.
+-- Lemmas about the first error of a table whose condition holds.
 use Rattle.std.proofs.Common.{◌≡◌, ℕ, suc, ◌≤◌, ◌&&◌, nat_lt, length, map, Bool, true, false, List, [], ◌∷◌}
 use Rattle.std.proofs.Common.{◌++◌, Option, Some, None, Result, Ok, Err, refl, arith}
 use Rattle.std.proofs.lemmas.Grind.{common_steps}
@@ -14,19 +14,19 @@ use Rattle.rv_elf.specs.Fields.{e_entry}
 use Rattle.rv_elf.specs.Places.{first_address}
 use Rattle.rv_elf.specs.Segments.{segments_of, occupying, raw_segments}
 
--- where no fault of the first part is there, it is that of the second
+-- if the first part of a table has no error, the first error is that of the second part
 pub none_before : (rows others : List (Bool × ElfFault)) → first_fault rows ≡ None → first_fault (rows ++ others) ≡ first_fault others
 none_before [] others none = refl
 none_before ((true, fault) ∷ rows) others none = absurd (grind arith)
 none_before ((false, fault) ∷ rows) others none = none_before rows others none
 
--- a fault of the first part is that of all
+-- an error of the first part of a table is the first error of the table
 pub some_before : (rows others : List (Bool × ElfFault)) (fault : ElfFault) → first_fault rows ≡ Some fault → first_fault (rows ++ others) ≡ Some fault
 some_before [] others fault some = absurd (grind arith)
 some_before ((true, first) ∷ rows) others fault some = some
 some_before ((false, first) ∷ rows) others fault some = some_before rows others fault some
 
--- where there is no fault, no condition holds
+-- if there is no error, no condition holds
 pub first_is_false : (condition : Bool) (fault : ElfFault) (rows : List (Bool × ElfFault)) → first_fault ((condition, fault) ∷ rows) ≡ None → condition ≡ false
 first_is_false true fault rows none = absurd (grind arith)
 first_is_false false fault rows none = refl
@@ -36,11 +36,11 @@ pub rest_has_none : (condition : Bool) (fault : ElfFault) (rows : List (Bool × 
 rest_has_none true fault rows none = absurd (grind arith)
 rest_has_none false fault rows none = none
 
--- the rows are numbered one after another, the first by this number
+-- the rows have consecutive numbers, starting with n
 abbrev AreNumbered : ℕ → List (Bool × ElfFault) → Type 0
 AreNumbered n rows = map (λ row. elf_fault_number row.1) rows ≡ range_with_len n (length rows)
 
--- none of them has a lesser number than the first
+-- no row has a smaller number than the first
 none_lesser : (rows : List (Bool × ElfFault)) (n least : ℕ) → AreNumbered n rows → least ≤ n
     → list_any (λ row. row.0 && nat_lt (elf_fault_number row.1) least) rows ≡ false
 none_lesser [] n least numbered low = refl
@@ -49,7 +49,7 @@ none_lesser ((condition, fault) ∷ rows) n least numbered low =
     let first : elf_fault_number fault ≡ n = grind arith in
     grind (arith, common_steps)
 
--- so the first whose condition holds has the least number
+-- the first error whose condition holds has the smallest number
 least_first : (rows : List (Bool × ElfFault)) (n : ℕ) (fault : ElfFault) → AreNumbered n rows → first_fault rows ≡ Some fault → IsLeast rows fault
 least_first [] n fault numbered some = absurd (grind arith)
 least_first ((true, first) ∷ rows) n fault numbered some =
@@ -60,7 +60,7 @@ least_first ((true, first) ∷ rows) n fault numbered some =
 least_first ((false, first) ∷ rows) n fault numbered some =
     least_first rows (suc n) fault (grind arith) some
 
--- the rows of the table stand in the order of their numbers
+-- the rows of the table are in the order of their numbers
 in_order : (file : List ℕ) (ram_size len entry : ℕ) (monitored : Bool) (segments others : List Segment)
     → AreNumbered 1 (header_faults file ++ segment_faults len segments ++ place_faults ram_size monitored others entry)
 unfolding header_faults segment_faults place_faults
@@ -70,7 +70,7 @@ places_in_order : (ram_size entry : ℕ) (monitored : Bool) (segments : List Seg
 unfolding place_faults
 places_in_order ram_size entry monitored segments = refl
 
--- the fault with which an ELF file, or a raw image, is refused has the least number
+-- the reported error of an ELF file, or of a raw image, has the smallest number
 file_least : (file : List ℕ) (ram_size : ℕ) (monitored : Bool) (fault : ElfFault) → file_fault file ram_size monitored ≡ Some fault
     → IsLeast (file_faults file ram_size monitored) fault
 file_least file ram_size monitored fault some =
@@ -83,7 +83,7 @@ raw_least : (len ram_size : ℕ) (monitored : Bool) (fault : ElfFault) → raw_f
 raw_least len ram_size monitored fault some =
     least_first (raw_faults len ram_size monitored) 9 fault (places_in_order ram_size (first_address monitored) monitored (raw_segments len monitored)) some
 
--- so it is of every answer that is the plan or that fault
+-- a result that is the plan or this error has the error with the smallest number
 refused_least : (rows : List (Bool × ElfFault)) (found : Option ElfFault) (plan : LoadPlan) (result : Result LoadPlan ElfFault)
     → ((fault : ElfFault) → found ≡ Some fault → IsLeast rows fault) → result ≡ option_case found (Ok plan) Err → IfErr result (λ fault. IsLeast rows fault)
 refused_least rows None plan result least is = rw is tt

@@ -1,4 +1,4 @@
--- The segments of a plan, loaded one after the other.
+-- Lemmas about the segments of a plan, loaded one after the other.
 use Rattle.std.proofs.Common.{◌≡◌, ◌∙◌, ℕ, ◌+◌, ◌<◌, ◌≤◌, Bool, true, false, not, ◌&&◌, arith, List, [], ◌∷◌, length, drop, slice_index_or, refl, sym}
 use Rattle.std.proofs.Math.ListN.{drop_of_length-le}
 use Rattle.std.proofs.lemmas.List.{drop_more}
@@ -12,7 +12,7 @@ use Rattle.rv_elf.specs.Places.{lies_inside, meets_reserved}
 use Rattle.rv_elf.specs.Segments.{has_overlap, share_a_byte, is_truncated, is_oversized}
 use Rattle.rv_elf.proofs.LoadedBytes.{length-loaded_memory, load_first, load_none}
 
--- what is so when the rest of the segments is still to be loaded into this memory
+-- the invariant of the loop, when the rest of the segments is not yet loaded into this memory
 unfoldable pub Loads : List ℕ → LoadPlan → List ℕ → List Segment → List ℕ → Type 0
 Loads image plan before rest now =
     (loaded_memory image rest now ≡ loaded_memory image plan.segments before)
@@ -24,7 +24,7 @@ pub loads_begin : (image : List ℕ) (plan : LoadPlan) (before : List ℕ) → I
 unfolding Loads
 loads_begin image plan before valid = (refl, refl, valid.0, valid.1)
 
--- a segment that fits lies inside RAM
+-- a segment that fits is inside RAM
 inside_of : (whole sized inside apart : Bool) → (not whole && not sized && not (not (inside && apart))) ≡ true → inside ≡ true
 inside_of whole sized inside apart fit = grind (arith, common_steps)
 
@@ -34,7 +34,7 @@ fits_inside image_size ram_size monitored segment fit =
     inside_of (is_truncated image_size segment) (is_oversized segment) (lies_inside ram_size segment.address segment.memory_size)
     (not (meets_reserved monitored segment.address segment.memory_size)) fit
 
--- of the first of the rest, and of the others
+-- the first segment of the rest fits, and the invariant holds after it is loaded
 first_fits : (image : List ℕ) (plan : LoadPlan) (before now : List ℕ) (segment : Segment) (others : List Segment)
     → Loads image plan before (segment ∷ others) now → fits plan.image_size plan.ram_size plan.monitored segment ≡ true
 unfolding Loads
@@ -51,7 +51,7 @@ others_load image plan before now segment others loads =
       apart.1,
     )
 
--- in the loop over the segments: at one of them, behind it, and at the end
+-- the invariant at a segment, after it, and at the end of the loop
 pub loads_size : (image : List ℕ) (plan : LoadPlan) (before now : List ℕ) (rest : List Segment) → Loads image plan before rest now → length now ≡ length before
 unfolding Loads
 loads_size image plan before now rest loads = loads.1
@@ -83,5 +83,5 @@ loads_end image plan before now i past loads =
     let same = rw none at loads.0 in
     sym (load_none image now) ∙ same
 
--- each step of the loop over the segments
+-- the steps of the loop over the segments
 pub ruleset loading = (loads_begin, loads_fits, loads_inside, loads_more, loads_end, loads_size)

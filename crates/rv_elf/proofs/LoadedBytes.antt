@@ -1,4 +1,4 @@
--- The memory after segments were loaded, by its bytes.
+-- Lemmas about the memory after segments are loaded, byte by byte.
 use Rattle.std.proofs.Common.{◌≡◌, ◌∙◌, sym, ℕ, zero, suc, ◌+◌, ◌-◌, ◌<◌, ◌≤◌, Bool, true, false, not, ◌&&◌, List, [], ◌∷◌, length}
 use Rattle.std.proofs.Common.{map, slice_index, Option, Some, None, refl, ap, inl, inr, true≢false, arith}
 use Rattle.std.specs.List.{range_with_len, find, list_any, list_all, Contains}
@@ -17,18 +17,18 @@ use Rattle.rv_elf.proofs.SharedBytes.{not_in_other}
 
 -- ---- the memory as a list
 
--- two functions that agree on some numbers
+-- two functions that agree on a range of numbers give the same list
 map_same : (f g : ℕ → ℕ) (a n : ℕ) → ((b : ℕ) → a ≤ b → b < a + n → f b ≡ g b) → map f (range_with_len a n) ≡ map g (range_with_len a n)
 map_same f g a zero same = refl
 map_same f g a (suc n) same =
     rw (same a (omega arith) (omega arith), map_same f g (a + 1) n (λ b low high. same b (omega arith) (omega arith))) refl
 
--- the size stays
+-- loading keeps the size of the memory
 pub length-loaded_memory : (image : List ℕ) (segments : List Segment) (memory : List ℕ) → length (loaded_memory image segments memory) ≡ length memory
 unfolding loaded_memory
 length-loaded_memory image segments memory = length-map-range_with_len (byte_after image segments memory) ram_base (length memory)
 
--- the byte at an index
+-- the byte at an address after loading
 pub loaded_at : (image : List ℕ) (segments : List Segment) (memory : List ℕ) (address : ℕ) → ram_base ≤ address → address < ram_base + length memory
     → slice_index (loaded_memory image segments memory) (address - ram_base) ≡ byte_after image segments memory address
 unfolding loaded_memory
@@ -36,19 +36,19 @@ loaded_at image segments memory address low high =
     get_or-map-range_with_len (byte_after image segments memory) ram_base (length memory) (address - ram_base) address 0 (omega (arith, low, high))
     (omega (arith, low))
 
--- ---- a segment, and the others behind it
+-- ---- a segment, and the other segments after it
 
 none_some : (segment : Segment) (answer : Option Segment) → answer ≡ None → answer ≡ Some segment → ⊥
 none_some segment answer none some = grind arith
 
--- nothing is found where nothing passes
+-- nothing is found if nothing passes the test
 pub find_none : {X : Type 0} (test : X → Bool) (xs : List X) → list_any test xs ≡ false → find test xs ≡ None
 find_none test [] none = refl
 find_none test (x ∷ xs) none =
     let parts = or_parts (test x) (list_any test xs) none in
     rw parts.0 (find_none test xs parts.1)
 
--- no segment apart from another has its addresses
+-- a segment that shares no byte with the others has no address of theirs
 none_covers : (segment : Segment) (others : List Segment) (address : ℕ) → list_any (share_a_byte segment) others ≡ false → has_address address segment ≡ true
     → list_any (has_address address) others ≡ false
 none_covers segment [] address none inside = refl
@@ -61,7 +61,7 @@ pub found_alone : (segment : Segment) (others : List Segment) (address : ℕ) �
     → find (has_address address) others ≡ None
 found_alone segment others address none inside = find_none (has_address address) others (none_covers segment others address none inside)
 
--- the byte after a segment and then others were loaded
+-- the byte after a segment and then others are loaded
 byte_first : (image : List ℕ) (segment : Segment) (others : List Segment) (memory : List ℕ) (address : ℕ) → ram_base ≤ address
     → address < ram_base + length memory
     → list_any (share_a_byte segment) others ≡ false
@@ -82,7 +82,7 @@ load_first image segment others memory none =
     (map_same (byte_after image others (loaded_memory image (segment ∷ []) memory)) (byte_after image (segment ∷ others) memory) ram_base (length memory)
     (λ address low high. byte_first image segment others memory address low high none))
 
--- without segments the memory is as before
+-- without segments the memory does not change
 pub load_none : (image memory : List ℕ) → loaded_memory image [] memory ≡ memory
 load_none image memory =
     same_number_lists (loaded_memory image [] memory) memory (length-loaded_memory image [] memory)
@@ -92,9 +92,9 @@ load_none image memory =
     let index : ram_base + k - ram_base ≡ k = omega arith in
     rw index at at)
 
--- ---- the bytes of segments that share none
+-- ---- segments that share no byte
 
--- the one segment that has an address is found
+-- the only segment that has an address is found
 pub found : (segments : List Segment) (segment : Segment) (address : ℕ) → has_overlap segments ≡ false → Contains segments segment
     → has_address address segment ≡ true → find (has_address address) segments ≡ Some segment
 found [] segment address apart (k, below, is) inside = absurd (omega (arith, below))
@@ -107,7 +107,7 @@ found (first ∷ others) segment address apart (suc k, below, is) inside =
       | inr other ↦ rw other rest
     ]
 
--- what all have, one of them has
+-- a test that all segments pass is passed by each
 all_at : (test : Segment → Bool) (segments : List Segment) (segment : Segment) → list_all test segments ≡ true → Contains segments segment → test segment ≡ true
 all_at test [] segment all (k, below, is) = absurd (omega (arith, below))
 all_at test (first ∷ others) segment all (zero, below, is) = ap test (sym is) ∙ (and_parts (test first) _ all).0
@@ -122,7 +122,7 @@ in_ram memory image_size address monitored segment fit inside = grind (arith, co
 in_ram_low : (memory : List ℕ) (address : ℕ) → is_inside memory address 1 ≡ true → (ram_base ≤ address) × (address < ram_base + length memory)
 in_ram_low memory address inside = (grind (arith, common_steps), grind (arith, common_steps))
 
--- the byte at an address after the segments were loaded
+-- the byte at an address after the segments are loaded
 byte_loaded : (image : List ℕ) (segments : List Segment) (memory : List ℕ) (address : ℕ) → is_inside memory address 1 ≡ true
     → byte_at (loaded_memory image segments memory) address ≡ Some (byte_after image segments memory address)
 byte_loaded image segments memory address inside =
@@ -139,7 +139,7 @@ byte_outside : (image : List ℕ) (segments : List Segment) (memory : List ℕ) 
 byte_outside image segments memory address outside =
     rw (byte_at-index (loaded_memory image segments memory) address, byte_at-index memory address, length-loaded_memory image segments memory, outside) refl
 
--- what was loaded, byte by byte
+-- each byte after loading
 pub loads_each : (image : List ℕ) (plan : LoadPlan) (old : List ℕ) → IsValidPlan plan → length old ≡ plan.ram_size
     → LoadsEach image plan.segments old (loaded_memory image plan.segments old)
 loads_each image plan old valid size = record {
@@ -155,7 +155,7 @@ loads_each image plan old valid size = record {
   ];
 }
 
--- ---- the bytes that no image may use
+-- ---- the reserved bytes
 
 -- a segment that fits has no reserved address
 apart_of : (whole sized inside met : Bool) → (not whole && not sized && not (not (inside && not met))) ≡ true → met ≡ false
@@ -181,7 +181,7 @@ none_have image_size ram_size address monitored (segment ∷ segments) fit reser
     or_from (has_address address segment) _ (none_reserved image_size ram_size address monitored segment both.0 reserved)
     (none_have image_size ram_size address monitored segments both.1 reserved)
 
--- so the bytes that no image may use are as before
+-- loading does not change the reserved bytes
 pub keeps_reserved : (image : List ℕ) (plan : LoadPlan) (old : List ℕ) → IsValidPlan plan → length old ≡ plan.ram_size
     → KeepsReserved plan.monitored old (loaded_memory image plan.segments old)
 keeps_reserved image plan old valid size = λ address reserved.

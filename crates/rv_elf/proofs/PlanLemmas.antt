@@ -1,4 +1,4 @@
--- A plan that has no fault is valid.
+-- A plan without an error is valid.
 use Rattle.std.proofs.Common.{◌≡◌, ℕ, ◌<◌, ◌%◌, ◌==◌, Bool, true, false, not, ◌||◌, List, [], ◌∷◌, ◌++◌, length, Some, None, Err, refl, inl, inr, arith}
 use Rattle.std.proofs.lemmas.Bool.{or_parts, or_from, and_from, cases_Bool}
 use Rattle.std.proofs.lemmas.Grind.{common_steps}
@@ -13,7 +13,7 @@ use Rattle.rv_elf.specs.Plans.{LoadPlan, IsValidPlan, fits, file_plan}
 use Rattle.rv_elf.specs.Segments.{is_truncated, is_oversized, is_outside, has_overlap, occupying, raw_segments, segments_of}
 use Rattle.rv_elf.proofs.FirstFaults.{first_is_false, rest_has_none, none_before, some_before}
 
--- what no segment has, none of a part of them has
+-- a test that no element of a list passes is passed by none of a part
 any-filter : {X : Type 0} (test kept : X → Bool) (xs : List X) → list_any test xs ≡ false → list_any test (filter kept xs) ≡ false
 any-filter test kept [] none = refl
 any-filter test kept (x ∷ xs) none =
@@ -23,7 +23,7 @@ any-filter test kept (x ∷ xs) none =
       | inr other ↦ rw other (any-filter test kept xs parts.1)
     ]
 
--- a segment that has none of three faults fits
+-- a segment without any of the three errors fits
 all_fit : (image_size ram_size : ℕ) (monitored : Bool) (segments : List Segment) → list_any (is_truncated image_size) segments ≡ false
     → list_any is_oversized segments ≡ false → list_any (is_outside ram_size monitored) segments ≡ false
     → list_all (fits image_size ram_size monitored) segments ≡ true
@@ -36,14 +36,14 @@ all_fit image_size ram_size monitored (segment ∷ segments) whole sized inside 
     (rw (is_whole.0, is_sized.0, is_inside.0) refl)
     (all_fit image_size ram_size monitored segments is_whole.1 is_sized.1 is_inside.1)
 
--- an entry that is not bad is a multiple of 4, and has a place for four bytes
+-- an entry without an error is a multiple of 4, and there is room for its four bytes
 entry_aligned : (entry : ℕ) (placed : Bool) → (not (entry % 4 == 0) || not placed) ≡ false → entry % 4 ≡ 0
 entry_aligned entry placed good = grind (arith, common_steps)
 
 entry_placed : (aligned placed : Bool) → (not aligned || not placed) ≡ false → placed ≡ true
 entry_placed aligned placed good = grind (arith, common_steps)
 
--- those that take memory have no fault that none of all has
+-- if no segment has an error, no segment that occupies memory has one
 pub kept_have_none : (image_size : ℕ) (segments : List Segment) → first_fault (segment_faults image_size segments) ≡ None
     → first_fault (segment_faults image_size (occupying segments)) ≡ None
 unfolding segment_faults occupying
@@ -53,7 +53,7 @@ kept_have_none image_size segments none =
     let sized = first_is_false (list_any is_oversized segments) _ _ rest in
     rw (any-filter (is_truncated image_size) _ segments whole, any-filter is_oversized _ segments sized) refl
 
--- a plan whose segments and places have no fault is valid
+-- a plan is valid if its segments and their positions in memory have no error
 pub is_valid : (plan : LoadPlan) → first_fault (segment_faults plan.image_size plan.segments) ≡ None
     → first_fault (place_faults plan.ram_size plan.monitored plan.segments plan.entry) ≡ None → IsValidPlan plan
 unfolding segment_faults place_faults
@@ -77,20 +77,20 @@ unfolding place_faults occupying
 raw_outside len ram_size true larger = grind (arith, common_steps)
 raw_outside len ram_size false larger = grind (arith, common_steps)
 
--- a raw image has all that it has in the file
+-- a raw image has no error in its part of the file
 pub raw_has_none : (len : ℕ) (monitored : Bool) → first_fault (segment_faults len (raw_segments len monitored)) ≡ None
 unfolding segment_faults occupying
 raw_has_none len monitored = grind (arith, common_steps)
 
--- the rows behind those of the header, and behind those of the segments
+-- the rows after those of the header and of the segments
 abbrev file_place_faults : List ℕ → ℕ → Bool → List (Bool × ElfFault)
 file_place_faults file ram_size monitored = place_faults ram_size monitored (occupying (segments_of file)) (e_entry file)
 
 abbrev later_faults : List ℕ → ℕ → Bool → List (Bool × ElfFault)
 later_faults file ram_size monitored = segment_faults (length file) (segments_of file) ++ file_place_faults file ram_size monitored
 
--- a fault of the header is that of the file; so is one of the segments, where the header has none, and one of the places in RAM,
--- where neither has one
+-- The error of the file is that of the header. If the header has none, it is that of the segments. If they have none either, it is that of the
+-- positions in memory.
 pub header_fault_first : (file : List ℕ) (ram_size : ℕ) (monitored : Bool) (fault : ElfFault) → first_fault (header_faults file) ≡ Some fault
     → file_plan file ram_size monitored ≡ Err fault
 unfolding header_faults
@@ -117,5 +117,5 @@ place_fault_first file ram_size monitored fault none whole some =
       some,
     ) refl
 
--- a fault of each group, where the groups before have none
+-- the error of each group of rows, if the groups before it have none
 pub ruleset fault_first = (header_fault_first, segment_fault_first, place_fault_first)

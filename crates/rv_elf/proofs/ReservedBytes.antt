@@ -1,4 +1,4 @@
--- A segment that misses the range of a monitor has no byte in it.
+-- A segment that does not meet the range of a monitor has no byte in it.
 use Rattle.std.proofs.Common.{◌≡◌, ℕ, Bool, true, false, refl}
 use Rattle.rv_platform.proofs.BlockLaws.{apart_from}
 use Rattle.rv_platform.specs.Blocks.{monitor_block}

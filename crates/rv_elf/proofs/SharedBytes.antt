@@ -1,4 +1,4 @@
--- Two segments share a byte just where the later of their first addresses is below the lower of their ends.
+-- Two segments share a byte if and only if the larger of their first addresses is below the smaller of their ends.
 use Rattle.std.proofs.Common.{◌≡◌, ℕ, ◌+◌, ◌<◌, ◌≤◌, true, false, max, min, arith}
 use Rattle.std.proofs.lemmas.Grind.{common_steps}
 use Rattle.rv_pmp.proofs.VerdictLemmas.{any_at, any_none, none_from_any}
@@ -22,7 +22,7 @@ unfolding share_a_byte
 unshared one other apart =
     any_none (λ address. has_address address other) one.address one.memory_size (λ address low high. outside one other address apart low high)
 
--- an address of one of two segments that share no byte is not the other's
+-- an address of one of two segments that share no byte is not an address of the other
 pub not_in_other : (one other : Segment) (address : ℕ) → share_a_byte one other ≡ false → has_address address one ≡ true → has_address address other ≡ false
 unfolding share_a_byte
 not_in_other one other address none inside =

@@ -1,4 +1,4 @@
--- A segment is loaded by two writes: zeros in all its places, and then its part of the image.
+-- A segment is loaded by two writes: zeros at all its addresses, and then its part of the image.
 use Rattle.std.proofs.Common.{◌≡◌, ◌∙◌, sym, ap, ℕ, ◌+◌, ◌-◌, ◌<◌, ◌≤◌, List, [], ◌∷◌, length, take, drop, replicate, slice_index, Some, refl, inl, inr, arith}
 use Rattle.std.proofs.lemmas.Bool.{cases_lt}
 use Rattle.std.proofs.lemmas.List.{length-replicate}
@@ -9,7 +9,7 @@ use Rattle.rv_elf.specs.declared.segment.Segment.{Segment}
 use Rattle.rv_elf.specs.Loaded.{loaded_memory, byte_after}
 use Rattle.rv_elf.proofs.LoadedBytes.{length-loaded_memory, loaded_at}
 
--- the byte at an index after two writes from the same index on, the second no longer: in the second, behind it, and elsewhere
+-- the byte at an index after two writes from the same index on, the second not longer: inside the second, after it, and elsewhere
 in_second : (memory part : List ℕ) (index size k : ℕ) → length part ≤ size → index + size ≤ length memory → index ≤ k → k < index + length part
     → slice_index (write_bytes (write_bytes memory index (replicate size 0)) index part) k ≡ slice_index part (k - index)
 in_second memory part index size k shorter within low high = grind (arith, common_steps)
@@ -26,7 +26,7 @@ above_both : (memory part : List ℕ) (index size k : ℕ) → length part ≤ s
     → slice_index (write_bytes (write_bytes memory index (replicate size 0)) index part) k ≡ slice_index memory k
 above_both memory part index size k shorter within high = grind (arith, common_steps)
 
--- the byte that the definition has there
+-- the byte of the segment's part of the image
 part_byte : (image memory : List ℕ) (segment : Segment) (k : ℕ) → ram_base ≤ segment.address → segment.file_size ≤ segment.memory_size
     → segment.address ≤ ram_base + k → ram_base + k < segment.address + segment.file_size
     → byte_after image (segment ∷ []) memory (ram_base + k)
@@ -46,7 +46,7 @@ byte_above : (image memory : List ℕ) (segment : Segment) (k : ℕ) → segment
     → byte_after image (segment ∷ []) memory (ram_base + k) ≡ slice_index memory k
 byte_above image memory segment k high = grind (arith, common_steps)
 
--- the byte of a segment, and of the two writes, at an index
+-- the byte of the segment at an index is that of the two writes
 same_byte : (image memory part : List ℕ) (segment : Segment) (k : ℕ) → part ≡ take segment.file_size (drop segment.offset image)
     → length part ≡ segment.file_size
     → segment.file_size ≤ segment.memory_size → ram_base ≤ segment.address → segment.address + segment.memory_size ≤ ram_base + length memory

@@ -1,6 +1,5 @@
--- Why an image can not be loaded: the table of the faults, in the order of their numbers. The conditions are those of the System V
--- gABI, chapters 4 and 5, for a 32-bit RISC-V executable (RISC-V ELF psABI: EM_RISCV is 243). (No public standard numbers
--- the faults.)
+-- The errors of an image that cannot be loaded, in the order of their numbers. The conditions follow the System V gABI, chapters 4 and 5, for a
+-- 32-bit RISC-V executable (RISC-V ELF psABI: EM_RISCV is 243). (The numbers are this project's own.)
 use Rattle.std.specs.Prelude.{◌≡◌, ℕ, ◌+◌, ◌*◌, ◌%◌, ◌==◌, Bool, true, false, not, ◌&&◌, ◌||◌, nat_lt, List, [], ◌∷◌, ◌++◌, length, take, Option, Some, None}
 use Rattle.std.specs.List.{list_any}
 use Rattle.std.specs.Str.{bytes_eq}
@@ -25,18 +24,18 @@ elf_fault_number SegmentOutside = 9
 elf_fault_number SegmentOverlap = 10
 elf_fault_number BadEntry = 11
 
--- there are over 64 program headers, or some, of another size than 32 bytes, or that end past the file's end
+-- there are more than 64 program headers; or there are some, and their size is not 32 bytes or they end after the end of the file
 abbrev pub has_bad_table : List ℕ → Bool
 has_bad_table file =
     nat_lt 64 (e_phnum file)
     || not (e_phnum file == 0) && (not (e_phentsize file == 32) || nat_lt (length file) (e_phoff file + 32 * e_phnum file))
 
--- execution can not begin there: it is no multiple of 4, or the four bytes of the first instruction are where no image may be
+-- the entry is no multiple of 4, or an image may not use the four bytes of the first instruction
 abbrev pub is_bad_entry : ℕ → Bool → ℕ → Bool
 is_bad_entry ram_size monitored entry = not (entry % 4 == 0) || not (has_place ram_size monitored entry 4)
 
--- The table: each fault with the condition under which an image has it. The rows of the ELF header, of the segments, and of places
--- in RAM stand apart, since a raw image has only the last.
+-- The table: each error with its condition. The rows of the ELF header, of the segments, and of positions in memory are separate, since a raw
+-- image has only the last.
 unfoldable pub header_faults : List ℕ → List (Bool × ElfFault)
 header_faults file =
     (nat_lt (length file) 52, Truncated)
@@ -60,33 +59,33 @@ place_faults ram_size monitored segments entry =
     ∷ (is_bad_entry ram_size monitored entry, BadEntry)
     ∷ []
 
--- the whole table for an ELF file in a RAM of this size, of a monitored bench or of a bare one, in the order of the numbers
+-- the whole table for an ELF file in a RAM of this size, with or without a monitor, in the order of the numbers
 abbrev pub file_faults : List ℕ → ℕ → Bool → List (Bool × ElfFault)
 file_faults file ram_size monitored =
     header_faults file
     ++ segment_faults (length file) (segments_of file)
     ++ place_faults ram_size monitored (occupying (segments_of file)) (e_entry file)
 
--- the table for a raw image of so many bytes, whose first byte is also its entry
+-- the table for a raw image of `len` bytes, whose first byte is also its entry
 abbrev pub raw_faults : ℕ → ℕ → Bool → List (Bool × ElfFault)
 raw_faults len ram_size monitored = place_faults ram_size monitored (raw_segments len monitored) (first_address monitored)
 
--- the first fault whose condition holds
+-- the first error whose condition holds
 abbrev pub first_fault : List (Bool × ElfFault) → Option ElfFault
 first_fault [] = None
 first_fault ((true, fault) ∷ rows) = Some fault
 first_fault ((false, fault) ∷ rows) = first_fault rows
 
--- its condition holds in the table, and that of no fault with a lesser number does
+-- the condition of the error holds in the table, and that of no error with a smaller number does
 abbrev pub IsLeast : List (Bool × ElfFault) → ElfFault → Type 0
 IsLeast rows fault =
     (list_any (λ row. row.0 && elf_fault_number row.1 == elf_fault_number fault) rows ≡ true)
     × (list_any (λ row. row.0 && nat_lt (elf_fault_number row.1) (elf_fault_number fault)) rows ≡ false)
 
--- the fault of an ELF file
+-- the error of an ELF file
 abbrev pub file_fault : List ℕ → ℕ → Bool → Option ElfFault
 file_fault file ram_size monitored = first_fault (file_faults file ram_size monitored)
 
--- the fault of a raw image of so many bytes
+-- the error of a raw image of `len` bytes
 abbrev pub raw_fault : ℕ → ℕ → Bool → Option ElfFault
 raw_fault len ram_size monitored = first_fault (raw_faults len ram_size monitored)

@@ -1,22 +1,20 @@
--- The fields of an ELF32 file, each at its place and with its lowest byte first: System V gABI, chapter 4, ELF header, and
--- chapter 5, program header.
+-- The fields of an ELF32 file, little-endian, by their offsets (System V gABI, chapter 4, ELF header, and chapter 5, program header).
 use Rattle.std.specs.Prelude.{ℕ, ◌+◌, ◌*◌, List, [], ◌∷◌, take, drop, map}
 use Rattle.std.specs.List.{range_with_len}
 use Rattle.rv_memory.specs.Memory.{number_of_bytes}
 
--- the numbers of 2 and of 4 bytes at a place
+-- the numbers of 2 and of 4 bytes at an offset
 abbrev pub half_at : List ℕ → ℕ → ℕ
 half_at file place = number_of_bytes (take 2 (drop place file))
 
 abbrev pub word_at : List ℕ → ℕ → ℕ
 word_at file place = number_of_bytes (take 4 (drop place file))
 
--- what an ELF file begins with: 7F, E, L, F
+-- the first four bytes of an ELF file: 7F, E, L, F
 abbrev pub magic : List ℕ
 magic = 0x7f ∷ 0x45 ∷ 0x4c ∷ 0x46 ∷ []
 
--- the class, the data encoding and the version of a file of 32 bits, lowest bytes first, of version 1: ELFCLASS32, ELFDATA2LSB
--- and EV_CURRENT
+-- the class, data encoding and version of a little-endian 32-bit file of version 1: ELFCLASS32, ELFDATA2LSB and EV_CURRENT
 abbrev pub class_data_version : List ℕ
 class_data_version = 1 ∷ 1 ∷ 1 ∷ []
 
@@ -28,11 +26,11 @@ et_exec = 2
 abbrev pub em_riscv : ℕ
 em_riscv = 243
 
--- the type of a program header whose segment is to be loaded
+-- the type of a program header whose segment is loaded
 abbrev pub pt_load : ℕ
 pt_load = 1
 
--- the fields of the ELF header; of the first of them, e_ident, the bytes EI_CLASS, EI_DATA and EI_VERSION
+-- the fields of the ELF header; for the first, e_ident, the bytes EI_CLASS, EI_DATA and EI_VERSION
 abbrev pub ei_class_data_version : List ℕ → List ℕ
 ei_class_data_version file = take 3 (drop 4 file)
 
@@ -54,7 +52,7 @@ e_phentsize file = half_at file 42
 abbrev pub e_phnum : List ℕ → ℕ
 e_phnum file = half_at file 44
 
--- the fields of the program header at a place
+-- the fields of the program header at an offset
 abbrev pub p_type : List ℕ → ℕ → ℕ
 p_type file place = word_at file place
 
@@ -70,6 +68,6 @@ p_filesz file place = word_at file (place + 16)
 abbrev pub p_memsz : List ℕ → ℕ → ℕ
 p_memsz file place = word_at file (place + 20)
 
--- the places of the program headers, 32 bytes each
+-- the offsets of the program headers, which have 32 bytes each
 abbrev pub header_places : List ℕ → List ℕ
 header_places file = map (λ k. e_phoff file + 32 * k) (range_with_len 0 (e_phnum file))

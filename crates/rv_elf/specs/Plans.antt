@@ -1,4 +1,4 @@
--- What is to be loaded, and where execution begins: System V gABI, chapter 5, program loading.
+-- The segments to load, and the entry address (System V gABI, chapter 5, program loading).
 use Rattle.std.specs.Prelude.{◌≡◌, ℕ, ◌%◌, Bool, true, false, not, ◌&&◌, List, length, Result, Ok, Err}
 use Rattle.std.specs.List.{list_all}
 use Rattle.rv_word.specs.Cases.{option_case}
@@ -9,8 +9,8 @@ use Rattle.rv_elf.specs.Faults.{file_fault, raw_fault}
 use Rattle.rv_elf.specs.Places.{first_address, has_place}
 use Rattle.rv_elf.specs.Segments.{segments_of, occupying, raw_segments, is_truncated, is_oversized, is_outside, has_overlap}
 
--- the segments that take memory, the address of the first instruction, the bytes of the image and of the RAM for which this is
--- the plan, and whether the bench is monitored
+-- A plan: the segments that occupy memory, the address of the first instruction, and whether there is a monitor. It is for an image and a RAM of
+-- these sizes in bytes.
 pub record LoadPlan : Type 0 where
   pub segments : List Segment
   pub entry : ℕ
@@ -18,12 +18,12 @@ pub record LoadPlan : Type 0 where
   pub ram_size : ℕ
   pub monitored : Bool
 
--- the segment's bytes are in the image, and each of them has a place
+-- the segment's part of the image is complete, and the image may use the memory of the segment
 abbrev pub fits : ℕ → ℕ → Bool → Segment → Bool
 fits image_size ram_size monitored segment =
     not (is_truncated image_size segment) && not (is_oversized segment) && not (is_outside ram_size monitored segment)
 
--- what is true of every plan: its segments fit and share no byte, and its first instruction is at a multiple of 4 and has a place
+-- a valid plan: its segments fit and share no byte, and its first instruction is at a multiple of 4 that an image may use
 abbrev pub IsValidPlan : LoadPlan → Type 0
 IsValidPlan plan =
     (list_all (fits plan.image_size plan.ram_size plan.monitored) plan.segments ≡ true)
@@ -31,7 +31,7 @@ IsValidPlan plan =
     × (plan.entry % 4 ≡ 0)
     × (has_place plan.ram_size plan.monitored plan.entry 4 ≡ true)
 
--- the plan of an ELF file, or its fault of the least number
+-- the plan of an ELF file, or its error with the smallest number
 abbrev pub file_plan : List ℕ → ℕ → Bool → Result LoadPlan ElfFault
 file_plan file ram_size monitored =
     option_case (file_fault file ram_size monitored)
@@ -44,7 +44,7 @@ file_plan file ram_size monitored =
     }))
     Err
 
--- the plan of a raw image of so many bytes, or its fault of the least number
+-- the plan of a raw image of `len` bytes, or its error with the smallest number
 abbrev pub raw_plan : ℕ → ℕ → Bool → Result LoadPlan ElfFault
 raw_plan len ram_size monitored =
     option_case (raw_fault len ram_size monitored)

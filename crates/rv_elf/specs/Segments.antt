@@ -1,12 +1,11 @@
--- The segments of an image, and what each of them asks of the file and of the memory: System V gABI, chapter 5, program header and
--- program loading.
+-- The segments of an image, and their requirements on the file and on the memory (System V gABI, chapter 5, program header and program loading).
 use Rattle.std.specs.Prelude.{ℕ, ◌+◌, ◌==◌, Bool, false, not, ◌&&◌, ◌||◌, nat_le, nat_lt, List, [], ◌∷◌, map}
 use Rattle.std.specs.List.{filter, list_any, range_with_len}
 use Rattle.rv_elf.specs.declared.segment.Segment.{Segment}
 use Rattle.rv_elf.specs.Fields.{header_places, pt_load, p_type, p_offset, p_paddr, p_filesz, p_memsz}
 use Rattle.rv_elf.specs.Places.{first_address, has_place}
 
--- the segment of the program header at a place
+-- the segment of the program header at an offset
 abbrev pub segment_at : List ℕ → ℕ → Segment
 segment_at file place = record {
   offset = p_offset file place;
@@ -15,7 +14,7 @@ segment_at file place = record {
   memory_size = p_memsz file place;
 }
 
--- the headers of type PT_LOAD are those of segments to load
+-- whether a header is of type PT_LOAD, so that its segment is loaded
 abbrev pub is_load : List ℕ → ℕ → Bool
 is_load file place = p_type file place == pt_load
 
@@ -23,31 +22,31 @@ is_load file place = p_type file place == pt_load
 unfoldable pub segments_of : List ℕ → List Segment
 segments_of file = map (segment_at file) (filter (is_load file) (header_places file))
 
--- the segment takes no memory
+-- the segment occupies no memory
 abbrev pub has_no_bytes : Segment → Bool
 has_no_bytes segment = segment.memory_size == 0
 
--- those that take memory: the others are skipped
+-- the segments that occupy memory; the others are skipped
 unfoldable pub occupying : List Segment → List Segment
 occupying segments = filter (λ segment. not (has_no_bytes segment)) segments
 
--- a raw image of so many bytes: one segment at the first address that an image may use, or none where it has no byte
+-- the segments of a raw image of `len` bytes: one at the first address that an image may use, or none if it is empty
 abbrev pub raw_segments : ℕ → Bool → List Segment
 raw_segments len monitored = occupying (record { offset = 0; address = first_address monitored; file_size = len; memory_size = len } ∷ [])
 
--- its part of a file of so many bytes ends past the file's end
+-- the segment's part of a file of `len` bytes ends after the end of the file
 abbrev pub is_truncated : ℕ → Segment → Bool
 is_truncated len segment = not (segment.file_size == 0) && nat_lt len (segment.offset + segment.file_size)
 
--- it has more bytes in the file than in memory
+-- the segment has more bytes in the file than in memory
 abbrev pub is_oversized : Segment → Bool
 is_oversized segment = nat_lt segment.memory_size segment.file_size
 
--- it has no place in memory
+-- an image may not use all of the segment's memory
 abbrev pub is_outside : ℕ → Bool → Segment → Bool
 is_outside ram_size monitored segment = not (has_place ram_size monitored segment.address segment.memory_size)
 
--- the byte at an address is one of the segment's
+-- the segment has the byte at an address
 abbrev pub has_address : ℕ → Segment → Bool
 has_address address segment = nat_le segment.address address && nat_lt address (segment.address + segment.memory_size)
 
@@ -55,7 +54,7 @@ has_address address segment = nat_le segment.address address && nat_lt address (
 unfoldable pub share_a_byte : Segment → Segment → Bool
 share_a_byte one other = list_any (λ address. has_address address other) (range_with_len one.address one.memory_size)
 
--- two of them share a byte
+-- two of the segments share a byte
 abbrev pub has_overlap : List Segment → Bool
 has_overlap [] = false
 has_overlap (segment ∷ others) = list_any (share_a_byte segment) others || has_overlap others

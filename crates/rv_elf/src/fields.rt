@@ -1,4 +1,4 @@
-//! The fields of an ELF file.
+//! Reads the fields of an ELF file.
 
 ghost use Rattle.std.specs.Prelude.{◌≡◌, ◌+◌, ◌≤◌, length, take};
 ghost use Rattle.std.specs.Str.{bytes_eq};
@@ -6,17 +6,17 @@ ghost use Rattle.rv_elf.specs.Fields.{half_at as half_at_of, word_at as word_at_
 
 use rv_word::le_word;
 
-/// What an ELF file begins with.
+/// The first bytes of an ELF file.
 const MAGIC: [u8; 4] = [0x7f, b'E', b'L', b'F'];
 
-/// Whether an image begins as an ELF file does, with the bytes 7F 45 4C 46.
+/// Returns whether an image begins as an ELF file does, with the bytes 7F 45 4C 46.
 pub fn is_elf(image: &[u8]) -> bool
     ensures { result ≡ bytes_eq (take 4 image.now) magic }
 {
     image.starts_with(&MAGIC)
 }
 
-/// The number of 2 bytes at a place, the lowest byte first.
+/// Returns the little-endian number of 2 bytes at an offset.
 pub(crate) fn half_at(file: &[u8], place: usize) -> u16
     requires { place + 2 ≤ length file.now }
     ensures { result ≡ half_at_of file.now place }
@@ -24,7 +24,7 @@ pub(crate) fn half_at(file: &[u8], place: usize) -> u16
     u16::from_le_bytes([file[place], file[place + 1]])
 }
 
-/// The number of 4 bytes at a place, the lowest byte first.
+/// Returns the little-endian number of 4 bytes at an offset.
 pub(crate) fn word_at(file: &[u8], place: usize) -> u32
     requires { place + 4 ≤ length file.now }
     ensures { result ≡ word_at_of file.now place }

@@ -1,4 +1,4 @@
-//! The headers of an ELF file (gABI, chapter 4, ELF header, and chapter 5, program header).
+//! Reads the headers of an ELF file (gABI, chapter 4, ELF header, and chapter 5, program header).
 
 ghost use Rattle.std.specs.Prelude.{◌≡◌, ◌+◌, ◌*◌, ◌≤◌, ◌⊎◌, length, MatchResult, OnOk, None, Some, true, false};
 ghost use Rattle.rv_elf.specs.Fields.{e_entry, e_phnum, e_phoff};
@@ -10,31 +10,31 @@ use crate::fields::{half_at, is_elf, word_at};
 use crate::segment::Segment;
 use arrayvec::ArrayVec;
 
-/// The most program headers that a file may have.
+/// The maximal number of program headers of a file.
 pub(crate) const MAX_HEADERS: usize = 64;
 
-/// The bytes of the ELF header.
+/// The size of the ELF header, in bytes.
 const FILE_HEADER_LEN: usize = 52;
 
-/// The bytes of a program header.
+/// The size of a program header, in bytes.
 const PROGRAM_HEADER_LEN: usize = 32;
 
-/// The place of the file's type.
+/// The offset of the file's type.
 const E_TYPE: usize = 16;
 
-/// The place of the machine that the file is for.
+/// The offset of the machine that the file is for.
 const E_MACHINE: usize = 18;
 
-/// The place of the address of the first instruction.
+/// The offset of the address of the first instruction.
 const E_ENTRY: usize = 24;
 
-/// The place of the place of the program headers.
+/// The offset of the field that has the offset of the program headers.
 const E_PHOFF: usize = 28;
 
-/// The place of the size of a program header.
+/// The offset of the size of a program header.
 const E_PHENTSIZE: usize = 42;
 
-/// The place of the number of program headers.
+/// The offset of the number of program headers.
 const E_PHNUM: usize = 44;
 
 /// The type of an executable file.
@@ -43,10 +43,10 @@ const ET_EXEC: u16 = 2;
 /// The machine RISC-V.
 const EM_RISCV: u16 = 243;
 
-/// The type of a program header whose segment is to be loaded.
+/// The type of a program header whose segment is loaded.
 const PT_LOAD: u32 = 1;
 
-/// The address of the first instruction.
+/// Returns the address of the first instruction.
 pub(crate) fn entry_of(file: &[u8]) -> u32
     requires { FILE_HEADER_LEN ≤ length file.now }
     ensures { result ≡ e_entry file.now }
@@ -54,7 +54,8 @@ pub(crate) fn entry_of(file: &[u8]) -> u32
     word_at(file, E_ENTRY)
 }
 
-/// Whether there are over 64 program headers, or some, of another size than 32 bytes, or that end past the file's end.
+/// Returns whether there are more than 64 program headers. Also returns true if there are some, and they do not have 32 bytes each or end after
+/// the end of the file.
 fn has_bad_table(file: &[u8]) -> bool
     requires { FILE_HEADER_LEN ≤ length file.now }
     ensures { result ≡ has_bad_table_of file.now }
@@ -65,11 +66,11 @@ fn has_bad_table(file: &[u8]) -> bool
     count > MAX_HEADERS || count != 0 && (!is_sized || end > file.len())
 }
 
-/// Looks at the ELF header.
+/// Checks the ELF header.
 ///
 /// # Errors
 ///
-/// The least fault that it has, from `Truncated` to `BadHeader`.
+/// The error with the smallest number that applies, from `Truncated` to `BadHeader`.
 #[tactic(auto, unfolding(crate::specs::Faults::header_faults))]
 pub(crate) fn check_header(file: &[u8]) -> Result<(), ElfFault>
     ensures value { MatchResult result (λ _. first_fault (header_faults file.now) ≡ None) (λ fault. first_fault (header_faults file.now) ≡ Some fault) }
@@ -98,7 +99,7 @@ pub(crate) fn check_header(file: &[u8]) -> Result<(), ElfFault>
     Ok(())
 }
 
-/// The segments to load, in the order of their headers.
+/// Returns the segments to load, in the order of their headers.
 #[tactic(auto, using(crate::proofs::SegmentLemmas::load_more), unfolding(crate::specs::Segments::segments_of, crate::proofs::SegmentLemmas::first_segments))]
 pub(crate) fn read_segments(file: &[u8]) -> ArrayVec<Segment, MAX_HEADERS>
     requires whole { FILE_HEADER_LEN ≤ length file.now }

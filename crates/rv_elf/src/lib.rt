@@ -1,9 +1,9 @@
-//! Images: what is loaded where, and where execution begins (System V gABI, chapter 4, ELF header, and chapter 5, program
-//! header and program loading; RISC-V ELF psABI).
+//! Images: the segments to load, and the entry address (System V gABI, chapter 4, ELF header, and chapter 5, program header and program loading;
+//! RISC-V ELF psABI).
 //!
-//! An image is an ELF file of 32 bits for RISC-V, or the raw bytes of the memory. `plan` and `plan_raw` find the segments, or
-//! the fault of the least number; `load` puts them into a RAM. None of them takes memory. With a monitor the images keep out
-//! of its range, 80000000 to 8000FFFF.
+//! An image is a 32-bit ELF file for RISC-V, or the raw bytes of the memory. `plan` and `plan_raw` find the segments, or the error with the
+//! smallest number. `load` copies the segments into a RAM. None of these functions allocates memory. With a monitor, an image must not use the
+//! monitor's range, 80000000 to 8000FFFF.
 //!
 //! ```text
 //! let plan = plan(file, 1_048_576, false)?;

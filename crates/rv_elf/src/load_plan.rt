@@ -1,4 +1,4 @@
-//! What is to be loaded, and where execution begins.
+//! The segments to load, and the entry address.
 
 ghost use Rattle.std.specs.Prelude.{◌≡◌, ◌%◌, true};
 ghost use Rattle.rv_elf.specs.Places.{has_place};
@@ -8,8 +8,8 @@ use crate::segment::Segment;
 use arrayvec::ArrayVec;
 use std::marker::Model;
 
-/// The segments of an image, each inside RAM and apart from the others and from a monitor, and the address of the first
-/// instruction. It takes no memory.
+/// The segments of an image, and the address of the first instruction. Each segment is inside RAM, and shares no byte with another segment or
+/// the range of a monitor. The plan needs no allocated memory.
 #[derive(Debug, Drop)]
 pub struct Plan {
     pub(crate) segments: ArrayVec<Segment, MAX_HEADERS>,
@@ -47,7 +47,7 @@ impl Model for Plan {
 impl Plan {
     ghost use Rattle.rv_elf.specs.Plans.{IsValidPlan};
 
-    /// The address of the first instruction, a multiple of 4. Its four bytes are inside RAM, and not in the range of a monitor.
+    /// Returns the address of the first instruction, a multiple of 4. Its four bytes are inside RAM, and not in the range of a monitor.
     pub fn entry(&self) -> u32
         ensures value { result ≡ self.now.entry }
         ensures aligned { result % 4 ≡ 0 }
@@ -56,8 +56,8 @@ impl Plan {
         self.entry
     }
 
-    /// The segments that take memory, in the order of their headers. They lie inside RAM and not in the range of a monitor, and no
-    /// two of them share a byte.
+    /// Returns the segments that occupy memory, in the order of their headers. They are inside RAM and not in the range of a monitor, and no two
+    /// of them share a byte.
     pub fn segments(&self) -> &[Segment]
         ensures value { result.now ≡ self.now.segments }
         ensures valid { IsValidPlan self.now }

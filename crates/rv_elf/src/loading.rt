@@ -1,4 +1,4 @@
-//! How an image comes into RAM.
+//! Loads an image into RAM.
 
 ghost use Rattle.std.specs.Prelude.{◌≡◌, ◌∷◌, [], length, take, drop, true, false};
 ghost use Rattle.rv_elf.specs.Loaded.{loaded_memory, KeepsReserved, LoadsEach};
@@ -9,7 +9,7 @@ use crate::load_plan::Plan;
 use crate::segment::Segment;
 use rv_memory::Ram;
 
-/// Its part of an image. One of no bytes may have any offset.
+/// Returns a segment's part of an image. An empty part may have any offset.
 fn part_of<'a>(segment: &Segment, image: &'a [u8]) -> &'a [u8]
     requires { is_truncated (length image.now) segment.now ≡ false }
     ensures value { result.now ≡ take segment.now.file_size (drop segment.now.offset image.now) }
@@ -22,7 +22,7 @@ fn part_of<'a>(segment: &Segment, image: &'a [u8]) -> &'a [u8]
     &image[start..start + segment.file_size as usize]
 }
 
-/// Puts the bytes of a segment into RAM: its part of the image, and zeros behind that.
+/// Loads a segment into RAM: its part of the image, followed by zeros.
 #[tactic(auto, using(crate::proofs::WrittenSegments::written))]
 fn load_segment(segment: &Segment, image: &[u8], ram: &mut Ram)
     requires whole { is_truncated (length image.now) segment.now ≡ false }
@@ -34,8 +34,8 @@ fn load_segment(segment: &Segment, image: &[u8], ram: &mut Ram)
     ram.write_part(segment.address, part_of(segment, image));
 }
 
-/// Puts the segments of a plan into RAM: of each its part of the image, and zeros behind that. Every other byte stays as it was.
-/// The plan is of this image and of a RAM of this size. So the range of a monitor stays as it was.
+/// Loads the segments of a plan into RAM: each has its part of the image, followed by zeros. Every other byte stays unchanged, including those
+/// in the range of a monitor. The plan must be for an image and a RAM of these sizes.
 #[tactic(auto, using(crate::proofs::LoadLoop::loading, crate::proofs::LoadedBytes::loads_each, crate::proofs::LoadedBytes::keeps_reserved))]
 pub fn load(plan: &Plan, bytes: &[u8], ram: &mut Ram)
     requires of_image { length bytes.now ≡ plan.now.image_size }

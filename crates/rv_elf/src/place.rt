@@ -1,4 +1,4 @@
-//! Where an image may lie.
+//! Checks the addresses that an image may use.
 
 ghost use Rattle.std.specs.Prelude.{◌≡◌};
 ghost use Rattle.rv_elf.specs.Places.{first_address as first_address_of, has_place as has_place_of, lies_inside as lies_inside_of};
@@ -7,7 +7,7 @@ ghost use Rattle.rv_elf.specs.Places.{meets_reserved as meets_reserved_of};
 use rv_memory::RAM_BASE;
 use rv_platform::{Block, monitor_block};
 
-/// The first address that an image may use: 80000000, the first of RAM, or 80010000 where a monitor is below.
+/// Returns the first address that an image may use: 80000000, the start of RAM, or 80010000 if a monitor is below it.
 pub(crate) fn first_address(monitored: bool) -> u32
     ensures { result ≡ first_address_of monitored }
 {
@@ -19,7 +19,7 @@ pub(crate) fn first_address(monitored: bool) -> u32
     }
 }
 
-/// Whether so many bytes from an address on lie inside a RAM of this size.
+/// Returns whether `count` bytes from an address on are inside a RAM of this size.
 fn lies_inside(ram_size: u32, address: u32, count: u32) -> bool
     ensures { result ≡ lies_inside_of ram_size address count }
 {
@@ -27,7 +27,7 @@ fn lies_inside(ram_size: u32, address: u32, count: u32) -> bool
         && u64::from(address) + u64::from(count) <= u64::from(RAM_BASE) + u64::from(ram_size)
 }
 
-/// Whether one of so many bytes from an address on is in the range of a monitor, where there is one.
+/// Returns whether one of `count` bytes from an address on is in the range of a monitor, if there is one.
 #[tactic(auto, unfolding(crate::specs::Places::meets_reserved))]
 fn meets_reserved(monitored: bool, address: u32, count: u32) -> bool
     ensures { result ≡ meets_reserved_of monitored address count }
@@ -39,7 +39,7 @@ fn meets_reserved(monitored: bool, address: u32, count: u32) -> bool
     monitored && monitor_block().meets(bytes)
 }
 
-/// Whether so many bytes from an address on may be there: inside a RAM of this size, and none of them in the range of a monitor.
+/// Returns whether an image may use `count` bytes from an address on: they are inside a RAM of this size, and none is in the range of a monitor.
 pub(crate) fn has_place(ram_size: u32, monitored: bool, address: u32, count: u32) -> bool
     ensures { result ≡ has_place_of ram_size monitored address count }
 {

@@ -1,4 +1,4 @@
-//! How an image is planned: what goes where, or why it can not be loaded.
+//! Plans the loading of an image: finds its segments and their addresses, or the error.
 
 ghost use Rattle.std.specs.Prelude.{◌≡◌, ◌%◌, ◌==◌, ◌≤◌, length, MatchResult, IfErr, IfOk, None, Some, true, false};
 ghost use Rattle.std.specs.List.{list_all, list_any};
@@ -14,7 +14,7 @@ use crate::place::{first_address, has_place};
 use crate::segment::Segment;
 use arrayvec::ArrayVec;
 
-/// Those that take memory.
+/// Returns the segments that occupy memory.
 #[tactic(auto, using(crate::proofs::SegmentLemmas::occupying_more))]
 fn occupying(segments: &[Segment]) -> ArrayVec<Segment, MAX_HEADERS>
     requires { length segments.now ≤ MAX_HEADERS }
@@ -29,21 +29,21 @@ fn occupying(segments: &[Segment]) -> ArrayVec<Segment, MAX_HEADERS>
     taken
 }
 
-/// Whether the part that one of the segments has of a file of so many bytes ends past the file's end.
+/// Returns whether a segment's part of a file of `len` bytes ends after the end of the file.
 fn has_truncated(len: usize, segments: &[Segment]) -> bool
     ensures { result ≡ list_any (is_truncated len) segments.now }
 {
     segments.iter().any(|segment| segment.is_truncated(len))
 }
 
-/// Whether one of the segments has more bytes in the file than in memory.
+/// Returns whether one of the segments has more bytes in the file than in memory.
 fn has_oversized(segments: &[Segment]) -> bool
     ensures { result ≡ list_any is_oversized segments.now }
 {
     segments.iter().any(|segment| segment.is_oversized())
 }
 
-/// Whether a byte of one of the segments is outside a RAM of this size, or in the range of a monitor.
+/// Returns whether a byte of one of the segments is outside a RAM of this size, or in the range of a monitor.
 fn has_outside(ram_size: u32, monitored: bool, segments: &[Segment]) -> bool
     ensures { result ≡ list_any (is_outside ram_size monitored) segments.now }
 {
@@ -52,14 +52,14 @@ fn has_outside(ram_size: u32, monitored: bool, segments: &[Segment]) -> bool
         .any(|segment| segment.is_outside(ram_size, monitored))
 }
 
-/// Whether a segment shares a byte with one of the others.
+/// Returns whether a segment shares a byte with one of the others.
 fn meets_one(segment: &Segment, others: &[Segment]) -> bool
     ensures { result ≡ list_any (share_a_byte segment.now) others.now }
 {
     others.iter().any(|other| segment.shares_a_byte(other))
 }
 
-/// Whether two of the segments share a byte.
+/// Returns whether two of the segments share a byte.
 fn has_overlap(segments: &[Segment]) -> bool
     ensures { result ≡ has_overlap_of segments.now }
 {
@@ -73,11 +73,12 @@ fn has_overlap(segments: &[Segment]) -> bool
     false
 }
 
-/// Looks at the parts that segments have of a file of so many bytes.
+/// Checks the parts of segments in a file of `len` bytes.
 ///
 /// # Errors
 ///
-/// `SegmentTruncated`, else `SegmentSizes`.
+/// - `SegmentTruncated`, if a part ends after the end of the file.
+/// - `SegmentSizes` otherwise, if a segment has more bytes in the file than in memory.
 #[tactic(auto, unfolding(crate::specs::Faults::segment_faults))]
 fn check_segments(len: usize, segments: &[Segment]) -> Result<(), ElfFault>
     ensures { MatchResult result (λ _. first_fault (segment_faults len segments.now) ≡ None)
@@ -92,11 +93,11 @@ fn check_segments(len: usize, segments: &[Segment]) -> Result<(), ElfFault>
     Ok(())
 }
 
-/// Looks at the places of segments in a RAM of this size, with a monitor or without one, and at the entry.
+/// Checks the positions of segments in a RAM of this size, with or without a monitor, and the entry.
 ///
 /// # Errors
 ///
-/// The least fault that they have, from `SegmentOutside` to `BadEntry`.
+/// The error with the smallest number that applies, from `SegmentOutside` to `BadEntry`.
 #[tactic(auto, unfolding(crate::specs::Faults::place_faults))]
 fn check_places(
     ram_size: u32,
@@ -119,12 +120,12 @@ fn check_places(
     Ok(())
 }
 
-/// The plan of an ELF file in a RAM of this size, in bytes: its segments of type PT_LOAD that take memory, and its entry. Where the
-/// bench is monitored, they keep out of the range of the monitor, 80000000 to 8000FFFF.
+/// Plans an ELF file in a RAM of `ram_size` bytes: its segments of type PT_LOAD that occupy memory, and its entry. With a monitor, they must be
+/// outside the monitor's range, 80000000 to 8000FFFF.
 ///
 /// # Errors
 ///
-/// The fault of the least number that the file has. Each is asked of all program headers before the next.
+/// The error of the file with the smallest number. Each error is checked for all program headers before the next.
 #[tactic(auto, using(crate::proofs::FirstFaults::none_before, crate::proofs::PlanLemmas::fault_first))]
 pub fn plan(bytes: &[u8], ram_size: u32, monitored: bool) -> Result<Plan, ElfFault>
     ensures value { result ≡ file_plan bytes.now ram_size monitored }
@@ -146,14 +147,13 @@ pub fn plan(bytes: &[u8], ram_size: u32, monitored: bool) -> Result<Plan, ElfFau
     })
 }
 
-/// The plan of a raw image of so many bytes in a RAM of this size: one segment at the first address of RAM, 80000000, where
-/// execution also begins; both at 80010000, behind the range of the monitor, where the bench is monitored. An image of no bytes is
-/// no segment.
+/// Plans a raw image of `len` bytes in a RAM of `ram_size` bytes: one segment at the start of RAM, 80000000, which is also the entry. With a
+/// monitor, both are at 80010000, after the monitor's range. An empty image has no segment.
 ///
 /// # Errors
 ///
-/// `SegmentOutside` where the image has more bytes than the RAM has from that address on; else `BadEntry` where the RAM has fewer
-/// there than the four bytes of the first instruction.
+/// - `SegmentOutside`, if the image has more bytes than the RAM has from that address on.
+/// - `BadEntry` otherwise, if the RAM has fewer than the four bytes of the first instruction there.
 #[tactic(auto, using(crate::proofs::PlanLemmas::raw_outside))]
 pub fn plan_raw(len: usize, ram_size: u32, monitored: bool) -> Result<Plan, ElfFault>
     ensures value { result ≡ raw_plan len ram_size monitored }

@@ -1,4 +1,4 @@
--- Each kind is found by its code, and the codes fit their bits.
+-- Each kind is found by its code, and each code fits in its bits.
 use Rattle.std.proofs.Common.{◌≡◌, ℕ, ◌<◌, Some, None, arith}
 use Rattle.rv_encoding.specs.Codes.{branch_funct3, load_funct3, store_funct3, op_imm_funct3, shift_functs, op_functs, csr_funct3, csr_imm_funct3}
 use Rattle.rv_encoding.specs.Codes.{branch_kind, load_kind, store_kind, op_imm_kind, shift_kind, op_kind, csr_kind, csr_imm_kind}
@@ -58,7 +58,7 @@ op_kind_found kind = grind arith
 pub op_functs-lt : (kind : OpKind) → ((op_functs kind).funct3 < 8) × ((op_functs kind).funct7 < 128)
 op_functs-lt kind = grind arith
 
--- no shift has the code of another operation with an immediate, and no change by an immediate that of one by a register
+-- The code of a shift is not that of another operation on an immediate. A CSR instruction with an immediate has no code of one with a register.
 pub no_shift : (kind : OpImmKind) (funct7 : ℕ) → shift_kind (op_imm_funct3 kind) funct7 ≡ None
 no_shift kind funct7 = grind arith
 

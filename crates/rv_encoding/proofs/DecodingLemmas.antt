@@ -1,4 +1,4 @@
--- What is found by the listing is the one instruction that a word spells.
+-- Decoding by the listing finds the only instruction that a word encodes.
 use Rattle.std.proofs.Common.{◌≡◌, ◌≢◌, ℕ, zero, suc, ◌+◌, ◌<◌, ◌^◌, Bool, true, false, cond, List, [], ◌∷◌, Some, None, refl, sym, ap, subst, ◌∙◌, arith}
 use Rattle.std.specs.Prelude.{◌==◌, map, find, slice_get, Option, IfSome, All}
 use Rattle.std.specs.Option.{option_map}
@@ -12,7 +12,7 @@ use Rattle.rv_encoding.proofs.MaskLemmas.{spelled_by_mask, masked_word_of}
 use Rattle.rv_encoding.proofs.ListingLemmas.{listing_of_samples, is_listed}
 use Rattle.rv_encoding.specs.declared.instr.Instr.{Instr}
 
--- a word fits the row of an instruction
+-- a word matches the row of an instruction under its mask
 abbrev fits_row : ℕ → Instr → Bool
 fits_row word sample = and_by_bits word (row_of_instr sample).mask == (row_of_instr sample).match
 
@@ -22,7 +22,7 @@ test-true a b same = grind arith
 true-test : (a b : ℕ) → (a == b) ≡ true → a ≡ b
 true-test a b is = grind arith
 
--- ---- a row that is found fits, and where none is found none fits
+-- ---- a row that is found matches, and if none is found, none matches
 
 found_first : (word : ℕ) (x s : Instr) (rest : Option Instr) (b : Bool) → b ≡ fits_row word x → cond b (Some x) rest ≡ Some s
     → (rest ≡ Some s → and_by_bits word (row_of_instr s).mask ≡ (row_of_instr s).match) → and_by_bits word (row_of_instr s).mask ≡ (row_of_instr s).match
@@ -52,13 +52,13 @@ none_fit word (x ∷ xs) none zero row is same =
 none_fit word (x ∷ xs) none (suc place) row is same =
     none_fit word xs (not_found (fits_row word x) x (find (fits_row word) xs) none).1 place row is same
 
--- ---- so with the one that a word spells
+-- ---- the same for the instruction that a word encodes
 
 pub word_of_parts : (i : Instr) (match fields : ℕ) → match ≡ (row_of_instr i).match → fields ≡ fields_at (row_of_instr i).fields → word_of i ≡ match + fields
 unfolding word_of
 word_of_parts i match fields match_is fields_are = sym (ap (λ n. n + fields) match_is ∙ ap (λ n. (row_of_instr i).match + n) fields_are)
 
--- no row of the listing fits where none of the samples does
+-- no row of the listing matches if no sample does
 unlisted : (word : ℕ) → find (fits_row word) samples ≡ None → (place : ℕ) (row : Listed) → slice_get listing place ≡ Some row
     → and_by_bits word row.mask ≢ row.match
 unlisted word none place row is =
@@ -71,7 +71,7 @@ unfound word (Some i) fits found none =
     let masked = subst (λ (w : ℕ). and_by_bits w (row_of_instr i).mask ≡ (row_of_instr i).match) found.1 (masked_word_of i found.0 below) in
     absurd (unlisted word none (is_listed i).0 (listed_of i) (is_listed i).1 masked)
 
--- what is spelled by the word, and alone is, is what the listing gives
+-- an instruction that the word encodes, and that is the only one, is the result of `decoded`
 pub decoded_is : (word : ℕ) (result : Option Instr) → word < 2 ^ 32 → IfSome result (Encodes word) → ((i : Instr) → Encodes word i → result ≡ Some i)
     → result ≡ decoded word
 unfolding decoded
@@ -91,7 +91,7 @@ pub decoded_spelled : (word : ℕ) (i : Instr) → word < 2 ^ 32 → Encodes wor
 decoded_spelled word i fits encodes =
     sym (decoded_is word (Some i) fits encodes (λ other spells_other. ap Some (sym (only_spelled word i other encodes spells_other))))
 
--- where nothing is decoded, no row of the listing fits
+-- if nothing is decoded, no row of the listing matches
 pub none_listed : (word : ℕ) → decoded word ≡ None → All (λ row. and_by_bits word row.mask ≢ row.match) listing
 unfolding decoded
 none_listed word none place d inside =

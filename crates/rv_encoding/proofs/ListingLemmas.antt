@@ -1,4 +1,4 @@
--- The listing is the rows: each row is listed, and each line of the listing is the row of an instruction.
+-- The listing has exactly the rows of the instructions: each row is listed, and each line of the listing is the row of an instruction.
 use Rattle.std.proofs.Common.{◌≡◌, refl}
 use Rattle.std.specs.Prelude.{map}
 use Rattle.rv_encoding.specs.Listing.{listing, listed_of, IsListed}

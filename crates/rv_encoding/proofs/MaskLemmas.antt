@@ -1,4 +1,4 @@
--- A word is spelled by a row exactly where it equals the row's match under the row's mask.
+-- A word encodes an instruction of a row if and only if it equals the row's match under the row's mask.
 use Rattle.std.proofs.Common.{◌≡◌, ℕ, ◌+◌, ◌*◌, ◌/◌, ◌%◌, ◌^◌, ◌<◌, sym, ap, ◌∙◌, arith, refl, bit_and}
 use Rattle.std.proofs.lemmas.Nat.{and_mask, and_block, div-add-mod'}
 use Rattle.rv_word.specs.Logic.{and_by_bits}
@@ -12,7 +12,7 @@ use Rattle.rv_encoding.specs.declared.instr.Instr.{Instr}
 use Rattle.rv_encoding.specs.declared.instr.Instr.TheVariants.{Lui, Auipc, Jal, Jalr, Branch, Load, Store, OpImm, ShiftImm, Op, Fence}
 use Rattle.rv_encoding.specs.declared.instr.Instr.TheVariants.{Csr, CsrImm, Ecall, Ebreak, Sret, Mret, Wfi, SfenceVma}
 
--- ---- what each mask leaves of a word
+-- ---- a word under each mask
 
 mask_i : (word : ℕ) → bit_and word 0x0000707F ≡ word % 2 ^ 7 + word / 2 ^ 12 % 2 ^ 3 * 2 ^ 12
 mask_i word =
@@ -22,7 +22,7 @@ mask_i word =
     ∙ ap (λ n. word / 2 ^ 12 % 2 ^ 3 * 2 ^ 12 + n) (and_mask (word % 2 ^ 12) 7)
     ∙ omega arith
 
--- a mask with all of bits 31 to 25
+-- a mask with all bits from 31 to 25
 mask_top : (word low : ℕ) → word < 2 ^ 32 → low < 2 ^ 25 → bit_and word (0b1111111 * 2 ^ 25 + low) ≡ word / 2 ^ 25 * 2 ^ 25 + bit_and (word % 2 ^ 25) low
 mask_top word low fits below =
     ap (λ n. bit_and n (0b1111111 * 2 ^ 25 + low)) (sym (div-add-mod' word (2 ^ 25)))
@@ -45,7 +45,7 @@ mask_sfence_vma word fits =
 mask_word : (word : ℕ) → word < 2 ^ 32 → bit_and word 0xFFFFFFFF ≡ word
 mask_word word fits = and_mask word 32 ∙ omega arith
 
--- ---- a word that equals the match under the mask is spelled, with the fields that it has
+-- ---- a word that equals the match under the mask encodes an instruction with the fields of the word
 
 spelled_by_and : (i : Instr) (word : ℕ) → word < 2 ^ 32 → bit_and word (row_of_instr i).mask ≡ (row_of_instr i).match → Encodes word (with_fields_of word i)
 unfolding word_of
@@ -151,7 +151,7 @@ word_of_and Wfi valid fits = refl
 word_of_and (SfenceVma rs1 rs2) valid fits =
     mask_sfence_vma (word_of (SfenceVma rs1 rs2)) fits ∙ omega arith
 
--- ---- the same of the mask bit by bit
+-- ---- the same for the mask bit by bit
 
 mask-lt : (i : Instr) → (row_of_instr i).mask < 2 ^ 32
 mask-lt i = grind arith

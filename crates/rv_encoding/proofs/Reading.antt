@@ -1,5 +1,5 @@
--- The decoder's steps as functions: for each group of words with one opcode, the one instruction that a word may spell.
--- An aid of the proof that these steps find what the listing has; no public contract speaks of it.
+-- The decoder's steps as functions: for each group of words with one opcode, the only instruction that a word may encode. They are used to prove
+-- that the steps agree with the listing. No public contract uses them.
 use Rattle.std.specs.Prelude.{ℕ, ◌==◌, ◌&&◌, if◌then◌else◌, Option, Some, None}
 use Rattle.std.specs.Option.{option_map, option_or}
 use Rattle.rv_word.specs.BitFields.{bits}
@@ -10,7 +10,7 @@ use Rattle.rv_encoding.specs.declared.instr.Instr.{Instr}
 use Rattle.rv_encoding.specs.declared.instr.Instr.TheVariants.{Lui, Auipc, Jal, Jalr, Branch, Load, Store, OpImm, ShiftImm, Op, Fence}
 use Rattle.rv_encoding.specs.declared.instr.Instr.TheVariants.{Csr, CsrImm, Ecall, Ebreak, Sret, Mret, Wfi, SfenceVma}
 
--- ---- the words of one opcode
+-- ---- the words of each opcode
 
 abbrev pub read_jalr : ℕ → Option Instr
 read_jalr word = if bits word 14 12 == 0 then Some (Jalr (taken rd_at word) (taken rs1_at word) (taken i_immediate_at word)) else None
@@ -37,7 +37,7 @@ abbrev pub read_fence : ℕ → Option Instr
 read_fence word =
     if bits word 14 12 == 0 then Some (Fence (taken fm_at word) (taken pred_at word) (taken succ_at word) (taken rd_at word) (taken rs1_at word)) else None
 
--- those that are rows by themselves, and sfence.vma
+-- the words that are rows by themselves, and sfence.vma
 abbrev pub read_whole : ℕ → Option Instr
 read_whole word =
     if word == 0x00000073 then Some Ecall

@@ -1,4 +1,4 @@
--- What a row spells is read as its instruction.
+-- The word of an instruction is read as this instruction.
 use Rattle.std.proofs.Common.{◌≡◌, ℕ, ◌<◌, Some, None, refl, sym, ap, ◌∙◌, arith}
 use Rattle.rv_word.specs.BitFields.{bits}
 use Rattle.rv_encoding.specs.Places.{rd_at, rs1_at, rs2_at, i_immediate_at, s_immediate_at, b_immediate_at, shamt_at}
@@ -21,7 +21,7 @@ use Rattle.rv_encoding.specs.declared.instr.Instr.{Instr}
 use Rattle.rv_encoding.specs.declared.instr.Instr.TheVariants.{Lui, Auipc, Jal, Jalr, Branch, Load, Store, OpImm, ShiftImm, Op, Fence}
 use Rattle.rv_encoding.specs.declared.instr.Instr.TheVariants.{Csr, CsrImm, Ecall, Ebreak, Sret, Mret, Wfi, SfenceVma}
 
--- ---- a word of an opcode is read by its fields
+-- ---- a word of each opcode is read by its fields
 
 read_branch_is : (word : ℕ) (kind : BranchKind) (rs1 rs2 offset : ℕ) → bits word 6 0 ≡ 0b1100011 → branch_kind (bits word 14 12) ≡ Some kind
     → taken rs1_at word ≡ rs1 → taken rs2_at word ≡ rs2 → taken b_immediate_at word ≡ offset → read word ≡ Some (Branch kind rs1 rs2 offset)
@@ -138,7 +138,7 @@ read_word_of (SfenceVma rs1 rs2) valid =
     let word : ℕ = word_of (SfenceVma rs1 rs2) in
     read_whole_word word (omega arith) (omega arith) ∙ read_sfence_vma word rs1 rs2 (omega arith) (omega arith) (omega arith) (omega arith)
 
--- ---- so whatever a word spells is what the step for its opcode reads
+-- ---- the instruction that a word encodes is the one that the step for its opcode reads
 
 pub only_read : (word : ℕ) (i : Instr) → Encodes word i → read word ≡ Some i
 only_read word i encodes = ap read (sym encodes.1) ∙ read_word_of i encodes.0

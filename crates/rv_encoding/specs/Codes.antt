@@ -1,5 +1,4 @@
--- The opcodes, and of each kind of a group of instructions the name and the codes that tell it apart: RISC-V Unprivileged ISA 20191213,
--- chapter 24.
+-- The opcodes, and for each kind of an instruction group its name and its codes (RISC-V Unprivileged ISA 20191213, chapter 24).
 use Rattle.std.specs.Prelude.{ℕ, ◌==◌, ◌&&◌, List, [], ◌∷◌, ◌++◌, codes, find, Option}
 use Rattle.rv_encoding.specs.declared.kind.BranchKind.{BranchKind}
 use Rattle.rv_encoding.specs.declared.kind.BranchKind.TheVariants.{Beq, Bne, Blt, Bge, Bltu, Bgeu}
@@ -62,7 +61,7 @@ pub record Functs : Type 0 where
 abbrev pub functs : ℕ → ℕ → Functs
 functs funct7 funct3 = record { funct7 = funct7; funct3 = funct3 }
 
--- the name of each kind with its funct3
+-- the name and the funct3 of each kind
 abbrev pub branch_code : BranchKind → List ℕ × ℕ
 branch_code Beq = (codes "beq", 0b000)
 branch_code Bne = (codes "bne", 0b001)
@@ -101,7 +100,7 @@ csr_imm_code Write = (codes "csrrwi", 0b101)
 csr_imm_code Set = (codes "csrrsi", 0b110)
 csr_imm_code Clear = (codes "csrrci", 0b111)
 
--- with its funct7 and funct3
+-- the name, the funct7 and the funct3 of each kind
 abbrev pub shift_code : ShiftKind → List ℕ × Functs
 shift_code Slli = (codes "slli", functs 0b0000000 0b001)
 shift_code Srli = (codes "srli", functs 0b0000000 0b101)
@@ -127,7 +126,7 @@ op_code Divu = (codes "divu", functs 0b0000001 0b101)
 op_code Rem = (codes "rem", functs 0b0000001 0b110)
 op_code Remu = (codes "remu", functs 0b0000001 0b111)
 
--- each of the two alone
+-- the name alone, and the codes alone
 abbrev pub branch_name : BranchKind → List ℕ
 branch_name kind = (branch_code kind).0
 
@@ -196,7 +195,7 @@ shift_kinds = Slli ∷ Srli ∷ Srai ∷ []
 abbrev pub csr_kinds : List CsrKind
 csr_kinds = Write ∷ Set ∷ Clear ∷ []
 
--- those of RV32I, and those of RV32M
+-- the operations of RV32I, and those of RV32M
 abbrev pub rv32i_op_kinds : List OpKind
 rv32i_op_kinds = Add ∷ Sub ∷ Sll ∷ Slt ∷ Sltu ∷ Xor ∷ Srl ∷ Sra ∷ Or ∷ And ∷ []
 

@@ -1,6 +1,6 @@
--- The 58 instructions by name, mask and match, in the order of RISC-V Unprivileged ISA 20191213, chapter 24 (RV32I,
--- Zicsr, RV32M), and of Privileged Architecture 20211203, chapter "RISC-V Privileged Instruction Set Listings". This is
--- the table to hold beside the manuals; `decode` ensures that it is the rows of `Rows`, no more and no fewer.
+-- The 58 instructions by name, mask and match, in the order of the manuals. RISC-V Unprivileged ISA 20191213, chapter 24 (RV32I, Zicsr, RV32M),
+-- and Privileged Architecture 20211203, chapter "RISC-V Privileged Instruction Set Listings". This table can be compared with the manuals;
+-- `decode` ensures that it has exactly the rows of `Rows`.
 use Rattle.std.specs.Prelude.{◌≡◌, ℕ, List, [], ◌∷◌, codes, slice_get, Some}
 use Rattle.rv_encoding.specs.Codes.{branch_name, load_name, store_name, op_imm_name, shift_name, op_name, csr_name, csr_imm_name}
 use Rattle.rv_encoding.specs.Rows.{row_of_instr}
@@ -82,7 +82,7 @@ listing =
     ∷ listed (codes "sfence.vma") 0xFE007FFF 0x12000073
     ∷ []
 
--- The name of an instruction.
+-- the name of an instruction
 abbrev pub name_of : Instr → List ℕ
 name_of (Lui rd imm) = codes "lui"
 name_of (Auipc rd imm) = codes "auipc"
@@ -104,10 +104,10 @@ name_of Mret = codes "mret"
 name_of Wfi = codes "wfi"
 name_of (SfenceVma rs1 rs2) = codes "sfence.vma"
 
--- What the listing has of an instruction.
+-- the line of the listing for an instruction
 abbrev pub listed_of : Instr → Listed
 listed_of instr = listed (name_of instr) (row_of_instr instr).mask (row_of_instr instr).match
 
--- That line stands in the listing.
+-- the listing has this line
 abbrev pub IsListed : Instr → Type 0
 IsListed instr = (place : ℕ) × (slice_get listing place ≡ Some (listed_of instr))

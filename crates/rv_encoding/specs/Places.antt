@@ -1,19 +1,19 @@
--- Where the fields of an instruction lie in its word: RISC-V Unprivileged ISA 20191213, sections 2.2 and 2.3.
+-- The positions of instruction fields in a word (RISC-V Unprivileged ISA 20191213, sections 2.2 and 2.3).
 use Rattle.std.specs.Prelude.{ℕ, ◌+◌, ◌-◌, ◌*◌, ◌^◌, List, [], ◌∷◌}
 use Rattle.rv_word.specs.BitFields.{bits}
 
--- A run of bits of a field, and the bits of the word that they are: each by its highest and its lowest bit.
+-- A range of bits of a field, and the range of the word's bits that holds them. Each range is given by its highest and its lowest bit.
 pub record Run : Type 0 where
   pub field_hi : ℕ
   pub field_lo : ℕ
   pub hi : ℕ
   pub lo : ℕ
 
--- bits hi to lo of a field, from a bit of the word on, which is their lowest
+-- bits hi to lo of a field, in the word from bit `from` upwards
 abbrev pub bits_at : ℕ → ℕ → ℕ → Run
 bits_at hi lo from = record { field_hi = hi; field_lo = lo; hi = from + (hi - lo); lo = from }
 
--- The runs of a field, from the highest bit of the word on. A bit of the field that is in none is 0.
+-- The bit ranges of a field, from the highest bit of the word down. Bits of the field outside these ranges are 0.
 abbrev pub Places : Type 0
 Places = List Run
 
@@ -50,7 +50,7 @@ j_immediate_at = bits_at 20 20 31 ∷ bits_at 10 1 21 ∷ bits_at 11 11 20 ∷ b
 abbrev pub u_immediate_at : Places
 u_immediate_at = bits_at 31 12 12 ∷ []
 
--- ---- fields of single groups: section 2.4 (shamt), 2.7 (fm, pred, succ), 9.1 (csr, uimm)
+-- ---- fields of certain groups: sections 2.4 (shamt), 2.7 (fm, pred, succ) and 9.1 (csr, uimm)
 
 abbrev pub shamt_at : Places
 shamt_at = bits_at 4 0 20 ∷ []
@@ -70,14 +70,14 @@ csr_at = bits_at 11 0 20 ∷ []
 abbrev pub uimm_at : Places
 uimm_at = bits_at 4 0 15 ∷ []
 
--- ---- a field and its places
+-- ---- a field at its positions
 
--- A field at its places in a word.
+-- the word with a field at its positions, and 0 elsewhere
 abbrev pub placed : Places → ℕ → ℕ
 placed [] field = 0
 placed (run ∷ runs) field = bits field run.field_hi run.field_lo * 2 ^ run.lo + placed runs field
 
--- The field that lies at these places of a word.
+-- the field at these positions of a word
 abbrev pub taken : Places → ℕ → ℕ
 taken [] word = 0
 taken (run ∷ runs) word = bits word run.hi run.lo * 2 ^ run.field_lo + taken runs word

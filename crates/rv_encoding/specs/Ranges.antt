@@ -1,4 +1,4 @@
--- The ranges of the fields that are followed by 0s: RISC-V Unprivileged ISA 20191213, section 2.3.
+-- The ranges of the fields whose lowest bits are always 0 (RISC-V Unprivileged ISA 20191213, section 2.3).
 use Rattle.std.specs.Prelude.{◌≡◌, ℕ, ◌%◌, ◌^◌, ◌<◌}
 
 abbrev pub IsUpperImmediate : ℕ → Type 0

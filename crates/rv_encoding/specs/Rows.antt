@@ -1,6 +1,6 @@
--- The rows of the instruction listings: RISC-V Unprivileged ISA 20191213, sections 2.2 and 2.3 and chapter 24, and
--- Privileged Architecture 20211203, chapter "RISC-V Privileged Instruction Set Listings". What the words of each row
--- share, the fields of each at their places, and so the word that spells an instruction.
+-- The rows of the instruction listings, and the word that encodes an instruction. A row has the bits that its words share, and the positions of
+-- their fields. RISC-V Unprivileged ISA 20191213, sections 2.2 and 2.3 and chapter 24, and Privileged Architecture 20211203, chapter "RISC-V
+-- Privileged Instruction Set Listings".
 use Rattle.std.specs.Prelude.{◌≡◌, ℕ, ◌+◌, ◌*◌, ◌^◌, ◌<◌, List, [], ◌∷◌, sum_by}
 use Rattle.rv_encoding.specs.Places.{Places, rd_at, rs1_at, rs2_at, i_immediate_at, s_immediate_at, b_immediate_at, j_immediate_at}
 use Rattle.rv_encoding.specs.Places.{u_immediate_at, shamt_at, fm_at, pred_at, succ_at, csr_at, uimm_at, placed}
@@ -12,14 +12,14 @@ use Rattle.rv_encoding.specs.declared.instr.Instr.{Instr}
 use Rattle.rv_encoding.specs.declared.instr.Instr.TheVariants.{Lui, Auipc, Jal, Jalr, Branch, Load, Store, OpImm, ShiftImm, Op, Fence}
 use Rattle.rv_encoding.specs.declared.instr.Instr.TheVariants.{Csr, CsrImm, Ecall, Ebreak, Sret, Mret, Wfi, SfenceVma}
 
--- A row of the listings, and the fields of one of its words. Under the mask every word of the row is the match; this one is the
--- match with each of these fields at its places.
+-- A row of the listings, and the fields of one of its words. Every word of the row equals the match under the mask. This word is the match with
+-- each of the fields at its positions.
 pub record InstrRow : Type 0 where
   pub mask : ℕ
   pub match : ℕ
   pub fields : List (Places × ℕ)
 
--- Those fields, each at its places.
+-- the fields, each at its positions
 abbrev pub fields_at : List (Places × ℕ) → ℕ
 fields_at fields = sum_by (λ (field : Places × ℕ). placed field.0 field.1) fields
 
@@ -35,11 +35,11 @@ abbrev pub funct7_row : ℕ → Functs → List (Places × ℕ) → InstrRow
 funct7_row opcode functs fields =
     record { mask = 0xFE00707F; match = opcode + functs.funct3 * 2 ^ 12 + functs.funct7 * 2 ^ 25; fields = fields }
 
--- rd (bits 11:7) is 0
+-- rd (bits 11:7) must be 0
 abbrev pub funct7_row_without_rd : ℕ → Functs → List (Places × ℕ) → InstrRow
 funct7_row_without_rd opcode functs fields = record (funct7_row opcode functs fields) { mask = 0xFE007FFF }
 
--- rd, funct3 and rs1 (bits 19:7) are 0
+-- rd, funct3 and rs1 (bits 19:7) must be 0
 abbrev pub funct12_row : ℕ → ℕ → InstrRow
 funct12_row opcode funct12 = record { mask = 0xFFFFFFFF; match = opcode + funct12 * 2 ^ 20; fields = [] }
 
@@ -76,13 +76,13 @@ row_of_instr Mret = funct12_row system_opcode 0x302
 row_of_instr Wfi = funct12_row system_opcode 0x105
 row_of_instr (SfenceVma rs1 rs2) = funct7_row_without_rd system_opcode (functs 0b0001001 0b000) ((rs1_at, rs1) ∷ (rs2_at, rs2) ∷ [])
 
--- ---- spelling
+-- ---- encoding
 
--- The word of an instruction: its row's match, and each of its fields at its places.
+-- the word of an instruction: the match of its row, with each field at its positions
 unfoldable pub word_of : Instr → ℕ
 word_of instr = (row_of_instr instr).match + fields_at (row_of_instr instr).fields
 
--- Each field is in its range, as in each value of the type.
+-- each field of an instruction is in its range, as the types of the code ensure
 abbrev pub IsInstr : Instr → Type 0
 IsInstr (Lui rd imm) = (rd < 32) × IsUpperImmediate imm
 IsInstr (Auipc rd imm) = (rd < 32) × IsUpperImmediate imm
@@ -104,6 +104,6 @@ IsInstr Mret = Unit {0}
 IsInstr Wfi = Unit {0}
 IsInstr (SfenceVma rs1 rs2) = (rs1 < 32) × (rs2 < 32)
 
--- An instruction, each field in its range, is spelled by a word.
+-- a word encodes an instruction whose fields are in their ranges
 abbrev pub Encodes : ℕ → Instr → Type 0
 Encodes word instr = IsInstr instr × (word_of instr ≡ word)

@@ -1,5 +1,5 @@
-//! The instruction that a word spells. All is inlined, so that during a hart's step no instruction stands in memory: where
-//! this is a call, a step takes half as long again.
+//! Decodes words. All functions are inlined, so that a step of a hart stores no instruction in memory. With a call instead, a step takes half as
+//! long again.
 
 mod kinds;
 mod word_fields;
@@ -23,24 +23,24 @@ use word_fields::{
     u_immediate, uimm,
 };
 
-/// The instruction that a word spells: `None` exactly where no row of the listing spells it.
+/// Decodes a word to the instruction that it encodes. Returns `None` if and only if the word encodes no instruction of the listing.
 #[inline(always)]
 #[tactic(auto, using(crate::proofs::DecodingLemmas::decoded_is, crate::proofs::DecodingLemmas::none_listed, crate::proofs::ListingLemmas::listing_of_samples))]
 pub fn decode(word: u32) -> Option<Instr>
     ensures value { result ≡ decoded word }
-    // What is decoded is spelled by the word.
+    // The word encodes the returned instruction.
     ensures found { IfSome result (Encodes word) }
-    // Whatever the word spells is decoded, so it spells one instruction at most.
+    // Any instruction that the word encodes is returned, so the word encodes at most one.
     ensures only { (instr : Instr) → Encodes word instr → result ≡ Some instr }
-    // Where nothing is decoded, the word is no row's match under its mask.
+    // If nothing is returned, the word equals no row's match under the row's mask.
     ensures none { IfNone result (All (λ row. and_by_bits word row.mask ≢ row.match) listing) }
-    // The listing is the rows of the instructions, no more and no fewer.
+    // The listing has exactly the rows of the instructions.
     ensures table { listing ≡ map listed_of samples }
 {
     read(word)
 }
 
-/// The instruction of a word, by its opcode.
+/// Decodes a word by its opcode.
 #[inline(always)]
 #[tactic(auto, using(crate::proofs::ReadingLemmas::only_read), unfolding(crate::specs::Rows::word_of))]
 fn read(word: u32) -> Option<Instr>
@@ -72,7 +72,7 @@ fn read(word: u32) -> Option<Instr>
     }
 }
 
-/// The instruction of a word of opcode 1100111.
+/// Decodes a word with the opcode 1100111.
 #[inline(always)]
 #[tactic(auto, using(crate::proofs::ReadingLemmas::only_jalr), unfolding(crate::specs::Rows::word_of))]
 fn jalr(word: u32) -> Option<Instr>
@@ -90,7 +90,7 @@ fn jalr(word: u32) -> Option<Instr>
     })
 }
 
-/// The instruction of a word of opcode 1100011.
+/// Decodes a word with the opcode 1100011.
 #[inline(always)]
 #[tactic(auto, unfolding(crate::specs::Rows::word_of))]
 fn branch(word: u32) -> Option<Instr>
@@ -107,7 +107,7 @@ fn branch(word: u32) -> Option<Instr>
     })
 }
 
-/// The instruction of a word of opcode 0000011.
+/// Decodes a word with the opcode 0000011.
 #[inline(always)]
 #[tactic(auto, unfolding(crate::specs::Rows::word_of))]
 fn load(word: u32) -> Option<Instr>
@@ -124,7 +124,7 @@ fn load(word: u32) -> Option<Instr>
     })
 }
 
-/// The instruction of a word of opcode 0100011.
+/// Decodes a word with the opcode 0100011.
 #[inline(always)]
 #[tactic(auto, unfolding(crate::specs::Rows::word_of))]
 fn store(word: u32) -> Option<Instr>
@@ -141,7 +141,7 @@ fn store(word: u32) -> Option<Instr>
     })
 }
 
-/// The instruction of a word of opcode 0010011: a shift, of which funct7 is part, or an operation.
+/// Decodes a word with the opcode 0010011: a shift, which funct7 selects, or another operation.
 #[inline(always)]
 #[tactic(auto, using(crate::proofs::ReadingLemmas::only_op_imm), unfolding(crate::specs::Rows::word_of))]
 fn op_imm(word: u32) -> Option<Instr>
@@ -167,7 +167,7 @@ fn op_imm(word: u32) -> Option<Instr>
     })
 }
 
-/// The instruction of a word of opcode 0110011.
+/// Decodes a word with the opcode 0110011.
 #[inline(always)]
 #[tactic(auto, unfolding(crate::specs::Rows::word_of))]
 fn op(word: u32) -> Option<Instr>
@@ -184,7 +184,7 @@ fn op(word: u32) -> Option<Instr>
     })
 }
 
-/// The instruction of a word of opcode 0001111.
+/// Decodes a word with the opcode 0001111.
 #[inline(always)]
 #[tactic(auto, using(crate::proofs::ReadingLemmas::only_fence), unfolding(crate::specs::Rows::word_of))]
 fn fence(word: u32) -> Option<Instr>
@@ -204,7 +204,7 @@ fn fence(word: u32) -> Option<Instr>
     })
 }
 
-/// The instruction of a word of opcode 1110011.
+/// Decodes a word with the opcode 1110011.
 #[inline(always)]
 #[tactic(auto, using(crate::proofs::ReadingLemmas::only_system), unfolding(crate::specs::Rows::word_of))]
 fn system(word: u32) -> Option<Instr>
@@ -232,7 +232,7 @@ fn system(word: u32) -> Option<Instr>
     whole(word)
 }
 
-/// The instruction of a word that is a row by itself, or sfence.vma.
+/// Decodes a word that is a row by itself, or sfence.vma.
 #[inline(always)]
 #[tactic(auto, using(crate::proofs::ReadingLemmas::only_whole), unfolding(crate::specs::Rows::word_of))]
 fn whole(word: u32) -> Option<Instr>

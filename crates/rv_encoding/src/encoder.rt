@@ -1,4 +1,4 @@
-//! The word of an instruction.
+//! Encodes instructions.
 
 mod codes;
 mod places;
@@ -20,22 +20,22 @@ use places::{
     at_uimm,
 };
 
-/// The word that spells an instruction.
+/// Encodes an instruction to its word.
 #[tactic(auto, using(crate::proofs::MaskLemmas::masked_word_of, crate::proofs::ListingLemmas::is_listed), unfolding(crate::specs::Rows::word_of))]
 pub const fn encode(instr: &Instr) -> u32
     ensures value { result ≡ word_of instr.now }
     ensures in_range { IsInstr instr.now }
-    // The word spells no other instruction.
+    // The word encodes no other instruction.
     ensures only { (other : Instr) → Encodes result other → other ≡ instr.now }
     ensures round_trip { decoded result ≡ Some instr.now }
-    // The instruction's row is one of the listing, and the word is the row's match under its mask.
+    // The instruction's row is in the listing, and the word equals the row's match under the row's mask.
     ensures listed { IsListed instr.now }
     ensures masked { and_by_bits result (row_of_instr instr.now).mask ≡ (row_of_instr instr.now).match }
 {
     match_of(instr) + fields_of(instr)
 }
 
-/// What the words of an instruction's row share: opcode, funct3 and funct7.
+/// Returns the bits that the words of an instruction's row share: opcode, funct3 and funct7.
 const fn match_of(instr: &Instr) -> u32
     ensures { result ≡ (row_of_instr instr.now).match }
 {
@@ -68,7 +68,7 @@ const fn match_of(instr: &Instr) -> u32
     }
 }
 
-/// An instruction's fields, each at its places.
+/// Returns the fields of an instruction, each at its positions.
 const fn fields_of(instr: &Instr) -> u32
     ensures value { result ≡ fields_at (row_of_instr instr.now).fields }
     ensures in_range { IsInstr instr.now }
@@ -109,7 +109,7 @@ const fn fields_of(instr: &Instr) -> u32
     }
 }
 
-/// The fields of an instruction of opcode 1110011, each at its places.
+/// Returns the fields of an instruction with the opcode 1110011, each at its positions.
 const fn system_fields_of(instr: &Instr) -> u32
     requires { (row_of_instr instr.now).match % 2 ^ 7 ≡ 0b1110011 }
     ensures value { result ≡ fields_at (row_of_instr instr.now).fields }

@@ -1,5 +1,5 @@
-//! The fields of instructions besides register numbers, each in its range by its type (Unprivileged
-//! ISA, sections 2.2, 2.3, 2.4, 2.7 and 9.1).
+//! The fields of instructions other than register numbers. The type of each field ensures its range (Unprivileged ISA, sections 2.2, 2.3, 2.4,
+//! 2.7 and 9.1).
 
 mod branch_offset;
 mod csr_number;

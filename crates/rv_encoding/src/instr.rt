@@ -6,9 +6,8 @@ use crate::field::{
 use crate::kind::{BranchKind, CsrKind, LoadKind, OpImmKind, OpKind, ShiftKind, StoreKind};
 use rv_word::Reg;
 
-/// An instruction of RV32IM with Zicsr, or one of the privileged ones: a row of the manuals' listings
-/// with its fields, each in its range by its type. Rows with the same fields are one variant, which
-/// has a kind.
+/// An instruction of RV32IM with Zicsr, or a privileged instruction: a row of the manuals' listings with its fields. The type of each field
+/// ensures its range. Rows with the same fields are one variant, which has a kind.
 #[derive(Clone, Copy, Debug, PartialEq, Eq)]
 pub enum Instr {
     /// Loads an upper immediate (Unprivileged ISA, section 2.4).
@@ -82,31 +81,31 @@ pub enum Instr {
         rd: Reg,
         rs1: Reg,
     },
-    /// A change of a control and status register by a register (section 9.1).
+    /// A CSR instruction with a register (section 9.1).
     Csr {
         kind: CsrKind,
         rd: Reg,
         rs1: Reg,
         csr: CsrNumber,
     },
-    /// A change of a control and status register by an immediate (section 9.1).
+    /// A CSR instruction with an immediate (section 9.1).
     CsrImm {
         kind: CsrKind,
         rd: Reg,
         uimm: Uimm,
         csr: CsrNumber,
     },
-    /// A call of the execution environment (section 2.8).
+    /// A call to the execution environment (section 2.8).
     Ecall,
-    /// A call of the debugger (section 2.8).
+    /// A call to the debugger (section 2.8).
     Ebreak,
     /// A return from a trap in supervisor mode (Privileged Architecture, section 3.3.2).
     Sret,
     /// A return from a trap in machine mode (Privileged Architecture, section 3.3.2).
     Mret,
-    /// Waits for an interrupt (Privileged Architecture, section 3.3.3).
+    /// A wait for an interrupt (Privileged Architecture, section 3.3.3).
     Wfi,
-    /// Orders reads of page tables after writes (Privileged Architecture, section 4.2.1).
+    /// A fence for page tables: orders reads of page tables after writes (Privileged Architecture, section 4.2.1).
     SfenceVma {
         rs1: Reg,
         rs2: Reg,

@@ -1,23 +1,23 @@
 //! The kinds of each group of instructions that have the same fields.
 
-/// When a branch is taken (Unprivileged ISA, section 2.5).
+/// The condition under which a branch is taken (Unprivileged ISA, section 2.5).
 #[derive(Clone, Copy, Debug, PartialEq, Eq)]
 pub enum BranchKind {
     /// rs1 and rs2 are equal.
     Beq,
-    /// They are not equal.
+    /// rs1 and rs2 are not equal.
     Bne,
-    /// rs1 is less, both signed.
+    /// rs1 is less than rs2, both signed.
     Blt,
-    /// rs1 is not less, both signed.
+    /// rs1 is not less than rs2, both signed.
     Bge,
-    /// rs1 is less, both unsigned.
+    /// rs1 is less than rs2, both unsigned.
     Bltu,
-    /// rs1 is not less, both unsigned.
+    /// rs1 is not less than rs2, both unsigned.
     Bgeu,
 }
 
-/// How many bytes a load reads, and how it extends them (Unprivileged ISA, section 2.6).
+/// The number of bytes that a load reads, and their extension (Unprivileged ISA, section 2.6).
 #[derive(Clone, Copy, Debug, PartialEq, Eq)]
 pub enum LoadKind {
     /// One byte, sign-extended.
@@ -32,7 +32,7 @@ pub enum LoadKind {
     Lhu,
 }
 
-/// How many bytes a store writes (Unprivileged ISA, section 2.6).
+/// The number of bytes that a store writes (Unprivileged ISA, section 2.6).
 #[derive(Clone, Copy, Debug, PartialEq, Eq)]
 pub enum StoreKind {
     /// One byte.
@@ -43,14 +43,14 @@ pub enum StoreKind {
     Sw,
 }
 
-/// What is computed of a register and an immediate (Unprivileged ISA, section 2.4).
+/// An operation on a register and an immediate (Unprivileged ISA, section 2.4).
 #[derive(Clone, Copy, Debug, PartialEq, Eq)]
 pub enum OpImmKind {
     /// The sum.
     Addi,
-    /// 1 where the register is less, both signed.
+    /// 1 if the register is less than the immediate, both signed, otherwise 0.
     Slti,
-    /// 1 where the register is less, both unsigned.
+    /// 1 if the register is less than the immediate, both unsigned, otherwise 0.
     Sltiu,
     /// Exclusive or.
     Xori,
@@ -65,13 +65,13 @@ pub enum OpImmKind {
 pub enum ShiftKind {
     /// Left.
     Slli,
-    /// Right, with zeros from above.
+    /// Right, with zeros shifted in.
     Srli,
-    /// Right, with the sign from above.
+    /// Right, with the sign bit shifted in.
     Srai,
 }
 
-/// What is computed of two registers (Unprivileged ISA, sections 2.4, 7.1 and 7.2).
+/// An operation on two registers (Unprivileged ISA, sections 2.4, 7.1 and 7.2).
 #[derive(Clone, Copy, Debug, PartialEq, Eq)]
 pub enum OpKind {
     /// The sum.
@@ -80,15 +80,15 @@ pub enum OpKind {
     Sub,
     /// A shift left.
     Sll,
-    /// 1 where rs1 is less, both signed.
+    /// 1 if rs1 is less than rs2, both signed, otherwise 0.
     Slt,
-    /// 1 where rs1 is less, both unsigned.
+    /// 1 if rs1 is less than rs2, both unsigned, otherwise 0.
     Sltu,
     /// Exclusive or.
     Xor,
-    /// A shift right, with zeros from above.
+    /// A shift right, with zeros shifted in.
     Srl,
-    /// A shift right, with the sign from above.
+    /// A shift right, with the sign bit shifted in.
     Sra,
     /// Or.
     Or,
@@ -112,13 +112,13 @@ pub enum OpKind {
     Remu,
 }
 
-/// How a control and status register is changed (Unprivileged ISA, section 9.1).
+/// The change of a control and status register (Unprivileged ISA, section 9.1).
 #[derive(Clone, Copy, Debug, PartialEq, Eq)]
 pub enum CsrKind {
-    /// It is written.
+    /// The register is written.
     Write,
-    /// Its bits that the operand has are set.
+    /// The bits of the operand are set in the register.
     Set,
-    /// Its bits that the operand has are cleared.
+    /// The bits of the operand are cleared in the register.
     Clear,
 }

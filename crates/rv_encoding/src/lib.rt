@@ -1,6 +1,5 @@
-//! The instructions of RV32IM with Zicsr and the privileged ones (RISC-V Unprivileged ISA 20191213,
-//! chapter 24, and the instruction set listings of Privileged Architecture 20211203): their type, the
-//! word that spells each, and the one that a word spells.
+//! The instructions of RV32IM with Zicsr and the privileged instructions: their type, their encoding and their decoding. (RISC-V Unprivileged
+//! ISA 20191213, chapter 24, and the instruction set listings of Privileged Architecture 20211203.)
 //!
 //! ```text
 //! let instr = decode(0xfff0_8093)?; // addi x1, x1, -1

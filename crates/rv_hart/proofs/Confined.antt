@@ -1,5 +1,5 @@
--- A step depends on no byte of memory but those that it fetched and loaded, and changes none but those that it stored: over every
--- memory that agrees there it goes the same way. (This law compares two steps, so it goes by the ways and not by the cases.)
+-- A step depends only on the bytes of memory that it fetched and loaded, and changes only those that it stored. It takes the same case over
+-- every memory with the same bytes there. (The lemma compares two steps, so it uses `step_ways` and not `step_cases`.)
 use Rattle.std.proofs.Common.{◌≡◌, ℕ, ◌-◌, List, [], length, Option, Some, None, Result, Ok, Err, refl, sym, ap, ◌∙◌}
 use Rattle.rv_word.specs.Widths.{bytes_in}
 use Rattle.rv_word.specs.declared.width.Width.{Width}
@@ -23,7 +23,7 @@ use Rattle.rv_hart.proofs.StepCases.{Fetches, Decodes, Requests, Loads, Stores, 
 abbrev with_memory : Machine → List ℕ → Machine
 with_memory state memory = record state { memory = memory }
 
--- ---- the other memory goes the same way
+-- ---- the step over the other memory takes the same case
 
 fetches-too : (state : Machine) (n : List ℕ) (given : Result ℕ AccessFault) → SameIn state.memory n (span state.hart.pc Word) → Fetches state given
     → Fetches (with_memory state n) given
@@ -41,9 +41,9 @@ op_request-too : (state : Machine) (n : List ℕ) (word : ℕ) (instr : Instr) (
     → Requests (with_memory state n) word instr access
 op_request-too state n word instr access same here = record { decode = decodes-too state n word (Some instr) same here.decode; request = here.request }
 
--- ---- the ends
+-- ---- the results of both steps
 
--- no memory changes
+-- neither memory changes
 unchanged : (state : Machine) (n : List ℕ) (ended : Ended) → ended.outcome.touched.stored ≡ None → step (with_memory state n) ≡ over n ended
     → EndAlike state.memory n [] (over state.memory ended) (step (with_memory state n))
 unchanged state n ended none other = rw other (record { hart = refl; outcome = refl; here = rw none refl; there = rw none refl })
@@ -58,7 +58,7 @@ none-stored : (hart : Hart) (touched : Touched) (written : Option ℕ) (finish :
     → (retired_or_trapped hart touched written finish).outcome.touched.stored ≡ None
 none-stored hart touched written finish none = ap (λ (t : Touched). t.stored) (touched-ended hart touched written finish) ∙ none
 
--- both memories take a store
+-- both memories are changed by a store
 stored-alike : (state : Machine) (n : List ℕ) (word : ℕ) (instr : Instr) (address : ℕ) (width : Width) (value : ℕ) (memory : List ℕ)
     → length state.memory ≡ length n → Stores state address width value (Ok memory)
     → step (with_memory state n)

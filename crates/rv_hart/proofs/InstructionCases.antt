@@ -1,5 +1,5 @@
--- The one walk over the instructions. Whatever holds of each way in which an instruction that ends in no exception changes the
--- hart holds after every such instruction.
+-- Case analysis over the instructions that end in no exception: a property that holds of each way to change the hart holds after every such
+-- instruction.
 use Rattle.std.proofs.Common.{◌≡◌, ℕ, Bool, true, false, List, Result, Ok, Err, refl, subst}
 use Rattle.std.specs.Prelude.{IfOk, ◌==◌, ◌%◌, if◌then◌else◌}
 use Rattle.rv_word.specs.BitFields.{sign_extended}
@@ -25,12 +25,12 @@ use Rattle.rv_hart.specs.declared.trap.Trap.{Trap}
 
 -- the ways in which an instruction changes the hart
 pub record Changes (hart : Hart) (P : Hart → Type 0) : Type 0 where
-  -- it computes and jumps
+  -- the instruction computes or jumps
   pub computes : (regs : List ℕ) (pc : ℕ) → P (record hart { regs = regs; pc = pc })
-  -- it writes a control and status register
+  -- the instruction writes a control and status register
   pub writes : (csr word : ℕ) (csrs : CsrState) (regs : List ℕ) (pc : ℕ) → write_result hart.csrs csr word hart.mode ≡ Ok csrs
       → P (record hart { regs = regs; csrs = csrs; pc = pc })
-  -- it returns
+  -- the instruction returns from a trap
   pub mret : is_machine hart.mode ≡ true → P (returned_from_machine hart)
   pub sret : P (returned_from_supervisor hart)
 
@@ -102,7 +102,7 @@ pub by_changes : (hart : Hart) (P : Hart → Type 0) → Changes hart P → (ins
     → executed hart word loaded instr ≡ Ok after → P after
 by_changes hart P changes instr word loaded after is = subst (λ (r : Result Hart Trap). IfOk r P) is (executed-by hart P changes instr word loaded)
 
--- an instruction whose store is done ends in no exception
+-- a store instruction ends in no exception once its access succeeded
 pub store_retires : (instr : Instr) (hart : Hart) (address value word : ℕ) (width : Width)
     → request instr hart ≡ requests.Store address width value → executed hart word 0 instr ≡ Ok (advanced hart)
 unfolding request executed

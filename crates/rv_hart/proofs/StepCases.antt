@@ -1,4 +1,4 @@
--- The one walk over a step. Whatever holds of each way in which a step can go holds of every step.
+-- Case analysis over a step: a property that holds of each way in which a step can go holds of every step.
 use Rattle.std.proofs.Common.{◌≡◌, ℕ, List, Option, Some, None, Result, Ok, Err, refl, ◌∙◌, sym}
 use Rattle.rv_word.specs.Cases.{option_case, result_case}
 use Rattle.rv_word.specs.declared.width.Width.{Width}
@@ -27,17 +27,17 @@ use Rattle.rv_hart.specs.declared.trap.Trap.{Trap}
 
 -- ---- the ways of a step
 
--- no interrupt is taken, and the fetch at pc gives this
+-- no interrupt is taken, and the fetch at pc has this result
 pub record Fetches (state : Machine) (given : Result ℕ AccessFault) : Type 0 where
   pub pending : pending state.hart.csrs state.hart.mode ≡ None
   pub fetched : fetched state.memory state.hart.csrs.pmp state.hart.mode state.hart.pc ≡ given
 
--- and the fetched word is decoded, or spells nothing
+-- the fetched word decodes to this instruction, or to none
 pub record Decodes (state : Machine) (word : ℕ) (given : Option Instr) : Type 0 where
   pub fetch : Fetches state (Ok word)
   pub decoded : decoded word ≡ given
 
--- and the instruction asks for this access
+-- the decoded instruction requests this access
 pub record Requests (state : Machine) (word : ℕ) (instr : Instr) (access : Request) : Type 0 where
   pub decode : Decodes state word (Some instr)
   pub request : request instr state.hart ≡ access
@@ -109,7 +109,7 @@ unfolding from_fetch
 by-interrupt state P ways None is = by-fetch state P ways _ (record { pending = is; fetched = refl })
 by-interrupt state P ways (Some interrupt) is = ways.interrupt interrupt is
 
--- the step by its parts
+-- the step as a sequence of its stages
 pub step_is : (state : Machine) → step state ≡ unless_interrupted state.hart state.memory (from_fetch state.hart state.memory)
 unfolding step from_fetch from_decode from_access
 step_is state = refl
@@ -117,7 +117,7 @@ step_is state = refl
 pub step_ways : (state : Machine) (P : Stepped → Type 0) → StepWays state P → P (step state)
 step_ways state P ways = rw (step_is state) (by-interrupt state P ways _ refl)
 
--- the step of an instruction that asks for an access
+-- the step of an instruction that requests an access
 pub requested_step : (state : Machine) (word : ℕ) (instr : Instr) (access : Request) → Requests state word instr access
     → step state ≡ from_access state.hart state.memory word instr access
 unfolding step from_access
@@ -125,8 +125,8 @@ requested_step state word instr access here = rw (here.decode.fetch.pending, her
 
 -- ---- in four cases
 
--- It ends in a trap; or an instruction retires that asked for no access, that loaded, or that stored. In each the entries permit
--- all that is touched.
+-- The four cases of a step. It ends in a trap, or an instruction retires that made no access, loaded, or stored. In each case the PMP entries
+-- permit every access of the step.
 pub record Cases (state : Machine) (P : Stepped → Type 0) : Type 0 where
   pub trap : (touched : Touched) (trap : Trap) → MayTouchAll state touched → touched.stored ≡ None
       → P (over state.memory (trap_end state.hart touched trap))
@@ -196,7 +196,7 @@ step_cases state P cases = step_ways state P (record {
   store_refused = λ word instr address width value fault here is. cases.trap (fetch_of state.hart) _ (touches-fetch state word here.decode.fetch) refl;
 })
 
--- a law of the hart alone: the step ends in a trap, or an instruction retires
+-- a property of the hart alone has two cases: the step ends in a trap, or an instruction retires
 pub by_hart : (state : Machine) (P : Stepped → Type 0)
     → ((touched : Touched) (trap : Trap) → P (over state.memory (trap_end state.hart touched trap)))
     → ((memory : List ℕ) (touched : Touched) (instr : Instr) (word loaded : ℕ) (after : Hart) → executed state.hart word loaded instr ≡ Ok after

@@ -1,4 +1,4 @@
--- Steps that can be followed by hand.
+-- Examples: single steps with their results.
 use Rattle.std.proofs.Common.{◌≡◌, ℕ, List, [], ◌∷◌, Some, None, refl}
 use Rattle.std.specs.Prelude.{replicate}
 use Rattle.rv_encoding.specs.Decoding.{decoded}
@@ -24,7 +24,7 @@ over_bytes memory hart = record { hart = hart; memory = memory }
 abbrev reset : Hart
 reset = at_reset ram_base M
 
--- the hart after a first step that traps: the trap is written down, and mcycle is 1
+-- the hart after a first step that traps: the CSRs have the trap, and mcycle is 1
 abbrev trapped_once : ℕ → ℕ → Hart
 trapped_once cause tval = record {
   regs = replicate 32 0;
@@ -46,7 +46,7 @@ step-addi : step (over_bytes (0x93 ∷ 0x00 ∷ 0xf0 ∷ 0xff ∷ []) reset) ≡
 unfolding step request executed retired_or_trapped written_csr decoded by_bits read verdict matching_entry covers
 step-addi = refl
 
--- csrrw x0, mepc, x0, which reads nothing
+-- csrrw x0, mepc, x0, which does not read mepc
 step-csrrw : step (over_bytes (0x73 ∷ 0x10 ∷ 0x10 ∷ 0x34 ∷ []) reset) ≡ record {
   state = over_bytes (0x73 ∷ 0x10 ∷ 0x10 ∷ 0x34 ∷ []) (record reset { csrs = record csrs_at_reset { mcycle = 1; minstret = 1 }; pc = 0x80000004 });
   outcome = record { trap = None; touched = fetch_of reset };
@@ -63,7 +63,7 @@ step-jal_misaligned : step (over_bytes (0xef ∷ 0x00 ∷ 0x20 ∷ 0x00 ∷ []) 
 unfolding step request executed retired_or_trapped decoded by_bits read verdict matching_entry covers
 step-jal_misaligned = refl
 
--- no row spells the word 0
+-- the word 0 encodes no instruction
 step-illegal : step (over_bytes (0 ∷ 0 ∷ 0 ∷ 0 ∷ []) reset) ≡ record {
   state = over_bytes (0 ∷ 0 ∷ 0 ∷ 0 ∷ []) (trapped_once 2 0);
   outcome = record { trap = Some (illegal 0); touched = fetch_of reset };

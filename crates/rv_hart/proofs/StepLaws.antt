@@ -1,4 +1,4 @@
--- The laws of a step, each by the cases of a step.
+-- The theorems about a step, each proved by the cases of a step.
 use Rattle.std.proofs.Common.{◌≡◌, Bool, true, false, refl, sym, subst, ◌∙◌}
 use Rattle.std.specs.Prelude.{◌&&◌}
 use Rattle.std.proofs.lemmas.Bool.{false≢true}
@@ -17,11 +17,11 @@ use Rattle.rv_hart.specs.StepLaws.{TrapKeeps, MprvIsClear, KeepsMprvClear, Stays
 use Rattle.rv_hart.proofs.InstructionCases.{Changes, by_changes}
 use Rattle.rv_hart.proofs.StepCases.{step_cases, by_hart}
 
--- a trap changes nothing but what every trap changes
+-- a trap changes only the state that every trap changes
 pub trap_keeps : (state : Machine) → TrapKeeps state (step state)
 trap_keeps state = by_hart state (TrapKeeps state) (λ touched trap. (refl, refl)) (λ memory touched instr word loaded after is. tt)
 
--- a step touches nothing that the entries do not permit
+-- a step accesses only bytes that the PMP entries permit
 pub touches_permitted : (state : Machine) → TouchesPermitted state (step state)
 touches_permitted state = step_cases state (TouchesPermitted state) (record {
   trap = λ touched trap may none. may;
@@ -48,7 +48,7 @@ pub keeps_mprv_clear : (state : Machine) → KeepsMprvClear state (step state)
 keeps_mprv_clear state = by_hart state (KeepsMprvClear state) (λ touched trap clear below. cc)
     (λ memory touched instr word loaded after is. by_changes state.hart _ (changes-keep-mprv state.hart) instr word loaded after is)
 
--- ---- below mode M the machine's parts stay
+-- ---- below mode M the machine's parts do not change
 
 spp-below : (spp : Bool) → is_machine (mode_of_spp spp) ≡ false
 spp-below true = refl
@@ -71,7 +71,7 @@ unfolding machine_parts
 keeps_machine_parts state = by_hart state (KeepsMachineParts state) (λ touched trap below clear. tt)
     (λ memory touched instr word loaded after is below clear. by_changes state.hart _ (changes-keep-parts state.hart below clear) instr word loaded after is)
 
--- ---- the memory changes where the step stored
+-- ---- the memory changes only in the bytes that the step stored
 
 pub changes_stored : (state : Machine) → ChangesStored state (step state)
 changes_stored state = step_cases state (ChangesStored state) (record {
@@ -84,7 +84,7 @@ changes_stored state = step_cases state (ChangesStored state) (record {
       (only.size, only);
 })
 
--- what holds of every step holds of one that is named
+-- a property of every step holds of a step whose result has a name
 pub after_step : (P : Machine → Stepped → Type 0) → ((state : Machine) → P state (step state))
     → (before : Machine) (after : Stepped) → step before ≡ after → P before after
 after_step P law before after stepped = subst (P before) stepped (law before)

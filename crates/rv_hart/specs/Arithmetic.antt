@@ -1,5 +1,5 @@
--- What instructions compute: whole numbers, modulo 2 ^ 32 at the end. RISC-V Unprivileged ISA 20191213, sections 2.4 (integer
--- computation), 2.5 (conditions), 2.6 (loads), 7.1 (multiplication) and 7.2 (division).
+-- The results of computations, as natural numbers modulo 2 ^ 32. (RISC-V Unprivileged ISA 20191213, sections 2.4 (integer computation), 2.5
+-- (conditions), 2.6 (loads), 7.1 (multiplication) and 7.2 (division).)
 use Rattle.std.specs.Prelude.{ℕ, ◌+◌, ◌*◌, ◌%◌, ◌^◌, ◌==◌, Bool, not, nat_lt, int_lt, pos, ◌-ℤ◌, ◌*ℤ◌}
 use Rattle.rv_word.specs.BitFields.{bits, sign_extended}
 use Rattle.rv_word.specs.Division.{quotient, remainder, unsigned_quotient, unsigned_remainder}
@@ -34,7 +34,7 @@ is_less left right = int_lt (signed left) (signed right)
 abbrev pub is_less_unsigned : ℕ → ℕ → Bool
 is_less_unsigned left right = nat_lt left right
 
--- two registers; a shift is by the lowest five bits of the second
+-- the result of an operation on two registers; a shift amount is the lowest five bits of the second
 abbrev pub op_value : OpKind → ℕ → ℕ → ℕ
 op_value Add rs1 rs2 = sum_of rs1 rs2
 op_value Sub rs1 rs2 = difference_of rs1 rs2
@@ -55,7 +55,7 @@ op_value Divu rs1 rs2 = unsigned_quotient rs1 rs2
 op_value Rem rs1 rs2 = remainder rs1 rs2
 op_value Remu rs1 rs2 = unsigned_remainder rs1 rs2
 
--- a register and an immediate, which is sign-extended, also where sltiu compares it as unsigned
+-- the result of an operation on a register and an immediate. The immediate is sign-extended, even if sltiu compares it as unsigned.
 abbrev pub op_imm_value : OpImmKind → ℕ → ℕ → ℕ
 op_imm_value Addi rs1 imm = sum_of rs1 imm
 op_imm_value Slti rs1 imm = digit (is_less rs1 imm)
@@ -64,13 +64,13 @@ op_imm_value Xori rs1 imm = xor_by_bits rs1 imm
 op_imm_value Ori rs1 imm = or_by_bits rs1 imm
 op_imm_value Andi rs1 imm = and_by_bits rs1 imm
 
--- a register shifted by 0 to 31 bits
+-- the result of a shift of a register by 0 to 31 bits
 abbrev pub shift_value : ShiftKind → ℕ → ℕ → ℕ
 shift_value Slli rs1 shamt = shifted_left rs1 shamt
 shift_value Srli rs1 shamt = shifted_right rs1 shamt
 shift_value Srai rs1 shamt = shifted_right_signed rs1 shamt
 
--- the test of a branch
+-- the condition of a branch on two registers
 abbrev pub is_taken : BranchKind → ℕ → ℕ → Bool
 is_taken Beq rs1 rs2 = rs1 == rs2
 is_taken Bne rs1 rs2 = not (rs1 == rs2)
@@ -79,7 +79,7 @@ is_taken Bge rs1 rs2 = not (is_less rs1 rs2)
 is_taken Bltu rs1 rs2 = is_less_unsigned rs1 rs2
 is_taken Bgeu rs1 rs2 = not (is_less_unsigned rs1 rs2)
 
--- how wide a load is, and what it makes of the number that it reads
+-- the width of a load, and its result from the number that it reads
 abbrev pub load_width : LoadKind → Width
 load_width Lb = Byte
 load_width Lh = Half
@@ -94,7 +94,7 @@ load_value Lw number = number
 load_value Lbu number = number
 load_value Lhu number = number
 
--- how wide a store is
+-- the width of a store
 abbrev pub store_width : StoreKind → Width
 store_width Sb = Byte
 store_width Sh = Half

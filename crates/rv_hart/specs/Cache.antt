@@ -1,4 +1,4 @@
--- The caches of the fast path. The manual defines none of this, and no public contract names it.
+-- The caches of the fast path. (Not defined by the manual. No public contract names them.)
 pub mod Decoded
 pub mod DecodeCache
 pub mod FastOps

@@ -1,5 +1,5 @@
--- The instructions that read and change a control and status register: RISC-V Unprivileged ISA 20191213, section 9.1 and its
--- table 9.1. A refused access makes the instruction illegal, and then nothing is read or written.
+-- The instructions that read and change a control and status register (RISC-V Unprivileged ISA 20191213, section 9.1 and table 9.1). If an
+-- access is refused, the instruction is illegal and nothing is read or written.
 use Rattle.std.specs.Prelude.{ℕ, ◌==◌, Bool, true, not, Option, Some, None, Result, Ok, Err, if◌then◌else◌}
 use Rattle.rv_word.specs.Cases.{result_case}
 use Rattle.rv_word.specs.Logic.{or_by_bits, and_not_by_bits}
@@ -13,25 +13,26 @@ use Rattle.rv_state.specs.declared.csr_fault.CsrFault.{CsrFault}
 use Rattle.rv_hart.specs.Hart.{with_result}
 use Rattle.rv_hart.specs.HartState.{Hart}
 
--- csrrw and csrrwi do not read where rd is x0
+-- whether the register is read: csrrw and csrrwi do not read it if rd is x0
 abbrev pub is_read : CsrKind → ℕ → Bool
 is_read kinds.Write rd = not (rd == 0)
 is_read kinds.Set rd = true
 is_read kinds.Clear rd = true
 
--- csrrs, csrrc and their immediate forms do not write where rs1 is x0 or the immediate is 0; the source is that number
+-- Whether the register is written. The source is the number of rs1, or the immediate. csrrs, csrrc and their immediate forms do not write the
+-- register if the source is 0.
 abbrev pub is_written : CsrKind → ℕ → Bool
 is_written kinds.Write source = true
 is_written kinds.Set source = not (source == 0)
 is_written kinds.Clear source = not (source == 0)
 
--- the word that is written, by the old one and the operand
+-- the written word, from the old word and the operand
 abbrev pub changed_word : CsrKind → ℕ → ℕ → ℕ
 changed_word kinds.Write old operand = operand
 changed_word kinds.Set old operand = or_by_bits old operand
 changed_word kinds.Clear old operand = and_not_by_bits old operand
 
--- where nothing is read, rd is x0, and 0 is put there
+-- the word that rd gets, which is 0 if nothing is read (rd is then x0), and the registers after the write
 abbrev pub old_word : Hart → CsrKind → ℕ → ℕ → Result ℕ CsrFault
 old_word hart kind rd csr = if is_read kind rd then read_result hart.csrs csr hart.mode else Ok 0
 
@@ -41,14 +42,14 @@ new_csrs hart kind source word csr = if is_written kind source then write_result
 abbrev pub unless_fault : {A B : Type 0} → Result A CsrFault → (A → Result B CsrFault) → Result B CsrFault
 unless_fault access go = result_case access go Err
 
--- the old word goes to rd
+-- the hart after the change, with the old word in rd
 unfoldable pub csr_changed : Hart → CsrKind → ℕ → ℕ → ℕ → ℕ → Result Hart CsrFault
 csr_changed hart kind rd source operand csr =
     unless_fault (old_word hart kind rd csr) (λ old.
     unless_fault (new_csrs hart kind source (changed_word kind old operand) csr) (λ csrs.
     Ok (with_result (record hart { csrs = csrs }) rd old)))
 
--- the register that an instruction writes where it is done
+-- the number of the control and status register that an instruction writes if it retires
 unfoldable pub written_csr : Instr → Option ℕ
 written_csr (Csr kind rd rs1 csr) = if is_written kind rs1 then Some csr else None
 written_csr (CsrImm kind rd uimm csr) = if is_written kind uimm then Some csr else None

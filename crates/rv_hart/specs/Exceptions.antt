@@ -1,5 +1,5 @@
--- The exceptions of instructions, each with its value for mtval, and the trap of an interrupt, whose value is 0:
--- RISC-V Privileged Architecture 20211203, sections 3.1.15 (mcause) and 3.1.16 (mtval).
+-- The exceptions of instructions, each with its value for mtval, and the trap of an interrupt, whose value is 0. (RISC-V Privileged Architecture
+-- 20211203, sections 3.1.15 (mcause) and 3.1.16 (mtval).)
 use Rattle.std.specs.Prelude.{ℕ}
 use Rattle.rv_pmp.specs.declared.mode.Mode.{Mode}
 use Rattle.rv_pmp.specs.declared.mode.Mode.TheVariants.{U, S, M}
@@ -13,23 +13,23 @@ use Rattle.rv_hart.specs.declared.trap.Trap.{Trap}
 abbrev pub exception : Exception → ℕ → Trap
 exception cause tval = record { cause = by_exception cause; tval = tval }
 
--- the target of a jump or a taken branch is not a multiple of 4
+-- the exception of a jump or taken branch to an address that is no multiple of 4
 abbrev pub misaligned : ℕ → Trap
 misaligned target = exception InstructionAddressMisaligned target
 
--- a fetch, a load or a store is refused: its first address
+-- the access fault of a fetch, load or store; its value is the first address of the access
 abbrev pub access_fault : Exception → ℕ → Trap
 access_fault cause address = exception cause address
 
--- the word is no instruction of the machine, or none that is allowed in its state
+-- the exception of a word that encodes no instruction of the machine, or one that is not allowed in the current state
 abbrev pub illegal : ℕ → Trap
 illegal word = exception IllegalInstruction word
 
--- ebreak, at pc
+-- the exception of ebreak; its value is pc
 abbrev pub breakpoint : ℕ → Trap
 breakpoint pc = exception Breakpoint pc
 
--- ecall, by the mode that it comes from
+-- the exception of ecall, by the mode that executes it; its value is 0
 abbrev pub call_cause : Mode → Exception
 call_cause U = EnvironmentCallFromU
 call_cause S = EnvironmentCallFromS

@@ -1,5 +1,5 @@
--- The state of a hart, which has no memory in it: RISC-V Unprivileged ISA 20191213, section 2.1; Privileged Architecture
--- 20211203, section 1.2 (modes) and chapter 2 (control and status registers).
+-- The state of a hart, without memory (RISC-V Unprivileged ISA 20191213, section 2.1; Privileged Architecture 20211203, section 1.2 (modes) and
+-- chapter 2 (control and status registers)).
 use Rattle.std.specs.Prelude.{ℕ, List}
 use Rattle.rv_pmp.specs.declared.mode.Mode.{Mode}
 use Rattle.rv_state.specs.CsrState.{CsrState}

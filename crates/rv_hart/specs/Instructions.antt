@@ -1,6 +1,6 @@
--- What each instruction means: the access that it asks for, and the hart that it leaves once that access is done.
--- RISC-V Unprivileged ISA 20191213, chapters 2, 7 and 9; Privileged Architecture 20211203, sections 3.1.6.5 (TVM, TW, TSR),
--- 3.3.2 (mret, sret), 3.3.3 (wfi) and 4.2.1 (sfence.vma).
+-- The meaning of each instruction: the access that it requests, and the hart after it is executed with that access made. RISC-V Unprivileged ISA
+-- 20191213, chapters 2, 7 and 9; Privileged Architecture 20211203, sections 3.1.6.5 (TVM, TW, TSR), 3.3.2 (mret, sret), 3.3.3 (wfi) and 4.2.1
+-- (sfence.vma).
 use Rattle.std.specs.Prelude.{ℕ, ◌*◌, ◌/◌, Bool, true, false, not, Result, Ok, Err, if◌then◌else◌}
 use Rattle.rv_word.specs.Cases.{result_case}
 use Rattle.rv_word.specs.BitFields.{sign_extended}
@@ -22,7 +22,7 @@ use Rattle.rv_hart.specs.declared.request.Request.{Request}
 use Rattle.rv_hart.specs.declared.request.Request.TheVariants as requests
 use Rattle.rv_hart.specs.declared.trap.Trap.{Trap}
 
--- a register and an offset of twelve bits
+-- the sum of a register and a sign-extended offset of 12 bits
 abbrev pub address_of : Hart → ℕ → ℕ → ℕ
 address_of hart rs1 offset = sum_of (register hart.regs rs1) (sign_extended offset 12)
 
@@ -30,19 +30,19 @@ address_of hart rs1 offset = sum_of (register hart.regs rs1) (sign_extended offs
 abbrev pub made_even : ℕ → ℕ
 made_even n = n / 2 * 2
 
--- ---- where an instruction is allowed
+-- ---- permission to execute an instruction
 
--- what supervisor mode may do unless a bit of mstatus refuses it, and user mode never
+-- whether a mode may execute an instruction: always in mode M, in mode S unless a bit of mstatus forbids it, never in mode U
 abbrev pub unless_refused : Mode → Bool → Bool
 unless_refused M refused = true
 unless_refused S refused = not refused
 unless_refused U refused = false
 
--- an instruction that is done where it is allowed, and else is illegal
+-- the hart after an instruction if it is allowed, otherwise the illegal-instruction exception
 abbrev pub where_allowed : Bool → ℕ → Hart → Result Hart Trap
 where_allowed allowed word after = if allowed then Ok after else Err (illegal word)
 
--- a change of a control and status register, where no access is refused
+-- the hart after a change of a control and status register; a refused access is an illegal instruction
 abbrev pub unless_illegal : ℕ → Result Hart CsrFault → Result Hart Trap
 unless_illegal word change = result_case change Ok (λ _. Err (illegal word))
 
@@ -58,32 +58,32 @@ returned_from_supervisor hart =
 
 -- ---- the access of an instruction
 
--- the one access
+-- the access that an instruction requests, at most one
 unfoldable pub request : Instr → Hart → Request
 request (Load kind rd rs1 offset) hart = requests.Load (address_of hart rs1 offset) (load_width kind)
 request (Store kind rs1 rs2 offset) hart = requests.Store (address_of hart rs1 offset) (store_width kind) (register hart.regs rs2)
 request _ hart = requests.Nothing
 
--- ---- the listing, over the hart, the word that spells the instruction and the number that its load gave
+-- ---- the listing, for the hart, the instruction word, and the number that the load of the instruction read
 
 module _ (hart : Hart) (word loaded : ℕ) where
   -- the value of a register
   abbrev pub x : ℕ → ℕ
   x rs = register hart.regs rs
 
-  -- pc and an offset of so many bits
+  -- the sum of pc and a sign-extended offset of `width` bits
   abbrev pub relative : ℕ → ℕ → ℕ
   relative offset width = sum_of hart.pc (sign_extended offset width)
 
-  -- the next instruction comes next, and nothing else changes
+  -- the result of an instruction that only continues at the next instruction
   abbrev pub proceeds : Result Hart Trap
   proceeds = Ok (advanced hart)
 
-  -- and a register is written
+  -- the result of an instruction that writes a register and continues at the next instruction
   abbrev pub gives : ℕ → ℕ → Result Hart Trap
   gives rd value = Ok (with_result hart rd value)
 
-  -- the hart after an instruction is executed, or its exception
+  -- the hart after an instruction, or its exception
   unfoldable pub executed : Instr → Result Hart Trap
   executed (Lui rd imm) = gives rd imm
   executed (Auipc rd imm) = gives rd (sum_of hart.pc imm)

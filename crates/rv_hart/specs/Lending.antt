@@ -1,4 +1,4 @@
--- What a hart or a machine ends as, once a part of it that was lent is given back. (No standard's: a way of writing.)
+-- The state of a hart or a machine after a mutable borrow of one of its parts ends. (Not defined by a standard.)
 use Rattle.std.specs.Prelude.{ℕ, List}
 use Rattle.std.specs.Borrow.{Lends, MutBor, Fml}
 use Rattle.rv_memory.specs.contracts.ram.Ram.{the_row as ram_row}
@@ -10,15 +10,15 @@ use Rattle.rv_state.specs.contracts.csrs.Csrs.{the_row as csrs_row}
 use Rattle.rv_state.specs.contracts.regs.Regs.{the_row as regs_row}
 use Rattle.rv_state.specs.CsrState.{CsrState}
 
--- the hart ends with the registers that are left
+-- the hart ends with the final value of the borrowed integer registers
 abbrev pub HartLendsRegs : MutBor Hart → MutBor (List ℕ) → Fml
 HartLendsRegs hart regs = Lends hart_row regs_row hart regs (λ left. record hart.now { regs = left })
 
--- the hart ends with the control and status registers that are left
+-- the hart ends with the final value of the borrowed control and status registers
 abbrev pub HartLendsCsrs : MutBor Hart → MutBor CsrState → Fml
 HartLendsCsrs hart csrs = Lends hart_row csrs_row hart csrs (λ left. record hart.now { csrs = left })
 
--- so does the machine
+-- the same for the hart of a machine
 abbrev pub MachineLendsRegs : MutBor Machine → MutBor (List ℕ) → Fml
 MachineLendsRegs machine regs =
     Lends machine_row regs_row machine regs (λ left. record machine.now { hart = record machine.now.hart { regs = left } })
@@ -27,6 +27,6 @@ abbrev pub MachineLendsCsrs : MutBor Machine → MutBor CsrState → Fml
 MachineLendsCsrs machine csrs =
     Lends machine_row csrs_row machine csrs (λ left. record machine.now { hart = record machine.now.hart { csrs = left } })
 
--- the machine ends with the memory that is left
+-- the machine ends with the final value of the borrowed memory
 abbrev pub MachineLendsRam : MutBor Machine → MutBor (List ℕ) → Fml
 MachineLendsRam machine ram = Lends machine_row ram_row machine ram (λ left. record machine.now { memory = left })

@@ -1,4 +1,4 @@
--- The state of a machine, and what a step leaves and shows. (RISC-V Unprivileged ISA 20191213, section 1.6.)
+-- The state of a machine, and the result of a step (RISC-V Unprivileged ISA 20191213, section 1.6).
 use Rattle.std.specs.Prelude.{ℕ, List}
 use Rattle.rv_hart.specs.HartState.{Hart}
 use Rattle.rv_hart.specs.declared.trap.StepOutcome.{StepOutcome}
@@ -8,12 +8,12 @@ pub record Machine : Type 0 where
   pub hart : Hart
   pub memory : List ℕ
 
--- the hart after a step, and what the step shows
+-- the hart after a step, and the outcome of the step
 pub record Ended : Type 0 where
   pub hart : Hart
   pub outcome : StepOutcome
 
--- the same with the memory after the step
+-- the hart and the memory after a step, and the outcome of the step
 pub record Stepped : Type 0 where
   pub state : Machine
   pub outcome : StepOutcome

@@ -1,5 +1,5 @@
--- What a step touches lies in RAM, and the PMP entries permit it in the mode of the access: RISC-V Privileged Architecture
--- 20211203, sections 3.1.6.3 (MPRV) and 3.7.1.
+-- Permission of the accesses of a step: they are in RAM, and the PMP entries permit them in the mode of the access. (RISC-V Privileged
+-- Architecture 20211203, sections 3.1.6.3 (MPRV) and 3.7.1.)
 use Rattle.std.specs.Prelude.{◌≡◌, true, Option, Some, None}
 use Rattle.rv_word.specs.Widths.{bytes_in}
 use Rattle.rv_pmp.specs.Verdicts.{permits}
@@ -13,7 +13,7 @@ use Rattle.rv_memory.specs.declared.touched.Touched.{Touched}
 use Rattle.rv_hart.specs.Machine.{Machine, Stepped}
 use Rattle.rv_hart.specs.Step.{data_mode}
 
--- the bytes of a span, if there is one, are in RAM, and an access of this kind to them is permitted
+-- the bytes of a span, if there is one, are in RAM, and the PMP entries permit an access of this kind to them
 abbrev pub MayTouch : Machine → Mode → Access → Option Span → Type 0
 MayTouch state mode access None = Unit {0}
 MayTouch state mode access (Some span) =
@@ -25,6 +25,6 @@ pub record MayTouchAll (state : Machine) (touched : Touched) : Type 0 where
   pub loaded : MayTouch state (data_mode state.hart) Read touched.loaded
   pub stored : MayTouch state (data_mode state.hart) Write touched.stored
 
--- a step touches nothing else
+-- a step makes only such accesses
 abbrev pub TouchesPermitted : Machine → Stepped → Type 0
 TouchesPermitted before after = MayTouchAll before after.outcome.touched

@@ -1,5 +1,5 @@
--- What holds after every step. RISC-V Privileged Architecture 20211203, sections 3.1.6.3 (MPRV) and 3.1.6 to 3.1.16 (trap entry);
--- Unprivileged ISA 20191213, section 1.6: a trap is precise.
+-- Properties of every step. RISC-V Privileged Architecture 20211203, sections 3.1.6.3 (MPRV) and 3.1.6 to 3.1.16 (trap entry); Unprivileged ISA
+-- 20191213, section 1.6 (traps are precise).
 use Rattle.std.specs.Prelude.{◌≡◌, ◌%◌, ℕ, List, length, false, Option, Some, None, IfSome, IfNone}
 use Rattle.rv_word.specs.Widths.{bytes_in}
 use Rattle.rv_memory.specs.Changes.{ChangesOnly}
@@ -13,43 +13,43 @@ use Rattle.rv_hart.specs.HartState.{Hart}
 use Rattle.rv_hart.specs.Permitted.{TouchesPermitted}
 use Rattle.rv_hart.specs.Machine.{Machine, Stepped}
 
--- Where a step ends in a trap, the hart is as before but for the trap and the counting of the step, and every byte is as before:
--- no integer register changes, and no instruction both writes a register and traps.
+-- If a step ends in a trap, the hart changes only by the trap and the counting of the step, and memory does not change. No integer register
+-- changes, so no instruction both writes a register and traps.
 abbrev pub TrapKeeps : Machine → Stepped → Type 0
 TrapKeeps before after =
     IfSome after.outcome.trap (λ trap.
     (after.state.hart ≡ step_counted (trapped before.hart trap) false before.hart.csrs.mcountinhibit None)
     × (after.state.memory ≡ before.memory))
 
--- MPRV is 0 below mode M
+-- MPRV is 0 if the mode is below M
 abbrev pub MprvIsClear : Hart → Type 0
 MprvIsClear hart = is_machine hart.mode ≡ false → hart.csrs.mstatus.mprv ≡ false
 
--- and stays so
+-- a step preserves this
 abbrev pub KeepsMprvClear : Machine → Stepped → Type 0
 KeepsMprvClear before after = MprvIsClear before.hart → MprvIsClear after.state.hart
 
--- the machine's parts of the registers are as before, and the mode is below M
+-- the machine's parts of the registers are unchanged, and the mode is below M
 abbrev pub StaysBelow : Hart → Hart → Type 0
 StaysBelow before after = (machine_parts after.csrs ≡ machine_parts before.csrs) × (is_machine after.mode ≡ false)
 
--- Below mode M, with MPRV 0, no instruction changes the machine's parts, and none but by a trap leads to M.
+-- If the mode is below M and MPRV is 0, a step that ends in no trap neither changes the machine's parts nor enters mode M.
 abbrev pub KeepsMachineParts : Machine → Stepped → Type 0
 KeepsMachineParts before after =
     is_machine before.hart.mode ≡ false → before.hart.csrs.mstatus.mprv ≡ false
     → IfNone after.outcome.trap (StaysBelow before.hart after.state.hart)
 
--- a memory changes in the bytes of a span alone, and not at all where there is none
+-- a memory changes only in the bytes of a span, and not at all if there is none
 abbrev pub ChangesIn : List ℕ → List ℕ → Option Span → Type 0
 ChangesIn old new None = new ≡ old
 ChangesIn old new (Some span) = ChangesOnly old new span.addr (bytes_in span.len)
 
--- The memory keeps its size, and changes in the bytes that the step stored alone.
+-- The memory keeps its size, and changes only in the bytes that the step stored.
 abbrev pub ChangesStored : Machine → Stepped → Type 0
 ChangesStored before after =
     (length after.state.memory ≡ length before.memory) × ChangesIn before.memory after.state.memory after.outcome.touched.stored
 
--- all of it, by the state before a step and what the step leaves and shows
+-- all of these properties, for the state before a step and the result of the step
 pub record ObeysHartLaws (before : Machine) (after : Stepped) : Type 0 where
   pub x0 : register after.state.hart.regs 0 ≡ 0
   pub aligned : after.state.hart.pc % 4 ≡ 0

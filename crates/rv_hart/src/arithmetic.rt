@@ -1,4 +1,4 @@
-//! What instructions compute (Unprivileged ISA, sections 2.4 to 2.6, 7.1 and 7.2).
+//! Computes the results of instructions (Unprivileged ISA, sections 2.4 to 2.6, 7.1 and 7.2).
 
 ghost use Rattle.std.specs.Prelude.{◌≡◌, ◌<◌};
 ghost use Rattle.rv_hart.specs.Arithmetic.{op_value, op_imm_value, shift_value, is_taken as is_taken_of, load_width as load_width_of};
@@ -10,7 +10,7 @@ use rv_word::{
     Width, and, div, divu, mulh, mulhsu, mulhu, or, rem, remu, sext, signed, sll, sra, srl, xor,
 };
 
-/// Whether the left word is less, both signed.
+/// Returns whether the left word is less than the right, both as signed numbers.
 #[inline(always)]
 const fn less(left: u32, right: u32) -> bool
     ensures { result ≡ is_less left right }
@@ -18,7 +18,7 @@ const fn less(left: u32, right: u32) -> bool
     signed(left) < signed(right)
 }
 
-/// What two registers give.
+/// Computes an operation on two registers.
 #[inline(always)]
 pub(crate) fn op(kind: OpKind, left: u32, right: u32) -> u32
     ensures { result ≡ op_value kind left right }
@@ -45,7 +45,7 @@ pub(crate) fn op(kind: OpKind, left: u32, right: u32) -> u32
     }
 }
 
-/// What a register and an immediate, sign-extended to a word, give.
+/// Computes an operation on a register and an immediate that is sign-extended to 32 bits.
 #[inline(always)]
 pub(crate) fn op_imm(kind: OpImmKind, left: u32, imm: u32) -> u32
     ensures { result ≡ op_imm_value kind left imm }
@@ -60,7 +60,7 @@ pub(crate) fn op_imm(kind: OpImmKind, left: u32, imm: u32) -> u32
     }
 }
 
-/// What a register gives that is shifted by 0 to 31 bits.
+/// Computes a shift of a register by 0 to 31 bits.
 #[inline(always)]
 pub(crate) fn shift(kind: ShiftKind, left: u32, amount: u32) -> u32
     requires { amount < 32 }
@@ -73,7 +73,7 @@ pub(crate) fn shift(kind: ShiftKind, left: u32, amount: u32) -> u32
     }
 }
 
-/// Whether a branch is taken.
+/// Returns whether a branch on two registers is taken.
 #[inline(always)]
 pub(crate) fn is_taken(kind: BranchKind, left: u32, right: u32) -> bool
     ensures { result ≡ is_taken_of kind left right }
@@ -88,7 +88,7 @@ pub(crate) fn is_taken(kind: BranchKind, left: u32, right: u32) -> bool
     }
 }
 
-/// How wide a load is.
+/// Returns the width of a load.
 #[inline(always)]
 pub(crate) fn load_width(kind: LoadKind) -> Width
     ensures { result ≡ load_width_of kind }
@@ -100,7 +100,7 @@ pub(crate) fn load_width(kind: LoadKind) -> Width
     }
 }
 
-/// What a load makes of the number that it reads.
+/// Computes the result of a load from the number that it reads: extends the sign if the load is signed.
 #[inline(always)]
 pub(crate) fn load_value(kind: LoadKind, number: u32) -> u32
     ensures { result ≡ load_value_of kind number }
@@ -112,7 +112,7 @@ pub(crate) fn load_value(kind: LoadKind, number: u32) -> u32
     }
 }
 
-/// How wide a store is.
+/// Returns the width of a store.
 #[inline(always)]
 pub(crate) fn store_width(kind: StoreKind) -> Width
     ensures { result ≡ store_width_of kind }

@@ -1,4 +1,4 @@
-//! The instructions that read and change a control and status register (Unprivileged ISA, section 9.1).
+//! Executes the instructions that read and change a control and status register (Unprivileged ISA, section 9.1).
 
 ghost use Rattle.std.specs.Prelude.{◌≡◌, ◌^◌, ◌<◌, Ok, Err, MatchResult, OnErr};
 ghost use Rattle.rv_hart.specs.CsrInstructions.{is_read as is_read_of, is_written as is_written_of, changed_word as changed_of};
@@ -10,7 +10,7 @@ use rv_memory::Touched;
 use rv_state::{CsrFault, Exception};
 use rv_word::{Reg, and_not, or};
 
-/// Whether the register is read: csrrw and csrrwi do not where rd is x0.
+/// Returns whether the register is read. csrrw and csrrwi do not read it if rd is x0.
 fn is_read(kind: CsrKind, rd: Reg) -> bool
     ensures { result ≡ is_read_of kind rd }
 {
@@ -20,7 +20,8 @@ fn is_read(kind: CsrKind, rd: Reg) -> bool
     }
 }
 
-/// Whether the register is written: those that set or clear bits do not where rs1 is x0 or the immediate 0.
+/// Returns whether the register is written. Instructions that set or clear bits do not write it if the source is 0. The source is the number of
+/// rs1, or the immediate.
 #[inline(always)]
 fn is_written(kind: CsrKind, source: u32) -> bool
     ensures { result ≡ is_written_of kind source }
@@ -31,7 +32,7 @@ fn is_written(kind: CsrKind, source: u32) -> bool
     }
 }
 
-/// The word that is written.
+/// Returns the word to write, from the old word and the operand.
 fn changed(kind: CsrKind, old: u32, operand: u32) -> u32
     ensures { result ≡ changed_of kind old operand }
 {
@@ -51,7 +52,7 @@ impl Hart {
     ghost use Rattle.rv_hart.specs.Machine.{ended_in};
     ghost use Rattle.rv_hart.specs.Step.{retired_or_trapped};
 
-    /// Changes a register by a word of an integer register.
+    /// Changes a control and status register by the word of an integer register.
     #[inline(always)]
     pub(crate) fn csr(
         &mut self,
@@ -77,7 +78,7 @@ impl Hart {
         )
     }
 
-    /// Changes a register by an immediate.
+    /// Changes a control and status register by an immediate.
     #[inline(always)]
     pub(crate) fn csr_imm(
         &mut self,
@@ -95,7 +96,8 @@ impl Hart {
         self.change(kind, rd, number, number, csr, word, touched)
     }
 
-    /// Changes a register, or ends the step in an illegal instruction. The source is the number of rs1, or the immediate.
+    /// Changes a control and status register. If an access is refused, the step ends in the trap of an illegal instruction. The source is the
+    /// number of rs1, or the immediate.
     #[inline(always)]
     #[tactic(auto, unfolding(crate::specs::Step::retired_or_trapped))]
     fn change(
@@ -126,7 +128,8 @@ impl Hart {
         }
     }
 
-    /// Puts the old word of a register into rd, and the changed one into the register. A refused access changes nothing.
+    /// Puts the old word of a control and status register into rd, and writes the changed word to the register. A refused access changes
+    /// nothing.
     #[cold]
     #[inline(never)]
     #[tactic(auto, unfolding(crate::specs::CsrInstructions::csr_changed))]

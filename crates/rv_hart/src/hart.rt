@@ -1,4 +1,4 @@
-//! One hart.
+//! One hart, and its step.
 
 ghost use Rattle.std.specs.Prelude.{◌≡◌, ◌%◌, Ok, Err};
 ghost use Rattle.rv_hart.specs.HartState.{Hart as HartState};
@@ -13,8 +13,8 @@ use rv_state::{Cause, Csrs, Exception, Regs};
 use rv_word::{Reg, Width};
 use std::marker::Model;
 
-/// A hart: its registers, its control and status registers, the address of its next instruction, which is a multiple of 4, and
-/// its mode. The memory stands apart (Unprivileged ISA, section 2.1; Privileged Architecture, section 1.2 and chapter 2).
+/// A hart: its integer registers, its control and status registers, its mode, and the address of its next instruction, which is a multiple of 4.
+/// The memory is separate (Unprivileged ISA, section 2.1; Privileged Architecture, section 1.2 and chapter 2).
 #[derive(Drop, Debug)]
 pub struct Hart {
     pub(crate) regs: Regs,
@@ -47,7 +47,7 @@ impl Hart {
     ghost use Rattle.rv_hart.specs.StepLaws.{ObeysHartLaws};
     ghost use Rattle.rv_hart.specs.Step.{step, from_decode, from_access, retired_or_trapped, from_execute, trap_end, retired_end, fetch_of, data_mode};
 
-    /// The hart at reset with the entry next, in this mode.
+    /// Returns a hart at reset, with pc at the entry address, in this mode.
     pub fn new(entry: u32, mode: Mode) -> Self
         requires { entry % 4 ≡ 0 }
         ensures { result ≡ at_reset entry mode }
@@ -60,7 +60,7 @@ impl Hart {
         }
     }
 
-    /// The address of the next instruction, a multiple of 4.
+    /// Returns the address of the next instruction, a multiple of 4.
     pub fn pc(&self) -> u32
         ensures value { result ≡ self.now.pc }
         ensures aligned { result % 4 ≡ 0 }
@@ -68,14 +68,14 @@ impl Hart {
         self.pc
     }
 
-    /// The mode.
+    /// Returns the mode.
     pub fn mode(&self) -> Mode
         ensures { result ≡ self.now.mode }
     {
         self.mode
     }
 
-    /// Goes on at another address, in another mode.
+    /// Sets the address of the next instruction, and the mode.
     pub fn set_pc(&mut self, pc: u32, mode: Mode)
         requires { pc % 4 ≡ 0 }
         ensures { self.new ≡ record self.old { pc = pc; mode = mode } }
@@ -84,25 +84,25 @@ impl Hart {
         self.mode = mode;
     }
 
-    /// What holds in every state. It does nothing.
+    /// States the invariant of a hart: x0 is 0, and pc is a multiple of 4. It executes nothing.
     #[inline(always)]
     fn invariant(&self)
         ensures x0 { register self.now.regs 0 ≡ 0 }
         ensures aligned { self.now.pc % 4 ≡ 0 }
     {
-        // brings in what holds of every hart and of its registers
+        // gives the prover the invariants of the hart and of its registers
         let _ = &self.pc;
         let _ = self.regs.get(Reg::new(0));
     }
 
-    /// The registers.
+    /// Returns the integer registers.
     pub fn regs(&self) -> &Regs
         ensures { result.now ≡ self.now.regs }
     {
         &self.regs
     }
 
-    /// The registers, for writing.
+    /// Returns the integer registers, for writing.
     pub fn regs_mut(&mut self) -> &mut Regs
         ensures* writes_back { sem 𝓛 (HartLendsRegs self.entry result) }
         ensures value { result.now ≡ self.old.regs }
@@ -110,14 +110,14 @@ impl Hart {
         &mut self.regs
     }
 
-    /// The control and status registers.
+    /// Returns the control and status registers.
     pub fn csrs(&self) -> &Csrs
         ensures { result.now ≡ self.now.csrs }
     {
         &self.csrs
     }
 
-    /// The control and status registers, for writing.
+    /// Returns the control and status registers, for writing.
     pub fn csrs_mut(&mut self) -> &mut Csrs
         ensures* writes_back { sem 𝓛 (HartLendsCsrs self.entry result) }
         ensures value { result.now ≡ self.old.csrs }
@@ -125,20 +125,19 @@ impl Hart {
         &mut self.csrs
     }
 
-    /// Does one step over a memory: takes an interrupt, or does the instruction at pc, or its trap (Unprivileged ISA, chapters 2, 7
-    /// and 9; Privileged Architecture, sections 3.1.6 to 3.1.16, 3.3 and 4.2.1). It never refuses, and takes no memory of the
-    /// host's.
+    /// Executes one step over a memory: takes an interrupt, executes the instruction at pc, or takes its trap (Unprivileged ISA, chapters 2, 7
+    /// and 9; Privileged Architecture, sections 3.1.6 to 3.1.16, 3.3 and 4.2.1). It never fails, and allocates no memory.
     ///
-    /// `meaning` is all of it. Of what follows, `laws` is what every step obeys:
-    /// - `x0` and `aligned`: x0 is 0 and pc a multiple of 4;
-    /// - `trap_keeps`: a trap changes what every trap changes, and nothing else;
-    /// - `mprv`: MPRV stays 0 below mode M;
-    /// - `machine_parts`: from below mode M, with MPRV 0, only a trap leads to mode M, and any other step leaves the registers of mode M,
-    ///   the entries and the timer line as they are;
-    /// - `memory`: the memory keeps its size, and changes in the bytes that the step says it stored alone;
-    /// - `permitted`: the entries permit every byte that it says it fetched, loaded or stored, in the mode that decides that access
-    ///   (Privileged Architecture, sections 3.1.6.3 and 3.7.1);
-    /// - `confined`: the step depends on no byte of memory but those that it says it fetched and loaded.
+    /// The clause `meaning` defines the step completely. The clause `laws` lists properties of every step:
+    /// - `x0` and `aligned`: x0 is 0, and pc is a multiple of 4.
+    /// - `trap_keeps`: a trap changes only the state that every trap changes.
+    /// - `mprv`: MPRV stays 0 below mode M.
+    /// - `machine_parts`: from below mode M, with MPRV 0, only a trap leads to mode M. Any other step leaves the registers of mode M, the PMP
+    ///   entries and the timer line unchanged.
+    /// - `memory`: the memory keeps its size, and changes only in the bytes that the outcome reports as stored.
+    /// - `permitted`: the PMP entries permit every byte that the outcome reports as fetched, loaded or stored, in the mode of that
+    ///   access. (Privileged Architecture, sections 3.1.6.3 and 3.7.1.)
+    /// - `confined`: the step depends only on the bytes of memory that the outcome reports as fetched and loaded.
     #[inline(always)]
     pub fn step(&mut self, ram: &mut Ram) -> StepOutcome
         ensures meaning { step (machine_of self.old ram.old) ≡ stepped self.new ram.new result }
@@ -147,8 +146,8 @@ impl Hart {
         self.step_at::<Self>(ram)
     }
 
-    /// The same. Each `Site` has a copy of the code of its own, since the compiler inlines code of this size only where it is called
-    /// once.
+    /// Executes one step, as [`Hart::step`] does. Each `Site` has its own copy of the code, since the compiler inlines code of this size only if
+    /// it has one caller.
     #[inline(always)]
     pub(crate) fn step_at<Site>(&mut self, ram: &mut Ram) -> StepOutcome
         ensures meaning { step (machine_of self.old ram.old) ≡ stepped self.new ram.new result }
@@ -159,7 +158,7 @@ impl Hart {
         outcome
     }
 
-    /// Takes an interrupt, or does the instruction at pc, or its trap.
+    /// Takes an interrupt, executes the instruction at pc, or takes its trap.
     #[inline(always)]
     #[tactic(auto, unfolding(crate::specs::Step::from_fetch), using(crate::proofs::StepCases::step_is))]
     fn step_once<Site>(&mut self, ram: &mut Ram) -> StepOutcome
@@ -177,7 +176,7 @@ impl Hart {
         }
     }
 
-    /// Decodes the fetched word, and does the instruction that it spells.
+    /// Decodes the fetched word, and executes the instruction that it encodes.
     #[inline(always)]
     #[tactic(auto, unfolding(crate::specs::Step::from_decode))]
     fn decode<Site>(&mut self, word: u32, ram: &mut Ram) -> StepOutcome
@@ -196,7 +195,7 @@ impl Hart {
         }
     }
 
-    /// Does the access of an instruction, and then executes it.
+    /// Makes the access of an instruction, and then executes the instruction.
     #[inline(always)]
     #[tactic(auto, unfolding(crate::specs::Step::from_access))]
     fn access<Site>(
@@ -243,7 +242,8 @@ impl Hart {
         self.execute(instr, word, loaded, touched)
     }
 
-    /// The mode in which loads and stores are judged: that of MPP where MPRV is set (Privileged Architecture, section 3.1.6.3).
+    /// Returns the mode in which loads and stores are checked: MPP if MPRV is set, otherwise the mode of the hart (Privileged Architecture,
+    /// section 3.1.6.3).
     #[inline(always)]
     pub(crate) fn data_mode(&self) -> Mode
         ensures { result ≡ data_mode self.now }
@@ -252,7 +252,7 @@ impl Hart {
         if status.mprv { status.mpp } else { self.mode }
     }
 
-    /// The one access that an instruction asks for.
+    /// Returns the access that an instruction requests, at most one.
     #[inline(always)]
     #[tactic(auto, unfolding(crate::specs::Instructions::request))]
     fn request(&self, instr: &Instr) -> Request
@@ -282,7 +282,7 @@ impl Hart {
         }
     }
 
-    /// Executes the instruction that the word spells, whose access is done.
+    /// Executes the instruction that the word encodes, after its access was made.
     #[inline(always)]
     #[tactic(auto, unfolding(crate::specs::Instructions::executed, crate::specs::CsrInstructions::written_csr, crate::specs::Step::retired_or_trapped))]
     fn execute(&mut self, instr: &Instr, word: u32, loaded: u32, touched: Touched) -> StepOutcome
@@ -365,7 +365,7 @@ impl Hart {
         }
     }
 
-    /// Goes to the next instruction.
+    /// Continues at the next instruction.
     #[inline(always)]
     pub(crate) fn advance_pc(&mut self, touched: Touched) -> StepOutcome
         ensures { retired_end self.old touched None (advanced self.old) ≡ ended_in self.new result }
@@ -374,7 +374,7 @@ impl Hart {
         self.retire(touched)
     }
 
-    /// Writes the result of an instruction, and goes to the next.
+    /// Writes the result of an instruction to rd, and continues at the next instruction.
     #[inline(always)]
     fn write_rd(&mut self, rd: Reg, value: u32, touched: Touched) -> StepOutcome
         ensures { retired_end self.old touched None (with_result self.old rd value) ≡ ended_in self.new result }
@@ -383,7 +383,7 @@ impl Hart {
         self.advance_pc(touched)
     }
 
-    /// Writes the sum of pc and an immediate.
+    /// Writes the sum of pc and an immediate to rd.
     #[inline(always)]
     fn write_pc_sum(&mut self, rd: Reg, imm: u32, touched: Touched) -> StepOutcome
         ensures { retired_end self.old touched None (with_result self.old rd (sum_of self.old.pc imm)) ≡ ended_in self.new result }
@@ -392,7 +392,7 @@ impl Hart {
         self.write_rd(rd, value, touched)
     }
 
-    /// Writes what a register and an immediate give.
+    /// Writes the result of an operation on a register and an immediate to rd.
     #[inline(always)]
     fn write_op_imm(
         &mut self,
@@ -408,7 +408,7 @@ impl Hart {
         self.write_rd(rd, value, touched)
     }
 
-    /// Writes a register shifted by an immediate.
+    /// Writes a register, shifted by an immediate, to rd.
     #[inline(always)]
     fn write_shift(
         &mut self,
@@ -424,7 +424,7 @@ impl Hart {
         self.write_rd(rd, value, touched)
     }
 
-    /// Writes what two registers give.
+    /// Writes the result of an operation on two registers to rd.
     #[inline(always)]
     fn write_op(
         &mut self,
@@ -451,7 +451,7 @@ impl Hart {
         self.jump(rd, target, touched)
     }
 
-    /// Jumps to an offset from a register, which is read before rd is written, with bit 0 cleared.
+    /// Jumps to an offset from a register, with bit 0 of the target cleared. The register is read before rd is written.
     #[inline(always)]
     #[tactic(auto, unfolding(crate::specs::Step::retired_or_trapped))]
     fn jump_to(&mut self, rd: Reg, rs1: Reg, offset: u32, touched: Touched) -> StepOutcome
@@ -462,7 +462,7 @@ impl Hart {
         self.jump(rd, target / 2 * 2, touched)
     }
 
-    /// Jumps, and leaves the address of the next instruction in a register.
+    /// Jumps, and writes the address of the next instruction to rd.
     #[inline(always)]
     #[tactic(auto, unfolding(crate::specs::Step::retired_or_trapped))]
     fn jump(&mut self, rd: Reg, target: u32, touched: Touched) -> StepOutcome
@@ -480,7 +480,7 @@ impl Hart {
         self.retire(touched)
     }
 
-    /// Branches by an offset from pc where the test of two registers holds, and else goes to the next instruction.
+    /// Branches by an offset from pc if the condition on two registers holds, and otherwise continues at the next instruction.
     #[inline(always)]
     #[tactic(auto, unfolding(crate::specs::Step::retired_or_trapped))]
     fn branch(

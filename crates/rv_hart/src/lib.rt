@@ -1,12 +1,11 @@
-//! One hart of RV32IM with Zicsr in modes M, S and U, and the machine that it makes up with its memory (RISC-V Unprivileged
-//! ISA 20191213, chapters 1, 2, 7 and 9; Privileged Architecture 20211203, chapters 3 and 4).
+//! One hart of RV32IM with Zicsr in modes M, S and U, and the machine of this hart and its memory. (RISC-V Unprivileged ISA 20191213, chapters
+//! 1, 2, 7 and 9; Privileged Architecture 20211203, chapters 3 and 4.)
 //!
-//! `Step` in the specs is one step, and `Instructions` what each row of the instruction table means. What holds of every step,
-//! in whatever state, is a clause of `Hart::step` and a lemma of `StepLaws` or `Confined` in the proofs, where `step_cases` in
-//! `StepCases` is the principle for more such laws.
+//! `Step` in the specs defines one step, and `Instructions` the meaning of each row of the instruction table. Each property of every step is a
+//! clause of `Hart::step` and a lemma of `StepLaws` or `Confined` in the proofs. `step_cases` in `StepCases` is the case analysis for further
+//! properties.
 //!
-//! `Hart::run_fast` does many steps at once of those that end in no trap, and its contract says that they are steps; it stops before any
-//! other.
+//! `Hart::run_fast` executes many steps that end in no trap. Its contract says that each of them is a step. It stops before any other step.
 //!
 //! ```text
 //! let mut machine = Machine::new(ram, 0x8000_0000, Mode::M);

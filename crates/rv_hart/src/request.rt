@@ -1,18 +1,18 @@
-//! The access of an instruction.
+//! The access that an instruction requests.
 
 use rv_word::Width;
 
-/// The one access that an instruction asks for.
+/// The access that an instruction requests, at most one.
 #[derive(Clone, Copy)]
 pub(crate) enum Request {
-    /// It reads and writes no memory.
+    /// The instruction accesses no memory.
     Nothing,
-    /// It reads the number at an address.
+    /// Loads the number at an address.
     Load {
         address: u32,
         width: Width,
     },
-    /// It puts the lowest bytes of a value there.
+    /// Stores the lowest bytes of a value at an address.
     Store {
         address: u32,
         width: Width,

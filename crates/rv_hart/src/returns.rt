@@ -1,5 +1,5 @@
-//! The returns from traps, and the instructions that a mode may be refused (Privileged Architecture, sections 3.1.6.5, 3.3.2,
-//! 3.3.3 and 4.2.1).
+//! Executes the returns from traps, and the instructions that a mode may be forbidden. (Privileged Architecture, sections 3.1.6.5, 3.3.2, 3.3.3
+//! and 4.2.1.)
 
 ghost use Rattle.std.specs.Prelude.{◌≡◌};
 ghost use Rattle.rv_hart.specs.Instructions.{unless_refused as unless_refused_of};
@@ -10,7 +10,7 @@ use rv_memory::Touched;
 use rv_pmp::Mode;
 use rv_state::Exception;
 
-/// What mode M may do, mode S unless a bit of mstatus refuses it, and mode U never.
+/// Returns whether a mode may execute an instruction: always in mode M, in mode S unless a bit of mstatus forbids it, never in mode U.
 #[inline(always)]
 const fn unless_refused(mode: Mode, refused: bool) -> bool
     ensures { result ≡ unless_refused_of mode refused }
@@ -30,7 +30,7 @@ impl Hart {
     ghost use Rattle.rv_state.specs.Interrupts.{is_machine};
     ghost use Rattle.rv_hart.specs.Step.{retired_or_trapped};
 
-    /// Does wfi.
+    /// Executes wfi.
     #[inline(always)]
     #[tactic(auto, unfolding(crate::specs::Step::retired_or_trapped))]
     pub(crate) fn wait(&mut self, word: u32, touched: Touched) -> StepOutcome
@@ -43,7 +43,7 @@ impl Hart {
         self.advance_pc(touched)
     }
 
-    /// Does sfence.vma.
+    /// Executes sfence.vma.
     #[inline(always)]
     #[tactic(auto, unfolding(crate::specs::Step::retired_or_trapped))]
     pub(crate) fn order_translations(&mut self, word: u32, touched: Touched) -> StepOutcome
@@ -56,7 +56,7 @@ impl Hart {
         self.advance_pc(touched)
     }
 
-    /// Does mret.
+    /// Executes mret.
     #[inline(always)]
     #[tactic(auto, unfolding(crate::specs::Step::retired_or_trapped))]
     pub(crate) fn return_from_machine(&mut self, word: u32, touched: Touched) -> StepOutcome
@@ -72,7 +72,7 @@ impl Hart {
         self.retire(touched)
     }
 
-    /// Does sret.
+    /// Executes sret.
     #[inline(always)]
     #[tactic(auto, unfolding(crate::specs::Step::retired_or_trapped))]
     pub(crate) fn return_from_supervisor(&mut self, word: u32, touched: Touched) -> StepOutcome

@@ -40,7 +40,7 @@ fn loads_numbers(rt: HostRuntime) -> Result<(), Fail> {
 }
 
 #[test]
-fn tells_the_first_fault(rt: HostRuntime) {
+fn reports_the_first_error(rt: HostRuntime) {
     let cases: [(&[u8], usize, AsmFaultKind); 9] = [
         (b"a: nop\na: nop", 2, AsmFaultKind::LabelTwice),
         (b"a: nop\na: nop\nj a", 3, AsmFaultKind::UnknownName),

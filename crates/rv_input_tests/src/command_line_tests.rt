@@ -1,9 +1,9 @@
-//! The command line, word by word.
+//! Tests of the command line, argument by argument.
 use rv_command_line::{Harts, ImageKind, Job, Setup, WordsFault, read_words};
 use std::alloc::Global;
 use std::process::Abort;
 
-/// What words are answered with; the text of help apart.
+/// The result of reading arguments, without the text of help.
 #[derive(Clone, Copy, Debug, PartialEq, Eq)]
 enum Answer {
     Named(Job),
@@ -11,7 +11,7 @@ enum Answer {
     Help,
 }
 
-/// The answer to words. Refused memory fails the test.
+/// Reads arguments, and returns the result. Exhausted memory fails the test.
 fn answer_to(rt: &impl Abort, alloc: Global, words: &[&str]) -> Answer {
     match read_words(alloc, words) {
         Ok(job) => Answer::Named(job),
@@ -21,21 +21,21 @@ fn answer_to(rt: &impl Abort, alloc: Global, words: &[&str]) -> Answer {
     }
 }
 
-/// Words that have this answer. The assertion stands here alone: in each test it would make its proof long.
+/// Expects this result for arguments. The assertion is in a function of its own, because it would lengthen the proof of each test.
 fn expect_answer(rt: &impl Abort, alloc: Global, words: &[&str], want: Answer) {
     let answer = answer_to(rt, alloc, &*words);
     let last = words.last().copied().unwrap_or("");
     assert_eq!(rt; answer, want, "at {last}");
 }
 
-/// Words that are refused.
+/// Expects that each list of arguments is refused.
 fn expect_refusals(rt: &impl Abort, alloc: Global, cases: &[&[&str]]) {
     for words in cases {
         expect_answer(rt, alloc, words, Answer::Refused);
     }
 }
 
-/// The help that words ask for.
+/// Returns the help text for arguments that ask for help.
 fn help(rt: &impl Abort, alloc: Global, words: &[&str]) -> String {
     match read_words(alloc, words) {
         Err(WordsFault::Help(text)) => text,
@@ -43,7 +43,7 @@ fn help(rt: &impl Abort, alloc: Global, words: &[&str]) -> String {
     }
 }
 
-/// Words that ask for a help with these parts.
+/// Expects that arguments ask for a help text with these parts.
 fn expect_help(rt: &impl Abort, alloc: Global, words: &[&str], parts: &[&str]) {
     let text = help(rt, alloc, words);
     for part in parts {
@@ -51,10 +51,10 @@ fn expect_help(rt: &impl Abort, alloc: Global, words: &[&str], parts: &[&str]) {
     }
 }
 
-/// Words that name a run with an image of a kind, so much RAM, and the monitor or not.
+/// Arguments of a run, and its image format, the size of its RAM in bytes, and whether it has the monitor.
 type RunRow = (&'static [&'static str], ImageKind, u32, bool);
 
-/// Words that name runs.
+/// Expects that each list of arguments gives its run.
 fn expect_runs(rt: &impl Abort, alloc: Global, rows: &[RunRow]) {
     for (words, kind, ram, monitored) in rows {
         let setup = Setup {
@@ -303,13 +303,13 @@ const REFUSES_THE_MONITOR: &[&[&str]] = &[
     &["rvbench", "dis", "--monitor"],
 ];
 
-/// It stands once, behind `run`, by its whole name, and takes no value.
+/// `--monitor` is an option of `run` alone, is given once with its whole name, and takes no value.
 #[test]
 fn refuses_the_monitor(rt: HostRuntime) {
     expect_refusals(&rt, rt.alloc(), REFUSES_THE_MONITOR);
 }
 
-/// Words that name two benches with an image of a kind and so much RAM, which differ in the enclave of a slot.
+/// Arguments of a twin run, and its image format, the size of its RAM in bytes, and the slot of the enclave that differs.
 type TwinRow = (&'static [&'static str], ImageKind, u32, u8);
 
 const NAMES_TWINS: &[TwinRow] = &[
@@ -431,13 +431,13 @@ const REFUSES_TWINS: &[&[&str]] = &[
     &["rvbench", "TWIN"],
 ];
 
-/// Its options stand behind it, each once; it has no flag of the monitor, and `run` has no slot.
+/// The options of `twin` follow it, each once. `twin` has no `--monitor`, and `run` has no `--slot`.
 #[test]
 fn refuses_twins(rt: HostRuntime) {
     expect_refusals(&rt, rt.alloc(), REFUSES_TWINS);
 }
 
-/// Words that name a bench of so many harts, with the monitor or without it, and else as by default; of a twin run with its slot.
+/// Arguments of a bench, and the number of its harts, whether it has the monitor, and the slot of a twin run. Other values are the defaults.
 type HartsRow = (&'static [&'static str], Harts, bool, Option<u8>);
 
 const NAMES_HARTS: &[HartsRow] = &[
@@ -553,7 +553,7 @@ const REFUSES_TWO_HARTS: &[&[&str]] = &[
     &["./another/name", "run", "--harts", "2"],
 ];
 
-/// Two harts are under the monitor alone.
+/// Two harts require the monitor.
 #[test]
 fn refuses_two_harts_without_the_monitor(rt: HostRuntime) {
     expect_refusals(&rt, rt.alloc(), REFUSES_TWO_HARTS);
@@ -599,7 +599,7 @@ const REFUSES_HARTS: &[&[&str]] = &[
     &["rvbench", "dis", "--harts", "1"],
 ];
 
-/// The option stands once, behind `run` or `twin`, with 1 or 2.
+/// `--harts` is given once, as an option of `run` or `twin`, with the value 1 or 2.
 #[test]
 fn refuses_harts(rt: HostRuntime) {
     expect_refusals(&rt, rt.alloc(), REFUSES_HARTS);

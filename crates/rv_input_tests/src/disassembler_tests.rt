@@ -1,11 +1,11 @@
-//! Words that another assembler wrote (llvm-mc of LLVM 14, riscv32 with the M extension) from these texts: one of each row
-//! of the listings, extreme immediates and sets of fences; and, by hand, words that are shown by their number.
+//! Tests with words that another assembler (llvm-mc of LLVM 14, riscv32 with the M extension) made from these texts. They cover each row of the
+//! listings, extreme immediates and sets of fences. Words that are shown by their number were added by hand.
 
 use arrayvec::ArrayString;
 use rv_asm::disassemble;
 use std::process::Abort;
 
-/// Asserts the texts of words, each written over the one before.
+/// Expects the text of each word, written over the text of the word before.
 fn agree(rt: &impl Abort, cases: &[(u32, &str)]) {
     let mut out = ArrayString::new();
     for (word, text) in cases {
@@ -127,7 +127,7 @@ fn sets_of_fences(rt: HostRuntime) {
     agree(&rt, &cases);
 }
 
-/// fence.tso, fences with rd or rs1, a shift with bit 25, fence.i, sfence.vma with rd, uret, and words of no opcode.
+/// fence.tso, fences with rd or rs1, a shift with bit 25, fence.i, sfence.vma with rd, uret, and words whose opcode is unknown.
 #[test]
 fn words_shown_by_their_number(rt: HostRuntime) {
     let cases = [

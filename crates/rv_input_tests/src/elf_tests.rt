@@ -1,4 +1,4 @@
-//! What is planned of an image, each fault of a file, and what stands in RAM after it was loaded.
+//! Tests of ELF files and raw images: plans, the errors of a file, and the content of RAM after loading.
 
 mod company;
 mod files;

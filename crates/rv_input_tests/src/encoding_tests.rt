@@ -1,5 +1,5 @@
-//! Words that another assembler wrote (llvm-mc of LLVM 14, riscv32 with the M extension), one or more
-//! of each format, with extreme immediates; one fence by hand; and words that are no instruction.
+//! Tests with words that another assembler made (llvm-mc of LLVM 14, riscv32 with the M extension). There are one or more words of each format,
+//! with extreme immediates. One fence was encoded by hand. Other words are no instruction.
 
 use rv_encoding::{
     BranchKind, BranchOffset, CsrKind, CsrNumber, FenceMode, FenceSet, Imm12, Instr, JumpOffset,
@@ -8,7 +8,7 @@ use rv_encoding::{
 use rv_word::Reg;
 use std::process::Abort;
 
-/// Asserts that the word spells the instruction, both ways.
+/// Expects that the word encodes the instruction, in both directions.
 fn agrees(rt: &impl Abort, word: u32, instr: Instr) {
     assert_eq!(rt; encode(&instr), word);
     assert_eq!(rt; decode(word), Some(instr));
@@ -183,8 +183,7 @@ fn system(rt: HostRuntime) {
     agrees(&rt, 0x3020_0073, Instr::Mret);
 }
 
-/// fence r, w; and, put together by the manual's layout, a fence with mode 8 and registers: every field
-/// is kept.
+/// fence r, w; and a fence with mode 8 and registers, encoded by hand from the manual: every field is kept.
 #[test]
 fn fences(rt: HostRuntime) {
     for (word, mode, before, after, rd, rs1) in [
@@ -208,7 +207,7 @@ fn fences(rt: HostRuntime) {
     }
 }
 
-/// Zeros, ones, slli with bit 25 set, fence.i, mret with fields, an unknown load, sfence.vma with rd.
+/// Zeros, ones, slli with bit 25 set, fence.i, mret with fields, an unknown load, and sfence.vma with rd.
 #[test]
 fn no_other_words(rt: HostRuntime) {
     for word in [

@@ -1,5 +1,5 @@
-//! The tests of `rv_word`, `rv_encoding`, `rv_text`, `rv_script`, `rv_disassembler`, `rv_asm`, `rv_elf` and `rv_command_line`, over
-//! their public calls alone. They stand in a crate of their own, so that no library is proved a second time for them.
+//! The tests of `rv_word`, `rv_encoding`, `rv_text`, `rv_script`, `rv_disassembler`, `rv_asm`, `rv_elf` and `rv_command_line`, through their
+//! public functions. They are in a crate of their own, so that no library is proved a second time for them.
 #![tactic(auto)]
 
 #[cfg(test)]

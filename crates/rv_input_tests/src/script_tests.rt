@@ -1,4 +1,4 @@
-//! How lines are read as commands, and the first fault of those that are none.
+//! Tests of the parser: the command of a line, or its first error.
 
 use rv_encoding::CsrNumber;
 use rv_pmp::{Access, Mode};
@@ -6,17 +6,17 @@ use rv_script::{ByteCount, Command, CommandFault, Schedule, StepCount, parse};
 use rv_word::{Reg, Width};
 use std::process::Abort;
 
-/// A line that is read as this command. The assertion stands here alone: in each test it would make its proof long.
+/// Expects that a line is parsed as this command. The assertion is in a function of its own, because it would lengthen the proof of each test.
 fn expect_command(rt: &impl Abort, line: &[u8], want: Command) {
     assert_eq!(rt; parse(line), Ok(want));
 }
 
-/// A line whose first fault is this.
+/// Expects the first error of a line.
 fn expect_fault(rt: &impl Abort, line: &[u8], want: CommandFault) {
     assert_eq!(rt; parse(line), Err(want));
 }
 
-/// Lines whose operands are none of their commands'.
+/// Expects that the operands of each line are invalid for its command.
 fn expect_bad_operands(rt: &impl Abort, lines: &[&[u8]]) {
     for line in lines {
         expect_fault(rt, line, CommandFault::BadOperand);
@@ -56,10 +56,10 @@ fn reads_commands_of_ranged_operands(rt: HostRuntime) {
     expect_command(&rt, b"csr 341", Command::Csr(CsrNumber::new(0x341)));
 }
 
-/// 64 digits, the most that a schedule has.
+/// 64 digits, the maximal number of a schedule.
 const MOST: &[u8] = b"0110100110010110100101100110100110010110011010010110100110010110";
 
-/// A line that is read as the command of this schedule.
+/// Expects that a line is parsed as the command with this schedule.
 fn expect_schedule(rt: &impl Abort, line: &[u8], digits: &[u8]) {
     let schedule = Schedule::new(digits).expect(rt, "a schedule");
     expect_command(rt, line, Command::Sched(schedule));

@@ -1,4 +1,4 @@
-//! Digits, and which lines are good.
+//! Tests of digits and of well-formed lines.
 
 use rv_text::{MAX_LINE, digits, hex, is_blank, is_good_line};
 

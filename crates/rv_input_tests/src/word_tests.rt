@@ -1,4 +1,4 @@
-//! Corner cases of the manual's tables, and words of worked examples.
+//! Tests with corner cases of the manual's tables, and with words of worked examples.
 
 use rv_word::{
     Width, and, and_not, bits, div, divu, le_bytes, le_word, mulh, mulhsu, mulhu, or, rem, remu,
@@ -6,12 +6,12 @@ use rv_word::{
 };
 use std::process::Abort;
 
-/// A word that was computed. The assertion stands here alone: in each test it would make its proof long.
+/// Expects a computed word. The assertion is in a function of its own, because it would lengthen the proof of each test.
 fn expect(rt: &impl Abort, found: u32, want: u32) {
     assert_eq!(rt; found, want);
 }
 
-/// By zero, and the one quotient that fits no word (Unprivileged ISA, table 7.1); and the signs.
+/// Division by zero, the quotient that fits in no word (Unprivileged ISA, table 7.1), and all signs.
 #[test]
 fn divides(rt: HostRuntime) {
     for (dividend, divisor, quotient, remainder) in [

@@ -1,4 +1,4 @@
--- Laws of the accesses: what is done lies in RAM and is permitted, and two memories of one size do and refuse the same accesses.
+-- Properties of accesses. An access that succeeds is in RAM and permitted. Two memories of the same size accept and refuse the same accesses.
 use Rattle.std.proofs.Common.{◌≡◌, ℕ, ◌-◌, List, length, Option, Some, None, Result, Ok, Err, Bool, true, false, refl}
 use Rattle.std.specs.Option.{option_map}
 use Rattle.std.specs.Prelude.{if◌then◌else◌}
@@ -17,9 +17,9 @@ use Rattle.rv_memory.specs.declared.access_fault.AccessFault.{AccessFault}
 use Rattle.rv_memory.specs.declared.access_fault.AccessFault.TheVariants.{Outside, Refused}
 use Rattle.rv_memory.proofs.MemoryLaws.{length-bytes_of}
 
--- ---- what is done was in RAM and permitted
+-- ---- an access that succeeds is in RAM and permitted
 
--- an access of which RAM gives something, where a verdict permits it
+-- an access with its result from RAM, if there is one, and the verdict on it
 abbrev judged : {A B : Type 0} → Option B → Verdict → (B → A) → Result A AccessFault
 judged given verdict made = option_case given (Err Outside) (λ b. where_permitted verdict (made b))
 
@@ -54,7 +54,7 @@ store_done m entries mode address width value after is =
     let done = judged-done (is_inside m address (length bytes)) _ (verdict_on entries mode Write address width) (λ (x : List ℕ). x) after is in
     (rw length-bytes_of at done.0, done.1, done.2)
 
--- ---- what is in RAM and permitted is done
+-- ---- an access that is in RAM and permitted succeeds
 
 number-judged : (bytes : Option (List ℕ)) (verdict : Verdict) (number : ℕ) → option_map number_of_bytes bytes ≡ Some number → permits verdict ≡ true
     → judged bytes verdict number_of_bytes ≡ Ok number
@@ -76,7 +76,7 @@ pub store_permitted : (m : List ℕ) (entries : Entries) (mode : Mode) (address 
     → stored m entries mode address width value ≡ Ok after
 store_permitted m entries mode address width value after is may = rw (is, may) refl
 
--- ---- what one memory refuses, every other of its size refuses, and what one takes the other takes
+-- ---- an access that one memory refuses or accepts has the same outcome in every other memory of the same size
 
 unless-permitted : {A : Type 0} (b : Bool) (verdict : Verdict) (value other : A) (fault : AccessFault)
     → (if b then Ok value else Err (Refused verdict)) ≡ Err fault → (if b then Ok other else Err (Refused verdict)) ≡ Err fault
@@ -116,7 +116,7 @@ store_done_too m n entries mode address width value after sizes is =
     let inside : is_inside n address (length (bytes_of (bytes_in width) value)) ≡ true = rw (length-bytes_of, ← sizes) done.0 in
     rw (inside, done.1) refl
 
--- ---- an access is the same where the bytes are
+-- ---- an access has the same result in two memories with the same bytes there
 
 pub fetch_same : (m n : List ℕ) (entries : Entries) (mode : Mode) (address : ℕ) → read m address (bytes_in Word) ≡ read n address (bytes_in Word)
     → fetched m entries mode address ≡ fetched n entries mode address

@@ -1,4 +1,4 @@
--- A memory complemented twice is as it was.
+-- Complementing a memory twice restores it.
 use Rattle.std.proofs.Common.{◌≡◌, ℕ, ◌+◌, ◌-◌, ◌<◌, ◌≤◌, List, length, map, take, drop, get_or, Some, refl, ◌∙◌, inl, inr, ap, arith, true}
 use Rattle.std.proofs.lemmas.Bool.{cases_lt}
 use Rattle.std.proofs.lemmas.Grind.{common_steps, same_number_lists}
@@ -11,7 +11,7 @@ use Rattle.rv_memory.proofs.MemoryLaws.{index-below, index-above}
 abbrev pub complements : List ℕ → ℕ → ℕ → List ℕ
 complements memory index count = map complement_of (take count (drop index memory))
 
--- and the memory with them
+-- the memory with these complements
 abbrev pub with_complements : List ℕ → ℕ → ℕ → List ℕ
 with_complements memory index count = write_bytes memory index (complements memory index count)
 
@@ -35,7 +35,7 @@ index-within : (memory : List ℕ) (index : ℕ) (bytes : List ℕ) (k : ℕ) �
     → get_or (write_bytes memory index bytes) k 0 ≡ get_or bytes (k - index) 0
 index-within memory index bytes k within low high = grind (arith, common_steps)
 
--- a byte that was complemented, and one that was not
+-- a byte that was complemented, and a byte that was not
 within : (memory : List ℕ) (index count k : ℕ) → index + count ≤ length memory → index ≤ k → k < index + count
     → get_or (with_complements memory index count) k 0 ≡ complement_of (get_or memory k 0)
 within memory index count k inside low high =
@@ -55,7 +55,7 @@ above memory index count k inside high =
     let long = length-complements memory index count inside in
     index-above memory index (complements memory index count) k (omega (arith, long)) (omega (arith, long))
 
--- bytes complemented twice are as they were
+-- complementing bytes twice restores them
 pub complemented_twice : (memory : List ℕ) (index count : ℕ) → index + count ≤ length memory → ((k : ℕ) → get_or memory k 0 < 256)
     → with_complements (with_complements memory index count) index count ≡ memory
 complemented_twice memory index count inside bytes =
@@ -77,7 +77,7 @@ complemented_twice memory index count inside bytes =
 pub inside-index : (memory : List ℕ) (address count : ℕ) → is_inside memory address count ≡ true → (address - ram_base) + count ≤ length memory
 inside-index memory address count inside = grind (arith, common_steps)
 
--- where the bytes are inside, they are complemented
+-- bytes that are all in the memory are complemented
 pub complemented-is : (memory : List ℕ) (address count : ℕ) → is_inside memory address count ≡ true
     → complemented memory address count ≡ Some (with_complements memory (address - ram_base) count)
 unfolding read write

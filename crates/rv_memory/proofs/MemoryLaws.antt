@@ -1,4 +1,4 @@
--- Laws of memory: a write keeps the size, is read back, and leaves every byte outside it as it was.
+-- Properties of memory: a write keeps the size, is read back, and changes no byte outside it.
 use Rattle.std.proofs.Common.{◌≡◌, ℕ, ◌+◌, ◌-◌, ◌<◌, ◌≤◌, ◌⊎◌, List, [], ◌∷◌, ◌++◌, length, drop, slice_index, Some, None, true, refl, subst, inl, inr, arith}
 use Rattle.std.proofs.lemmas.Grind.{common_steps}
 use Rattle.std.proofs.lemmas.Bool.{cases_lt, lt-leb}
@@ -11,7 +11,7 @@ use Rattle.rv_memory.specs.Changes.{ChangesOnly}
 use Rattle.rv_memory.specs.Lending.{with_bytes}
 use Rattle.rv_memory.specs.Memory.{bytes_of, ram_base, is_inside, read, write, write_bytes, byte_at, number_of_bytes}
 
--- up to four bytes, and zeros after them, are the word that has their number
+-- up to four bytes, followed by zeros, are the bytes of a word with the same number
 pub padded : (bytes : List ℕ) (count : ℕ) → length bytes ≡ count → count ≤ 4 → word_of_bytes (bytes ++ drop count (0 ∷ 0 ∷ 0 ∷ 0 ∷ [])) ≡ number_of_bytes bytes
 padded [] count long few = rw (← long) refl
 padded (a ∷ []) count long few = rw (← long) (omega arith)
@@ -20,18 +20,18 @@ padded (a ∷ b ∷ c ∷ []) count long few = rw (← long) (omega arith)
 padded (a ∷ b ∷ c ∷ d ∷ []) count long few = omega arith
 padded (a ∷ b ∷ c ∷ d ∷ e ∷ rest) count long few = absurd (omega arith)
 
--- the memory after a write has the same size
+-- a write does not change the size of the memory
 pub length-write : (memory : List ℕ) (address : ℕ) (bytes after : List ℕ) → write memory address bytes ≡ Some after → length after ≡ length memory
 unfolding write
 length-write memory address bytes after written = grind (arith, common_steps)
 
--- what was written is read back
+-- a read returns the bytes that were written
 pub read-write : (memory : List ℕ) (address : ℕ) (bytes after : List ℕ) → write memory address bytes ≡ Some after
     → read after address (length bytes) ≡ Some bytes
 unfolding write read
 read-write memory address bytes after written = grind (arith, common_steps)
 
--- a byte elsewhere is as before: by its index
+-- a byte outside a write is unchanged, by its index
 pub index-below : (memory : List ℕ) (index : ℕ) (bytes : List ℕ) (k : ℕ) → index + length bytes ≤ length memory → k < index
     → slice_index (write_bytes memory index bytes) k ≡ slice_index memory k
 index-below memory index bytes k within below = grind (arith, common_steps)
@@ -50,7 +50,7 @@ pub write-is : (memory : List ℕ) (address : ℕ) (bytes after : List ℕ) → 
 unfolding write
 write-is memory address bytes after written = (grind (arith, common_steps), grind (arith, common_steps), grind (arith, common_steps))
 
--- an index is apart from the write where the address is
+-- an index is outside a write if its address is
 index-apart : (memory : List ℕ) (address : ℕ) (bytes : List ℕ) (other : ℕ) → ram_base ≤ address → address + length bytes ≤ ram_base + length memory
     → ram_base ≤ other → other < address ⊎ address + length bytes ≤ other
     → slice_index (write_bytes memory (address - ram_base) bytes) (other - ram_base) ≡ slice_index memory (other - ram_base)
@@ -70,7 +70,7 @@ byte_at-write memory address bytes after other written apart =
       | inr here ↦ rw (is.2, index-apart memory address bytes other is.0 is.1 here apart) refl
     ])
 
--- bytes that are put at an index inside
+-- a write of bytes that are all in the memory
 pub write_at : (memory : List ℕ) (address : ℕ) (bytes after : List ℕ) → is_inside memory address (length bytes) ≡ true
     → after ≡ write_bytes memory (address - ram_base) bytes → write memory address bytes ≡ Some after
 unfolding write
@@ -88,13 +88,13 @@ changes_only memory address count bytes after inside is put =
 pub changes_nothing : (memory : List ℕ) (address count : ℕ) → ChangesOnly memory memory address count
 changes_nothing memory address count = record { size = refl; elsewhere = λ other apart. refl }
 
--- a word gives as many bytes as a width has
+-- as many bytes of a word as a width has
 pub length-bytes_of : (width : Width) (value : ℕ) → length (bytes_of (bytes_in width) value) ≡ bytes_in width
 length-bytes_of Byte value = refl
 length-bytes_of Half value = refl
 length-bytes_of Word value = refl
 
--- a store of a width
+-- a store changes no byte outside it
 pub store_changes_only : (memory : List ℕ) (address value : ℕ) (width : Width) (after : List ℕ) → is_inside memory address (bytes_in width) ≡ true
     → after ≡ write_bytes memory (address - ram_base) (bytes_of (bytes_in width) value) → ChangesOnly memory after address (bytes_in width)
 store_changes_only memory address value width after inside put =
@@ -109,6 +109,6 @@ store_read_back memory address value width after inside put =
     write_at memory address bytes after (rw (length-bytes_of width value) inside) put in
     rw (length-bytes_of width value) at (read-write memory address bytes after written)
 
--- a memory whose bytes are these, where they are as many, is these
+-- a memory with all bytes replaced has the new bytes
 pub with_as_many : (memory bytes : List ℕ) → length bytes ≡ length memory → with_bytes memory bytes ≡ bytes
 with_as_many memory bytes long = grind (arith, common_steps)

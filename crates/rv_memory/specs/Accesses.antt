@@ -1,6 +1,5 @@
--- The accesses of a hart, at any alignment: refused as a whole where a byte is outside RAM, then where the PMP entries do not
--- permit it, and else done. RISC-V Unprivileged ISA 20191213, sections 1.4, 1.5 and 2.6; Privileged Architecture 20211203,
--- section 3.7.1.
+-- The accesses of a hart, at any alignment. An access is refused as a whole if one of its bytes is outside RAM, and then if the PMP entries do
+-- not permit it. RISC-V Unprivileged ISA 20191213, sections 1.4, 1.5 and 2.6; Privileged Architecture 20211203, section 3.7.1.
 use Rattle.std.specs.Prelude.{ℕ, List, Result, Ok, Err, if◌then◌else◌}
 use Rattle.rv_word.specs.Cases.{option_case}
 use Rattle.rv_word.specs.Widths.{bytes_in}
@@ -20,23 +19,23 @@ use Rattle.rv_memory.specs.declared.access_fault.AccessFault.TheVariants.{Outsid
 abbrev pub verdict_on : Entries → Mode → Access → ℕ → Width → Verdict
 verdict_on entries mode access address width = verdict entries mode access (bytes_from address (bytes_in width))
 
--- what an access gives where a verdict permits it
+-- the value of an access if the verdict permits it, otherwise the refusal
 abbrev pub where_permitted : {A : Type 0} → Verdict → A → Result A AccessFault
 where_permitted given value = if permits given then Ok value else Err (Refused given)
 
--- the number that a load gives
+-- the number that a load reads, or the access fault
 abbrev pub loaded : List ℕ → Entries → Mode → ℕ → Width → Result ℕ AccessFault
 loaded memory entries mode address width =
     option_case (read memory address (bytes_in width)) (Err Outside)
     (λ bytes. where_permitted (verdict_on entries mode Read address width) (number_of_bytes bytes))
 
--- the word that a fetch gives
+-- the word that a fetch reads, or the access fault
 abbrev pub fetched : List ℕ → Entries → Mode → ℕ → Result ℕ AccessFault
 fetched memory entries mode address =
     option_case (read memory address (bytes_in Word)) (Err Outside)
     (λ bytes. where_permitted (verdict_on entries mode Fetch address Word) (number_of_bytes bytes))
 
--- the memory that a store of the lowest bytes of a word leaves
+-- the memory after a store of the lowest bytes of a word, or the access fault
 abbrev pub stored : List ℕ → Entries → Mode → ℕ → Width → ℕ → Result (List ℕ) AccessFault
 stored memory entries mode address width value =
     option_case (write memory address (bytes_of (bytes_in width) value)) (Err Outside)

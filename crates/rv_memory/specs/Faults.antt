@@ -1,4 +1,4 @@
--- The numbers of the faults, as this project's surface gives them. (No public standard numbers them.)
+-- The numbers of the errors. (This project's own.)
 use Rattle.std.specs.Prelude.{ℕ}
 use Rattle.rv_memory.specs.declared.access_fault.AccessFault.{AccessFault}
 use Rattle.rv_memory.specs.declared.access_fault.AccessFault.TheVariants.{Outside, Refused}

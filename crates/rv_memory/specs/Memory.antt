@@ -1,5 +1,5 @@
--- Memory as the list of its bytes, of which the first has the address 80000000: one reader of it, and one writer.
--- Byte addresses, and numbers whose lowest byte comes first: RISC-V Unprivileged ISA 20191213, sections 1.4 and 2.6.
+-- Memory as a list of bytes, with one function that reads it and one that changes it. The first byte has the address 80000000. RISC-V
+-- Unprivileged ISA 20191213, sections 1.4 (byte addresses) and 2.6 (little-endian numbers).
 use Rattle.std.specs.Prelude.{ℕ, ◌+◌, ◌-◌, ◌*◌, ◌%◌, ◌^◌, ◌==◌, Bool, ◌&&◌, nat_le, List, [], ◌∷◌, ◌++◌, length}
 use Rattle.std.specs.Prelude.{take, drop, slice_index, Option, Some, None, if◌then◌else◌}
 use Rattle.std.specs.Option.{option_map}
@@ -13,20 +13,20 @@ ram_base = 0x80000000
 abbrev pub is_ram_size : ℕ → Bool
 is_ram_size size = size % 65536 == 0 && nat_le 65536 size && nat_le size 16777216
 
--- all of so many bytes from an address on are in the memory
+-- `count` bytes from an address on are all in the memory
 abbrev pub is_inside : List ℕ → ℕ → ℕ → Bool
 is_inside memory address count = nat_le ram_base address && nat_le (address + count) (ram_base + length memory)
 
--- The one reader of memory: so many bytes from an address on, where all of them are in it.
+-- `count` bytes from an address on, if all of them are in the memory. Accesses read memory through this function.
 unfoldable pub read : List ℕ → ℕ → ℕ → Option (List ℕ)
 read memory address count =
     if is_inside memory address count then Some (take count (drop (address - ram_base) memory)) else None
 
--- The one change of memory: these bytes from an index on, and every other byte as it was.
+-- The memory with these bytes from an index on, and every other byte unchanged. `write` changes memory through this function.
 abbrev pub write_bytes : List ℕ → ℕ → List ℕ → List ℕ
 write_bytes memory index bytes = take index memory ++ (bytes ++ drop (index + length bytes) memory)
 
--- the memory with these bytes from an address on, where all of them are in it
+-- the memory with these bytes from an address on, if all of them are in it
 unfoldable pub write : List ℕ → ℕ → List ℕ → Option (List ℕ)
 write memory address bytes =
     if is_inside memory address (length bytes) then Some (write_bytes memory (address - ram_base) bytes) else None
@@ -35,15 +35,15 @@ write memory address bytes =
 abbrev pub byte_at : List ℕ → ℕ → Option ℕ
 byte_at memory address = option_map (λ bytes. slice_index bytes 0) (read memory address 1)
 
--- the number that bytes spell, the lowest first
+-- the little-endian number of these bytes
 abbrev pub number_of_bytes : List ℕ → ℕ
 number_of_bytes [] = 0
 number_of_bytes (byte ∷ bytes) = byte + 2 ^ 8 * number_of_bytes bytes
 
--- the number that so many bytes from an address on spell, where all of them are in the memory
+-- the little-endian number in `count` bytes from an address on, if all of them are in the memory
 abbrev pub number_at : List ℕ → ℕ → ℕ → Option ℕ
 number_at memory address count = option_map number_of_bytes (read memory address count)
 
--- so many of the lowest bytes of a word, the lowest first
+-- the `count` lowest bytes of a word, little-endian
 abbrev pub bytes_of : ℕ → ℕ → List ℕ
 bytes_of count word = take count (byte_of word 0 ∷ byte_of word 1 ∷ byte_of word 2 ∷ byte_of word 3 ∷ [])

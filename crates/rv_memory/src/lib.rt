@@ -1,7 +1,7 @@
-//! The memory of the machine (RISC-V Unprivileged ISA 20191213, sections 1.4 and 2.6): bytes from address 80000000 on, the
-//! accesses of a hart, and what one step of it touches.
+//! The memory of the machine: bytes from address 80000000 on, the accesses of a hart, and the bytes that one step accesses. (RISC-V Unprivileged
+//! ISA 20191213, sections 1.4 and 2.6.)
 //!
-//! The specs name it by one reader and one writer of a list of bytes, `read` and `write` in `Memory`.
+//! The specs define memory by two functions on a list of bytes, `read` and `write` in `Memory`.
 //!
 //! ```text
 //! let mut ram = Ram::new(alloc, 65_536)?;

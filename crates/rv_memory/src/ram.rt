@@ -18,8 +18,7 @@ use std::marker::Model;
 /// The address of the first byte.
 pub const RAM_BASE: u32 = 0x8000_0000;
 
-/// The memory of the machine: its bytes from address 80000000 on. There are a multiple of 65536 of them,
-/// from 65536 to 16777216.
+/// The memory of the machine: its bytes from address 80000000 on. Their number is a multiple of 65536 from 65536 to 16777216.
 #[derive(Drop, Debug)]
 pub struct Ram {
     bytes: Vec<u8>,
@@ -47,12 +46,12 @@ impl Ram {
     ghost use Rattle.rv_memory.specs.Changes.{ChangesOnly};
     ghost use Rattle.rv_memory.specs.Lending.{RamLendsBytes};
 
-    /// A memory of so many bytes, all 0.
+    /// Returns a memory of `bytes` bytes, all 0.
     ///
     /// # Errors
     ///
-    /// `BadSize` where the number is not a multiple of 65536 from 65536 to 16777216; else `NoMemory` where memory for them was
-    /// refused.
+    /// - `BadSize`, if the number is not a multiple of 65536 from 65536 to 16777216.
+    /// - `NoMemory` otherwise, if memory is exhausted.
     pub fn new(alloc: Global, bytes: u32) -> Result<Self, RamFault>
         ensures made { IfOk result (λ ram. ram ≡ replicate bytes 0) }
         ensures ok_size { OnOk result (is_ram_size bytes ≡ true) }
@@ -68,7 +67,7 @@ impl Ram {
         }
     }
 
-    /// The number of bytes.
+    /// Returns the number of bytes.
     pub fn size(&self) -> u32
         ensures size { result ≡ length self.now }
         ensures allowed { is_ram_size result ≡ true }
@@ -76,7 +75,7 @@ impl Ram {
         self.bytes.len() as u32
     }
 
-    /// Whether so many bytes from an address on are all in the memory.
+    /// Returns whether `size` bytes from an address on are all in the memory.
     #[inline(always)]
     #[tactic(auto, unfolding(crate::specs::Memory::read))]
     pub fn contains(&self, base: u32, size: u32) -> bool
@@ -86,7 +85,7 @@ impl Ram {
         base >= RAM_BASE && base as usize + size as usize <= RAM_BASE as usize + self.bytes.len()
     }
 
-    /// So many bytes from an address on, all of which are in the memory.
+    /// Returns `size` bytes from an address on. All of them must be in the memory.
     #[tactic(auto, unfolding(crate::specs::Memory::read))]
     pub fn part(&self, base: u32, size: u32) -> &[u8]
         requires { is_inside self.now base size ≡ true }
@@ -97,7 +96,7 @@ impl Ram {
         &self.bytes[start..start + size as usize]
     }
 
-    /// Puts these bytes at an address, where all of them are in the memory, and leaves every other byte as it was.
+    /// Writes bytes at an address. All of them must be in the memory. Every other byte stays unchanged.
     #[tactic(auto, using(crate::proofs::MemoryLaws::changes_only), unfolding(crate::specs::Memory::write))]
     pub fn write_part(&mut self, base: u32, bytes: &[u8])
         requires { is_inside self.old base (length bytes.now) ≡ true }
@@ -107,7 +106,7 @@ impl Ram {
         self.put_bytes((base - RAM_BASE) as usize, bytes);
     }
 
-    /// Makes so many bytes from an address on 0, all of which are in the memory, and leaves every other byte as it was.
+    /// Writes `size` zeros at an address. All of the bytes must be in the memory. Every other byte stays unchanged.
     #[tactic(auto, using(crate::proofs::MemoryLaws::changes_only), unfolding(crate::specs::Memory::write))]
     pub fn zero(&mut self, base: u32, size: u32)
         requires { is_inside self.old base size ≡ true }
@@ -117,8 +116,8 @@ impl Ram {
         self.put_zeros((base - RAM_BASE) as usize, size as usize);
     }
 
-    /// Complements so many bytes from an address on, all of which are in the memory: a byte b becomes 255 - b. Every other byte
-    /// stays as it was.
+    /// Complements `size` bytes from an address on: a byte b becomes 255 - b. All of them must be in the memory. Every other byte stays
+    /// unchanged.
     #[tactic(auto, unfolding(crate::specs::Memory::read, crate::specs::Memory::write))]
     pub fn complement(&mut self, base: u32, size: u32)
         requires { is_inside self.old base size ≡ true }
@@ -128,7 +127,7 @@ impl Ram {
         self.put_complements((base - RAM_BASE) as usize, size as usize);
     }
 
-    /// The byte at an address, where it is in the memory.
+    /// Returns the byte at an address, if it is in the memory.
     #[tactic(auto, unfolding(crate::specs::Memory::read))]
     pub fn peek(&self, addr: u32) -> Option<u8>
         ensures { result ≡ byte_at self.now addr }
@@ -139,7 +138,7 @@ impl Ram {
         Some(self.bytes[(addr - RAM_BASE) as usize])
     }
 
-    /// Puts a byte at an address, where that is in the memory; else it answers false, and nothing changes.
+    /// Writes a byte at an address. If the address is not in the memory, it returns false and changes nothing.
     #[tactic(auto, using(crate::proofs::MemoryLaws::changes_nothing), unfolding(crate::specs::Memory::write))]
     pub fn poke(&mut self, addr: u32, byte: u8) -> bool
         ensures done { (if result then Some self.new else None) ≡ write self.old addr (byte ∷ []) }
@@ -153,12 +152,13 @@ impl Ram {
         true
     }
 
-    /// The word of an instruction, from the four bytes at an address (Unprivileged ISA, section 1.5). The entries stay as they
-    /// are.
+    /// Fetches the word of an instruction from the four bytes at an address, little-endian (Unprivileged ISA, section 1.5). The PMP entries do
+    /// not change.
     ///
     /// # Errors
     ///
-    /// `Outside` where one of the bytes is outside RAM; else `Refused` where the entries do not permit the fetch in this mode.
+    /// - `Outside`, if one of the bytes is outside RAM.
+    /// - `Refused` otherwise, if the PMP entries do not permit the fetch in this mode.
     #[inline(always)]
     #[tactic(auto, unfolding(crate::specs::Memory::read))]
     pub fn fetch(&self, pmp: &mut Pmp, mode: Mode, addr: u32) -> Result<u32, AccessFault>
@@ -174,12 +174,12 @@ impl Ram {
         Ok(self.number_at((addr - RAM_BASE) as usize, 4))
     }
 
-    /// The number that the bytes at an address spell, the lowest first (Unprivileged ISA, section 2.6). The entries stay as they
-    /// are.
+    /// Loads the little-endian number at an address (Unprivileged ISA, section 2.6). The PMP entries do not change.
     ///
     /// # Errors
     ///
-    /// `Outside` where one of the bytes is outside RAM; else `Refused` where the entries do not permit the load in this mode.
+    /// - `Outside`, if one of the bytes is outside RAM.
+    /// - `Refused` otherwise, if the PMP entries do not permit the load in this mode.
     #[inline(always)]
     #[tactic(auto, unfolding(crate::specs::Memory::read))]
     pub fn load(
@@ -206,13 +206,14 @@ impl Ram {
         })
     }
 
-    /// Puts the lowest bytes of a word at an address, the lowest first, and leaves every other byte as it was (Unprivileged ISA,
-    /// section 2.6). The entries stay as they are.
+    /// Stores the lowest bytes of a word at an address, little-endian, and leaves every other byte unchanged (Unprivileged ISA, section 2.6).
+    /// The PMP entries do not change.
     ///
     /// # Errors
     ///
-    /// `Outside` where one of the bytes is outside RAM; else `Refused` where the entries do not permit the store in this mode.
-    /// Nothing changes then.
+    /// The memory is then unchanged:
+    /// - `Outside`, if one of the bytes is outside RAM.
+    /// - `Refused` otherwise, if the PMP entries do not permit the store in this mode.
     #[inline(always)]
     #[tactic(auto, using(crate::proofs::MemoryLaws::changes_nothing), unfolding(crate::specs::Memory::write))]
     pub fn store(
@@ -240,7 +241,7 @@ impl Ram {
         Ok(())
     }
 
-    /// The bytes, for writing.
+    /// Returns the bytes, for writing.
     #[inline(always)]
     pub fn bytes_mut(&mut self) -> &mut [u8]
         ensures* writes_back { sem 𝓛 (RamLendsBytes self.entry result) }
@@ -249,7 +250,7 @@ impl Ram {
         &mut self.bytes
     }
 
-    /// Puts the lowest bytes of a word at an index, the lowest first.
+    /// Writes the lowest bytes of a word at an index, little-endian.
     #[inline(always)]
     fn put_number(&mut self, start: usize, width: Width, value: u32)
         requires { start + bytes_in width ≤ length self.old }
@@ -262,7 +263,7 @@ impl Ram {
         }
     }
 
-    /// The number that so many bytes from an index on spell, the lowest first.
+    /// Returns the little-endian number in `count` bytes from an index on.
     #[inline(always)]
     fn number_at(&self, start: usize, count: usize) -> u32
         requires short { count ≤ 4 }
@@ -272,7 +273,7 @@ impl Ram {
         number_from(&self.bytes, start, count)
     }
 
-    /// Puts bytes at an index.
+    /// Writes bytes at an index.
     #[inline(always)]
     fn put_bytes(&mut self, start: usize, bytes: &[u8])
         requires { start + length bytes.now ≤ length self.old }
@@ -281,7 +282,7 @@ impl Ram {
         self.bytes[start..start + bytes.len()].copy_from_slice(bytes);
     }
 
-    /// Puts so many zeros at an index.
+    /// Writes `count` zeros at an index.
     fn put_zeros(&mut self, start: usize, count: usize)
         requires { start + count ≤ length self.old }
         ensures { self.new ≡ write_bytes self.old start (replicate count 0) }
@@ -289,7 +290,7 @@ impl Ram {
         self.bytes[start..start + count].fill(0);
     }
 
-    /// Complements so many bytes from an index on.
+    /// Complements `count` bytes from an index on.
     fn put_complements(&mut self, start: usize, count: usize)
         requires { start + count ≤ length self.old }
         ensures { self.new ≡ write_bytes self.old start (map complement_of (take count (drop start self.old))) }
@@ -297,7 +298,7 @@ impl Ram {
         complement_all(&mut self.bytes[start..start + count]);
     }
 
-    /// Puts so many of the lowest bytes of a word at an index, the lowest first.
+    /// Writes the `count` lowest bytes of a word at an index, little-endian.
     #[inline(always)]
     fn put_at(&mut self, start: usize, count: usize, value: u32)
         requires short { count ≤ 4 }
@@ -308,7 +309,8 @@ impl Ram {
     }
 }
 
-/// The number that the bytes at an address spell in a memory of these bytes, the lowest first, all of which are in it. No entries are asked.
+/// Returns the little-endian number at an address in a memory with these bytes. All of its bytes must be in the memory. The PMP entries are not
+/// checked.
 #[inline(always)]
 #[tactic(auto, unfolding(crate::specs::Memory::read))]
 pub fn number_in(bytes: &[u8], addr: u32, width: Width) -> u32
@@ -323,8 +325,8 @@ pub fn number_in(bytes: &[u8], addr: u32, width: Width) -> u32
     }
 }
 
-/// Puts the lowest bytes of a word at an address in a memory of these bytes, the lowest first, where all of them are in it. No entries are
-/// asked.
+/// Writes the lowest bytes of a word at an address in a memory with these bytes, little-endian. All of them must be in the memory. The PMP
+/// entries are not checked.
 #[inline(always)]
 #[tactic(auto, unfolding(crate::specs::Memory::write))]
 pub fn put_in(bytes: &mut [u8], addr: u32, width: Width, value: u32)
@@ -339,7 +341,7 @@ pub fn put_in(bytes: &mut [u8], addr: u32, width: Width, value: u32)
     }
 }
 
-/// The number that so many bytes from an index on spell, the lowest first.
+/// Returns the little-endian number in `count` bytes from an index on.
 #[inline(always)]
 fn number_from(bytes: &[u8], start: usize, count: usize) -> u32
     requires short { count ≤ 4 }
@@ -351,7 +353,7 @@ fn number_from(bytes: &[u8], start: usize, count: usize) -> u32
     le_word(&read)
 }
 
-/// Puts so many of the lowest bytes of a word at an index, the lowest first.
+/// Writes the `count` lowest bytes of a word at an index, little-endian.
 #[inline(always)]
 fn put_from(bytes: &mut [u8], start: usize, count: usize, value: u32)
     requires short { count ≤ 4 }
@@ -370,7 +372,7 @@ fn complement_all(bytes: &mut [u8])
     }
 }
 
-/// The refusal of an access that the entries do not permit.
+/// Returns the access fault of an access that the PMP entries do not permit.
 #[cold]
 #[inline(never)]
 fn refused(pmp: &Pmp, mode: Mode, access: Access, addr: u32, width: Width) -> AccessFault

@@ -1,4 +1,4 @@
-//! Why there is no RAM.
+//! The errors of making a RAM.
 
 ghost use Rattle.std.specs.Prelude.{◌≡◌};
 ghost use Rattle.rv_memory.specs.Faults.{ram_fault_number};
@@ -8,12 +8,12 @@ ghost use Rattle.rv_memory.specs.Faults.{ram_fault_number};
 pub enum RamFault {
     /// The size is not a multiple of 65536 from 65536 to 16777216 bytes.
     BadSize = 1,
-    /// Memory for it was refused.
+    /// Memory is exhausted.
     NoMemory = 2,
 }
 
 impl RamFault {
-    /// The number of the fault.
+    /// Returns the number of the error.
     pub fn number(self) -> u8
         ensures { result ≡ ram_fault_number self }
     {

@@ -1,4 +1,4 @@
-//! The calls on what the harts share, on their happy path, and each refusal in its order.
+//! Tests of the calls on the state that the harts share: calls that succeed, and each refusal in its order.
 
 mod followed;
 
@@ -6,7 +6,7 @@ use followed::{Line, run};
 use rv_enclaves::{Call, EnclaveState, Slot, World, call_requested};
 use std::test::Fail;
 
-/// What a7 holds at a call.
+/// The value of a7 in a call.
 const KEY: u32 = 0x0a45_4e43;
 
 const BAD_REGION: u32 = 0xffff_fffe;
@@ -31,7 +31,7 @@ const WITH_WINDOW: [u32; 5] = [0x8002_0000, 0x1000, 0x8003_0000, 0x1000, 0x8002_
 /// The same region alone, with its first word as the entry.
 const ALONE: [u32; 5] = [0x8002_0000, 0x1000, 0x8003_0000, 0, 0x8002_0000];
 
-/// Numbers, and the slots that they are the numbers of.
+/// Numbers, and the slots with these numbers.
 const NUMBERS: [(u32, Option<u8>); 6] = [
     (0, Some(0)),
     (12, Some(12)),
@@ -41,7 +41,7 @@ const NUMBERS: [(u32, Option<u8>); 6] = [
     (0xffff_ffff, None),
 ];
 
-/// A slot has a number from 0 to 12, and no number over 12 is that of a slot.
+/// The slots have the numbers from 0 to 12. No slot has a number above 12.
 #[test]
 fn slots_have_numbers() -> Result<(), Fail> {
     for (number, slot) in NUMBERS {
@@ -52,7 +52,7 @@ fn slots_have_numbers() -> Result<(), Fail> {
     Ok(())
 }
 
-/// The number of the call that a world asks for.
+/// Returns the number of the call that a world requests.
 fn asked(world: &World, a7: u32, a6: u32) -> Option<u8> {
     call_requested(world, a7, a6).map(|call| match call {
         Call::Create => 1,
@@ -65,7 +65,7 @@ fn asked(world: &World, a7: u32, a6: u32) -> Option<u8> {
     })
 }
 
-/// a7 and a6, and the numbers of the calls that they are of the host and of an enclave.
+/// The values of a7 and a6, and the numbers of the calls that they request from the host and from an enclave.
 const ASKED: [(u32, u32, Option<u8>, Option<u8>); 10] = [
     (KEY, 0, None, None),
     (KEY, 1, Some(1), None),
@@ -110,7 +110,7 @@ fn creates_in_the_lowest_free_slot(rt: HostRuntime) -> Result<(), Fail> {
     run(rt, &CREATED)
 }
 
-/// Each is refused for the first reason that applies, and changes nothing.
+/// Each call is refused for the first reason that applies, and changes nothing.
 const REFUSED: [Line; 9] = [
     Line::Create(WITH_WINDOW, Ok(0)),
     Line::Create(
@@ -134,12 +134,12 @@ fn refuses_to_create(rt: HostRuntime) -> Result<(), Fail> {
     run(rt, &REFUSED)
 }
 
-/// The arguments of a create of 4096 bytes from an address on, alone.
+/// Returns the arguments of a create for a region of 4096 bytes at an address, without a window.
 fn page(base: u32) -> [u32; 5] {
     [base, 0x1000, 0, 0, base]
 }
 
-/// Thirteen slots are all there are.
+/// There are only thirteen slots.
 #[test]
 fn has_thirteen_slots(rt: HostRuntime) -> Result<(), Fail> {
     let lines = [
@@ -192,7 +192,7 @@ fn refuses_what_is_not_live(rt: HostRuntime) -> Result<(), Fail> {
     run(rt, &NOBODY)
 }
 
-/// The measurement goes where mode S of the world may store: not into the region while the host runs.
+/// The measurement is stored only where mode S of the world may store: not in the region while the host runs.
 const MEASURED: [Line; 8] = [
     Line::Create(ALONE, Ok(0)),
     Line::Measure(World::Host, 0, 0x8002_0000, Err(BAD_ADDRESS)),
@@ -228,7 +228,7 @@ fn what_is_private_is_scrambled(rt: HostRuntime) -> Result<(), Fail> {
     run(rt, &SCRAMBLED)
 }
 
-/// The entries of a table with one enclave, while the host runs.
+/// The PMP entries for a table with one enclave, while the host runs.
 const ENTRIES: [Line; 7] = [
     Line::Entry(World::Host, 1, 0x00, 0x0000_0000),
     Line::Create(WITH_WINDOW, Ok(0)),
@@ -244,7 +244,7 @@ fn the_host_has_its_entries(rt: HostRuntime) -> Result<(), Fail> {
     run(rt, &ENTRIES)
 }
 
-/// And while the enclave does.
+/// The PMP entries while the enclave runs.
 #[test]
 fn an_enclave_has_its_entries(rt: HostRuntime) -> Result<(), Fail> {
     let world = World::Enclave(Slot::new(0).ok_or("a slot")?);

@@ -1,4 +1,4 @@
-//! Steps of small programs, and what they show. The corner values of every row are command-line cases of the bench.
+//! Tests of steps of small programs, with their outcomes. The command-line cases of the bench cover the corner values of every row.
 
 mod followed;
 
@@ -10,7 +10,7 @@ use rv_state::{Cause, Exception, Interrupt};
 use rv_word::{Reg, Width};
 use std::test::Fail;
 
-/// A step without a trap, by what it touched.
+/// Returns the outcome of a step without a trap, with its accesses.
 const fn touching(fetched: u32, loaded: Option<Span>, stored: Option<Span>) -> StepOutcome {
     StepOutcome {
         trap: None,
@@ -22,7 +22,7 @@ const fn touching(fetched: u32, loaded: Option<Span>, stored: Option<Span>) -> S
     }
 }
 
-/// The span of a step's own word.
+/// Returns the span of the word of a step.
 const fn word_at(addr: u32) -> Option<Span> {
     Some(Span {
         addr,
@@ -30,7 +30,7 @@ const fn word_at(addr: u32) -> Option<Span> {
     })
 }
 
-/// The span of one byte.
+/// Returns the span of one byte.
 const fn byte_at(addr: u32) -> Option<Span> {
     Some(Span {
         addr,
@@ -38,7 +38,7 @@ const fn byte_at(addr: u32) -> Option<Span> {
     })
 }
 
-/// The trap of an exception.
+/// Returns the trap of an exception.
 const fn exception(exception: Exception, tval: u32) -> Option<Trap> {
     Some(Trap {
         cause: Cause::Exception(exception),
@@ -65,7 +65,7 @@ fn shows_what_it_touches(rt: HostRuntime) -> Result<(), Fail> {
     run(rt, &words, &touching_lines())
 }
 
-/// What a hart by itself shows after a step.
+/// The state of a hart without its memory after a step.
 #[derive(Clone, Copy, Debug, PartialEq, Eq)]
 struct Seen {
     trap: Option<Trap>,
@@ -75,7 +75,7 @@ struct Seen {
     mepc: u32,
 }
 
-/// Does a step of a hart over a memory that is lent to it.
+/// Executes a step of a hart over a borrowed memory.
 fn step_over(hart: &mut Hart, ram: &mut Ram) -> Seen {
     let trap = hart.step(ram).trap;
     Seen {
@@ -87,7 +87,7 @@ fn step_over(hart: &mut Hart, ram: &mut Ram) -> Seen {
     }
 }
 
-/// Lets a hart fetch everywhere in every mode, and goes on in mode U at the third word; whether that was done.
+/// Lets a hart fetch everywhere in every mode, and sets its pc to the third word in mode U. Returns whether this succeeded.
 fn open(hart: &mut Hart) -> bool {
     let address = hart.csrs_mut().write(0x3b0, u32::MAX, Mode::M);
     let configuration = hart.csrs_mut().write(0x3a0, 0x1c, Mode::M);
@@ -95,7 +95,7 @@ fn open(hart: &mut Hart) -> bool {
     address.is_ok() && configuration.is_ok()
 }
 
-/// lui x1, 0x12345 in mode U; then x1 is set, and the word 0 is there.
+/// Executes lui x1, 0x12345 in mode U, sets x1, and then executes the word 0.
 fn steps_of_a_hart(rt: HostRuntime) -> Result<(bool, [Seen; 2]), Fail> {
     let mut ram = Ram::new(rt.alloc(), 65_536).ok().ok_or("a RAM")?;
     ram.write_part(RAM_BASE + 8, &[0xb7, 0x50, 0x34, 0x12]);
@@ -107,8 +107,7 @@ fn steps_of_a_hart(rt: HostRuntime) -> Result<(bool, [Seen; 2]), Fail> {
     Ok((is_open, [first, second]))
 }
 
-/// A hart by itself steps over a memory that is lent to it: lui x1, 0x12345, in mode U under an entry for fetching; then the word
-/// 0 traps.
+/// A hart steps over a borrowed memory: lui x1, 0x12345, in mode U with a PMP entry that permits fetches. Then the word 0 traps.
 #[test]
 fn steps_over_a_memory(rt: HostRuntime) -> Result<(), Fail> {
     let first = Seen {
@@ -145,9 +144,9 @@ fn refused_load() -> [Line; 4] {
     ]
 }
 
-/// lw x3, 2(x1): the trap is told and taken, and the refused access is not among the touched bytes.
+/// lw x3, 2(x1): the trap is reported and taken. The refused access is not among the reported accesses.
 #[test]
-fn tells_a_refused_load(rt: HostRuntime) -> Result<(), Fail> {
+fn reports_a_refused_load(rt: HostRuntime) -> Result<(), Fail> {
     run(rt, &[0x0020_a183], &refused_load())
 }
 
@@ -160,7 +159,7 @@ fn trapping(cause: Exception, tval: u32) -> [Line; 4] {
     ]
 }
 
-/// ecall, ebreak, and a word that no row spells
+/// ecall, ebreak, and a word that encodes no instruction
 #[test]
 fn traps_by_their_causes(rt: HostRuntime) -> Result<(), Fail> {
     for (word, cause, tval) in [
@@ -176,7 +175,7 @@ fn traps_by_their_causes(rt: HostRuntime) -> Result<(), Fail> {
 fn returning(cause: Exception, tval: u32) -> [Line; 8] {
     [
         Line::Mepc(RAM_BASE + 4),
-        // entry 0 lets every mode fetch everywhere
+        // entry 0 permits fetches everywhere in every mode
         Line::Write(0x3b0, u32::MAX),
         Line::Write(0x3a0, 0x1c),
         Line::Trap(None),
@@ -187,7 +186,7 @@ fn returning(cause: Exception, tval: u32) -> [Line; 8] {
     ]
 }
 
-/// mret to mode U, where mret, wfi and a read of mscratch are illegal, and ecall has a cause of its own
+/// mret to mode U, in which mret, wfi and a read of mscratch are illegal, and ecall has its own cause
 #[test]
 fn keeps_modes_apart(rt: HostRuntime) -> Result<(), Fail> {
     for (word, cause, tval) in [
@@ -210,7 +209,7 @@ const EXCHANGE: [Line; 6] = [
     Line::Csr(0xb02, 2),
 ];
 
-/// csrrw x1, mscratch, x2; csrrs x3, mscratch, x0: the second one only reads.
+/// csrrw x1, mscratch, x2; csrrs x3, mscratch, x0. The second instruction only reads.
 #[test]
 fn changes_a_register_by_another(rt: HostRuntime) -> Result<(), Fail> {
     run(rt, &[0x3401_10f3, 0x3400_21f3], &EXCHANGE)
@@ -238,7 +237,7 @@ fn interrupted() -> [Line; 7] {
     ]
 }
 
-/// The timer's interrupt comes before the instruction, in mode U also where MIE is 0.
+/// The timer interrupt is taken before the instruction, in mode U even if MIE is 0.
 #[test]
 fn takes_an_interrupt_first(rt: HostRuntime) -> Result<(), Fail> {
     run(rt, &[0x0000_0013], &interrupted())
@@ -253,7 +252,7 @@ fn jumping(base: u32, pc: u32, link: u32) -> [Line; 4] {
     ]
 }
 
-/// jalr x1, 5(x1) reads x1 before it writes it, and writes it only where the target is a multiple of 4.
+/// jalr x1, 5(x1) reads x1 before it writes it, and writes it only if the target is a multiple of 4.
 #[test]
 fn jumps_through_the_register_it_writes(rt: HostRuntime) -> Result<(), Fail> {
     for (base, pc, link) in [
@@ -271,7 +270,7 @@ const PATCHED: [Line; 3] = [
     Line::X(1, 0xffff_ffff),
 ];
 
-/// The memory can be changed between steps.
+/// The memory can be changed between two steps.
 #[test]
 fn lends_its_memory(rt: HostRuntime) -> Result<(), Fail> {
     run(rt, &[0], &PATCHED)
@@ -288,7 +287,7 @@ fn judged(mode: Mode, mprv: u32) -> [Line; 6] {
     ]
 }
 
-/// lw x3, 0(x1) in mode U: the entry for fetching does not permit it; with MPRV in mode M it is judged in mode U too.
+/// lw x3, 0(x1) in mode U: the PMP entry for fetches does not permit it. With MPRV it is checked in mode U in mode M too.
 #[test]
 fn judges_by_the_entries(rt: HostRuntime) -> Result<(), Fail> {
     for (mode, mprv) in [(Mode::U, 0), (Mode::M, 0x2_0000)] {
@@ -297,7 +296,7 @@ fn judges_by_the_entries(rt: HostRuntime) -> Result<(), Fail> {
     Ok(())
 }
 
-/// No address is past this one.
+/// The end of the address space.
 const END: u64 = 0x1_0000_0000;
 
 const COUNTED: [Line; 17] = [
@@ -320,8 +319,8 @@ const COUNTED: [Line; 17] = [
     Line::Fast(0, END, 0),
 ];
 
-/// addi x1, x1, 1; sw x1, 256(x2); lw x3, 256(x2); bne x1, x0, -12: what steps have shown to be permitted is done many at once, as far
-/// as the limits go.
+/// addi x1, x1, 1; sw x1, 256(x2); lw x3, 256(x2); bne x1, x0, -12. Accesses that earlier steps have made are executed on the fast path, within
+/// the limits.
 #[test]
 fn goes_on_fast(rt: HostRuntime) -> Result<(), Fail> {
     run(
@@ -334,7 +333,7 @@ fn goes_on_fast(rt: HostRuntime) -> Result<(), Fail> {
 const STOPPED: [Line; 14] = [
     Line::Step,
     Line::Set(1, 6),
-    // a write of a control and status register is left to the step, and so is what traps
+    // an instruction that writes a control and status register, or that traps, is left to `step`
     Line::Fast(9, END, 1),
     Line::X(1, 7),
     Line::Pc(RAM_BASE + 8),
@@ -343,7 +342,7 @@ const STOPPED: [Line; 14] = [
     Line::Csr(0xb02, 3),
     Line::Enter(Mode::M),
     Line::Fast(1, END, 1),
-    // an interrupt is taken by the step
+    // an interrupt is left to `step`
     Line::Write(0x300, 8),
     Line::Mie(0x80),
     Line::Timer(true),

@@ -1,5 +1,5 @@
-//! The tests of `rv_pmp`, `rv_memory`, `rv_state`, `rv_hart`, `rv_enclaves` and `rv_monitor`, over their public calls alone. They
-//! stand in a crate of their own, so that no library is proved a second time for them.
+//! The tests of `rv_pmp`, `rv_memory`, `rv_state`, `rv_hart`, `rv_enclaves` and `rv_monitor`, through their public functions. They are in a
+//! crate of their own, so that no library is proved a second time for them.
 #![tactic(auto)]
 
 #[cfg(test)]

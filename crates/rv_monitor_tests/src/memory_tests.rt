@@ -1,4 +1,4 @@
-//! The calls of a memory on their happy path, and at its edges.
+//! Tests of the calls of a memory: calls that succeed, and addresses at its ends.
 
 mod followed;
 
@@ -8,10 +8,10 @@ use rv_pmp::{Access, Mode, PmpIndex, Verdict};
 use rv_word::Width;
 use std::test::Fail;
 
-/// The address behind the last byte of the smallest memory.
+/// The address after the last byte of the smallest memory.
 const END: u32 = RAM_BASE + 65_536;
 
-/// The size of a new memory.
+/// Returns the size of a new memory.
 fn size_of_new(rt: HostRuntime, size: u32) -> Result<u32, RamFault> {
     match Ram::new(rt.alloc(), size) {
         Ok(ram) => Ok(ram.size()),
@@ -90,7 +90,7 @@ const fn refused(verdict: Verdict) -> AccessFault {
     AccessFault::Refused(verdict)
 }
 
-/// What the entries answer, with the first of them.
+/// Returns the lines for accesses that the PMP entries decide, with the index of the first entry.
 fn asked(first: PmpIndex) -> [Line; 8] {
     [
         Line::Entry(0x2000_01ff, 0x19),
@@ -126,9 +126,9 @@ fn asked(first: PmpIndex) -> [Line; 8] {
     ]
 }
 
-/// An entry that may be read and not written, and nothing else for mode U.
+/// A PMP entry that permits reads and no writes, and no other entry for mode U.
 #[test]
-fn asks_the_entries_after_the_bounds(rt: HostRuntime) -> Result<(), Fail> {
+fn checks_the_entries_after_the_bounds(rt: HostRuntime) -> Result<(), Fail> {
     run(rt, &asked(PmpIndex::new(0)))
 }
 

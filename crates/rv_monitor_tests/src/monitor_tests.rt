@@ -1,4 +1,4 @@
-//! Worked examples of the monitor.
+//! Tests of the monitor with worked examples.
 
 mod machine;
 
@@ -9,7 +9,7 @@ use std::test::Fail;
 /// The arguments of create for a region and a window of 4096 bytes each.
 const WITH_WINDOW: [u32; 5] = [0x8002_0000, 0x1000, 0x8003_0000, 0x1000, 0x8002_0000];
 
-/// The arguments of create for a region alone, whose first word is the entry.
+/// The arguments of create for a region without a window, whose first word is the entry.
 const ALONE: [u32; 5] = [0x8002_0000, 0x1000, 0, 0, 0x8002_0000];
 
 const ENCLAVE: [Line; 57] = [
@@ -63,7 +63,7 @@ const ENCLAVE: [Line; 57] = [
     Line::See(Shown::X(A0), Some(0)),
     Line::See(Shown::X(A1), Some(0)),
     Line::See(Shown::X(T0), Some(0x77)),
-    // exit, and a resume after it
+    // exit, and a resume after the exit
     Line::Set(A6, 7),
     Line::Set(A0, 9),
     Line::Step,
@@ -107,7 +107,7 @@ const TIMER: [Line; 21] = [
     Line::See(Shown::X(A0), Some(0x8002_0000)),
 ];
 
-/// Example 14: the timer stops an enclave, which resumes where it was.
+/// Example 14: the timer stops an enclave, which resumes at the same instruction.
 #[test]
 fn the_timer_stops(rt: HostRuntime) -> Result<(), Fail> {
     run(rt, &[0x73; 3], &TIMER)
@@ -124,7 +124,7 @@ const ACROSS: [Line; 8] = [
     Line::See(Shown::Csr(0x143), Some(0x8001_fffe)),
 ];
 
-/// Example 9: a load across a region is forwarded.
+/// Example 9: a load across the start of a region traps to mode S of the host.
 #[test]
 fn a_region_is_shut(rt: HostRuntime) -> Result<(), Fail> {
     run(rt, &[0x73, 0x0003_2283], &ACROSS)
@@ -155,13 +155,13 @@ const MEASURED: [Line; 22] = [
     Line::SeeOther(Shown::Byte(0x8001_ffe1), Some(0)),
 ];
 
-/// Example 33: measure asks of each byte.
+/// Example 33: measure checks each byte of its destination.
 #[test]
-fn measure_asks_of_each_byte(rt: HostRuntime) -> Result<(), Fail> {
+fn measure_checks_each_byte(rt: HostRuntime) -> Result<(), Fail> {
     run(rt, &[0x73; 5], &MEASURED)
 }
 
-/// Arguments of a create beside the enclave of `ALONE`, and its status.
+/// The arguments of a create while the enclave of `ALONE` is live, and its status.
 const REFUSALS: [([u32; 5], u32); 11] = [
     ([0xffff_f000, 0x1000, 0, 0, 0x8003_0000], 0xffff_fffe),
     ([0x8003_0000, 0, 0, 0, 1], 0xffff_fffe),
@@ -182,7 +182,7 @@ const REFUSALS: [([u32; 5], u32); 11] = [
     ([0x8003_0000, 0x1000, 0xffff_ffff, 0, 0x8003_0000], 0),
 ];
 
-/// A create beside the enclave of `ALONE`, and its status and result.
+/// Returns the lines of a create while the enclave of `ALONE` is live, with its status and result.
 fn beside(arguments: [u32; 5], status: u32) -> [Line; 6] {
     [
         Line::Ask(1, ALONE),
@@ -194,7 +194,7 @@ fn beside(arguments: [u32; 5], status: u32) -> [Line; 6] {
     ]
 }
 
-/// Example 13, and some of example 37.
+/// Example 13, and parts of example 37.
 #[test]
 fn refusals_of_create(rt: HostRuntime) -> Result<(), Fail> {
     for (arguments, status) in REFUSALS {
@@ -231,7 +231,7 @@ const SLOTS: [Line; 25] = [
     Line::Create(0x8008_0000, 0, 5),
 ];
 
-/// Thirteen slots, and no more; create takes the lowest that is free.
+/// There are only thirteen slots. create takes the free slot with the lowest number.
 #[test]
 fn slots_are_taken_and_freed(rt: HostRuntime) -> Result<(), Fail> {
     run(rt, &[0x73; 20], &SLOTS)
@@ -254,19 +254,19 @@ const DESTROYED: [Line; 14] = [
     Line::See(Shown::X(T0), Some(0x0077_0000)),
 ];
 
-/// Example 17: destroy zeroes the region; the host is refused its bytes before, and has them after.
+/// Example 17: destroy zeroes the region. The host may not load its bytes before, and may load them after.
 #[test]
 fn destroy_zeroes(rt: HostRuntime) -> Result<(), Fail> {
     run(rt, &[0x73, 0x73, 0x0003_2283], &DESTROYED)
 }
 
-/// SHA-256 of the words 80020000, 1000, 0, 0, 80020004, the byte 73 and 4095 zeroes, as Python's hashlib gives it.
+/// SHA-256 of the words 80020000, 1000, 0, 0, 80020004, the byte 73 and 4095 zeros, computed with Python's hashlib.
 const DIGEST: [u8; 32] = [
     0x3e, 0x25, 0x41, 0xec, 0x33, 0xc2, 0x57, 0x08, 0x55, 0x5d, 0x87, 0x42, 0x34, 0x63, 0x0f, 0xdf,
     0xe7, 0xf8, 0x5f, 0xdf, 0x1a, 0x9f, 0x67, 0xd8, 0x29, 0x30, 0xcd, 0x81, 0x80, 0x91, 0x3d, 0xd2,
 ];
 
-/// What is known of that enclave. A window of size 0 has base 0.
+/// The record of that enclave. A window of size 0 has base 0.
 const INFO: SlotInfo = SlotInfo {
     region: Block {
         base: 0x8002_0000,
@@ -291,7 +291,7 @@ const DIGESTED: [Line; 10] = [
     Line::Bytes(0x8001_ffe0, DIGEST),
 ];
 
-/// The measurement is SHA-256 of the five words and the region at create, and stays so.
+/// The measurement is the SHA-256 of the five words and the region at create, and does not change.
 #[test]
 fn a_measurement_is_taken_at_create(rt: HostRuntime) -> Result<(), Fail> {
     run(rt, &[0x73; 2], &DIGESTED)
@@ -317,7 +317,7 @@ const NOBODY: [Line; 17] = [
     Line::See(Shown::Csr(0x142), Some(2)),
 ];
 
-/// What names no call, and what belongs to the other world, is refused first of all.
+/// A request that is no call, or a call of the other world, is refused before any other check.
 #[test]
 fn calls_of_nobody(rt: HostRuntime) -> Result<(), Fail> {
     run(rt, &[0x73; 20], &NOBODY)
@@ -337,14 +337,14 @@ const ILLEGAL: [Line; 11] = [
     Line::See(Shown::Csr(0x142), Some(2)),
 ];
 
-/// An illegal word of an enclave goes to its own mode S.
+/// An illegal word of an enclave traps to mode S of the enclave.
 #[test]
 fn an_exception_stays_in_its_world(rt: HostRuntime) -> Result<(), Fail> {
     run(rt, &[0x73; 2], &ILLEGAL)
 }
 
 const SCRAMBLED: [Line; 37] = [
-    // no enclave is scrambled, and then one that never ran, in its region alone
+    // no live enclave to scramble; then an enclave that never ran, in which only the region changes
     Line::Scramble(0, false),
     Line::Scramble(12, false),
     Line::Scramble(13, false),
@@ -358,7 +358,7 @@ const SCRAMBLED: [Line; 37] = [
     Line::See(Shown::Ends, Some(0x0073_0f55)),
     Line::Scramble(0, true),
     Line::See(Shown::Ends, Some(0x008c_f055)),
-    // run: the registers of the first entry are complemented, and x0, pc and the mode are not; what runs is not scrambled
+    // run: the registers of the first entry are complemented, except x0, pc and the mode; an enclave that runs is not scrambled
     Line::Poke(0x8002_0000, 0x73),
     Line::Poke(0x8002_0001, 0),
     Line::Poke(0x8002_0002, 0),
@@ -375,7 +375,7 @@ const SCRAMBLED: [Line; 37] = [
     Line::See(Shown::Pc, Some(0x8002_0000)),
     Line::See(Shown::Mode, Some(1)),
     Line::Scramble(0, false),
-    // exit: what is kept of it is all 0
+    // exit: the saved context is all 0
     Line::Set(A7, KEY),
     Line::Set(A6, 7),
     Line::Step,
@@ -386,7 +386,7 @@ const SCRAMBLED: [Line; 37] = [
     Line::See(Shown::Ends, Some(0x0073_f055)),
 ];
 
-/// Scrambling changes what is private to an enclave that does not run.
+/// Scrambling changes the private state of an enclave that does not run.
 #[test]
 fn what_is_private_is_scrambled(rt: HostRuntime) -> Result<(), Fail> {
     run(rt, &[0x73; 4], &SCRAMBLED)
@@ -394,7 +394,7 @@ fn what_is_private_is_scrambled(rt: HostRuntime) -> Result<(), Fail> {
 
 const TWO_HARTS: [Line; 51] = [
     Line::See(Shown::Harts, Some(2)),
-    // hart 1 begins as hart 0 does, but with a0 = 1
+    // hart 1 starts as hart 0 does, but with a0 = 1
     Line::See(Shown::X(A0), Some(0)),
     Line::On(1),
     Line::See(Shown::X(A0), Some(1)),
@@ -403,7 +403,7 @@ const TWO_HARTS: [Line; 51] = [
     Line::See(Shown::Mode, Some(1)),
     Line::See(Shown::World, None),
     Line::See(Shown::Csr(0x3a3), Some(0x1f00_0000)),
-    // create and run on hart 0; the entries of hart 1 are those of the host
+    // create and run on hart 0; the PMP entries of hart 1 are those of the host
     Line::On(0),
     Line::Ask(1, ALONE),
     Line::Step,
@@ -419,7 +419,7 @@ const TWO_HARTS: [Line; 51] = [
     Line::See(Shown::Entered, Some(0)),
     Line::See(Shown::World, Some(0)),
     Line::See(Shown::Pc, Some(0x8002_0000)),
-    // hart 1 cannot end what runs
+    // hart 1 cannot destroy an enclave that runs
     Line::On(1),
     Line::See(Shown::World, None),
     Line::Ask(2, [0; 5]),
@@ -427,7 +427,7 @@ const TWO_HARTS: [Line; 51] = [
     Line::See(Shown::Pc, Some(0x8001_0004)),
     Line::See(Shown::X(A0), Some(0xffff_fff8)),
     Line::Scramble(0, false),
-    // a step of hart 0, and two of hart 1, of which the second loads from the region
+    // a step of hart 0, and two of hart 1; the second loads from the region
     Line::Set(A0, 0),
     Line::Set(T1, 0x8002_0000),
     Line::On(0),
@@ -450,7 +450,7 @@ const TWO_HARTS: [Line; 51] = [
     Line::See(Shown::Csr(0x3a3), Some(0)),
 ];
 
-/// Example 40: two harts, one memory and one table, and entries of each.
+/// Example 40: two harts with one memory and one table, each with its own PMP entries.
 #[test]
 fn two_harts(rt: HostRuntime) -> Result<(), Fail> {
     run_two(rt, &[0x73, 0x73, 0x0003_2283], &TWO_HARTS)
@@ -491,7 +491,7 @@ const RUN_FIRST: [Line; 15] = [
     Line::See(Shown::Region(0), Some(0x8002_0000)),
 ];
 
-/// Example 40: hart 0 runs an enclave and hart 1 ends it; the second of them comes too late.
+/// Example 40: hart 0 runs an enclave and hart 1 destroys it. The second call is refused.
 #[test]
 fn the_first_of_two_harts_has_its_way(rt: HostRuntime) -> Result<(), Fail> {
     run_two(rt, &[0x73; 2], &DESTROY_FIRST)?;
@@ -503,7 +503,7 @@ const ON_THE_OTHER: [Line; 35] = [
     Line::Step,
     Line::Ask(3, [0; 5]),
     Line::Step,
-    // hart 1 neither runs nor resumes what runs on hart 0, but measures it
+    // hart 1 can neither run nor resume an enclave that runs on hart 0, but can measure it
     Line::On(1),
     Line::Ask(3, [0; 5]),
     Line::Step,
@@ -514,7 +514,7 @@ const ON_THE_OTHER: [Line; 35] = [
     Line::Ask(5, [0, 0x8001_ffe0, 0, 0, 0]),
     Line::Step,
     Line::See(Shown::X(A0), Some(0)),
-    // its own line stops nothing on hart 0, whose line does
+    // the timer line of hart 1 stops nothing on hart 0; that of hart 0 does
     Line::Timer(true),
     Line::On(0),
     Line::See(Shown::Csr(0x344), Some(0)),
@@ -538,7 +538,7 @@ const ON_THE_OTHER: [Line; 35] = [
     Line::See(Shown::Csr(0x3a0), Some(0x1818)),
 ];
 
-/// A slot runs on one hart at a time, and may go on on the other.
+/// An enclave runs on one hart at a time, and may resume on the other hart.
 #[test]
 fn an_enclave_goes_on_on_the_other_hart(rt: HostRuntime) -> Result<(), Fail> {
     run_two(rt, &[0x73; 5], &ON_THE_OTHER)
@@ -564,7 +564,7 @@ const LEAVES: [Line; 17] = [
     Line::See(Shown::X(T0), Some(8)),
 ];
 
-/// Each hart has registers and a pc of its own. addi x5, x5, 1
+/// Each hart has its own registers and pc. addi x5, x5, 1
 #[test]
 fn a_step_leaves_the_other_hart(rt: HostRuntime) -> Result<(), Fail> {
     run_two(rt, &[0x0012_8293; 2], &LEAVES)

@@ -1,4 +1,4 @@
-//! The numbers of the modes, verdicts at the borders of a few sets of entries, and the locks.
+//! Tests of the numbers of the modes, of the verdicts at the boundaries of some sets of PMP entries, and of locks.
 
 mod verdict_table;
 
@@ -14,7 +14,7 @@ use verdict_table::{
 /// An access, and the verdict on it.
 pub(crate) type Row = (Mode, Access, u32, Width, Expected);
 
-/// A verdict, with the number of the entry.
+/// A verdict, with the number of the matching entry.
 #[derive(Clone, Copy, Debug, PartialEq, Eq)]
 pub(crate) enum Expected {
     Allowed(u8),
@@ -24,7 +24,7 @@ pub(crate) enum Expected {
     DeniedFree,
 }
 
-/// The verdict with its number.
+/// Converts a verdict to one with the number of the entry.
 fn numbered(verdict: Verdict) -> Expected {
     match verdict {
         Verdict::Allowed(index) => Expected::Allowed(index.number()),
@@ -35,13 +35,13 @@ fn numbered(verdict: Verdict) -> Expected {
     }
 }
 
-/// The entry of a number, and the last one for those past it.
+/// Returns the index with a number, or the last index for a larger number.
 fn index(number: u8) -> PmpIndex {
     PmpIndex::new(number.min(15))
 }
 
-/// A verdict on an access, which the cache gives too, twice. The assertions stand here alone: in each test they would
-/// make its proof long.
+/// Expects a verdict on an access, and that the cache gives the same verdict twice. The assertions are in a function of their own, because they
+/// would lengthen the proof of each test.
 fn expect_verdict(rt: &impl Abort, pmp: &mut Pmp, row: &Row) {
     let (mode, access, addr, width, expected) = *row;
     let verdict = pmp.judge(mode, access, addr, width);
@@ -51,18 +51,18 @@ fn expect_verdict(rt: &impl Abort, pmp: &mut Pmp, row: &Row) {
     }
 }
 
-/// The cfg byte and the pmpaddr that are stored for an entry.
+/// Expects the cfg byte and the pmpaddr that an entry has.
 fn expect_entry(rt: &impl Abort, pmp: &Pmp, number: u8, cfg: u8, addr: u32) {
     assert!(rt; pmp.cfg(index(number)) == cfg, "cfg of {number}");
     assert!(rt; pmp.addr(index(number)) == addr, "addr of {number}");
 }
 
-/// The range that an entry covers.
+/// Expects the range of addresses that an entry covers.
 fn expect_range(rt: &impl Abort, pmp: &Pmp, number: u8, range: Option<(u64, u64)>) {
     assert_eq!(rt; pmp.entry_range(index(number)), range);
 }
 
-/// Asserts that the entries, each a number, a cfg byte and a pmpaddr, give the verdicts of the rows.
+/// Expects that the entries, given by number, cfg byte and pmpaddr, give the verdicts of the rows.
 fn equivalent(rt: &impl Abort, entries: &[(u8, u8, u32)], rows: &[Row]) {
     let mut pmp = Pmp::new();
     for (number, _, addr) in entries {
@@ -76,7 +76,7 @@ fn equivalent(rt: &impl Abort, entries: &[(u8, u8, u32)], rows: &[Row]) {
     }
 }
 
-/// Privileged Architecture, table 1.1.
+/// The numbers of Privileged Architecture, table 1.1.
 #[test]
 fn modes_are_numbered(rt: HostRuntime) {
     for (mode, number) in [(Mode::U, 0), (Mode::S, 1), (Mode::M, 3)] {
@@ -124,7 +124,7 @@ fn sixteen_apart(rt: HostRuntime) {
     equivalent(&rt, &SIXTEEN_APART_ENTRIES, &SIXTEEN_APART);
 }
 
-/// Whether a word may be read in mode U, by the verdict and by the cache.
+/// Expects whether a word may be read in mode U, by the verdict and by the cache.
 fn expect_open(rt: &impl Abort, pmp: &mut Pmp, addr: u32, open: bool) {
     let judged = pmp
         .judge(Mode::U, Access::Read, addr, Width::Word)
@@ -135,7 +135,7 @@ fn expect_open(rt: &impl Abort, pmp: &mut Pmp, addr: u32, open: bool) {
     }
 }
 
-/// Each write of an entry is seen by the next access.
+/// The next access uses each entry that was written.
 #[test]
 fn writes_are_seen(rt: HostRuntime) {
     let mut pmp = Pmp::new();
@@ -147,7 +147,7 @@ fn writes_are_seen(rt: HostRuntime) {
     expect_open(&rt, &mut pmp, 0x8000_0000, false);
 }
 
-/// All sixteen entries at once, their cfg bytes in their stored forms, and seen by the next access.
+/// All 16 entries are written at once. Their cfg bytes have their stored forms, and the next access uses them.
 #[test]
 fn sixteen_at_once(rt: HostRuntime) {
     let mut pmp = Pmp::new();
@@ -157,7 +157,7 @@ fn sixteen_at_once(rt: HostRuntime) {
     expect_entry(&rt, &pmp, 15, 0x1b, 0x2000_01ff);
 }
 
-/// A locked TOR entry keeps the pmpaddr below it, also where it covers nothing, and W without R is stored as neither.
+/// A locked TOR entry locks the pmpaddr below it, even if it covers nothing. W without R is stored as neither.
 #[test]
 fn locks_and_stored_bytes(rt: HostRuntime) {
     let mut pmp = Pmp::new();
@@ -180,7 +180,7 @@ fn locks_and_stored_bytes(rt: HostRuntime) {
     }
 }
 
-/// A write of a whole register leaves the byte of a locked entry, and locks bind from the next write on.
+/// A write of a whole register keeps the byte of a locked entry. A lock takes effect with the next write.
 #[test]
 fn register_of_four_entries(rt: HostRuntime) {
     let mut pmp = Pmp::new();
@@ -201,7 +201,7 @@ fn register_of_four_entries(rt: HostRuntime) {
     }
 }
 
-/// The first byte and the first past them of each way of matching.
+/// The first byte of each kind of range, and the first byte after it.
 #[test]
 fn ranges(rt: HostRuntime) {
     let mut pmp = Pmp::new();
@@ -220,7 +220,7 @@ fn ranges(rt: HostRuntime) {
     }
 }
 
-/// An entry is set at once, its cfg byte in its stored form.
+/// An entry is set at once, with its cfg byte in the stored form.
 #[test]
 fn set_entry(rt: HostRuntime) {
     let mut pmp = Pmp::new();
@@ -231,7 +231,7 @@ fn set_entry(rt: HostRuntime) {
     assert!(rt; numbered(across) == Expected::DeniedPartial(7));
 }
 
-/// A cached range is returned for its mode only, and until an entry is written.
+/// A cached range is returned only for its mode, and until an entry is written.
 #[test]
 fn cached_segments(rt: HostRuntime) {
     let mut pmp = Pmp::new();

@@ -1,4 +1,4 @@
-//! The table of the registers by number, and values worked out by hand from the manual.
+//! Tests of the table of control and status registers by number, and of values computed by hand from the manual.
 
 mod followed;
 mod table;

@@ -1,4 +1,4 @@
--- Which blocks meet: two that share a byte meet, and two that meet share the higher of their first bytes.
+-- Lemmas about blocks that meet: two blocks that share a byte meet, and two that meet share the higher of their first bytes.
 use Rattle.std.proofs.Common.{◌≡◌, ◌+◌, ◌<◌, ◌≤◌, ℕ, true, false, refl, inl, inr, arith}
 use Rattle.std.specs.Prelude.{nat_le, nat_lt}
 use Rattle.std.proofs.lemmas.Bool.{and_parts, and_from, both_ways, cases_lt, false_from_ne_true, leb-true, le-leb, ltb-true, lt-ltb}
@@ -7,7 +7,7 @@ use Rattle.rv_platform.specs.BlockLaws.{MeetsLaw, SharesByte}
 use Rattle.rv_platform.specs.Blocks.{has, meets, no_block}
 use Rattle.rv_platform.specs.declared.block.Block.{Block}
 
--- ---- bytes that are shared
+-- ---- shared bytes
 
 meets_from : (a b : Block) → SharesByte a b → meets a b ≡ true
 meets_from a b shared =
@@ -52,7 +52,7 @@ apart_at x y b none in_x = false_from_ne_true _ (λ in_y. both_ways _ none (meet
 pub apart_from : (x y : Block) (b : ℕ) → meets x y ≡ false → has y b ≡ true → has x b ≡ false
 apart_from x y b none in_y = false_from_ne_true _ (λ in_x. both_ways _ none (meets_at x y b in_x in_y))
 
--- ---- the two in the other order, and the block without bytes
+-- ---- the two blocks in the other order, and the empty block
 
 pub meets_symmetric : (a b : Block) → meets a b ≡ meets b a
 meets_symmetric a b = grind (arith, common_steps)

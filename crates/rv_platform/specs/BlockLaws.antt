@@ -1,4 +1,4 @@
--- Two blocks meet exactly where there is a byte that both have. (A law of the definition, no rule of a standard.)
+-- Two blocks meet if and only if both have a common byte. (A property of the definition, not a rule of a standard.)
 use Rattle.std.specs.Prelude.{◌≡◌, ℕ, true}
 use Rattle.rv_platform.specs.Blocks.{has, meets}
 use Rattle.rv_platform.specs.declared.block.Block.{Block}

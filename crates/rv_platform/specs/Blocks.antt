@@ -1,13 +1,13 @@
--- Blocks of addresses: a first address and a number of bytes; and the one that the monitor keeps for itself. (Keystone, EuroSys 2020, in
--- this project's profile. No public standard says the range.)
+-- Blocks of addresses, given by a first address and a number of bytes, and the block that the monitor reserves for itself. (Keystone, EuroSys
+-- 2020, in this project's profile. No public standard defines the range.)
 use Rattle.std.specs.Prelude.{ℕ, ◌+◌, Bool, ◌&&◌, nat_le, nat_lt}
 use Rattle.rv_platform.specs.declared.block.Block.{Block}
 
--- the block without bytes
+-- the empty block
 abbrev pub no_block : Block
 no_block = record { base = 0; size = 0 }
 
--- the range that the monitor keeps for itself
+-- the range that the monitor reserves for itself
 abbrev pub monitor_block : Block
 monitor_block = record { base = 0x80000000; size = 0x10000 }
 

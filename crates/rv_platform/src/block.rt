@@ -3,23 +3,23 @@
 ghost use Rattle.std.specs.Prelude.{◌≡◌};
 ghost use Rattle.rv_platform.specs.Blocks.{has as has_byte, meets as meets_block, monitor_block, no_block};
 
-/// A piece of the address space, by its first address and its size in bytes. The sum of both may be past the last address.
+/// A range of addresses, given by its first address and its size in bytes. Their sum may be above the last address.
 #[derive(Clone, Copy, Debug, PartialEq, Eq)]
 pub struct Block {
     /// The address of the first byte.
     pub base: u32,
-    /// How many bytes there are; 0 for none.
+    /// The number of bytes, which may be 0.
     pub size: u32,
 }
 
-/// The block without bytes.
+/// Returns the empty block.
 pub const fn no_block() -> Block
     ensures { result ≡ no_block }
 {
     Block { base: 0, size: 0 }
 }
 
-/// The range that the monitor keeps for itself: 80000000 to 8000FFFF.
+/// Returns the range that the monitor reserves for itself: 80000000 to 8000FFFF.
 pub const fn monitor_block() -> Block
     ensures { result ≡ monitor_block }
 {
@@ -30,14 +30,14 @@ pub const fn monitor_block() -> Block
 }
 
 impl Block {
-    /// Whether a byte address is in the block.
+    /// Returns whether a byte address is in the block.
     pub const fn has(self, byte: u32) -> bool
         ensures { result ≡ has_byte self byte }
     {
         self.base <= byte && (byte as u64) < self.base as u64 + self.size as u64
     }
 
-    /// Whether the blocks share a byte.
+    /// Returns whether the blocks share a byte.
     pub const fn meets(self, other: Self) -> bool
         ensures { result ≡ meets_block self other }
     {

@@ -1,19 +1,19 @@
-//! How many harts a machine has.
+//! The number of harts in a machine.
 
 ghost use Rattle.std.specs.Prelude.{◌≡◌};
 ghost use Rattle.rv_platform.specs.Harts.{counted_harts, number_of_harts};
 
-/// How many harts a machine has.
+/// The number of harts in a machine.
 #[derive(Clone, Copy, Debug, PartialEq, Eq)]
 pub enum Harts {
-    /// Hart 0 alone.
+    /// Only hart 0.
     One,
-    /// Hart 0 and hart 1, with one memory and under one monitor.
+    /// Hart 0 and hart 1, with one memory, under one monitor.
     Two,
 }
 
 impl Harts {
-    /// So many harts, or `None` where a machine does not have so many.
+    /// Returns the value for `count` harts, or `None` if a machine cannot have as many.
     pub const fn counted(count: u8) -> Option<Harts>
         ensures { result ≡ counted_harts count }
     {
@@ -24,7 +24,7 @@ impl Harts {
         }
     }
 
-    /// The number of them.
+    /// Returns the number of harts.
     pub const fn count(self) -> u8
         ensures { result ≡ number_of_harts self }
     {
@@ -36,7 +36,7 @@ impl Harts {
 }
 
 impl Default for Harts {
-    /// `One`.
+    /// Returns `One`.
     fn default() -> Self
         ensures { result ≡ Harts.One }
     {

@@ -1,8 +1,8 @@
-//! Laws of the definitions in `specs/`, for any crate above to cite.
+//! Properties of the definitions in `specs/`, for the crates above.
 
 ghost use Rattle.rv_platform.specs.BlockLaws.{MeetsLaw};
 
-/// Two blocks meet exactly where there is a byte that both have.
+/// States that two blocks meet if and only if both have a common byte. It executes nothing.
 pub const fn blocks_meet()
     ensures { MeetsLaw }
 {}

@@ -1,5 +1,5 @@
-//! What a machine is made of, apart from the insides of its harts: blocks of addresses, the range of them that a monitor keeps for itself,
-//! and how many harts there are. All crates that name one of these name it from here.
+//! The parts of a machine outside its harts: blocks of addresses, the range that a monitor reserves for itself, and the number of harts. All
+//! crates use these definitions.
 #![tactic(auto)]
 
 mod block;

@@ -1,4 +1,4 @@
--- What some lines are.
+-- Examples: lines with their commands or errors.
 use Rattle.std.proofs.Common.{◌≡◌, ℕ, true, false, List, [], ◌∷◌, Result, Ok, Err, map, refl}
 use Rattle.std.specs.Prelude.{codes}
 use Rattle.rv_text.specs.GoodLines.{is_text}
@@ -15,7 +15,7 @@ use Rattle.rv_script.specs.declared.command.CommandFault.{CommandFault}
 use Rattle.rv_script.specs.declared.command.CommandFault.TheVariants.{BadLine, UnknownCommand, BadOperand}
 use Rattle.rv_script.specs.Command.{keyword_of, meaning_of, parse_of}
 
--- ---- lines, and what they are
+-- ---- lines, and their commands
 
 abbrev examples : List (List ℕ × Result Command CommandFault)
 examples =
@@ -81,7 +81,7 @@ examples =
     ∷ (codes "Access M r 0 1", Err UnknownCommand)
     ∷ (codes "Timer on", Err UnknownCommand)
     ∷ (codes "--", Err UnknownCommand)
-    -- ---- other operands
+    -- ---- invalid operands
     ∷ (codes "step 0", Err BadOperand)
     ∷ (codes "step 1000001", Err BadOperand)
     ∷ (codes "step 00000001", Err BadOperand)

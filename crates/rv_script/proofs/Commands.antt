@@ -1,4 +1,4 @@
--- What of a line matters to the command that it is: its first six words, and its first 121 bytes.
+-- The command of a line depends only on its first six words, and on its first 121 bytes.
 use Rattle.std.proofs.Common.{◌≡◌, ◌≤◌, ℕ, arith, nat_eq, Bor, List, [], ◌∷◌, length, map, take, Option, Some, None, Ok, Err, refl, ap}
 use Rattle.std.specs.Prelude.{codes, if◌then◌else◌}
 use Rattle.std.specs.List.{starts_with}
@@ -26,7 +26,7 @@ made-take (FourOperands make) (t ∷ u ∷ v ∷ []) = refl
 made-take (FourOperands make) (t ∷ u ∷ v ∷ w ∷ []) = refl
 made-take (FourOperands make) (t ∷ u ∷ v ∷ w ∷ x ∷ more) = refl
 
--- nothing is made of three operands, and nothing of five or more
+-- no command has three operands, or five or more
 pub made_three : (form : Form) (operands : List (Bor (List ℕ))) → length operands ≡ 3 → None ≡ made form (map (λ operand. operand.now) operands)
 made_three form (t ∷ u ∷ v ∷ []) e = by_form form
   where
@@ -57,7 +57,7 @@ meaning_of-take [] = refl
 meaning_of-take (name ∷ operands) =
     ap (λ r. if starts_with nat_eq name (codes "#") then Ok Blank else r) (named-take (keyword_of name) operands)
 
--- the first 121 bytes of a line say what the line says
+-- the first 121 bytes of a line give the same command as the line
 pub parse_of-cut : (line : List ℕ) → parse_of (take 121 line) ≡ parse_of line
 unfolding parse_of
 parse_of-cut line = if_good-take (λ good. meaning_of (words_of good)) (Err BadLine) line

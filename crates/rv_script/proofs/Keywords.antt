@@ -1,4 +1,4 @@
--- The keyword that a word spells, as a search by spelling.
+-- The keyword of a word, as a search by its text.
 use Rattle.std.proofs.Common.{◌≡◌, ◌∙◌, ℕ, Bool, true, false, cond, List, [], ◌∷◌, map, Option, Some, None, Bor, refl, sym, ap}
 use Rattle.std.specs.List.{find}
 use Rattle.std.specs.Option.{option_map}
@@ -17,7 +17,7 @@ found_in_map : {A B : Type 0} (f : A → B) (test : B → Bool) (xs : List A) �
 found_in_map f test [] = refl
 found_in_map f test (x ∷ xs) = mapped_if f (test (f x)) x (find (λ x. test (f x)) xs) (find test (map f xs)) (found_in_map f test xs)
 
--- what is found among rows that are lent
+-- a borrowed row, as the table has it
 abbrev row_of : Bor (List ℕ) × Keyword → List ℕ × Keyword
 row_of row = (row.0.now, row.1)
 
@@ -44,7 +44,7 @@ keyword_of-rows word =
     ap (option_map (λ (row : List ℕ × Keyword). row.1)) (sym (found_in_map (λ k. (spelling_of k, k)) (λ row. bytes_eq word row.0) keywords))
     ∙ second (find (λ k. bytes_eq word (spelling_of k)) keywords)
 
--- each keyword is the one that its spelling spells
+-- the text of each keyword gives this keyword
 pub keyword_of-spelling_of : (k : Keyword) → Some k ≡ keyword_of (spelling_of k)
 unfolding keyword_of
 keyword_of-spelling_of Step = refl
@@ -67,7 +67,7 @@ keyword_of-spelling_of Timer = refl
 keyword_of-spelling_of Hart = refl
 keyword_of-spelling_of Sched = refl
 
--- no two keywords are spelled alike
+-- no two keywords have the same text
 pub spelling_of-injective : (j k : Keyword) → spelling_of j ≡ spelling_of k → j ≡ k
 spelling_of-injective j k alike =
     let first = keyword_of-spelling_of j in

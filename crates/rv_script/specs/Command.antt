@@ -1,4 +1,4 @@
--- The commands of this bench: how each is written, and what a line asks for. (This project's own commands.)
+-- The commands of the bench: their syntax, and the command of each line. (This project's own commands.)
 use Rattle.std.specs.Prelude.{ℕ, Bool, true, false, List, [], ◌∷◌, codes, find, Option, Some, None, Result, Ok, Err, option_and_then, option_map}
 use Rattle.std.specs.Prelude.{nat_eq, if◌then◌else◌}
 use Rattle.std.specs.Option.{ok_or}
@@ -32,34 +32,34 @@ decimal_within low high operand = option_and_then (within low high) (decimal_of 
 abbrev pub register_of : List ℕ → Option ℕ
 register_of operand = decimal_within 0 31 operand
 
--- on or off
+-- `on` or `off`
 abbrev pub switch_of : List ℕ → Option Bool
 switch_of operand =
     if bytes_eq operand (codes "on") then Some true
     else (if bytes_eq operand (codes "off") then Some false else None)
 
--- the mode of a letter
+-- the mode with a letter
 abbrev pub mode_of : List ℕ → Option Mode
 mode_of operand =
     if bytes_eq operand (codes "M") then Some M
     else (if bytes_eq operand (codes "S") then Some S
     else (if bytes_eq operand (codes "U") then Some U else None))
 
--- the kind of access of a letter, that of the permission which it needs
+-- the kind of access with the letter of the permission that it needs
 abbrev pub access_of : List ℕ → Option Access
 access_of operand =
     if bytes_eq operand (codes "r") then Some Read
     else (if bytes_eq operand (codes "w") then Some Write
     else (if bytes_eq operand (codes "x") then Some Fetch else None))
 
--- the width of just so many bytes, written in one digit
+-- the width with a number of bytes, as one digit
 abbrev pub width_of : List ℕ → Option Width
 width_of operand =
     if bytes_eq operand (codes "1") then Some Byte
     else (if bytes_eq operand (codes "2") then Some Half
     else (if bytes_eq operand (codes "4") then Some Word else None))
 
--- what stands behind a first word, and the command that it makes: no operand, just one, just two, or just four
+-- the operands of a command, and the command that they give: none, one, two, or four
 pub data Form : Type 0 where
   NoOperand : (command : Command) → Form
   OneOperand : (make : List ℕ → Option Command) → Form
@@ -73,7 +73,7 @@ made (TwoOperands make) (t ∷ u ∷ []) = make t u
 made (FourOperands make) (t ∷ u ∷ v ∷ w ∷ []) = make t u v w
 made _ _ = None
 
--- each operand is read on its own
+-- forms in which each operand is read by itself
 abbrev pub one : {A : Type 0} → (List ℕ → Option A) → (A → Command) → Form
 one read make = OneOperand (λ t. option_map make (read t))
 
@@ -86,7 +86,7 @@ four first second third fourth make =
     FourOperands (λ t u v w.
     option_and_then (λ a. option_and_then (λ b. option_and_then (λ c. option_map (make a b c) (fourth w)) (third v)) (second u)) (first t))
 
--- a row of the table of commands: the first word, and what stands behind it
+-- a row of the table of commands: the first word, and the operands
 pub record CommandRow : Type 0 where
   pub spelling : List ℕ
   pub form : Form
@@ -124,7 +124,7 @@ spelling_of k = (command_row k).spelling
 abbrev pub operands_of : Keyword → List (List ℕ) → Option Command
 operands_of k = made (command_row k).form
 
--- the keyword that a word spells
+-- the keyword with a text
 unfoldable pub keyword_of : List ℕ → Option Keyword
 keyword_of word = find (λ k. bytes_eq word (spelling_of k)) keywords
 
@@ -132,22 +132,22 @@ abbrev pub named : Option Keyword → List (List ℕ) → Result Command Command
 named None operands = Err UnknownCommand
 named (Some k) operands = ok_or (operands_of k operands) BadOperand
 
--- no words ask for nothing, and neither does a comment
+-- the command of a list of words; an empty list and a comment are `Blank`
 unfoldable pub meaning_of : List (List ℕ) → Result Command CommandFault
 meaning_of [] = Ok command.Blank
 meaning_of (name ∷ operands) = if starts_with nat_eq name (codes "#") then Ok command.Blank else named (keyword_of name) operands
 
--- the command that a line is, or the first of its faults
+-- the command of a line, or the first of its errors
 unfoldable pub parse_of : List ℕ → Result Command CommandFault
 parse_of line = if is_good_line line then meaning_of (words_of line) else Err BadLine
 
--- the numbers of the faults, in the order in which they are asked
+-- the numbers of the errors, in the order in which they are checked
 abbrev pub number_of_fault : CommandFault → ℕ
 number_of_fault BadLine = 1
 number_of_fault UnknownCommand = 2
 number_of_fault BadOperand = 3
 
--- the bytes that a command names by their addresses
+-- the bytes whose addresses are operands of a command
 abbrev pub bytes_named : Command → Block
 bytes_named (command.Mem address count) = record { base = address; size = count }
 bytes_named (command.Dis address) = record { base = address; size = 4 }

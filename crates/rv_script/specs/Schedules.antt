@@ -1,11 +1,11 @@
--- Which hart makes which step, as a word of digits says it. (This project's own commands.)
+-- Schedules: the hart of each step, as a word of digits. (This project's own commands.)
 use Rattle.std.specs.Prelude.{ℕ, ◌-◌, ◌==◌, Bool, ◌||◌, ◌&&◌, nat_lt, nat_le, List, ◌++◌, map, take, length}
 use Rattle.std.specs.Prelude.{replicate, Option, Some, None, codes, if◌then◌else◌}
 use Rattle.std.specs.List.{list_all}
 use Rattle.std.specs.Str.{bytes_eq}
 use Rattle.rv_script.specs.declared.schedule.Schedule.{Schedule}
 
--- the word that names a hart
+-- the hart with this number as its text
 abbrev pub hart_named : List ℕ → Option ℕ
 hart_named operand = if bytes_eq operand (codes "0") then Some 0 else (if bytes_eq operand (codes "1") then Some 1 else None)
 
@@ -20,7 +20,7 @@ hart_of_digit digit = if digit == 49 then 1 else 0
 abbrev pub is_schedule : List ℕ → Bool
 is_schedule word = nat_le 1 (length word) && nat_le (length word) 64 && list_all is_hart_digit word
 
--- they are kept, with zeros behind them up to 64
+-- the schedule of a word: its digits, followed by zeros up to 64
 unfoldable pub schedule_of : List ℕ → Option Schedule
 schedule_of word =
     if is_schedule word then Some (record { digits = word ++ replicate (64 - length word) 0; steps = length word }) else None
@@ -29,6 +29,6 @@ schedule_of word =
 abbrev pub harts_in : Schedule → List ℕ
 harts_in schedule = map hart_of_digit (take schedule.steps schedule.digits)
 
--- each of them is one of so many
+-- each of the harts is one of `count` harts
 unfoldable pub has_all : ℕ → List ℕ → Bool
 has_all count harts = list_all (λ hart. nat_lt hart count) harts

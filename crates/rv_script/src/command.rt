@@ -1,4 +1,4 @@
-//! The commands, and how a line is read as one.
+//! The commands, and the parser of a line.
 
 ghost use Rattle.std.specs.Prelude.{◌≡◌, [], ◌∷◌, map};
 ghost use Rattle.rv_word.specs.Cases.{option_case};
@@ -16,69 +16,69 @@ use rv_pmp::{Access, Mode};
 use rv_text::{first_words, is_good_line};
 use rv_word::{Reg, Width};
 
-/// How many steps one command makes: 1 to 1000000.
+/// The number of steps of one command: 1 to 1000000.
 pub type StepCount = Within<1, 1_000_000>;
 
-/// How many bytes one command shows: 1 to 64.
+/// The number of bytes that one command shows: 1 to 64.
 pub type ByteCount = Within<1, 64>;
 
-/// What a line asks of the bench.
+/// The command of a line.
 #[derive(Clone, Copy, Debug, PartialEq, Eq)]
 pub enum Command {
-    /// Nothing: the line has no words, or its first word begins with `#`.
+    /// No command: the line has no words, or its first word begins with `#`.
     Blank,
-    /// `step N`: so many steps, whatever is a break or watched.
+    /// `step N`: step N times, regardless of breakpoints and watchpoints.
     Step(StepCount),
-    /// `run N`: so many steps, or fewer, where one loads or stores a watched byte, or ends at a break.
+    /// `run N`: step at most N times. Stop after a step that loads or stores a watched byte, or that ends at a breakpoint.
     Run(StepCount),
-    /// `break A`: a run breaks off where the next instruction is at the address.
+    /// `break A`: set a breakpoint. A run stops when the next instruction is at the address.
     Break(u32),
-    /// `clear A`: it no longer does.
+    /// `clear A`: remove the breakpoint.
     Clear(u32),
-    /// `watch A`: a run ends after an instruction that loads or stores the byte at the address.
+    /// `watch A`: set a watchpoint. A run stops after an instruction that loads or stores the byte at the address.
     Watch(u32),
-    /// `unwatch A`: it no longer does.
+    /// `unwatch A`: remove the watchpoint.
     Unwatch(u32),
     /// `reg N`: show the register.
     Reg(Reg),
     /// `regs`: show all registers and pc.
     Regs,
-    /// `setreg N V`: put the word into the register; x0 stays 0.
+    /// `setreg N V`: write the word to the register. x0 stays 0.
     SetReg(Reg, u32),
-    /// `csr C`: show the control and status register, as mode M reads it; mhartid, f14, as the number of the chosen hart.
+    /// `csr C`: show the control and status register, as mode M reads it. For mhartid (f14) show the number of the selected hart.
     Csr(CsrNumber),
-    /// `mem A N`: show so many bytes of memory from an address on.
+    /// `mem A N`: show N bytes of memory from an address on.
     Mem(u32, ByteCount),
-    /// `poke A V`: put the byte into memory at an address.
+    /// `poke A V`: write the byte to memory at an address.
     Poke(u32, u8),
-    /// `dis A`: show the word at an address, of any alignment, and its instruction in assembly language.
+    /// `dis A`: show the word at an address of any alignment, and its instruction in assembly language.
     Dis(u32),
-    /// `pmp`: show the sixteen entries of physical memory protection.
+    /// `pmp`: show the 16 PMP entries.
     Pmp,
-    /// `enclaves`: show the live enclaves, of which a bare bench has none.
+    /// `enclaves`: show the live enclaves. A bench without the monitor has none.
     Enclaves,
-    /// `access M K A L`: tell whether an access would be permitted, and by which entry. It is judged in the mode that is
-    /// named, whatever mode the hart is in.
+    /// `access M K A L`: show whether an access would be permitted, and by which PMP entry. It is checked in the given mode, whatever the mode
+    /// of the hart is.
     Access {
         /// M: the mode.
         mode: Mode,
-        /// K: what the access is for.
+        /// K: the kind of access.
         access: Access,
         /// A: the address of its first byte.
         address: u32,
-        /// L: how many bytes it has.
+        /// L: the number of bytes.
         width: Width,
     },
-    /// `timer on`, `timer off`: raise the timer line, or lower it.
+    /// `timer on`, `timer off`: set or clear the timer line.
     Timer(bool),
-    /// `hart H`: choose the hart of this number, which then steps and is shown.
+    /// `hart H`: select the hart with this number. Later commands step and show this hart.
     Hart(u8),
-    /// `sched W`: one step of hart 0 or hart 1 for each digit, whatever is a break or watched; the chosen hart stays.
+    /// `sched W`: step hart 0 or hart 1 once for each digit, regardless of breakpoints and watchpoints. The selected hart does not change.
     Sched(Schedule),
 }
 
 impl Command {
-    /// The bytes that a mem, dis or poke names by their addresses; no other command names any.
+    /// Returns the bytes whose addresses are operands of the command: those of `mem`, `dis` and `poke`. Any other command has none.
     pub fn named(&self) -> Option<Block>
         ensures { option_case result no_block (λ block. block) ≡ bytes_named self.now }
     {
@@ -100,19 +100,19 @@ impl Command {
     }
 }
 
-/// What is wrong with a line: the first of these faults that it has.
+/// The error of a line: the first of these that it has.
 #[derive(Clone, Copy, Debug, PartialEq, Eq)]
 pub enum CommandFault {
-    /// 1: the line has more than 120 bytes, or one that is neither a tab nor from 20 to 7E.
+    /// 1: the line has more than 120 bytes, or a byte that is neither a tab nor from 0x20 to 0x7E.
     BadLine,
     /// 2: the first word is no command.
     UnknownCommand,
-    /// 3: the number, the form or the range of the operands is not the command's.
+    /// 3: the command does not have this number, form or range of operands.
     BadOperand,
 }
 
 impl CommandFault {
-    /// The fault's number, 1 to 3.
+    /// Returns the number of the error, 1 to 3.
     pub fn number(self) -> u8
         ensures { result ≡ number_of_fault self }
     {
@@ -124,7 +124,7 @@ impl CommandFault {
     }
 }
 
-/// The register that an operand names: a decimal number, 0 to 31.
+/// Reads a register: a decimal number, 0 to 31.
 #[tactic(auto, unfolding(crate::specs::Command::register_of))]
 fn register(operand: &[u8]) -> Option<Reg>
     ensures { result ≡ register_of operand.now }
@@ -136,14 +136,14 @@ fn register(operand: &[u8]) -> Option<Reg>
     Some(Reg::new(number as u8))
 }
 
-/// The number of steps that an operand names: a decimal number, 1 to 1000000.
+/// Reads a number of steps: a decimal number, 1 to 1000000.
 fn step_count(operand: &[u8]) -> Option<StepCount>
     ensures { result ≡ decimal_within 1 1000000 operand.now }
 {
     StepCount::new(decimal(operand)?)
 }
 
-/// Whether an operand says `on` rather than `off`; any other says neither.
+/// Reads `on` as true and `off` as false. Returns `None` for any other operand.
 fn switch(operand: &[u8]) -> Option<bool>
     ensures { result ≡ switch_of operand.now }
 {
@@ -154,7 +154,7 @@ fn switch(operand: &[u8]) -> Option<bool>
     }
 }
 
-/// The mode that an operand names by its letter.
+/// Reads a mode, by its letter.
 fn mode(operand: &[u8]) -> Option<Mode>
     ensures { result ≡ mode_of operand.now }
 {
@@ -166,7 +166,7 @@ fn mode(operand: &[u8]) -> Option<Mode>
     }
 }
 
-/// The kind of access that an operand names by the letter of its permission.
+/// Reads a kind of access, by the letter of its permission.
 fn access(operand: &[u8]) -> Option<Access>
     ensures { result ≡ access_of operand.now }
 {
@@ -178,7 +178,7 @@ fn access(operand: &[u8]) -> Option<Access>
     }
 }
 
-/// The width that an operand names by its number of bytes, in one digit.
+/// Reads a width: its number of bytes, as one digit.
 fn width(operand: &[u8]) -> Option<Width>
     ensures { result ≡ width_of operand.now }
 {
@@ -190,7 +190,7 @@ fn width(operand: &[u8]) -> Option<Width>
     }
 }
 
-/// The command of a keyword without operands.
+/// Returns the command of a keyword without operands.
 fn with_none(keyword: Keyword) -> Option<Command>
     ensures { result ≡ operands_of keyword [] }
 {
@@ -202,7 +202,7 @@ fn with_none(keyword: Keyword) -> Option<Command>
     }
 }
 
-/// The command that a keyword makes of one operand.
+/// Returns the command of a keyword with one operand.
 fn with_one(keyword: Keyword, operand: &[u8]) -> Option<Command>
     ensures { result ≡ operands_of keyword (operand.now ∷ []) }
 {
@@ -223,7 +223,7 @@ fn with_one(keyword: Keyword, operand: &[u8]) -> Option<Command>
     }
 }
 
-/// The command that a keyword makes of two operands.
+/// Returns the command of a keyword with two operands.
 fn with_two(keyword: Keyword, first: &[u8], second: &[u8]) -> Option<Command>
     ensures { result ≡ operands_of keyword (first.now ∷ second.now ∷ []) }
 {
@@ -247,7 +247,7 @@ fn with_two(keyword: Keyword, first: &[u8], second: &[u8]) -> Option<Command>
     }
 }
 
-/// The command that a keyword makes of four operands.
+/// Returns the command of a keyword with four operands.
 fn with_four(
     keyword: Keyword,
     letter: &[u8],
@@ -272,7 +272,7 @@ fn with_four(
     })
 }
 
-/// The command that a keyword makes of its operands.
+/// Returns the command of a keyword with its operands.
 #[tactic(auto, using(crate::proofs::Commands::made_three, crate::proofs::Commands::made_many))]
 fn with_operands(keyword: Keyword, operands: &[&[u8]]) -> Option<Command>
     ensures { result ≡ operands_of keyword (map (λ operand. operand.now) operands.now) }
@@ -287,7 +287,7 @@ fn with_operands(keyword: Keyword, operands: &[&[u8]]) -> Option<Command>
     }
 }
 
-/// The command that the words of a good line make, or their first fault.
+/// Returns the command of the words of a well-formed line, or their first error.
 #[tactic(auto, unfolding(crate::specs::Command::meaning_of))]
 fn meaning(words: &[&[u8]]) -> Result<Command, CommandFault>
     ensures { result ≡ meaning_of (map (λ word. word.now) words.now) }
@@ -302,11 +302,15 @@ fn meaning(words: &[&[u8]]) -> Result<Command, CommandFault>
     with_operands(keyword, operands).ok_or(CommandFault::BadOperand)
 }
 
-/// The command that a line is, given without its ending, or the first fault that it has.
+/// Parses a line without its ending. A line without words, or whose first word begins with `#`, is `Command::Blank`. Only the first 121 bytes of
+/// the line matter.
 ///
-/// A bad line is `BadLine`. A good one without words, or whose first word begins with `#`, is
-/// `Command::Blank`. Otherwise an unknown first word is `UnknownCommand`, and operands that are not the
-/// command's are `BadOperand`. Only the first 121 bytes of the line matter.
+/// # Errors
+///
+/// The first of these that applies:
+/// - `BadLine`, if the line has more than 120 bytes or a byte that no line may have.
+/// - `UnknownCommand`, if the first word is no command.
+/// - `BadOperand`, if the command does not have this number, form or range of operands.
 #[tactic(auto, unfolding(crate::specs::Command::parse_of))]
 pub fn parse(line: &[u8]) -> Result<Command, CommandFault>
     ensures { result ≡ parse_of line.now }

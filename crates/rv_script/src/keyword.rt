@@ -5,7 +5,7 @@ ghost use Rattle.std.specs.Option.{option_map};
 ghost use Rattle.std.specs.Str.{bytes_eq};
 ghost use Rattle.rv_script.specs.Command.{keyword_of};
 
-/// A command's first word.
+/// The first word of a command.
 #[derive(Clone, Copy)]
 pub(crate) enum Keyword {
     Step,
@@ -29,7 +29,7 @@ pub(crate) enum Keyword {
     Sched,
 }
 
-/// How the keywords are spelled.
+/// The texts of the keywords.
 const SPELLINGS: &[(&str, Keyword)] = &[
     ("step", Keyword::Step),
     ("run", Keyword::Run),
@@ -53,14 +53,14 @@ const SPELLINGS: &[(&str, Keyword)] = &[
 ];
 
 impl Keyword {
-    /// The keyword that a word spells, if there is one. Upper and lower case differ.
+    /// Returns the keyword with this text, if there is one. Keywords are case-sensitive.
     pub(crate) fn find(word: &[u8]) -> Option<Keyword>
         ensures { result ≡ keyword_of word.now }
     {
         Self::matching(SPELLINGS, word)
     }
 
-    /// The keyword in the row of a word, if there is one.
+    /// Returns the keyword in the row of a word, if there is one.
     fn matching(rows: &[(&str, Keyword)], word: &[u8]) -> Option<Keyword>
         ensures { result ≡ option_map (λ (row : List ℕ × Keyword). row.1) (find (λ row. bytes_eq word.now row.0) (map (λ row. (row.0.now, row.1)) rows.now)) }
     {

@@ -1,7 +1,7 @@
-//! The language of scripts: the commands of the bench, and how a line is read as one. What a command does is another crate's.
+//! The language of scripts: the commands of the bench, and the parser of a line. Another crate executes the commands.
 //!
-//! In the specs `Command` is the table of the commands and their operands, `Numbers` and `Within` say what an operand writes, and
-//! `Schedules` which hart makes which step.
+//! In the specs, `Command` is the table of the commands and their operands. `Numbers` and `Within` define the numbers in operands, and
+//! `Schedules` the hart of each step.
 //!
 //! ```text
 //! parse(b"step 1")    // Ok(Command::Step(count)), where count.get() is 1

@@ -1,4 +1,4 @@
-//! Numbers that the operands of a command write.
+//! Reads numbers from the operands of a command.
 
 ghost use Rattle.std.specs.Prelude.{◌≡◌};
 ghost use Rattle.rv_script.specs.Numbers.{hexadecimal_of, csr_number_of, byte_of_text, decimal_of};
@@ -6,7 +6,7 @@ ghost use Rattle.rv_script.specs.Numbers.{hexadecimal_of, csr_number_of, byte_of
 use rv_encoding::CsrNumber;
 use rv_text::digits;
 
-/// The number that a hexadecimal operand writes: one to eight digits of either case, perhaps after `0x`.
+/// Reads a hexadecimal number: one to eight digits of either case, with an optional `0x` before them.
 #[tactic(auto, unfolding(crate::specs::Numbers::hexadecimal_of))]
 pub(crate) fn hexadecimal(text: &[u8]) -> Option<u32>
     ensures { result ≡ hexadecimal_of text.now }
@@ -14,7 +14,7 @@ pub(crate) fn hexadecimal(text: &[u8]) -> Option<u32>
     digits(text.strip_prefix(b"0x").unwrap_or(text), 16, 8)
 }
 
-/// The register that an operand names by its number: one to three hexadecimal digits of either case, and no `0x`.
+/// Reads the number of a control and status register: one to three hexadecimal digits of either case, without `0x`.
 #[tactic(auto, unfolding(crate::specs::Numbers::csr_number_of))]
 pub(crate) fn csr_number(text: &[u8]) -> Option<CsrNumber>
     ensures { result ≡ csr_number_of text.now }
@@ -23,7 +23,7 @@ pub(crate) fn csr_number(text: &[u8]) -> Option<CsrNumber>
     Some(CsrNumber::new(number as u16))
 }
 
-/// The byte that an operand writes: one or two hexadecimal digits of either case, and no `0x`.
+/// Reads a byte: one or two hexadecimal digits of either case, without `0x`.
 #[tactic(auto, unfolding(crate::specs::Numbers::byte_of_text))]
 pub(crate) fn byte(text: &[u8]) -> Option<u8>
     ensures { result ≡ byte_of_text text.now }
@@ -32,7 +32,7 @@ pub(crate) fn byte(text: &[u8]) -> Option<u8>
     Some(number as u8)
 }
 
-/// The number that a decimal operand writes: one to seven digits.
+/// Reads a decimal number: one to seven digits.
 #[tactic(auto, unfolding(crate::specs::Numbers::decimal_of))]
 pub(crate) fn decimal(text: &[u8]) -> Option<u32>
     ensures { result ≡ decimal_of text.now }

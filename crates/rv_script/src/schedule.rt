@@ -1,13 +1,13 @@
-//! Which hart makes which step.
+//! Schedules: the hart of each step.
 
 ghost use Rattle.std.specs.Prelude.{◌≡◌, ◌<◌, ◌≤◌, length, nat_lt, map};
 ghost use Rattle.std.specs.List.{list_all};
 ghost use Rattle.rv_script.specs.Schedules.{is_hart_digit as is_hart_digit_of, is_schedule as is_schedule_of, hart_of_digit, harts_in, schedule_of, hart_named, has_all};
 
-/// The most steps that one schedule has.
+/// The maximal number of steps of a schedule.
 const MOST: usize = 64;
 
-/// Whether a byte is the digit of a hart.
+/// Returns whether a byte is the digit of a hart, 0 or 1.
 #[tactic(auto, unfolding(crate::specs::Schedules::is_hart_digit))]
 fn is_hart_digit(byte: u8) -> bool
     ensures { result ≡ is_hart_digit_of byte }
@@ -15,21 +15,21 @@ fn is_hart_digit(byte: u8) -> bool
     byte == b'0' || byte == b'1'
 }
 
-/// Whether each byte is the digit of a hart.
+/// Returns whether each byte is the digit of a hart.
 fn are_hart_digits(word: &[u8]) -> bool
     ensures { result ≡ list_all is_hart_digit_of word.now }
 {
     word.iter().all(|byte| is_hart_digit(*byte))
 }
 
-/// Whether a word is 1 to 64 digits, each that of a hart.
+/// Returns whether a word is 1 to 64 digits of harts.
 fn is_schedule(word: &[u8]) -> bool
     ensures { result ≡ is_schedule_of word.now }
 {
     1 <= word.len() && word.len() <= MOST && are_hart_digits(word)
 }
 
-/// The hart that a digit names: 1 is that of hart 1.
+/// Returns the hart with a digit: hart 1 for the digit 1, otherwise hart 0.
 #[tactic(auto, unfolding(crate::specs::Schedules::hart_of_digit))]
 pub fn hart(digit: u8) -> u8
     ensures which { result ≡ hart_of_digit digit }
@@ -38,7 +38,7 @@ pub fn hart(digit: u8) -> u8
     u8::from(digit == b'1')
 }
 
-/// The hart that an operand names: the word `0` or `1`.
+/// Reads the number of a hart: `0` or `1`.
 pub(crate) fn hart_operand(operand: &[u8]) -> Option<u8>
     ensures { result ≡ hart_named operand.now }
 {
@@ -49,24 +49,24 @@ pub(crate) fn hart_operand(operand: &[u8]) -> Option<u8>
     }
 }
 
-/// Whether each of these digits names a hart below this number. None names a third.
+/// Returns whether each of these digits is that of a hart below this number. Any digit is that of hart 0 or hart 1.
 fn name_only(digits: &[u8], harts: u8) -> bool
     ensures { result ≡ list_all (λ digit. nat_lt (hart_of_digit digit) harts) digits.now }
 {
     harts >= 2 || digits.iter().all(|digit| hart(*digit) < harts)
 }
 
-/// The harts whose steps follow one another: of 1 to 64 steps, whether each is made by hart 0 or by hart 1.
+/// The harts of consecutive steps: for each of 1 to 64 steps, hart 0 or hart 1.
 #[derive(Clone, Copy, Debug, PartialEq, Eq)]
 pub struct Schedule {
-    /// The harts' digits in their order, in ASCII, and zeros behind them.
+    /// The digits of the harts in their order, in ASCII, followed by zeros.
     digits: [u8; MOST],
-    /// How many they are.
+    /// The number of steps.
     steps: u8,
 }
 
 impl Schedule {
-    /// The schedule that a word names: 1 to 64 digits, 0 for a step of hart 0 and 1 for one of hart 1. No other word names one.
+    /// Returns the schedule of a word of 1 to 64 digits: 0 for a step of hart 0, and 1 for a step of hart 1. Returns `None` for any other word.
     #[tactic(auto, unfolding(crate::specs::Schedules::schedule_of))]
     pub fn new(word: &[u8]) -> Option<Self>
         ensures { result ≡ schedule_of word.now }
@@ -82,7 +82,7 @@ impl Schedule {
         })
     }
 
-    /// The harts' digits in ASCII, in the order of their steps: 64 at the most.
+    /// Returns the digits of the harts in ASCII, in the order of their steps, at most 64.
     pub fn digits(&self) -> &[u8]
         ensures harts { map hart_of_digit result.now ≡ harts_in self.now }
         ensures few { length result.now ≤ 64 }
@@ -90,7 +90,7 @@ impl Schedule {
         &self.digits[..usize::from(self.steps).min(MOST)]
     }
 
-    /// Whether each step is made by a hart below this number.
+    /// Returns whether each step is made by a hart below this number.
     pub fn names_only(&self, harts: u8) -> bool
         ensures { result ≡ has_all harts (harts_in self.now) }
     {

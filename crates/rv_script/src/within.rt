@@ -1,4 +1,4 @@
-//! Numbers in a range that their type names.
+//! Numbers in a range that is part of their type.
 
 ghost use Rattle.std.specs.Prelude.{◌≡◌, ◌≤◌, ℕ};
 ghost use Rattle.rv_script.specs.Within.{within};
@@ -22,7 +22,7 @@ impl<const LOW: u32, const HIGH: u32> Model for Within<LOW, HIGH> {
 }
 
 impl<const LOW: u32, const HIGH: u32> Within<LOW, HIGH> {
-    /// The number, where it is in the range.
+    /// Returns the number, if it is in the range.
     pub fn new(value: u32) -> Option<Self>
         ensures { result ≡ within LOW HIGH value }
     {
@@ -33,7 +33,7 @@ impl<const LOW: u32, const HIGH: u32> Within<LOW, HIGH> {
         }
     }
 
-    /// The number.
+    /// Returns the number.
     pub fn get(self) -> u32
         ensures value { result ≡ self.entry }
         ensures low { LOW ≤ result }

@@ -1,4 +1,4 @@
--- Words under a mask, bit by bit.
+-- Lemmas about words under a mask, bit by bit.
 use Rattle.std.proofs.Common.{◌≡◌, ℕ, zero, suc, ◌+◌, ◌*◌, ◌/◌, ◌%◌, ◌^◌, ◌<◌, ◌≤◌, Bool, true, false, List, [], ◌∷◌, refl, sym, ap, ◌∙◌, arith}
 use Rattle.std.specs.Prelude.{◌&&◌, ◌==◌}
 use Rattle.std.proofs.Math.Nat.{pow-suc, div-div-eq-div-mul, div-one}
@@ -8,11 +8,11 @@ use Rattle.rv_state.specs.Bits.{kept_bits}
 use Rattle.rv_state.specs.CsrTable.{enabled_of, inhibited_of}
 use Rattle.rv_state.specs.Interrupts.{software_pending_of}
 
--- the bits that two numbers share, of the lowest so many
+-- the bits that two numbers have in common, among the lowest `count` bits
 abbrev shared : ℕ → ℕ → ℕ → ℕ
 shared count left right = word_of_bits (bitwise (λ x y. x && y) (bit_list count left) (bit_list count right))
 
--- a number from its lowest bit and the rest, taken apart again
+-- the lowest bit and the rest of a number that is made of them
 pub lowest : (bit : Bool) (rest : ℕ) → ((digit bit + 2 * rest) % 2 == 1) ≡ bit
 lowest true rest = let e : (1 + 2 * rest) % 2 ≡ 1 = omega arith in rw e refl
 lowest false rest = let e : (0 + 2 * rest) % 2 ≡ 0 = omega arith in rw e refl
@@ -34,7 +34,7 @@ shared-again (suc count) word mask =
     rw (lowest bit rest, above bit rest, and-again (word % 2 == 1) (mask % 2 == 1))
     (ap (λ n. digit bit + 2 * n) (shared-again count (word / 2) (mask / 2)))
 
--- a masked word is masked already
+-- masking a masked word again changes nothing
 pub masked_again : (word mask : ℕ) → and_by_bits (and_by_bits word mask) mask ≡ and_by_bits word mask
 unfolding by_bits
 masked_again word mask = shared-again 32 word mask
@@ -48,9 +48,9 @@ digit-below (suc (suc n)) below = absurd (omega arith)
 pub digit-rem : (n : ℕ) → digit (n % 2 == 1) ≡ n % 2
 digit-rem n = digit-below (n % 2) (omega arith)
 
--- ---- a word under a mask, as the sum of the bits that the mask has
+-- ---- a word under a mask, as the sum of the bits in the mask
 
--- the bits of a list that a mask has
+-- the bits of a list that are in a mask
 abbrev pub masked : List Bool → List Bool → List Bool
 masked [] bits = []
 masked (m ∷ ms) [] = []
@@ -68,7 +68,7 @@ bitwise-masked [] (m ∷ ms) = refl
 bitwise-masked (bit ∷ bits) [] = refl
 bitwise-masked (bit ∷ bits) (m ∷ ms) = rw (and-comm bit m, bitwise-masked bits ms) refl
 
--- so many bits of a word from bit k up
+-- `count` bits of a word, from bit k up
 abbrev pub bits_from : ℕ → ℕ → ℕ → List Bool
 bits_from zero k word = []
 bits_from (suc count) k word = is_set word k ∷ bits_from count (suc k) word
@@ -87,7 +87,7 @@ by_places word mask =
     ap word_of_bits (bitwise-masked (bit_list 32 word) (bit_list 32 mask)
     ∙ ap (masked (bit_list 32 mask)) (ap (bit_list 32) (sym (div-one word)) ∙ bit_list-from 32 0 word))
 
--- ---- the bits that a register keeps are the word under their mask, and are kept again
+-- ---- the bits that a register keeps are the word under its mask, and masking them again changes nothing
 
 kept_again : (keep : ℕ → ℕ) (mask : ℕ) → ((word : ℕ) → and_by_bits word mask ≡ keep word) → (word : ℕ) → keep (keep word) ≡ keep word
 kept_again keep mask is word =
@@ -107,7 +107,7 @@ software_is word = omega (arith, by_places word 0x222)
 pub software_again : (word : ℕ) → software_pending_of (software_pending_of word) ≡ software_pending_of word
 software_again word = kept_again software_pending_of 0x222 software_is word
 
--- they are those of three places
+-- the bits of mip that software writes are bits 1, 5 and 9
 pub software_of : (word : ℕ) → software_pending_of word ≡ word / 2 ^ 1 % 2 * 2 + word / 2 ^ 5 % 2 * 32 + word / 2 ^ 9 % 2 * 512
 unfolding kept_bits
 software_of word = omega (arith, digit-rem (word / 2 ^ 1), digit-rem (word / 2 ^ 5), digit-rem (word / 2 ^ 9))

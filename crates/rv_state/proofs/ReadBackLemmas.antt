@@ -1,4 +1,4 @@
--- What a register reads after a write is the word under its mask.
+-- A register reads the written word under its mask after a write.
 use Rattle.std.proofs.Common.{◌≡◌, ℕ, zero, suc, ◌+◌, ◌*◌, ◌/◌, ◌^◌, ◌<◌, Bool, true, false}
 use Rattle.std.proofs.Common.{Option, Some, None, Result, Ok, Err, refl, sym, ap, ◌∙◌, arith}
 use Rattle.std.specs.Prelude.{nat_lt, ◌==◌, if◌then◌else◌}
@@ -25,7 +25,7 @@ use Rattle.rv_state.proofs.MaskLemmas.{digit-rem, bits_from, bit_list-from, by_p
 
 -- ---- bits 1:0 cleared
 
--- a word below 2 ^ count is its bits, so many
+-- a word below 2 ^ count is made of its `count` lowest bits
 word_of_bit_list : (count word : ℕ) → word < 2 ^ count → word_of_bits (bit_list count word) ≡ word
 word_of_bit_list zero word below = omega arith
 word_of_bit_list (suc count) word below =
@@ -38,7 +38,7 @@ above word below = ap word_of_bits (sym (bit_list-from 30 2 word)) ∙ word_of_b
 pub aligned-is : (word : ℕ) → word < 2 ^ 32 → aligned_to_4 word ≡ and_by_bits word 0xFFFFFFFC
 aligned-is word below = omega (arith, above word below, by_places word 0xFFFFFFFC)
 
--- and bit 1 alone
+-- only bit 1 is cleared in a trap vector
 vector-is : (word : ℕ) → word < 2 ^ 32 → vector_of word ≡ and_by_bits word 0xFFFFFFFD
 vector-is word below = omega (arith, above word below, by_places word 0xFFFFFFFD, digit-rem (word / 2 ^ 0))
 
@@ -47,7 +47,7 @@ vector-is word below = omega (arith, above word below, by_places word 0xFFFFFFFD
 pub sstatus-kept : (status : Mstatus) (word : ℕ) → sstatus_word (with_sstatus status word) ≡ and_by_bits word 0x00080122
 sstatus-kept status word = omega (arith, by_places word 0x00080122)
 
--- the number of the mode that a field of two bits leaves
+-- the number of the mode that a write to the two bits of MPP stores
 mpp-number : (two_bits : ℕ) → two_bits < 4 → mode_number (mode_of_mpp two_bits) ≡ (if two_bits == 2 then 0 else two_bits)
 mpp-number zero below = refl
 mpp-number (suc zero) below = refl
@@ -109,7 +109,7 @@ reading-written Minstreth word c below = high-half c.minstret word below
 reading-written Mcountinhibit word c below = sym (inhibited_is word)
 reading-written Zero word c below = refl
 
--- a write does not make satp refused
+-- a write does not make accesses to satp refused
 trapped-after : (name : CsrName) (word : ℕ) (mode : Mode) (c : CsrState) → is_trapped name mode c ≡ false → is_trapped name mode (written name word c) ≡ false
 unfolding csr_of
 trapped-after Satp word mode c free = free
@@ -137,7 +137,7 @@ trapped-after Minstreth word mode c free = refl
 trapped-after Mcountinhibit word mode c free = refl
 trapped-after Zero word mode c free = refl
 
--- a write to a register that is there, by its tests in the order in which they are asked
+-- the result of a write to a register that exists, by its checks in their order
 abbrev stored : Bool → Bool → Bool → CsrState → Result CsrState CsrFault
 stored low read_only refused left =
     if low then Err Privilege else (if read_only then Err ReadOnly else (if refused then Err Trapped else Ok left))

@@ -1,9 +1,9 @@
--- What a register keeps of a word: single bits, and addresses of words. RISC-V Privileged Architecture 20211203, sections 2.3 (fields that
--- ignore what is written and read 0), 3.1.7 and 4.1.2 (trap vectors), 3.1.14 and 4.1.7 (mepc, sepc).
+-- The bits that a register keeps of a written word, and aligned addresses. RISC-V Privileged Architecture 20211203, sections 2.3 (fields that
+-- ignore writes), 3.1.7 and 4.1.2 (trap vectors), 3.1.14 and 4.1.7 (mepc, sepc).
 use Rattle.std.specs.Prelude.{ℕ, ◌*◌, ◌/◌, List, sum_by}
 use Rattle.rv_word.specs.BitFields.{is_set, flag}
 
--- a word's bits at these places, each as it is; every other bit is 0
+-- the bits of a word at these positions, with every other bit 0
 unfoldable pub kept_bits : List ℕ → ℕ → ℕ
 kept_bits places word = sum_by (λ k. flag k (is_set word k)) places
 

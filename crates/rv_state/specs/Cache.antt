@@ -1,2 +1,2 @@
--- How the code represents state. The manual defines none of this, and no public contract names it.
+-- Representations of state in the code. (Not defined by the manual. No public contract names them.)
 pub mod Kept

@@ -1,4 +1,4 @@
--- The codes of the causes, as mcause has them: RISC-V Privileged Architecture 20211203, section 3.1.15 and its table 3.6.
+-- The codes of the causes in mcause (RISC-V Privileged Architecture 20211203, section 3.1.15 and table 3.6).
 use Rattle.std.specs.Prelude.{ℕ, ◌+◌, ◌^◌}
 use Rattle.rv_state.specs.declared.cause.Exception.{Exception}
 use Rattle.rv_state.specs.declared.cause.Exception.TheVariants.{InstructionAddressMisaligned, InstructionAccessFault, IllegalInstruction}
@@ -10,7 +10,7 @@ use Rattle.rv_state.specs.declared.cause.Interrupt.TheVariants.{SupervisorExtern
 use Rattle.rv_state.specs.declared.cause.Cause.{Cause}
 use Rattle.rv_state.specs.declared.cause.Cause.TheVariants as causes
 
--- interrupts, which are also the places of their bits in mip and mie (section 3.1.9)
+-- the codes of interrupts, which are also the positions of their bits in mip and mie (section 3.1.9)
 abbrev pub interrupt_number : Interrupt → ℕ
 interrupt_number SupervisorSoftware = 1
 interrupt_number MachineSoftware = 3
@@ -19,7 +19,7 @@ interrupt_number MachineTimer = 7
 interrupt_number SupervisorExternal = 9
 interrupt_number MachineExternal = 11
 
--- exceptions
+-- the codes of exceptions
 abbrev pub exception_number : Exception → ℕ
 exception_number InstructionAddressMisaligned = 0
 exception_number InstructionAccessFault = 1
@@ -31,7 +31,7 @@ exception_number EnvironmentCallFromU = 8
 exception_number EnvironmentCallFromS = 9
 exception_number EnvironmentCallFromM = 11
 
--- bit 31 marks an interrupt
+-- the code of a cause; bit 31 marks an interrupt
 abbrev pub cause_code : Cause → ℕ
 cause_code (causes.Interrupt interrupt) = 2 ^ 31 + interrupt_number interrupt
 cause_code (causes.Exception exception) = exception_number exception

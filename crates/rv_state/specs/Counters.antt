@@ -1,5 +1,5 @@
--- The counters of 64 bits, their halves, and what a step adds: RISC-V Privileged Architecture 20211203, sections 3.1.10 and
--- 3.1.12; Unprivileged ISA 20191213, section 9.1 (a write is done instead of the increment).
+-- The 64-bit counters, their halves, and the increment of a step. RISC-V Privileged Architecture 20211203, sections 3.1.10 and 3.1.12;
+-- Unprivileged ISA 20191213, section 9.1 (a write replaces the increment).
 use Rattle.std.specs.Prelude.{ℕ, zero, suc, ◌+◌, ◌*◌, ◌%◌, ◌^◌, Bool, true, false, ◌||◌, not, ◌==◌, if◌then◌else◌, Option, Some, None}
 use Rattle.rv_word.specs.BitFields.{bits, is_set}
 use Rattle.rv_state.specs.CsrState.{CsrState}
@@ -11,24 +11,24 @@ with_low_half counter word = bits counter 63 32 * 2 ^ 32 + word
 abbrev pub with_high_half : ℕ → ℕ → ℕ
 with_high_half counter word = word * 2 ^ 32 + bits counter 31 0
 
--- the step wrote one of these two registers
+-- whether the step wrote one of these two registers
 abbrev pub wrote : Option ℕ → ℕ → ℕ → Bool
 wrote None low high = false
 wrote (Some number) low high = number == low || number == high
 
--- a counter after a step that it counts, unless it is held; it wraps
+-- a counter after a step, incremented unless it is held; it wraps
 abbrev pub incremented : ℕ → Bool → ℕ
 incremented counter is_held = if is_held then counter else (counter + 1) % 2 ^ 64
 
--- The registers after a step: mcycle counts each step, minstret each retired instruction. A counter is held where its bit of
--- mcountinhibit was set before the step, and where the step wrote one of its halves.
+-- The registers after a step. mcycle counts each step, and minstret each retired instruction. A counter is held if its bit of mcountinhibit was
+-- set before the step, or if the step wrote one of its halves.
 abbrev pub ticked : CsrState → Bool → ℕ → Option ℕ → CsrState
 ticked c retired inhibit written = record c {
   mcycle = incremented c.mcycle (is_set inhibit 0 || wrote written 0xB00 0xB80);
   minstret = incremented c.minstret (not retired || is_set inhibit 2 || wrote written 0xB02 0xB82);
 }
 
--- the registers after so many steps that each retired an instruction and wrote no register
+-- the registers after `count` steps that each retired an instruction and wrote no register
 abbrev pub counted : ℕ → CsrState → CsrState
 counted zero c = c
 counted (suc count) c = ticked (counted count c) true c.mcountinhibit None

@@ -1,5 +1,5 @@
--- The numbers of the refusals of an access to a register, in the order in which they are asked, as this project's surface
--- gives them. (To the hart each is an illegal instruction: RISC-V Privileged Architecture 20211203, section 2.1.)
+-- The numbers of the errors of an access to a control and status register, in the order in which they are checked. The numbers are this
+-- project's own. (For the hart each is an illegal instruction: RISC-V Privileged Architecture 20211203, section 2.1.)
 use Rattle.std.specs.Prelude.{ℕ}
 use Rattle.rv_state.specs.declared.csr_fault.CsrFault.{CsrFault}
 use Rattle.rv_state.specs.declared.csr_fault.CsrFault.TheVariants.{Missing, Privilege, ReadOnly, Trapped}

@@ -1,10 +1,11 @@
--- Rows of the table of control and status registers, one register or a range of them: RISC-V Privileged Architecture 20211203, section 2.2.
+-- Rows of the table of control and status registers: one register, or a range of registers (RISC-V Privileged Architecture 20211203, section
+-- 2.2).
 use Rattle.std.specs.Prelude.{ℕ, ◌+◌, ◌-◌, ◌/◌, ◌%◌, Bool, ◌&&◌, nat_lt, nat_le, ◌==◌, if◌then◌else◌}
 use Rattle.std.specs.Prelude.{List, [], ◌∷◌, ◌++◌, Option, Some, None}
 use Rattle.rv_state.specs.declared.csr_name.CsrName.{CsrName}
 use Rattle.rv_state.specs.declared.csr_name.CsrName.TheVariants.{Zero}
 
--- a row: the numbers that it is of, and for each of them the register's name and what stands behind it
+-- a row: the numbers that it covers, and for each of them the name of the register and the register itself
 pub record CsrRow : Type 0 where
   pub is_of : ℕ → Bool
   pub name : ℕ → List ℕ
@@ -13,11 +14,11 @@ pub record CsrRow : Type 0 where
 abbrev pub csr : ℕ → List ℕ → CsrName → CsrRow
 csr own name register = record { is_of = λ number. number == own; name = λ _. name; register = λ _. register }
 
--- a number below 100 as its digits; 48 is the code of 0
+-- the decimal digits of a number below 100, in ASCII (48 is the code of 0)
 abbrev pub digits_of : ℕ → List ℕ
 digits_of n = if nat_lt n 10 then (48 + n) ∷ [] else (48 + n / 10) ∷ (48 + n % 10) ∷ []
 
--- registers whose names count on from the first of them: what stands before the count and after it, and the first count
+-- a range of registers with numbered names: the text before the number, the number in the first name, and the text after it
 abbrev pub csr_range : ℕ → ℕ → List ℕ → ℕ → List ℕ → (ℕ → CsrName) → CsrRow
 csr_range first last before from after register = record {
   is_of = λ number. nat_le first number && nat_le number last;
@@ -25,11 +26,11 @@ csr_range first last before from after register = record {
   register = λ number. register (number - first);
 }
 
--- they read 0
+-- a range of registers that read 0
 abbrev pub zeros : ℕ → CsrName
 zeros _ = Zero
 
--- the first row that a number is of
+-- the first row that covers a number
 abbrev pub row_of_number : List CsrRow → ℕ → Option CsrRow
 row_of_number [] number = None
 row_of_number (row ∷ rows) number = if row.is_of number then Some row else row_of_number rows number

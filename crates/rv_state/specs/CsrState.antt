@@ -1,11 +1,11 @@
--- What the control and status registers keep, and the reset: RISC-V Privileged Architecture 20211203, sections 3.1, 3.4
--- and 4.1. That all of it is 0 at reset is this project's choice, where the manual leaves it open.
+-- The state of the control and status registers, and its value at reset (RISC-V Privileged Architecture 20211203, sections 3.1, 3.4 and 4.1).
+-- This project chooses 0 for each value that the manual leaves open at reset.
 use Rattle.std.specs.Prelude.{ℕ, Bool, false}
 use Rattle.rv_pmp.specs.Entries.{Entries, reset as no_entries}
 use Rattle.rv_state.specs.declared.mstatus.Mstatus.{Mstatus}
 use Rattle.rv_state.specs.Mstatus.{mstatus_at_reset}
 
--- Each part is named after the register that it stands behind.
+-- Each part has the name of its register.
 pub record CsrState : Type 0 where
   pub mstatus : Mstatus
   pub mie : ℕ

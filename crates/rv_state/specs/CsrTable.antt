@@ -1,7 +1,6 @@
--- The table of control and status registers: which number is which register, what it reads, what a write leaves, and when
--- an access is refused. RISC-V Privileged Architecture 20211203, chapter 2: the listing is in the order of tables 2.3, 2.5
--- and 2.6. What the registers keep: sections 3.1 and 4.1. Which numbers there are, those kept as zero included, is this
--- machine's profile; any other number is missing.
+-- The table of control and status registers: the register of each number, what it reads, the effect of a write, and when an access is refused.
+-- RISC-V Privileged Architecture 20211203, chapter 2 and sections 3.1 and 4.1. The listing has the order of tables 2.3, 2.5 and 2.6. The profile
+-- of this machine selects the numbers, including registers that are always zero. Any other number is missing.
 use Rattle.std.specs.Prelude.{ℕ, ◌+◌, ◌-◌, ◌*◌, ◌^◌, Bool, false, nat_lt, ◌==◌, if◌then◌else◌}
 use Rattle.std.specs.Prelude.{List, [], ◌∷◌, sum_by, codes, Option, Some, None, Result, Ok, Err}
 use Rattle.std.specs.Option.{option_map}
@@ -24,27 +23,27 @@ use Rattle.rv_state.specs.declared.csr_name.CsrName.TheVariants.{Pmpcfg, Pmpaddr
 use Rattle.rv_state.specs.declared.csr_fault.CsrFault.{CsrFault}
 use Rattle.rv_state.specs.declared.csr_fault.CsrFault.TheVariants as faults
 
--- ---- what a number says of itself (section 2.1)
+-- ---- information in a number (section 2.1)
 
--- bits 9:8 are the number of the least mode that may access the register
+-- the lowest mode that may access the register: bits 9:8
 abbrev pub least_mode : ℕ → ℕ
 least_mode number = bits number 9 8
 
--- bits 11:10 equal to 11 mean that it is only read
+-- whether the register is read-only: bits 11:10 are 11
 abbrev pub is_read_only : ℕ → Bool
 is_read_only number = bits number 11 10 == 0b11
 
--- ---- the listing (section 2.2): number, name and register; where that is zero, why the manual lets it be
+-- ---- the listing (section 2.2): number, name and register; for each zero register, why the manual allows zero
 
 unfoldable pub csr_listing : List CsrRow
 csr_listing =
-    -- table 2.3, Supervisor Trap Setup; no interrupt is delegated, and of sie and sip what is not is 0 (section 3.1.9)
+    -- table 2.3, Supervisor Trap Setup; no interrupt is delegated, so every bit of sie and sip is 0 (section 3.1.9)
     csr 0x100 (codes "sstatus") Sstatus
     ∷ csr 0x104 (codes "sie") Zero
     ∷ csr 0x105 (codes "stvec") Stvec
-    -- mode U is shown no counter: any bit may be 0 (section 4.1.5)
+    -- scounteren: mode U can read no counter, and any bit may be 0 (section 4.1.5)
     ∷ csr 0x106 (codes "scounteren") Zero
-    -- Supervisor Configuration: satp is always Bare, so that FIOM may be 0 (section 4.1.10)
+    -- Supervisor Configuration: satp is always Bare, so FIOM may be 0 (section 4.1.10)
     ∷ csr 0x10A (codes "senvcfg") Zero
     -- Supervisor Trap Handling
     ∷ csr 0x140 (codes "sscratch") Sscratch
@@ -58,7 +57,7 @@ csr_listing =
     ∷ csr 0xF11 (codes "mvendorid") Zero
     ∷ csr 0xF12 (codes "marchid") Zero
     ∷ csr 0xF13 (codes "mimpid") Zero
-    -- one hart has the number 0 (section 3.1.5), and here each reads so
+    -- mhartid: one hart must have the number 0 (section 3.1.5); every hart reads 0 here
     ∷ csr 0xF14 (codes "mhartid") Zero
     -- there is no configuration data structure (section 3.1.17)
     ∷ csr 0xF15 (codes "mconfigptr") Zero
@@ -69,9 +68,9 @@ csr_listing =
     ∷ csr 0x303 (codes "mideleg") Zero
     ∷ csr 0x304 (codes "mie") Mie
     ∷ csr 0x305 (codes "mtvec") Mtvec
-    -- the modes below are shown no counter: any bit may be 0 (section 3.1.11)
+    -- mcounteren: the lower modes can read no counter, and any bit may be 0 (section 3.1.11)
     ∷ csr 0x306 (codes "mcounteren") Zero
-    -- memory is little-endian: MBE and SBE may be 0 (section 3.1.6.4)
+    -- mstatush: memory is little-endian, so MBE and SBE may be 0 (section 3.1.6.4)
     ∷ csr 0x310 (codes "mstatush") Zero
     -- Machine Trap Handling
     ∷ csr 0x340 (codes "mscratch") Mscratch
@@ -85,7 +84,7 @@ csr_listing =
     -- Machine Memory Protection
     ∷ csr_range 0x3A0 0x3A3 (codes "pmpcfg") 0 [] Pmpcfg
     ∷ csr_range 0x3B0 0x3BF (codes "pmpaddr") 0 [] Pmpaddr
-    -- table 2.6, Machine Counter/Timers; counters of events and what they count may be 0 (section 3.1.10)
+    -- table 2.6, Machine Counter/Timers; event counters and event selectors may be 0 (section 3.1.10)
     ∷ csr 0xB00 (codes "mcycle") Mcycle
     ∷ csr 0xB02 (codes "minstret") Minstret
     ∷ csr_range 0xB03 0xB1F (codes "mhpmcounter") 3 [] zeros
@@ -104,15 +103,14 @@ csr_numbered number = option_map (λ (row : CsrRow). row.register number) (row_o
 abbrev pub name_of_number : ℕ → Option (List ℕ)
 name_of_number number = option_map (λ (row : CsrRow). row.name number) (row_of_number csr_listing number)
 
--- ---- what each keeps and shows
+-- ---- the content of each register
 
--- misa (section 3.1.1): MXL in bits 31:30, where 1 says that a register has 32 bits, and in Extensions the bit of each letter, that of A
--- the lowest (65 is the code of A)
+-- misa (section 3.1.1): MXL in bits 31:30 is 1, for 32-bit registers. Extensions has a bit for each letter; bit 0 is for A (65 is the code of
+-- A).
 abbrev pub misa_word : ℕ
 misa_word = 1 * 2 ^ 30 + sum_by (λ letter. 2 ^ (letter - 65)) (codes "IMSU")
 
--- a trap vector (sections 3.1.7 and 4.1.2): BASE in bits 31:2, MODE in bits 1:0, of which 0 (Direct) and 1 (Vectored) are legal, so that
--- bit 1 reads 0
+-- a trap vector (sections 3.1.7 and 4.1.2): BASE in bits 31:2, MODE in bits 1:0. Only 0 (Direct) and 1 (Vectored) are legal, so bit 1 reads 0.
 abbrev pub vector_of : ℕ → ℕ
 vector_of word = aligned_to_4 word + bits word 0 0
 
@@ -120,16 +118,16 @@ vector_of word = aligned_to_4 word + bits word 0 0
 abbrev pub enabled_of : ℕ → ℕ
 enabled_of word = kept_bits (1 ∷ 3 ∷ 5 ∷ 7 ∷ 9 ∷ 11 ∷ []) word
 
--- the counters that mcountinhibit holds (section 3.1.12): CY, which is mcycle, and IR, which is minstret
+-- the counters that mcountinhibit holds (section 3.1.12): CY for mcycle, and IR for minstret
 abbrev pub inhibited_of : ℕ → ℕ
 inhibited_of word = kept_bits (0 ∷ 2 ∷ []) word
 
--- what a register reads, and what a write of a word leaves
+-- the word that a register reads, and the state after a word is written to it
 pub record Csr : Type 0 where
   pub reads : CsrState → ℕ
   pub leaves : ℕ → CsrState → CsrState
 
--- it reads always the same, and ignores what is written
+-- a register that always reads the same value and ignores writes
 abbrev pub constant : ℕ → Csr
 constant value = record { reads = λ _. value; leaves = λ _ c. c }
 
@@ -165,9 +163,9 @@ reading name c = (csr_of name).reads c
 abbrev pub written : CsrName → ℕ → CsrState → CsrState
 written name word c = (csr_of name).leaves word c
 
--- ---- access, with its refusals in the order in which they are asked
+-- ---- accesses, with their checks in order
 
--- satp is refused to mode S while TVM is set (section 3.1.6.5)
+-- whether an access is refused because of TVM: satp in mode S while TVM is set (section 3.1.6.5)
 abbrev pub is_trapped : CsrName → Mode → CsrState → Bool
 is_trapped Satp S c = c.mstatus.tvm
 is_trapped _ _ c = false
@@ -176,14 +174,14 @@ abbrev pub on_register : {A : Type 0} → Option CsrName → (CsrName → Result
 on_register None access = Err faults.Missing
 on_register (Some name) access = access name
 
--- what reading a number in a mode gives
+-- the result of reading a register, by its number and the mode
 unfoldable pub read_result : CsrState → ℕ → Mode → Result ℕ CsrFault
 read_result c number mode =
     on_register (csr_numbered number) (λ name.
     if nat_lt (mode_number mode) (least_mode number) then Err faults.Privilege
     else (if is_trapped name mode c then Err faults.Trapped else Ok (reading name c)))
 
--- what writing a number in a mode gives: the new state
+-- the result of writing a register, by its number and the mode: the new state
 unfoldable pub write_result : CsrState → ℕ → ℕ → Mode → Result CsrState CsrFault
 write_result c number word mode =
     on_register (csr_numbered number) (λ name.

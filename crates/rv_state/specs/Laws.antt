@@ -1,5 +1,5 @@
--- What holds of the table and of traps beyond their equations: RISC-V Privileged Architecture 20211203, sections 2.3 (fields
--- that ignore what is written), 3.1.6.1, 3.3.2 and 4.1.1.
+-- Properties of the table and of traps. RISC-V Privileged Architecture 20211203, sections 2.3 (fields that ignore writes), 3.1.6.1, 3.3.2 and
+-- 4.1.1.
 use Rattle.std.specs.Prelude.{◌≡◌, ℕ, ◌+◌, ◌%◌, ◌==◌, if◌then◌else◌, Option, Some, None, Ok}
 use Rattle.rv_word.specs.Logic.{and_by_bits}
 use Rattle.rv_pmp.specs.declared.mode.Mode.{Mode}
@@ -14,9 +14,9 @@ use Rattle.rv_state.specs.declared.csr_name.CsrName.TheVariants.{Sstatus, Stvec,
 use Rattle.rv_state.specs.declared.csr_name.CsrName.TheVariants.{Mstatus, Misa, Mie, Mtvec, Mscratch, Mepc, Mcause, Mtval, Mip}
 use Rattle.rv_state.specs.declared.csr_name.CsrName.TheVariants.{Pmpcfg, Pmpaddr, Mcycle, Minstret, Mcycleh, Minstreth, Mcountinhibit, Zero}
 
--- ---- what is read after a write: the word under the register's mask, in which the bits that it keeps are 1
+-- ---- the value after a write: the word under the register's mask, which has a 1 for each bit that is stored
 
--- mstatus has no mode 2 in MPP (bits 12:11)
+-- the mask of mstatus; MPP (bits 12:11) cannot be 2, which is no mode
 abbrev pub mstatus_mask : ℕ → ℕ
 mstatus_mask word = if bits word 12 11 == 2 then 0x007A01AA else 0x007A19AA
 
@@ -50,14 +50,14 @@ abbrev pub kept_at : Option CsrName → ℕ → CsrState → ℕ
 kept_at None word c = 0
 kept_at (Some name) word c = kept name word c
 
--- the register that was written reads so in the same mode
+-- the register reads this value after the write, in the same mode
 unfoldable pub ReadsBack : CsrState → CsrState → ℕ → ℕ → Mode → Type 0
 ReadsBack before after number word mode =
     read_result after number mode ≡ Ok (kept_at (csr_numbered number) word before)
 
 -- ---- a trap and the mret after it
 
--- After a trap from this mode at pc, mret would go on in that mode at pc, with MIE as it was.
+-- After a trap from this mode at pc, mret would continue in that mode at pc, with the value of MIE from before the trap.
 abbrev pub ComesBack : CsrState → CsrState → Mode → ℕ → Type 0
 ComesBack before after mode pc =
     (after.mstatus.mpp ≡ mode)

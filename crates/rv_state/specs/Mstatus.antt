@@ -1,5 +1,5 @@
--- mstatus and sstatus, field by field: RISC-V Privileged Architecture 20211203, sections 3.1.6 and 4.1.1. Every bit that is
--- no field here reads 0 and ignores writes: this machine keeps SUM, FS, VS, XS, SD and UBE as 0.
+-- The fields of mstatus and sstatus (RISC-V Privileged Architecture 20211203, sections 3.1.6 and 4.1.1). Every bit outside these fields reads 0
+-- and ignores writes: SUM, FS, VS, XS, SD and UBE are 0.
 use Rattle.std.specs.Prelude.{ℕ, ◌+◌, ◌*◌, ◌^◌, ◌==◌, false, if◌then◌else◌}
 use Rattle.rv_pmp.specs.declared.mode.Mode.{Mode}
 use Rattle.rv_pmp.specs.declared.mode.Mode.TheVariants.{U, S, M}
@@ -7,7 +7,7 @@ use Rattle.rv_pmp.specs.Mode.{mode_number}
 use Rattle.rv_word.specs.BitFields.{bits, is_set, flag}
 use Rattle.rv_state.specs.declared.mstatus.Mstatus.{Mstatus}
 
--- ---- the bit of each field (figure 3.6), of MPP the lower one of its two
+-- ---- the bit of each field (figure 3.6); for MPP the lower of its two bits
 
 abbrev pub sie_bit : ℕ
 sie_bit = 1
@@ -44,17 +44,17 @@ tsr_bit = 22
 
 -- ---- mstatus
 
--- what mstatus reads
+-- the word that mstatus reads
 abbrev pub mstatus_word : Mstatus → ℕ
 mstatus_word s =
     flag sie_bit s.sie + flag mie_bit s.mie + flag spie_bit s.spie + flag mpie_bit s.mpie + flag spp_bit s.spp
     + mode_number s.mpp * 2 ^ mpp_bit + flag mprv_bit s.mprv + flag mxr_bit s.mxr + flag tvm_bit s.tvm + flag tw_bit s.tw + flag tsr_bit s.tsr
 
--- the mode that a write to MPP leaves: 2 names no mode, and is stored as 0
+-- the mode after a write to MPP; 2 is no mode, and 0 is stored instead
 abbrev pub mode_of_mpp : ℕ → Mode
 mode_of_mpp two_bits = if two_bits == 3 then M else (if two_bits == 1 then S else U)
 
--- what a write to mstatus leaves
+-- the fields after a write to mstatus
 abbrev pub mstatus_of : ℕ → Mstatus
 mstatus_of word = record {
   sie = is_set word sie_bit;
@@ -88,11 +88,11 @@ mstatus_at_reset = record {
 
 -- ---- sstatus
 
--- what sstatus reads: four of the fields
+-- the word that sstatus reads: four of the fields
 abbrev pub sstatus_word : Mstatus → ℕ
 sstatus_word s = flag sie_bit s.sie + flag spie_bit s.spie + flag spp_bit s.spp + flag mxr_bit s.mxr
 
--- what a write to sstatus leaves: those four, and the others as they were
+-- the fields after a write to sstatus: it changes those four only
 abbrev pub with_sstatus : Mstatus → ℕ → Mstatus
 with_sstatus s word =
     record s { sie = is_set word sie_bit; spie = is_set word spie_bit; spp = is_set word spp_bit; mxr = is_set word mxr_bit }

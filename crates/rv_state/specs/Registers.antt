@@ -1,7 +1,7 @@
--- The 32 integer registers as a list of words, of which the first is 0: RISC-V Unprivileged ISA 20191213, section 2.1.
+-- The 32 integer registers, as a list of words whose first element is 0 (RISC-V Unprivileged ISA 20191213, section 2.1).
 use Rattle.std.specs.Prelude.{ℕ, ◌==◌, List, slice_index, slice_set, if◌then◌else◌}
 
--- what register number n reads
+-- the word that register number n reads
 abbrev pub register : List ℕ → ℕ → ℕ
 register regs n = slice_index regs n
 

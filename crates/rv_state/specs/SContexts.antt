@@ -1,5 +1,5 @@
--- The registers of mode S as one value, and their change as one: RISC-V Privileged Architecture 20211203, section 4.1. Each is
--- stored as by a write of its register: stvec without bit 1, sepc without bits 1:0.
+-- The registers of mode S as one value, and the effect of setting them together (RISC-V Privileged Architecture 20211203, section 4.1). Each
+-- register is stored as a write to it would store it: stvec without bit 1, sepc without bits 1:0.
 use Rattle.std.specs.Prelude.{◌≡◌}
 use Rattle.rv_state.specs.Bits.{aligned_to_4}
 use Rattle.rv_state.specs.CsrState.{CsrState}
@@ -29,6 +29,6 @@ with_s_context c s = record c {
   mstatus = record c.mstatus { sie = s.sie; spie = s.spie; spp = s.spp; mxr = s.mxr };
 }
 
--- setting back what is there changes nothing
+-- setting the current values changes nothing
 abbrev pub KeepsOwn : CsrState → Type 0
 KeepsOwn c = with_s_context c (s_context c) ≡ c

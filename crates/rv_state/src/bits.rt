@@ -4,7 +4,7 @@ ghost use Rattle.std.specs.Prelude.{◌≡◌, ◌%◌, ◌^◌, ◌<◌, ◌≤
 ghost use Rattle.rv_word.specs.BitFields.{flag, is_set};
 ghost use Rattle.rv_state.specs.Bits.{aligned_to_4};
 
-/// Whether bit `k` of the word is 1.
+/// Returns whether bit `k` of the word is 1.
 #[inline(always)]
 pub const fn is_set(word: u32, k: u32) -> bool
     requires { k < 32 }
@@ -13,7 +13,7 @@ pub const fn is_set(word: u32, k: u32) -> bool
     (word >> k) % 2 == 1
 }
 
-/// The word that has bit `k` alone, or none.
+/// Returns the word with only bit `k` set, or 0.
 #[inline(always)]
 pub const fn flag(k: u32, set: bool) -> u32
     requires { k < 32 }
@@ -23,7 +23,7 @@ pub const fn flag(k: u32, set: bool) -> u32
     if set { 1 << k } else { 0 }
 }
 
-/// The address with its bits 1:0 cleared.
+/// Returns the address with its bits 1:0 cleared.
 #[inline(always)]
 pub const fn aligned_to_4(address: u32) -> u32
     ensures value { result ≡ aligned_to_4 address }

@@ -3,14 +3,14 @@
 ghost use Rattle.std.specs.Prelude.{◌≡◌, ◌<◌};
 ghost use Rattle.rv_state.specs.Causes.{exception_number, interrupt_number, cause_code};
 
-/// Why an instruction traps (Privileged Architecture, section 3.1.15, table 3.6).
+/// An exception: why an instruction traps (Privileged Architecture, section 3.1.15, table 3.6).
 #[derive(Clone, Copy, Debug, PartialEq, Eq)]
 pub enum Exception {
     /// The target of a jump or a taken branch is not a multiple of 4.
     InstructionAddressMisaligned = 0,
     /// The fetch was refused.
     InstructionAccessFault = 1,
-    /// The word is no instruction, or not one that may be done in this mode and state.
+    /// The word is no instruction, or one that is not allowed in the current mode and state.
     IllegalInstruction = 2,
     /// ebreak.
     Breakpoint = 3,
@@ -27,7 +27,7 @@ pub enum Exception {
 }
 
 impl Exception {
-    /// The exception's code, as mcause has it.
+    /// Returns the code of the exception in mcause.
     pub const fn number(self) -> u32
         ensures value { result ≡ exception_number self }
         ensures in_range { result < 16 }
@@ -36,8 +36,8 @@ impl Exception {
     }
 }
 
-/// Which interrupt is taken (Privileged Architecture, sections 3.1.9 and 3.1.15). An interrupt's number is
-/// also the place of its bit in mip and mie.
+/// An interrupt that the hart takes (Privileged Architecture, sections 3.1.9 and 3.1.15). The number of an interrupt is also the position of its
+/// bit in mip and mie.
 #[derive(Clone, Copy, Debug, PartialEq, Eq)]
 pub enum Interrupt {
     /// SSI.
@@ -55,7 +55,7 @@ pub enum Interrupt {
 }
 
 impl Interrupt {
-    /// The interrupt's number.
+    /// Returns the number of the interrupt.
     pub const fn number(self) -> u32
         ensures value { result ≡ interrupt_number self }
         ensures in_range { result < 16 }
@@ -67,7 +67,7 @@ impl Interrupt {
 /// The bit of mcause that marks an interrupt.
 const INTERRUPT: u32 = 0x8000_0000;
 
-/// Why the hart traps (Privileged Architecture, section 3.1.15).
+/// The cause of a trap (Privileged Architecture, section 3.1.15).
 #[derive(Clone, Copy, Debug, PartialEq, Eq)]
 pub enum Cause {
     /// An interrupt was taken before the instruction.
@@ -77,7 +77,7 @@ pub enum Cause {
 }
 
 impl Cause {
-    /// The cause's code, as mcause has it.
+    /// Returns the code of the cause in mcause.
     pub const fn code(self) -> u32
         ensures { result ≡ cause_code self }
     {

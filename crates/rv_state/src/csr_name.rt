@@ -1,20 +1,19 @@
-//! Which register a number is.
+//! Finds the register of a number.
 
 ghost use Rattle.std.specs.Prelude.{◌≡◌, ◌≤◌, ◌<◌};
 ghost use Rattle.rv_state.specs.CsrTable.{csr_numbered, is_read_only, least_mode};
 
 use rv_pmp::{PmpIndex, PmpRegister};
 
-/// A control and status register that keeps or shows something, or one of those that are kept as zero
-/// (Privileged Architecture, section 2.2).
+/// A control and status register with state or a value, or one of those that are always zero (Privileged Architecture, section 2.2).
 #[derive(Clone, Copy)]
 pub(crate) enum CsrName {
     /// A view of mstatus.
     Sstatus,
-    /// Where traps to mode S go: kept alone, since no trap goes there.
+    /// The address of traps to mode S. It is stored without effect, since no trap goes there.
     Stvec,
     Sscratch,
-    /// Where sret goes on.
+    /// The address at which sret continues.
     Sepc,
     Scause,
     Stval,
@@ -23,16 +22,16 @@ pub(crate) enum CsrName {
     Mstatus,
     /// RV32IM with modes S and U.
     Misa,
-    /// Which interrupts are enabled.
+    /// The enabled interrupts.
     Mie,
-    /// Where traps go.
+    /// The address of traps.
     Mtvec,
     Mscratch,
-    /// Where mret goes on.
+    /// The address at which mret continues.
     Mepc,
     Mcause,
     Mtval,
-    /// Which interrupts wait.
+    /// The pending interrupts.
     Mip,
     /// The cfg bytes of four PMP entries.
     Pmpcfg(PmpRegister),
@@ -46,14 +45,14 @@ pub(crate) enum CsrName {
     Mcycleh,
     /// The upper half of the count of retired instructions.
     Minstreth,
-    /// Which counters stand still.
+    /// The counters that are inhibited.
     Mcountinhibit,
-    /// Reads 0, and ignores lawful writes.
+    /// Reads 0, and ignores writes that are allowed.
     Zero,
 }
 
 impl CsrName {
-    /// The register of this number, if there is one.
+    /// Returns the register of this number, if there is one.
     #[tactic(auto, unfolding(crate::specs::CsrTable::csr_numbered, crate::specs::CsrTable::csr_listing))]
     pub(crate) const fn of_number(number: u16) -> Option<Self>
         ensures { result ≡ csr_numbered number }
@@ -67,7 +66,7 @@ impl CsrName {
         }
     }
 
-    /// Those of table 2.3.
+    /// Returns the register of this number in table 2.3, if there is one.
     #[tactic(auto, unfolding(crate::specs::CsrTable::csr_numbered, crate::specs::CsrTable::csr_listing))]
     const fn of_supervisor(number: u16) -> Option<Self>
         requires from { 0x100 ≤ number }
@@ -87,7 +86,7 @@ impl CsrName {
         }
     }
 
-    /// Those of tables 2.5 and 2.6 that are set up in mode M.
+    /// Returns the register of a number from 0x300 to 0x3FF, if there is one: a register of table 2.5, or of the counter setup in table 2.6.
     #[tactic(auto, unfolding(crate::specs::CsrTable::csr_numbered, crate::specs::CsrTable::csr_listing))]
     const fn of_machine(number: u16) -> Option<Self>
         requires from { 0x300 ≤ number }
@@ -114,7 +113,7 @@ impl CsrName {
         }
     }
 
-    /// The counters of table 2.6.
+    /// Returns the counter of this number in table 2.6, if there is one.
     #[tactic(auto, unfolding(crate::specs::CsrTable::csr_numbered, crate::specs::CsrTable::csr_listing))]
     const fn of_counter(number: u16) -> Option<Self>
         requires from { 0xB00 ≤ number }
@@ -132,14 +131,14 @@ impl CsrName {
     }
 }
 
-/// The number of the least mode that may access a register: bits 9:8 of its number.
+/// Returns the number of the lowest mode that may access a register: bits 9:8 of its number.
 pub(crate) const fn least_mode(number: u16) -> u32
     ensures { result ≡ least_mode number }
 {
     (number >> 8) as u32 % 4
 }
 
-/// Whether a register is only read: bits 11:10 of its number are 11.
+/// Returns whether a register is read-only: bits 11:10 of its number are 11.
 pub(crate) const fn is_read_only(number: u16) -> bool
     ensures { result ≡ is_read_only number }
 {

@@ -1,6 +1,5 @@
-//! The state of a hart beside its pc and mode: the integer registers, and the control and status registers with
-//! their table, traps and returns, interrupts and counters (RISC-V Unprivileged ISA 20191213, section 2.1;
-//! Privileged Architecture 20211203, chapters 2 to 4).
+//! The state of a hart other than its pc and mode: the integer registers, and the control and status registers with their table, traps, returns,
+//! interrupts and counters. (RISC-V Unprivileged ISA 20191213, section 2.1; Privileged Architecture 20211203, chapters 2 to 4.)
 //!
 //! ```text
 //! let mut csrs = Csrs::new();

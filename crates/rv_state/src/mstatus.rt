@@ -3,7 +3,7 @@
 use crate::bits::{flag, is_set};
 use rv_pmp::Mode;
 
-/// The bit of each field, of MPP the lower one of its two.
+/// The bit of each field. For MPP it is the lower of its two bits.
 const SIE: u32 = 1;
 
 const MIE: u32 = 3;
@@ -29,7 +29,7 @@ const TSR: u32 = 22;
 /// The fields of mstatus that this machine has (Privileged Architecture, section 3.1.6).
 #[derive(Clone, Copy, Debug, PartialEq, Eq)]
 pub struct Mstatus {
-    /// Interrupts that are delegated are enabled in mode S: kept, and without effect here, where none is.
+    /// Delegated interrupts are enabled in mode S. The bit is stored without effect, since no interrupt is delegated.
     pub sie: bool,
     /// Interrupts are enabled in mode M.
     pub mie: bool,
@@ -41,9 +41,9 @@ pub struct Mstatus {
     pub spp: bool,
     /// The mode that the last trap to mode M came from.
     pub mpp: Mode,
-    /// Loads and stores are judged in the mode of MPP.
+    /// Loads and stores are checked in the mode of MPP.
     pub mprv: bool,
-    /// Loads from executable pages: kept, and without effect here.
+    /// Loads from executable pages are allowed. The bit is stored without effect.
     pub mxr: bool,
     /// satp and sfence.vma are refused to mode S.
     pub tvm: bool,
@@ -58,7 +58,7 @@ impl Mstatus {
     ghost use Rattle.rv_word.specs.Logic.{and_by_bits};
     ghost use Rattle.rv_state.specs.Mstatus.{mode_of_mpp, mstatus_at_reset, mstatus_of, mstatus_word, sstatus_word, with_sstatus};
 
-    /// All fields 0.
+    /// Returns the fields, all 0.
     pub(crate) const fn new() -> Self
         ensures { result ≡ mstatus_at_reset }
     {
@@ -77,7 +77,7 @@ impl Mstatus {
         }
     }
 
-    /// The word that mstatus reads: the fields at their places, and no other bit.
+    /// Returns the word that mstatus reads: the fields at their positions, and no other bit.
     #[tactic(auto, using(crate::proofs::StatusLemmas::mstatus_masked))]
     pub const fn word(self) -> u32
         ensures value { result ≡ mstatus_word self }
@@ -96,7 +96,7 @@ impl Mstatus {
             + flag(TSR, self.tsr)
     }
 
-    /// The fields that a word written to mstatus leaves.
+    /// Returns the fields after a word is written to mstatus.
     pub(crate) const fn from_word(word: u32) -> Self
         ensures { result ≡ mstatus_of word }
     {
@@ -115,7 +115,7 @@ impl Mstatus {
         }
     }
 
-    /// The word that sstatus reads: that of mstatus under a mask.
+    /// Returns the word that sstatus reads: that of mstatus under a mask.
     #[tactic(auto, using(crate::proofs::StatusLemmas::sstatus_is_masked))]
     pub const fn supervisor_word(self) -> u32
         ensures value { result ≡ sstatus_word self }
@@ -124,7 +124,7 @@ impl Mstatus {
         flag(SIE, self.sie) + flag(SPIE, self.spie) + flag(SPP, self.spp) + flag(MXR, self.mxr)
     }
 
-    /// The fields after a word was written to sstatus.
+    /// Returns the fields after a word is written to sstatus.
     pub(crate) const fn with_supervisor_word(self, word: u32) -> Self
         ensures { result ≡ with_sstatus self word }
     {
@@ -141,7 +141,7 @@ impl Mstatus {
 ghost use Rattle.std.specs.Prelude.{◌≡◌};
 ghost use Rattle.rv_state.specs.Mstatus.{mode_of_mpp};
 
-/// The mode that two bits written to MPP leave. 2 is no mode's number, and is stored as 0.
+/// Returns the mode after two bits are written to MPP. 2 is no mode, and 0 is stored instead.
 const fn mode_of_mpp(two_bits: u32) -> Mode
     ensures { result ≡ mode_of_mpp two_bits }
 {

@@ -1,4 +1,4 @@
-//! The interrupts that are raised.
+//! The pending interrupts.
 
 ghost use Rattle.std.specs.Prelude.{◌≡◌};
 ghost use Rattle.rv_state.specs.Cache.Kept.{RaisedState};
@@ -7,8 +7,8 @@ use crate::bits::{flag, is_set};
 use crate::kept_bits::software_pending_of;
 use std::marker::Model;
 
-/// The interrupts that are raised: the word that mip reads (Privileged Architecture, section 3.1.9), of which bit 7 is the timer line. It is
-/// one word, so that each step asks it but once.
+/// The pending interrupts: the word that mip reads (Privileged Architecture, section 3.1.9). Bit 7 is the timer line. It is one word, so that
+/// each step reads only one.
 #[derive(Drop, Debug)]
 pub(crate) struct Raised {
     word: u32,
@@ -30,7 +30,7 @@ impl Raised {
     ghost use Rattle.rv_state.specs.Interrupts.{software_pending_of};
     ghost use Rattle.rv_state.specs.Cache.Kept.{mip_of};
 
-    /// Nothing is raised.
+    /// Returns the state in which no interrupt is pending.
     #[tactic(auto, unfolding(crate::specs::Bits::kept_bits))]
     pub(crate) fn new() -> Self
         ensures { result ≡ record { software = 0; timer = false } }
@@ -38,7 +38,7 @@ impl Raised {
         Raised { word: 0 }
     }
 
-    /// The word that mip reads.
+    /// Returns the word that mip reads.
     #[inline(always)]
     pub(crate) const fn word(&self) -> u32
         ensures { result ≡ mip_of self.now }
@@ -46,7 +46,7 @@ impl Raised {
         self.word
     }
 
-    /// Raises of the bits that software writes those of a word, and lowers the others.
+    /// Sets the bits that software writes to those of a word.
     #[tactic(auto, using(crate::proofs::RaisedLemmas::software_part, crate::proofs::RaisedLemmas::timer_part, crate::proofs::RaisedLemmas::only_raised))]
     pub(crate) fn set_software(&mut self, word: u32)
         ensures value { self.new ≡ record self.old { software = software_pending_of word } }
@@ -55,7 +55,7 @@ impl Raised {
         self.word = software_pending_of(word) + flag(7, is_set(self.word, 7));
     }
 
-    /// Raises or lowers the timer line.
+    /// Sets or clears the timer line.
     #[tactic(auto, using(crate::proofs::RaisedLemmas::software_part, crate::proofs::RaisedLemmas::timer_part, crate::proofs::RaisedLemmas::only_raised))]
     pub(crate) fn set_timer(&mut self, raised: bool)
         ensures { self.new ≡ record self.old { timer = raised } }

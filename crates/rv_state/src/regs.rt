@@ -6,8 +6,7 @@ ghost use Rattle.rv_state.specs.Registers.{register, with_register};
 use rv_word::Reg;
 use std::marker::Model;
 
-/// The 32 integer registers, of which x0 is always 0 (Unprivileged ISA, section 2.1). Callers see the list of
-/// their words.
+/// The 32 integer registers. x0 is always 0 (Unprivileged ISA, section 2.1). Contracts describe them as a list of words.
 #[derive(Clone, Copy, Debug)]
 pub struct Regs {
     words: [u32; 32],
@@ -26,14 +25,14 @@ impl Model for Regs {
 }
 
 impl Regs {
-    /// The registers at reset: all 0.
+    /// Returns the registers at reset: all 0.
     pub const fn new() -> Self
         ensures { result ≡ replicate 32 0 }
     {
         Regs { words: [0; 32] }
     }
 
-    /// The word in a register. That of x0 is 0.
+    /// Returns the word in a register. The word in x0 is 0.
     #[inline(always)]
     pub const fn get(&self, reg: Reg) -> u32
         ensures value { result ≡ register self.now reg }
@@ -43,7 +42,7 @@ impl Regs {
         self.words[reg.number() as usize]
     }
 
-    /// Puts a word into a register. A write to x0 changes nothing.
+    /// Writes a word to a register. A write to x0 changes nothing.
     #[inline(always)]
     pub fn set(&mut self, reg: Reg, value: u32)
         ensures { self.new ≡ with_register self.old reg value }
@@ -54,7 +53,7 @@ impl Regs {
         }
     }
 
-    /// Puts a word into a register that is not x0.
+    /// Writes a word to a register that is not x0.
     #[inline(always)]
     pub fn put(&mut self, reg: Reg, value: u32)
         requires { 0 < reg }
@@ -65,7 +64,7 @@ impl Regs {
 }
 
 impl Default for Regs {
-    /// The registers at reset.
+    /// Returns the registers at reset.
     fn default() -> Self
         ensures { result ≡ replicate 32 0 }
     {

@@ -1,4 +1,4 @@
-//! What a supervisor's software keeps for itself.
+//! The registers of mode S.
 
 /// The registers of mode S: its trap registers, and the fields of mstatus that sstatus shows (Privileged Architecture,
 /// section 4.1).

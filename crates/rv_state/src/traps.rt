@@ -1,4 +1,4 @@
-//! Where traps go, and the order of interrupts.
+//! Computes the targets of traps, and the order of interrupts.
 
 ghost use Rattle.std.specs.Prelude.{◌≡◌, ◌%◌};
 ghost use Rattle.rv_state.specs.Interrupts.{first_interrupt};
@@ -7,7 +7,7 @@ ghost use Rattle.rv_state.specs.Traps.{trap_target};
 use crate::bits::{aligned_to_4, is_set};
 use crate::cause::{Cause, Interrupt};
 
-/// The order in which interrupts are taken where several wait (Privileged Architecture, section 3.1.9).
+/// The order in which pending interrupts are taken (Privileged Architecture, section 3.1.9).
 const INTERRUPT_ORDER: [Interrupt; 6] = [
     Interrupt::MachineExternal,
     Interrupt::MachineSoftware,
@@ -17,7 +17,7 @@ const INTERRUPT_ORDER: [Interrupt; 6] = [
     Interrupt::SupervisorTimer,
 ];
 
-/// Where a trap goes on, for what mtvec holds. In mode Vectored each interrupt has a place of its own.
+/// Returns the pc after a trap, for a value of mtvec. In the mode Vectored each interrupt has its own address.
 pub(crate) const fn trap_target(mtvec: u32, cause: Cause) -> u32
     ensures target { result ≡ trap_target mtvec cause }
     ensures aligned { result % 4 ≡ 0 }
@@ -29,7 +29,7 @@ pub(crate) const fn trap_target(mtvec: u32, cause: Cause) -> u32
     }
 }
 
-/// The first interrupt, in the order in which they are taken, whose bit is set in both words.
+/// Returns the first interrupt, in the order in which they are taken, whose bit is set in both words.
 pub(crate) fn first_interrupt(mip: u32, mie: u32) -> Option<Interrupt>
     ensures { result ≡ first_interrupt mip mie }
 {

@@ -1,4 +1,4 @@
--- How lines come to their end.
+-- Lemmas about the end of the lines.
 use Rattle.std.proofs.Common.{◌≡◌, ℕ, Bool, true, false, ◌||◌, inl, inr, Result, Ok, refl, sym, ap, ◌∙◌, arith, IsTrue}
 use Rattle.std.proofs.lemmas.Bool.{false≢true}
 use Rattle.std.proofs.Math.Bool.{or-true}
@@ -12,7 +12,7 @@ use Rattle.rv_streams.specs.Script.{ReadsThroughSeparator}
 use Rattle.rv_streams.specs.Separator.{has_separator}
 use Rattle.rv_streams.specs.Unread.{unread, HasEnded, EndsWithSource}
 
--- nothing has changed
+-- without a change, the end is that of the source
 pub EndsWithSource-none : {S : Type 0} {g : Ghosts S} (lines : Lines S g) → EndsWithSource lines lines
 EndsWithSource-none lines = record {
   stays = λ e. (e, refl);
@@ -20,7 +20,7 @@ EndsWithSource-none lines = record {
   ended = λ e. inl e;
 }
 
--- the source has just answered its end
+-- the lines end when the source has just returned its end
 pub EndsWithSource-ends : {S : Type 0} {g : Ghosts S} (old new : Lines S g) → old.is_at_end ≡ false → new.is_at_end ≡ true
     → g.ends new.source ≡ one_more (g.ends old.source) → EndsWithSource old new
 EndsWithSource-ends {S} {g} old new before after count =
@@ -30,20 +30,20 @@ EndsWithSource-ends {S} {g} old new before after count =
       ended = λ _. inr risen;
     }
 
--- a read that did not fail leaves the count of failures as it was
+-- a read that does not fail leaves the count of failures unchanged
 pub no_failure : {A E : Type 0} (old mid new : ℕ) (r : Result A E) (a : A) → new ≡ counted_if (is_err r) mid → r ≡ Ok a → mid ≡ old → new ≡ old
 no_failure old mid new r a count ok same = count ∙ (ap (λ r. counted_if (is_err r) mid) ok ∙ same)
 
--- a sink that fails after it worked
+-- a sink that worked and then failed has failed
 pub SinkFailed-after : {W : Type 0} (h : SinkGhosts W) {old mid new : W} → SinkWorked h old mid → SinkFailed h mid new → SinkFailed h old new
 SinkFailed-after h worked (inl risen) = let same = worked.0 in inl (omega (arith, risen, same))
 SinkFailed-after h worked (inr risen) = let same = worked.1 in inr (omega (arith, risen, same))
 
--- a flush that was done
+-- a sink is flushed after a flush that succeeded
 pub is_flushed-at_ok : {A E : Type 0} (old new : Bool) (r : Result A E) (a : A) → new ≡ (old || is_ok r) → r ≡ Ok a → new ≡ true
 is_flushed-at_ok old new r a is ok = is ∙ (ap (λ r. old || is_ok r) ok ∙ or-true old)
 
--- one call and another
+-- the property holds for two calls, one after the other
 pub EndsWithSource-more : {S : Type 0} {g : Ghosts S} (old mid new : Lines S g) → EndsWithSource old mid → EndsWithSource mid new → EndsWithSource old new
 EndsWithSource-more {S} {g} old mid new first next = record {
   stays = λ e. let was = first.stays e in let is = next.stays was.0 in (is.0, is.1 ∙ was.1);
@@ -64,7 +64,7 @@ EndsWithSource-more {S} {g} old mid new first next = record {
     | inr risen ↦ let same = first.going was in let r : HasRisen (g.ends old.source) (g.ends new.source) = omega (arith, risen, same) in inr r
   ]
 
--- what was read through a separator, and not to the end of the input, has one
+-- if lines were read through the separator, and not to the end of the input, the input has a separator
 pub separator_read : {S : Type 0} {g : Ghosts S} (old mid new : Lines S g) → ReadsThroughSeparator old mid → EndsWithSource mid new → new.is_at_end ≡ false
     → g.is_specified → IsTrue (has_separator (unread old))
 separator_read old mid new reads end going is_specified = elim reads.ended [

@@ -1,4 +1,4 @@
--- Lines and images that can be followed by hand.
+-- Examples: lines and images with their results.
 use Rattle.std.proofs.Common.{◌≡◌, [], ◌∷◌, codes, Ok, Err, refl}
 use Rattle.rv_streams.specs.declared.fault.BenchFault.TheVariants.{Hex}
 use Rattle.rv_text.specs.GoodLines.{is_text}

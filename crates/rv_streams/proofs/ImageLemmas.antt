@@ -1,4 +1,4 @@
--- The image of lines that are read one by one.
+-- Lemmas about the image of lines that are read one by one.
 use Rattle.std.proofs.Common.{◌≡◌, ℕ, ◌+◌, ◌<◌, ◌≤◌, ltb, Bool, true, false, not, List, [], ◌∷◌, ◌++◌, length, Ok, Err, Option}
 use Rattle.std.proofs.Common.{Some, None, refl, sym, ◌∙◌, ap, subst, arith, append-nil}
 use Rattle.std.proofs.lemmas.Grind.{flat_map-append}
@@ -19,7 +19,7 @@ use Rattle.rv_streams.specs.Script.{TakesScript}
 use Rattle.rv_streams.proofs.ScriptLemmas.{line_word-take, ends_script-shown, ReadsScript}
 use Rattle.rv_streams.proofs.TakeWhileLemmas.{take_while-all, take_while-stop, take_while-pass, list_all-push, list_all-stop}
 
--- The lines that were taken are no separator and spell the image so far.
+-- The lines that were taken have no separator, and their bytes are the image so far.
 pub record EncodesImage (unread left : List ℕ) (is_at_end : Bool) (image : List ℕ) : Type 0 where
   pub lines : List (List ℕ)
   pub reads : ReadsLines unread left is_at_end lines
@@ -32,7 +32,7 @@ pub EncodesImage-going : (unread left : List ℕ) (is_at_end : Bool) (image : Li
     → EncodesImage unread left false image
 EncodesImage-going unread left is_at_end image so_far going = subst (λ b. EncodesImage unread left b image) going so_far
 
--- The lines so far spell an image that is not too long, and one more that is no separator was taken, of which the front is shown.
+-- The lines so far give an image that is not too long. One more line was taken that is no separator; its first bytes are shown.
 pub record TakesInImage (unread left rest : List ℕ) (ends : Bool) (image shown : List ℕ) : Type 0 where
   pub so_far : EncodesImage unread left false image
   pub takes : TakesLine left rest ends shown
@@ -43,14 +43,14 @@ not_separator : {unread left rest : List ℕ} {ends : Bool} {image shown : List 
     → is_separator at.takes.line ≡ false
 not_separator at = ends_script-shown Separator _ _ _ _ at.takes ∙ at.other
 
--- lines that are not faulty have the image of their bytes, if these are not too many
+-- lines without an error give the image of their bytes, if there are not too many
 image_of-sound : (lines : List (List ℕ)) → list_all is_image_line lines ≡ true → length (bytes_of_lines lines) ≤ 33554432
     → image_of lines ≡ Ok (bytes_of_lines lines)
 image_of-sound lines sound few =
     let below : ltb 33554432 (length (bytes_of_lines lines)) ≡ false = grind (arith, nat_tests) in
     rw (take_while-all is_image_line lines sound, below, sound) refl
 
--- the first faulty line decides
+-- the image has the error of the first line with an error
 image_of-faulty : (lines others : List (List ℕ)) (line : List ℕ) → list_all is_image_line lines ≡ true → length (bytes_of_lines lines) ≤ 33554432
     → is_image_line line ≡ false → image_of (lines ++ line ∷ others) ≡ Err Hex
 image_of-faulty lines others line sound few faulty =
@@ -66,7 +66,7 @@ bytes_of_lines-push lines line bytes encodes =
     bytes_of_lines-append lines (line ∷ [])
     ∙ (ap (λ o. bytes_of_lines lines ++ (unwrap_or o [] ++ [])) encodes ∙ ap (λ t. bytes_of_lines lines ++ t) (append-nil bytes))
 
--- too many bytes before it decide first
+-- too many bytes before a line with an error are reported first
 image_of-many : (lines others : List (List ℕ)) (line bytes : List ℕ) → list_all is_image_line lines ≡ true → line_bytes line ≡ Some bytes
     → 33554432 < length (bytes_of_lines lines) + length bytes → image_of (lines ++ line ∷ others) ≡ Err TooLong
 image_of-many lines others line bytes sound is many =
@@ -80,12 +80,12 @@ image_of-many lines others line bytes sound is many =
     let over : ltb 33554432 (length (bytes_of_lines lines ++ (bytes ++ more))) ≡ true = grind (arith, nat_tests) in
     rw (all, over) refl
 
--- a line that is no separator is one of the image
+-- a line that is no separator belongs to the image
 before_separator-other : (lines others : List (List ℕ)) (line : List ℕ) → list_all (λ l. not (is_separator l)) lines ≡ true
     → is_separator line ≡ false → before_separator (lines ++ line ∷ others) ≡ lines ++ line ∷ before_separator others
 before_separator-other lines others line unmarked e = take_while-pass (λ l. not (is_separator l)) lines line others unmarked (ap not e)
 
--- the word of the line that was taken is that of what is shown
+-- the shown bytes of a line have the same word as the line
 pub TakesLine-word : (left rest : List ℕ) (ends : Bool) (shown : List ℕ) (word : Option (List ℕ)) → (takes : TakesLine left rest ends shown)
     → word ≡ line_word shown → line_word takes.line ≡ word
 TakesLine-word left rest ends shown word takes is = sym (line_word-take takes.line) ∙ (ap line_word (sym takes.prefix) ∙ sym is)
@@ -106,7 +106,7 @@ some_and : (found : Option (List ℕ)) (P : List ℕ → Type 0) → IsSomeAnd f
 some_and None P h = absurd h
 some_and (Some bytes) P h = (bytes, refl, h)
 
--- a failed read leaves sound lines and the front of one
+-- after a failed read, the lines so far have no error and the prefix of one more line is kept
 pub EncodesImage-read : (unread left rest kept image : List ℕ) → EncodesImage unread left false image → length image ≤ 33554432
     → ReadsLineText left rest kept → ReadsInImage unread rest kept
 EncodesImage-read unread left rest kept image so_far few begun = record {
@@ -118,7 +118,7 @@ EncodesImage-read unread left rest kept image so_far few begun = record {
   begun = begun;
 }
 
--- a line more that is no separator was read
+-- one more line was read that is no separator
 EncodesImage-unmarked : (unread left rest : List ℕ) (ends : Bool) (image shown : List ℕ) → (so_far : EncodesImage unread left false image)
     → (takes : TakesLine left rest ends shown)
     → is_separator takes.line ≡ false → ReadsUnmarked unread rest (so_far.lines ++ takes.line ∷ [])
@@ -129,7 +129,7 @@ EncodesImage-unmarked unread left rest ends image shown so_far takes other =
       unmarked = before_separator-other so_far.lines [] takes.line so_far.unmarked other;
     }
 
--- a line that is no separator and has no bytes is the first faulty one
+-- a line that is no separator and gives no bytes is the first line with an error
 pub EncodesImage-faulty : (unread left rest : List ℕ) (ends : Bool) (image shown : List ℕ) → EncodesImage unread left false image
     → (takes : TakesLine left rest ends shown) → length image ≤ 33554432
     → is_separator takes.line ≡ false → line_bytes takes.line ≡ None → (image_in unread ≡ Err Hex) × StopsAtFault unread rest Hex
@@ -147,10 +147,10 @@ EncodesImage-faulty unread left rest ends image shown so_far takes few other non
       },
     )
 
--- ---- what one more line does
+-- ---- the effect of one more line
 
 module _ {unread left rest : List ℕ} {ends : Bool} {image shown : List ℕ} where
-  -- a line that is no separator and has bytes adds them
+  -- a line that is no separator and gives bytes appends them
   pub EncodesImage-more : {word new : List ℕ} → TakesInImage unread left rest ends image shown
       → Some word ≡ line_word shown → IsSomeAnd (bytes_of_digits word) (λ bytes. new ≡ image ++ bytes) → EncodesImage unread rest ends new
   EncodesImage-more {word = word} {new = new} at is gives =
@@ -169,7 +169,7 @@ module _ {unread left rest : List ℕ} {ends : Bool} {image shown : List ℕ} wh
         spelled = grown ∙ (ap (λ t. t ++ bytes) so_far.spelled ∙ sym (bytes_of_lines-push so_far.lines line bytes encodes));
       }
 
-  -- memory for the bytes of one line more was refused
+  -- memory for the bytes of one more line is exhausted
   pub EncodesImage-refused : {word : List ℕ} → TakesInImage unread left rest ends image shown
       → Some word ≡ line_word shown → IsSomeAnd (bytes_of_digits word) (λ bytes. (0 < length bytes) × (length image + length bytes ≤ 33554432))
       → ReadsPrefixOfImage unread rest
@@ -190,21 +190,21 @@ module _ {unread left rest : List ℕ} {ends : Bool} {image shown : List ℕ} wh
         image = image_of-sound (so_far.lines ++ line ∷ []) sound short;
       }
 
-  -- a line without one word is the first faulty one
+  -- a line that does not have exactly one word, or none, is the first line with an error
   pub EncodesImage-no_word : TakesInImage unread left rest ends image shown
       → None ≡ line_word shown → (image_in unread ≡ Err Hex) × StopsAtFault unread rest Hex
   EncodesImage-no_word at is =
       let has = TakesLine-word left rest ends shown None at.takes is in
       EncodesImage-faulty unread left rest ends image shown at.so_far at.takes at.few (not_separator at) (ap (option_and_then bytes_of_digits) has)
 
-  -- and so is one whose word is not of such digits
+  -- a line whose word is not hexadecimal digits is the first line with an error
   pub EncodesImage-no_digits : {word : List ℕ} → TakesInImage unread left rest ends image shown
       → Some word ≡ line_word shown → bytes_of_digits word ≡ None → (image_in unread ≡ Err Hex) × StopsAtFault unread rest Hex
   EncodesImage-no_digits {word = word} at is none =
       let has = TakesLine-word left rest ends shown (Some word) at.takes is in
       EncodesImage-faulty unread left rest ends image shown at.so_far at.takes at.few (not_separator at) (ap (option_and_then bytes_of_digits) has ∙ none)
 
-  -- a line whose bytes are too many decides
+  -- a line with too many bytes is the first line with an error
   pub EncodesImage-many : {word : List ℕ} → TakesInImage unread left rest ends image shown
       → Some word ≡ line_word shown → IsSomeAnd (bytes_of_digits word) (λ bytes. 33554432 < length image + length bytes)
       → (image_in unread ≡ Err TooLong) × StopsAtFault unread rest TooLong
@@ -229,12 +229,12 @@ module _ {unread left rest : List ℕ} {ends : Bool} {image shown : List ℕ} wh
         },
       )
 
--- the lines so far, as a script's
+-- the lines so far are lines of a script that ends with a separator
 pub EncodesImage-taken : {unread left : List ℕ} {is_at_end : Bool} {image : List ℕ} → (so_far : EncodesImage unread left is_at_end image)
     → TakesScript Separator unread left is_at_end so_far.lines
 EncodesImage-taken so_far = record { reads = so_far.reads; inside = so_far.unmarked }
 
--- where no line of the image was left, it is whole
+-- if no line of the image is left, the image is complete
 pub EncodesImage-whole : (unread left rest : List ℕ) (is_at_end : Bool) (image : List ℕ) → (so_far : EncodesImage unread left is_at_end image)
     → length image ≤ 33554432 → ReadsScript Separator unread rest so_far.lines → image_in unread ≡ Ok image
 EncodesImage-whole unread left rest is_at_end image so_far few whole =

@@ -1,4 +1,4 @@
--- What reading an image gives, by the line that ends it.
+-- The results of reading an image, by the line that ends it.
 use Rattle.std.proofs.Common.{◌≡◌, ◌≤◌, ℕ, false, arith, codes, List, [], Some, None, Ok, Err, Vec, vec_len, ap, sym, ◌∙◌}
 use Rattle.std.specs.Str.{bytes_eq}
 use Rattle.rv_streams.specs.declared.device.Source.{Ghosts}
@@ -16,7 +16,7 @@ use Rattle.rv_streams.proofs.ImageLemmas.{EncodesImage, TakesInImage, EncodesIma
 use Rattle.rv_streams.proofs.ImageLemmas.{EncodesImage-taken, EncodesImage-whole}
 use Rattle.rv_streams.proofs.ScriptLemmas.{FindsEnd-whole, FindsEnd-separator}
 
--- a line without a word, and one whose word is another, is no separator
+-- a line without a valid word, or with a word other than `--`, is no separator
 pub no_separator : (line : List ℕ) → None ≡ line_word line → is_separator line ≡ false
 no_separator line is = ap is_dashes (sym is)
 
@@ -24,7 +24,7 @@ pub other_word : (line word : List ℕ) → Some word ≡ line_word line → byt
 other_word line word is other = ap is_dashes (sym is) ∙ other
 
 module _ {S : Type 0} {g : Ghosts S} (Z : Type 0) (old new : Lines S g) (source : SourceWorked g old.source new.source) (emptied : held new ≡ []) where
-  -- a line whose bytes are not added
+  -- the result at a line whose bytes are not appended
   pub refused : (left image added shown word : List ℕ) (fault : BenchFault)
       → (g.is_specified → TakesInImage (unread old) left (unread new) new.is_at_end image shown)
       → Some word ≡ line_word shown → AddsBytes word image added (Err fault)
@@ -45,7 +45,7 @@ module _ {S : Type 0} {g : Ghosts S} (Z : Type 0) (old new : Lines S g) (source 
       record { source = source; emptied = emptied; reads = λ is_specified. EncodesImage-refused (at is_specified) is adds.0 }
   refused left image added shown word _ at is adds = absurd adds
 
-  -- no line of the image was left
+  -- the result if no line of the image is left
   pub image_read : (mid : Lines S g) (image : Vec ℕ Z) → FindsEnd Separator mid new → vec_len image ≤ 33554432
       → (g.is_specified → EncodesImage (unread old) (unread mid) mid.is_at_end image.items) → ReadsImage old new (Ok image)
   image_read mid image found few encodes = (

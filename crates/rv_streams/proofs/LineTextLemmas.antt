@@ -1,4 +1,4 @@
--- The bytes of a line, read one by one, and the line that they are.
+-- Lemmas about a line whose bytes are read one by one.
 use Rattle.std.proofs.Common.{◌≡◌, ◌≢◌, ℕ, ◌+◌, ◌<◌, ◌≤◌, Bool, true, false, List, [], ◌∷◌, ◌++◌, length, take, min, refl}
 use Rattle.std.proofs.Common.{sym, ◌∙◌, ap, arith, append_assoc, append-nil, add-one}
 use Rattle.std.proofs.lemmas.List.{take-append-le, take_all, take-take, length-take, length-append}
@@ -8,7 +8,7 @@ use Rattle.rv_text.specs.Lines.{without_return}
 use Rattle.rv_text.proofs.LineLemmas.{has_feed-append, eq_false, through_last_feed-append_feed, lines_of-line, lines_of-last, cut-kept, lines_of-append}
 use Rattle.rv_text.proofs.LineLemmas.{after_line-feed, after_line-open, after_lines-more, through_last_feed-append}
 
--- what is held is read already
+-- without a further byte, the held bytes are read
 pub ReadsText-none : (held left : List ℕ) → length held ≤ 122 → has_feed held ≡ false → ReadsLineText (held ++ left) left held
 ReadsText-none held left short open_ = record { text = held; split = refl; unfinished = open_; prefix = sym (take_all 122 held short) }
 
@@ -37,7 +37,7 @@ ReadsText-skip unread old left kept byte reads next ne full =
       prefix = reads.prefix ∙ sym (take-append-le 122 reads.text (byte ∷ []) long);
     }
 
--- up to a line feed, a line is taken
+-- a line is taken when its line feed is read
 pub TakesLine-feed : (unread left kept shown : List ℕ) (is_at_end : Bool) → ReadsLineText unread (10 ∷ left) kept → shown ≡ take 121 (without_return kept)
     → TakesLine unread left is_at_end shown
 TakesLine-feed unread left kept shown is_at_end reads prefix =
@@ -59,7 +59,7 @@ last_line : (text : List ℕ) → has_feed text ≡ false → 0 < length text �
 last_line [] h some = absurd (omega arith)
 last_line (x ∷ xs) h some = lines_of-last x xs h
 
--- at the end, what is left is a line if it is not empty
+-- at the end of the source, the remaining bytes are a line unless there are none
 pub TakesLine-end : (unread left kept shown : List ℕ) → ReadsLineText unread left kept → left ≡ [] → 0 < length kept → shown ≡ take 121 kept
     → TakesLine unread [] true shown
 TakesLine-end unread left kept shown reads none some prefix =

@@ -1,4 +1,4 @@
--- The lines of a script that are read one by one, up to its end.
+-- Lemmas about the lines of a script that are read one by one, up to its end.
 use Rattle.std.proofs.Common.{◌≡◌, ℕ, ◌+◌, ◌≤◌, Bool, true, false, not, ◌||◌, List, [], ◌∷◌, ◌++◌, length, take, inl, inr}
 use Rattle.std.proofs.Common.{IsTrue, None, refl, sym, ◌∙◌, ap, subst, lit≤, append-nil, add-one}
 use Rattle.std.proofs.lemmas.List.{length-append}
@@ -20,14 +20,14 @@ use Rattle.rv_text.proofs.LineLemmas.{after_lines-more}
 use Rattle.rv_streams.proofs.LineTextLemmas.{ReadsLines-more}
 use Rattle.rv_streams.proofs.TakeWhileLemmas.{take_while-all, take_while-stop, take_while-prefix}
 
--- ---- the lines of a script, and the one that ends it
+-- ---- the lines of a script, and the line that ends it
 
--- a line of which 121 bytes are shown has the word of those
+-- the first 121 bytes of a line have the same word as the line
 pub line_word-take : (line : List ℕ) → line_word (take 121 line) ≡ line_word line
 unfolding line_word
 line_word-take line = if_good-take (λ l. only_word (words_of l)) None line
 
--- what is shown of a line tells whether it ends the script
+-- the shown bytes of a line determine whether it ends the script
 pub ends_script-shown : (end : ScriptEnd) (left rest : List ℕ) (ends : Bool) (shown : List ℕ) → (takes : TakesLine left rest ends shown)
     → ends_script end takes.line ≡ ends_script end shown
 ends_script-shown Input left rest ends shown takes = refl
@@ -49,7 +49,7 @@ script_lines-stop : (end : ScriptEnd) (lines others : List (List ℕ)) (line : L
 script_lines-stop end lines others line inside e = script_lines-is end (lines ++ line ∷ others)
     ∙ take_while-stop (is_script_line end) lines line others inside (ap not e)
 
--- the script's lines in a front are a front of all of them
+-- the lines of a script in a prefix of lines are a prefix of the script's lines in all
 pub script_lines-prefix : (end : ScriptEnd) (xs ys : List (List ℕ))
     → (others : List (List ℕ)) × (script_lines end (xs ++ ys) ≡ script_lines end xs ++ others)
 script_lines-prefix Input xs ys = (ys, refl)
@@ -59,16 +59,16 @@ or_true : (b : Bool) → (b || true) ≡ true
 or_true true = refl
 or_true false = refl
 
--- the separator is among the lines
+-- the input has a separator if one of its lines is one
 has_separator-there : (lines others : List (List ℕ)) (line unread : List ℕ) → lines_of unread ≡ lines ++ line ∷ others → is_separator line ≡ true
     → IsTrue (has_separator unread)
 has_separator-there lines others line unread all e = subst IsTrue (sym (ap (list_any is_separator) all
     ∙ (list_any-append is_separator lines (line ∷ others)
     ∙ ap (λ b. list_any is_separator lines || (b || list_any is_separator others)) e))) (or_true (list_any is_separator lines))
 
--- ---- a script that was read
+-- ---- a script that was read completely
 
--- These are all lines of the script, and at most the one that ends it was read with them.
+-- These are all lines of the script. At most the line that ends it was read in addition.
 pub record ReadsScript (end : ScriptEnd) (unread left : List ℕ) (lines : List (List ℕ)) : Type 0 where
   pub closing : List (List ℕ)
   pub is_at_end : Bool
@@ -78,7 +78,7 @@ pub record ReadsScript (end : ScriptEnd) (unread left : List ℕ) (lines : List 
   pub all : script_lines end (lines_of unread) ≡ lines
   pub rest : left ≡ after_lines (length lines + 1) unread
 
--- at the end of the input nothing is left
+-- the script is complete at the end of the input
 ReadsScript-ended : (end : ScriptEnd) (unread left rest : List ℕ) (is_at_end : Bool) (lines : List (List ℕ)) → TakesScript end unread left is_at_end lines
     → left ≡ [] → rest ≡ [] → ReadsScript end unread rest lines
 ReadsScript-ended end unread left rest is_at_end lines so_far none none_too =
@@ -101,7 +101,7 @@ lines_with : (unread left rest : List ℕ) (is_at_end ends : Bool) (shown : List
     → lines_of unread ≡ lines ++ takes.line ∷ lines_of rest
 lines_with unread left rest is_at_end ends shown lines reads takes = reads.all ∙ ap (λ t. lines ++ t) takes.lines
 
--- a line was read that ends the script
+-- the script is complete after a line that ends it
 ReadsScript-through : (end : ScriptEnd) (unread left rest : List ℕ) (ends : Bool) (shown : List ℕ) (lines : List (List ℕ))
     → TakesScript end unread left false lines → TakesLine left rest ends shown → ends_script end shown ≡ true
     → ReadsScript end unread rest lines
@@ -118,10 +118,10 @@ ReadsScript-through end unread left rest ends shown lines so_far takes e =
       rest = reads.rest ∙ ap (λ n. after_lines n unread) (length-append lines (takes.line ∷ []));
     }
 
--- ---- of a source, through the end that was found
+-- ---- a source, read through the end of a script
 
 module _ {S : Type 0} {g : Ghosts S} (old mid new : Lines S g) where
-  -- where no line of the script was left, these are all
+  -- if no line of the script is left, the lines taken are all of its lines
   pub FindsEnd-whole : (end : ScriptEnd) (lines : List (List ℕ)) → FindsEnd end mid new → TakesScript end (unread old) (unread mid) mid.is_at_end lines
       → g.is_specified → ReadsScript end (unread old) (unread new) lines
   FindsEnd-whole end lines (inl at_end) so_far is_specified =
@@ -130,7 +130,7 @@ module _ {S : Type 0} {g : Ghosts S} (old mid new : Lines S g) where
       ReadsScript-through end (unread old) (unread mid) (unread new) new.is_at_end reads.shown lines
       (subst (λ b. TakesScript end (unread old) (unread mid) b lines) reads.going so_far) (reads.takes is_specified) reads.ends
 
-  -- the line that ended the script is in the input
+  -- the input has a separator if a line ended the script
   ends-there : (lines : List (List ℕ)) → ReadsScriptEnd Separator mid new → TakesScript Separator (unread old) (unread mid) mid.is_at_end lines
       → g.is_specified → IsTrue (has_separator (unread old))
   ends-there lines reads so_far is_specified =
@@ -139,7 +139,7 @@ module _ {S : Type 0} {g : Ghosts S} (old mid new : Lines S g) where
       (lines_with (unread old) (unread mid) (unread new) mid.is_at_end new.is_at_end reads.shown lines so_far.reads takes)
       (ends_script-shown Separator (unread mid) (unread new) new.is_at_end reads.shown takes ∙ reads.ends)
 
-  -- what follows the separator is left
+  -- after the separator, the bytes that follow it are left
   pub FindsEnd-separator : SourceWorked g old.source new.source → held new ≡ [] → FindsEnd Separator mid new
       → (g.is_specified → (lines : List (List ℕ)) × TakesScript Separator (unread old) (unread mid) mid.is_at_end lines)
       → ReadsThroughSeparator old new

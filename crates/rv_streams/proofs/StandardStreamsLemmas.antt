@@ -1,9 +1,9 @@
--- What is given of what was read ahead.
+-- Lemmas about bytes that were read ahead.
 use Rattle.std.proofs.Common.{◌≡◌, ◌≤◌, ℕ, ◌+◌, ◌-◌, min, List, ◌++◌, take, drop, length, arith, ◌∙◌, ap, sym, append_assoc}
 use Rattle.std.proofs.Math.Seq.{take-add}
 use Rattle.std.proofs.lemmas.List.{drop-drop, length-take, take-take}
 
--- the front of it is given, and the rest stays ahead
+-- some of the bytes read ahead are returned, and the others stay
 pub ahead_given : (buffer rest given : List ℕ) (start end count room : ℕ) → count ≡ min (length (take (end - start) (drop start buffer))) room
     → given ≡ take count (take (end - start) (drop start buffer))
     → take (end - start) (drop start buffer) ++ rest ≡ given ++ (take (end - (start + count)) (drop (start + count) buffer) ++ rest)

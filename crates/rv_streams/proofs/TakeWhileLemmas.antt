@@ -1,10 +1,10 @@
--- The lines up to the first that does not pass a test.
+-- Lemmas about the lines before the first that fails a test.
 use Rattle.std.proofs.Common.{◌≡◌, ℕ, Bool, true, false, cond, ◌&&◌, List, [], ◌∷◌, ◌++◌, refl, sym, ◌∙◌, ap, append-nil}
 use Rattle.std.proofs.lemmas.List.Folds.{list_all-append}
 use Rattle.std.proofs.lemmas.List.Sums.{take_while-cons}
 use Rattle.std.specs.List.{list_all, take_while}
 
--- lines that all pass, and others
+-- lines that all pass the test, and others
 take_while-append : (p : List ℕ → Bool) (xs ys : List (List ℕ)) → list_all p xs ≡ true → take_while p (xs ++ ys) ≡ xs ++ take_while p ys
 take_while-append p [] ys h = refl
 take_while-append p (x ∷ xs) ys h = take_while-cons p x (xs ++ ys) ∙ go (p x) h (λ all. take_while-append p xs ys all) where
@@ -38,7 +38,7 @@ pub list_all-stop : (p : List ℕ → Bool) (xs : List (List ℕ)) (x : List ℕ
     → list_all p (xs ++ x ∷ ys) ≡ false
 list_all-stop p xs x ys all e = list_all-append p xs (x ∷ ys) ∙ (rw (all, e) refl)
 
--- those of a front are a front of those of all
+-- the passing lines of a prefix are a prefix of the passing lines of all
 pub take_while-prefix : (p : List ℕ → Bool) (xs ys : List (List ℕ))
     → (others : List (List ℕ)) × (take_while p (xs ++ ys) ≡ take_while p xs ++ others)
 take_while-prefix p [] ys = (take_while p ys, refl)

@@ -1,4 +1,4 @@
--- Lines that are gathered and written, one for each item of a list.
+-- Lemmas about lines that are gathered and written, one for each item of a list.
 use Rattle.std.proofs.Common.{◌≡◌, ℕ, ◌+◌, ◌<◌, ◌≤◌, List, [], ◌∷◌, ◌++◌, length, take, drop, get_or, append-nil, sym}
 use Rattle.std.proofs.Common.{◌∙◌, ap}
 use Rattle.std.specs.List.{flat_map}
@@ -8,7 +8,7 @@ use Rattle.rv_streams.specs.Transfer.{WritesUpTo, WritesPrefix}
 use Rattle.rv_streams.proofs.Writing.{WritesUpTo-on, WritesUpTo-line, WritesUpTo-stopped, WritesUpTo-all}
 
 module _ {X : Type 0} (line : X → List ℕ) (items : List X) where
-  -- one more line is gathered, and before it some was written
+  -- one more line is gathered, after some gathered bytes were written
   pub lines-more : (k : ℕ) (d : X) (old mid new before held gathered : List ℕ) → k < length items
       → WritesUpTo old mid (flat_map line (take k items)) before → WritesUpTo mid new before held → gathered ≡ held ++ line (get_or items k d)
       → WritesUpTo old new (flat_map line (take (k + 1) items)) gathered

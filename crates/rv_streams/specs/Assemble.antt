@@ -1,4 +1,4 @@
--- What assembling a source does, result by result. (This project's own streams.)
+-- The result of assembling a source, and its effects in each case. (This project's own streams.)
 use Rattle.std.specs.Prelude.{◌≡◌, ◌⊎◌, ℕ, ◌+◌, ◌<◌, ◌≤◌, List, [], ◌++◌, length, IsOkAnd, Result}
 use Rattle.std.specs.Prelude.{Ok, Err, Vec}
 use Rattle.rv_text.specs.Lines.{lines_of}
@@ -14,7 +14,7 @@ use Rattle.rv_streams.specs.Device.{HasRisen}
 use Rattle.rv_streams.specs.Faults.{Outcome}
 use Rattle.rv_streams.specs.Transfer.{ReadsAtMost, ReadsMoreThan, WritesPrefix}
 
--- what each result of adding a part to a text means
+-- the meaning of each result of appending a part to a text
 abbrev pub AddsPart : List ℕ → List ℕ → List ℕ → Outcome → Type 0
 AddsPart part old new (Ok _) = (new ≡ old ++ part) × (length new ≤ 4194304)
 AddsPart part old new (Err TooLong) = (4194304 < length old + length part) × (new ≡ old)
@@ -22,33 +22,33 @@ AddsPart part old new (Err NoMemory) = (0 < length part) × (length old + length
 AddsPart part old new (Err _) = ⊥
 
 module _ {S : Type 0} (g : SourceGhosts S) where
-  -- The whole text was read, to the end that the source answered.
+  -- The whole text was read, until the source returned its end.
   pub record ReadsWholeText (old new : S) : Type 0 where
     pub source : SourceWorked g old new
     pub ended : HasRisen (g.ends old) (g.ends new)
     pub few : g.is_specified → length (g.remaining old) ≤ 4194304
     pub used_up : g.is_specified → g.remaining new ≡ []
 
-  -- The source failed before it answered an end.
+  -- The source failed before it returned its end.
   pub record FailsInText (old new : S) : Type 0 where
     pub source : SourceFailed g old new
     pub going : g.ends new ≡ g.ends old
     pub reads : g.is_specified → ReadsAtMost 4194304 (g.remaining old) (g.remaining new)
 
-  -- The text is too long, which was found before the source answered an end.
+  -- The text is too long, and this was found before the source returned its end.
   pub record FindsTooMuch (old new : S) : Type 0 where
     pub source : SourceWorked g old new
     pub going : g.ends new ≡ g.ends old
     pub reads : g.is_specified → ReadsMoreThan 4194304 (g.remaining old) (g.remaining new)
 
-  -- Memory was refused for the text, of which a byte was read, before the source answered an end.
+  -- Memory for the text was exhausted before the source returned its end, after at least one byte was read.
   pub record RunsOutOfMemoryForText (old new : S) : Type 0 where
     pub source : SourceWorked g old new
     pub going : g.ends new ≡ g.ends old
     pub some : g.is_specified → length (g.remaining new) < length (g.remaining old)
     pub reads : g.is_specified → ReadsAtMost 4194304 (g.remaining old) (g.remaining new)
 
-  -- what each result of reading a text means
+  -- the meaning of each result of reading a text
   abbrev pub ReadsText : {Z : Type 0} → S → S → Result (Vec ℕ Z) BenchFault → Type 0
   ReadsText old new (Ok text) = ReadsWholeText old new × (length text.items ≤ 4194304) × (g.is_specified → text.items ≡ g.remaining old)
   ReadsText old new (Err Read) = FailsInText old new
@@ -56,13 +56,13 @@ module _ {S : Type 0} (g : SourceGhosts S) where
   ReadsText old new (Err NoMemory) = RunsOutOfMemoryForText old new
   ReadsText old new (Err _) = ⊥
 
--- the fault is what is put out in place of the words, or memory was refused at a line that has none
+-- the error is the error of the text, or memory is exhausted at a line without an error that has precedence
 abbrev pub FailsAsm : List ℕ → AsmFault → Type 0
 FailsAsm text fault = (asm_output text ≡ Err (Asm fault)) ⊎ RunsOutOfMemory text fault
 
 module _ {S W : Type 0} (g : SourceGhosts S) (h : SinkGhosts W) (old new : S) (before after : W) where
-  -- What each result of `run_asm` means: nothing is written before the whole text was read and assembled. Where memory is refused at a line of
-  -- it, it has no fault that is told there in the place of that.
+  -- The meaning of each result of `run_asm`. Nothing is written before the whole text was read and assembled. If memory is exhausted at a line,
+  -- the line has no error that has precedence.
   abbrev pub RunsAsm : Outcome → Type 0
   RunsAsm (Ok _) =
       ReadsWholeText g old new × SinkFlushed h before after

@@ -1,4 +1,4 @@
--- What is written for an assembler text: the bytes of its words. (This project's own format; the digits are ASCII, ISO/IEC 646.)
+-- The output for an assembler text: the bytes of its words. (This project's own format; the digits are ASCII, ISO/IEC 646.)
 use Rattle.std.specs.Prelude.{ℕ, nat_lt, List, length, ◌++◌, codes, flat_map, Result, Ok, Err, if◌then◌else◌}
 use Rattle.rv_word.specs.ByteOrder.{byte_of}
 use Rattle.rv_word.specs.Cases.{result_case}
@@ -7,7 +7,7 @@ use Rattle.rv_text.specs.Digits.{hex2}
 use Rattle.rv_streams.specs.declared.fault.BenchFault.{BenchFault}
 use Rattle.rv_streams.specs.declared.fault.BenchFault.TheVariants.{TooLong, Asm}
 
--- the four bytes of a word in the order of memory, the lowest first, in two digits each
+-- the four bytes of a word, little-endian, in two hexadecimal digits each
 unfoldable pub word_line : ℕ → List ℕ
 word_line word = hex2 (byte_of word 0) ++ hex2 (byte_of word 1) ++ hex2 (byte_of word 2) ++ hex2 (byte_of word 3) ++ codes "\n"
 
@@ -15,7 +15,7 @@ word_line word = hex2 (byte_of word 0) ++ hex2 (byte_of word 1) ++ hex2 (byte_of
 abbrev pub asm_text : List ℕ → List ℕ
 asm_text words = flat_map word_line words
 
--- the lines of the words that a text stands for, or its fault: that it is too long, before any fault of a line
+-- the lines of the words of a text, or its error; `TooLong` has precedence over any error of a line
 unfoldable pub asm_output : List ℕ → Result (List ℕ) BenchFault
 asm_output text =
     if nat_lt 4194304 (length text) then Err TooLong

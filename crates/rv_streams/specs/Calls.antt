@@ -1,4 +1,4 @@
--- What the calls of a device have come to since an earlier state of it. (This project's own streams.)
+-- The state of a device compared with an earlier one, by its counts of calls. (This project's own streams.)
 use Rattle.std.specs.Prelude.{◌≡◌, ◌⊎◌, true}
 use Rattle.rv_streams.specs.declared.device.Source.{Ghosts as SourceGhosts}
 use Rattle.rv_streams.specs.declared.device.Sink.{Ghosts as SinkGhosts}
@@ -14,7 +14,7 @@ module _ {S : Type 0} (g : SourceGhosts S) (old new : S) where
   SourceFailed = HasRisen (g.failures old) (g.failures new)
 
 module _ {W : Type 0} (h : SinkGhosts W) (old new : W) where
-  -- no call of the sink failed, and of no part that was not empty it took nothing
+  -- no call of the sink failed, and none with a non-empty part took no byte
   abbrev pub SinkWorked : Type 0
   SinkWorked = (h.failures new ≡ h.failures old) × (h.refusals new ≡ h.refusals old)
 
@@ -23,6 +23,6 @@ module _ {W : Type 0} (h : SinkGhosts W) (old new : W) where
     pub worked : SinkWorked
     pub flushed : h.is_flushed new ≡ true
 
-  -- a call of the sink failed, or of a part that was not empty it took nothing
+  -- a call of the sink failed, or one with a non-empty part took no byte
   abbrev pub SinkFailed : Type 0
   SinkFailed = HasRisen (h.failures old) (h.failures new) ⊎ HasRisen (h.refusals old) (h.refusals new)

@@ -1,4 +1,4 @@
--- What disassembling an image does, result by result. (This project's own streams.)
+-- The result of disassembling an image, and its effects in each case. (This project's own streams.)
 use Rattle.std.specs.Prelude.{◌≡◌, ◌⊎◌, ◌++◌, IsOk, IsOkAnd, Ok, Err}
 use Rattle.rv_streams.specs.declared.device.Sink.{Ghosts as SinkGhosts}
 use Rattle.rv_streams.specs.declared.device.Source.{Ghosts as SourceGhosts}
@@ -14,11 +14,11 @@ use Rattle.rv_streams.specs.Transfer.{WritesPrefix}
 use Rattle.rv_streams.specs.Unread.{unread}
 
 module _ {S W : Type 0} {g : SourceGhosts S} (h : SinkGhosts W) (old new : Lines S g) (before after : W) where
-  -- The number of the image's bytes is no multiple of 4, which is asked of the whole image.
+  -- The whole image was read, and the number of its bytes is no multiple of 4.
   abbrev pub FindsPartOfWord : Type 0
   FindsPartOfWord = ReadsThroughSeparator old new × (g.is_specified → IsOk (image_in (unread old)))
 
-  -- what each result of `run_dis` means: nothing is written before the whole image was read
+  -- the meaning of each result of `run_dis`; nothing is written before the whole image was read
   abbrev pub RunsDis : Outcome → Type 0
   RunsDis (Ok _) =
       ReadsThroughSeparator old new × SinkFlushed h before after

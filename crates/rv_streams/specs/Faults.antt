@@ -1,4 +1,4 @@
--- The faults, and their numbers, as this project's surface gives them. (No public standard numbers them.)
+-- The numbers of the errors. (This project's own.)
 use Rattle.std.specs.Prelude.{ℕ, Result}
 use Rattle.rv_streams.specs.declared.fault.BenchFault.{BenchFault}
 use Rattle.rv_streams.specs.declared.fault.BenchFault.TheVariants.{Image, Ram, Read, Write, Hex, TooLong, NoMemory, Asm}
@@ -13,6 +13,6 @@ bench_fault_number TooLong = 6
 bench_fault_number NoMemory = 7
 bench_fault_number (Asm fault) = 8
 
--- what a call that gives no value comes to
+-- the result of a call that returns no value
 abbrev pub Outcome : Type 0
 Outcome = Result (Unit {0}) BenchFault

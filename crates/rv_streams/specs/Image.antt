@@ -10,17 +10,17 @@ use Rattle.rv_text.specs.Lines.{lines_of, after_lines}
 use Rattle.rv_streams.specs.LineText.{ReadsLineText, ReadsLines}
 use Rattle.rv_streams.specs.Separator.{line_word, before_separator}
 
--- the bytes that pairs of hexadecimal digits write, the high digit first
+-- the bytes of pairs of hexadecimal digits, the high digit first
 abbrev pub pair_values : List ℕ → List ℕ
 pair_values [] = []
 pair_values (digit ∷ []) = []
 pair_values (high ∷ low ∷ digits) = (16 * digit_value high + digit_value low) ∷ pair_values digits
 
--- the bytes that hexadecimal digits of either case write: an even number of them, or none, and nothing else
+-- the bytes of a text of hexadecimal digits of either case; None if their number is odd or there is any other byte
 unfoldable pub bytes_of_digits : List ℕ → Option (List ℕ)
 bytes_of_digits text = if (length text % 2 == 0) && list_all (λ c. is_digit c 16) text then Some (pair_values text) else None
 
--- the bytes of an image line are those of its word
+-- the bytes of a line of an image are those of its word
 abbrev pub line_bytes : List ℕ → Option (List ℕ)
 line_bytes line = option_and_then bytes_of_digits (line_word line)
 
@@ -31,17 +31,18 @@ is_image_line line = is_some (line_bytes line)
 abbrev pub bytes_of_lines : List (List ℕ) → List ℕ
 bytes_of_lines lines = flat_map (λ line. unwrap_or (line_bytes line) []) lines
 
--- The image of lines. They have too many bytes before the first faulty line, or there is a faulty line, or these are all bytes.
+-- The image of lines. The result is `TooLong` if there are too many bytes before the first line with an error. Otherwise it is `Hex` if there is
+-- a line with an error, and all bytes if there is none.
 abbrev pub image_of : List (List ℕ) → Result (List ℕ) BenchFault
 image_of lines =
     if nat_lt 33554432 (length (bytes_of_lines (take_while is_image_line lines))) then Err TooLong
     else (if list_all is_image_line lines then Ok (bytes_of_lines lines) else Err Hex)
 
--- the image at the front of an input
+-- the image at the start of an input
 abbrev pub image_in : List ℕ → Result (List ℕ) BenchFault
 image_in input = image_of (before_separator (lines_of input))
 
--- Lines of the image were read, none of them `--`, none faulty and not too many, and then the front of a line, which is kept.
+-- Lines of the image were read: none is `--` or has an error, and there are not too many bytes. Then a prefix of a line was read, which is kept.
 pub record ReadsInImage (unread left kept : List ℕ) : Type 0 where
   pub lines : List (List ℕ)
   pub others : List ℕ
@@ -50,20 +51,20 @@ pub record ReadsInImage (unread left kept : List ℕ) : Type 0 where
   pub image : image_of lines ≡ Ok (bytes_of_lines lines)
   pub begun : ReadsLineText others left kept
 
--- These lines were read, up to the bytes that are left, and none of them is `--`.
+-- These lines were read, up to the remaining bytes, and none is `--`.
 pub record ReadsUnmarked (unread left : List ℕ) (lines : List (List ℕ)) : Type 0 where
   pub all : lines_of unread ≡ lines ++ lines_of left
   pub rest : left ≡ after_lines (length lines) unread
   pub unmarked : before_separator lines ≡ lines
 
--- Lines of the image were read, with one byte or more, none of them `--`, none faulty and not too many.
+-- Lines of the image with at least one byte were read: none is `--` or has an error, and there are not too many bytes.
 pub record ReadsPrefixOfImage (unread left : List ℕ) : Type 0 where
   pub lines : List (List ℕ)
   pub some : 0 < length (bytes_of_lines lines)
   pub reads : ReadsUnmarked unread left lines
   pub image : image_of lines ≡ Ok (bytes_of_lines lines)
 
--- Lines of the image were read, none of them `--`, up to and with the first that is faulty or has too many bytes.
+-- Lines of the image were read, none of them `--`, through the first that has an error or with which there are too many bytes.
 pub record StopsAtFault (unread left : List ℕ) (fault : BenchFault) : Type 0 where
   pub sound : List (List ℕ)
   pub line : List ℕ
@@ -71,7 +72,7 @@ pub record StopsAtFault (unread left : List ℕ) (fault : BenchFault) : Type 0 w
   pub image : image_of sound ≡ Ok (bytes_of_lines sound)
   pub fails : image_of (sound ++ line ∷ []) ≡ Err fault
 
--- what each result of adding the bytes of a word to an image means
+-- the meaning of each result of appending the bytes of a word to an image
 abbrev pub AddsBytes : List ℕ → List ℕ → List ℕ → Result (Unit {0}) BenchFault → Type 0
 AddsBytes word old new (Ok _) = IsSomeAnd (bytes_of_digits word) (λ bytes. new ≡ old ++ bytes)
 AddsBytes word old new (Err Hex) = (bytes_of_digits word ≡ None) × (new ≡ old)

@@ -1,19 +1,19 @@
--- What reading the bytes of one line does. (This project's own streams.)
+-- Reading the bytes of one line. (This project's own streams.)
 use Rattle.std.specs.Prelude.{◌≡◌, ℕ, Bool, true, false, List, [], ◌∷◌, ◌++◌, take, length, Result, Ok, Err}
 use Rattle.rv_streams.specs.declared.line.Stop.{Stop}
 use Rattle.rv_streams.specs.declared.line.Stop.TheVariants.{LineFeed, End}
 use Rattle.rv_text.specs.Characters.{line_feed}
 use Rattle.rv_text.specs.Lines.{has_feed, lines_of, through_last_feed, after_line, after_lines}
 
--- of the unread bytes a text with no line feed was read, up to those that are left, and its first 122 bytes are kept
+-- a text without a line feed was read, up to the remaining bytes, and its first 122 bytes are kept
 pub record ReadsLineText (unread left kept : List ℕ) : Type 0 where
   pub text : List ℕ
   pub split : unread ≡ text ++ left
   pub unfinished : has_feed text ≡ false
   pub prefix : kept ≡ take 122 text
 
--- The first line of the unread bytes was taken, up to those that are left, and its first 121 bytes are shown. Its text ends
--- with a line feed, or else with the last byte there is.
+-- The first line of the unread bytes was taken, up to the remaining bytes, and its first 121 bytes are shown. Its text ends with a line feed, or
+-- with the last byte of the source.
 pub record TakesLine (unread left : List ℕ) (is_at_end : Bool) (shown : List ℕ) : Type 0 where
   pub text : List ℕ
   pub line : List ℕ
@@ -24,7 +24,7 @@ pub record TakesLine (unread left : List ℕ) (is_at_end : Bool) (shown : List �
   pub rest : left ≡ after_line unread
   pub prefix : shown ≡ take 121 line
 
--- These lines were taken one by one, up to the bytes that are left.
+-- These lines were taken one by one, up to the remaining bytes.
 pub record ReadsLines (unread left : List ℕ) (is_at_end : Bool) (lines : List (List ℕ)) : Type 0 where
   pub text : List ℕ
   pub split : unread ≡ text ++ left
@@ -33,13 +33,13 @@ pub record ReadsLines (unread left : List ℕ) (is_at_end : Bool) (lines : List 
   pub all : lines_of unread ≡ lines ++ lines_of left
   pub rest : left ≡ after_lines (length lines) unread
 
--- the bytes from the end of a text on, of which the line feed is read already
+-- the bytes from the end of a text on, including the line feed that was read
 abbrev pub left_from : {E : Type 0} → Result Stop E → List ℕ → List ℕ
 left_from (Ok LineFeed) remaining = line_feed ∷ remaining
 left_from (Ok End) remaining = remaining
 left_from (Err e) remaining = remaining
 
--- the text was ended by the end of the source
+-- whether the text was ended by the end of the source
 abbrev pub stops_at_end : {E : Type 0} → Result Stop E → Bool
 stops_at_end (Ok LineFeed) = false
 stops_at_end (Ok End) = true

@@ -1,4 +1,4 @@
--- What reading an image does, result by result. (This project's own format.)
+-- The result of reading an image, and its effects in each case. (This project's own format.)
 use Rattle.std.specs.Prelude.{◌≡◌, ◌≤◌, ℕ, false, [], Vec, vec_len, Result, Ok, Err}
 use Rattle.rv_streams.specs.declared.device.Source.{Ghosts}
 use Rattle.rv_streams.specs.declared.fault.BenchFault.{BenchFault}
@@ -10,26 +10,26 @@ use Rattle.rv_streams.specs.Script.{ReadsThroughSeparator}
 use Rattle.rv_streams.specs.Unread.{held, unread}
 
 module _ {S : Type 0} {g : Ghosts S} where
-  -- The source failed in a line of the image, the front of which is kept.
+  -- The source failed in a line of the image, and the prefix of this line is kept.
   pub record FailsInImage (old new : Lines S g) : Type 0 where
     pub source : SourceFailed g old.source new.source
     pub going : new.is_at_end ≡ false
     pub reads : g.is_specified → ReadsInImage (unread old) (g.remaining new.source) (held new)
 
-  -- The text of the image has this fault, at the last line that was read.
+  -- The text of the image has this error, at the last line that was read.
   pub record FindsFault (fault : BenchFault) (old new : Lines S g) : Type 0 where
     pub source : SourceWorked g old.source new.source
     pub emptied : held new ≡ []
     pub image : g.is_specified → image_in (unread old) ≡ Err fault
     pub reads : g.is_specified → StopsAtFault (unread old) (unread new) fault
 
-  -- Memory was refused for the last line that was read.
+  -- Memory is exhausted at the last line that was read.
   pub record RunsOutOfMemory (old new : Lines S g) : Type 0 where
     pub source : SourceWorked g old.source new.source
     pub emptied : held new ≡ []
     pub reads : g.is_specified → ReadsPrefixOfImage (unread old) (unread new)
 
-  -- what each result of `read_image` means
+  -- the meaning of each result of `read_image`
   abbrev pub ReadsImage : {Z : Type 0} → Lines S g → Lines S g → Result (Vec ℕ Z) BenchFault → Type 0
   ReadsImage old new (Ok image) =
       ReadsThroughSeparator old new × (vec_len image ≤ 33554432) × (g.is_specified → image_in (unread old) ≡ Ok image.items)

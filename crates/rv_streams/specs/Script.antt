@@ -1,4 +1,4 @@
--- The lines of a script, and how it ends. (This project's own format.)
+-- The lines of a script, and its end. (This project's own format.)
 use Rattle.std.specs.Prelude.{◌≡◌, ◌⊎◌, ℕ, Bool, true, false, not, List, [], IsTrue}
 use Rattle.std.specs.List.{list_all}
 use Rattle.rv_streams.specs.declared.device.Source.{Ghosts}
@@ -10,7 +10,7 @@ use Rattle.rv_streams.specs.LineText.{ReadsLines, TakesLine}
 use Rattle.rv_streams.specs.Separator.{is_separator, before_separator, has_separator, after_separator}
 use Rattle.rv_streams.specs.Unread.{held, unread}
 
--- the line ends the script, and is none of its lines
+-- whether a line ends the script; such a line does not belong to the script
 abbrev pub ends_script : ScriptEnd → List ℕ → Bool
 ends_script Input line = false
 ends_script Separator line = is_separator line
@@ -24,13 +24,13 @@ script_lines Separator lines = before_separator lines
 abbrev pub is_script_line : ScriptEnd → List ℕ → Bool
 is_script_line end line = not (ends_script end line)
 
--- These lines of the script were taken, and none other.
+-- These lines of the script were taken, and no others.
 pub record TakesScript (end : ScriptEnd) (unread left : List ℕ) (is_at_end : Bool) (lines : List (List ℕ)) : Type 0 where
   pub reads : ReadsLines unread left is_at_end lines
   pub inside : list_all (is_script_line end) lines ≡ true
 
 module _ {S : Type 0} {g : Ghosts S} where
-  -- The source has answered its end, and no line is left.
+  -- The source has returned its end, and no line is left.
   pub record IsAtEnd (old new : Lines S g) : Type 0 where
     pub at_end : new.is_at_end ≡ true
     pub none : g.is_specified → unread old ≡ []
@@ -43,11 +43,11 @@ module _ {S : Type 0} {g : Ghosts S} where
     pub takes : g.is_specified → TakesLine (unread old) (unread new) new.is_at_end shown
     pub ends : ends_script end shown ≡ true
 
-  -- no line of the script was left
+  -- no line of the script is left
   abbrev pub FindsEnd : ScriptEnd → Lines S g → Lines S g → Type 0
   FindsEnd end old new = IsAtEnd old new ⊎ ReadsScriptEnd end old new
 
-  -- The lines were read through the first separator, or else to the end that the source answered.
+  -- The lines were read through the first separator, or, if there is none, until the source returned its end.
   pub record ReadsThroughSeparator (old new : Lines S g) : Type 0 where
     pub source : SourceWorked g old.source new.source
     pub emptied : held new ≡ []

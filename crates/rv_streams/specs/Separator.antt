@@ -1,4 +1,4 @@
--- The line `--`, which separates an image from a script, and a script from another. (This project's own format.)
+-- The line `--`, which separates an image from a script, and one script from another. (This project's own format.)
 use Rattle.std.specs.Prelude.{ℕ, ◌+◌, Bool, false, not, List, [], ◌∷◌, length, codes, take_while, Option, Some, None, if◌then◌else◌}
 use Rattle.std.specs.List.{list_any}
 use Rattle.std.specs.Str.{bytes_eq}
@@ -6,13 +6,13 @@ use Rattle.rv_text.specs.GoodLines.{is_good_line}
 use Rattle.rv_text.specs.Lines.{lines_of, after_lines}
 use Rattle.rv_text.specs.Words.{words_of}
 
--- one word, or none, which is a word of no bytes
+-- the only word, or an empty word if there is none
 abbrev pub only_word : List (List ℕ) → Option (List ℕ)
 only_word [] = Some []
 only_word (word ∷ []) = Some word
 only_word (first ∷ second ∷ words) = None
 
--- the only word of a good line; a line that is not good is faulty, and so is one with more words
+-- the only word of a well-formed line; None if the line is malformed or has more words
 unfoldable pub line_word : List ℕ → Option (List ℕ)
 line_word line = if is_good_line line then only_word (words_of line) else None
 
@@ -32,6 +32,6 @@ before_separator lines = take_while (λ line. not (is_separator line)) lines
 abbrev pub has_separator : List ℕ → Bool
 has_separator input = list_any is_separator (lines_of input)
 
--- what follows the first separator
+-- the input after the first separator
 abbrev pub after_separator : List ℕ → List ℕ
 after_separator input = after_lines (length (before_separator (lines_of input)) + 1) input

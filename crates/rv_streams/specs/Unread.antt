@@ -1,4 +1,4 @@
--- What the lines of a source have still to give, and what they tell of its end. (This project's own streams.)
+-- The bytes that the lines of a source have not yet returned, and the end of the lines. (This project's own streams.)
 use Rattle.std.specs.Prelude.{◌≡◌, ◌<◌, ℕ, true, false, List, [], ◌++◌, ◌+◌, ◌⊎◌, length, Option, Result, IfOk, IfSome, OnErr, OnOk, OnSome, is_err}
 use Rattle.rv_streams.specs.declared.device.Source.{Ghosts}
 use Rattle.rv_streams.specs.declared.lines.Lines.{Lines}
@@ -6,23 +6,23 @@ use Rattle.rv_streams.specs.Device.{HasRisen, counted_if}
 use Rattle.rv_streams.specs.LineText.{ReadsLineText, TakesLine}
 
 module _ {S : Type 0} {g : Ghosts S} where
-  -- the front of an unfinished line
+  -- the prefix of an unfinished line
   abbrev pub held : Lines S g → List ℕ
   held lines = lines.line.items
 
-  -- the front of an unfinished line, and what the source has left
+  -- the prefix of an unfinished line, and the remaining bytes of the source
   abbrev pub unread : Lines S g → List ℕ
   unread lines = held lines ++ g.remaining lines.source
 
-  -- a bound on the lines that can still come
+  -- an upper bound on the number of lines that are left
   abbrev pub calls_left : Lines S g → ℕ
   calls_left lines = g.calls_left lines.source + length (held lines)
 
-  -- the source answered its end since the old state, or the lines were at their end then
+  -- the source returned its end since the old state, or the lines were already at their end
   abbrev pub HasEnded : Lines S g → Lines S g → Type 0
   HasEnded old new = (old.is_at_end ≡ true) ⊎ HasRisen (g.ends old.source) (g.ends new.source)
 
-  -- The lines come to their end only by an end that the source answers. It answers none before that, and none is asked for after it.
+  -- The lines end only when the source returns its end. The source returns no end before that, and none after it.
   pub record EndsWithSource (old new : Lines S g) : Type 0 where
     pub stays : old.is_at_end ≡ true → (new.is_at_end ≡ true) × (g.ends new.source ≡ g.ends old.source)
     pub going : new.is_at_end ≡ false → g.ends new.source ≡ g.ends old.source

@@ -1,4 +1,4 @@
-//! From an assembler text to the bytes of its words.
+//! Assembles a text to the bytes of its words.
 
 ghost use Rattle.std.specs.Prelude.{◌≡◌, ◌+◌, ◌≤◌, ◌++◌, ◌⊎◌, true, OnOk, OnErr};
 ghost use Rattle.arrayvec.specs.ArrayVec.{array_vec_len};
@@ -16,10 +16,10 @@ use rv_text::{Reply, push_hex, push_text};
 use rv_word::le_bytes;
 use std::alloc::Global;
 
-/// How many bytes the line of a word has.
+/// The number of bytes in the line of a word.
 const LINE_LEN: usize = 9;
 
-/// Writes the bytes of a word, the lowest first, at the end of a text that has room for them.
+/// Appends the bytes of a word, little-endian, to a text that has room for them.
 #[tactic(auto, unfolding(crate::specs::AssemblyText::word_line))]
 fn push_word(out: &mut Reply, word: u32)
     requires room { array_vec_len out.old + 9 ≤ 2048 }
@@ -38,8 +38,7 @@ fn push_word(out: &mut Reply, word: u32)
 ///
 /// # Errors
 ///
-/// Only where the sink failed in this call, or took no byte of a part that was not empty. A beginning of the lines is
-/// written then.
+/// `DeviceFault`, only if the sink failed in this call or took no byte of a non-empty part. A prefix of the lines is then written.
 fn write_words<W: Sink>(words: &[u32], sink: &mut W) -> Result<(), DeviceFault>
     ensures written { OnOk result (W.is_specified → W.taken sink.new ≡ W.taken sink.old ++ asm_text words.now) }
     ensures prefix { W.is_specified → WritesPrefix (W.taken sink.old) (W.taken sink.new) (asm_text words.now) }
@@ -55,18 +54,17 @@ fn write_words<W: Sink>(words: &[u32], sink: &mut W) -> Result<(), DeviceFault>
     write_last(&gathered, sink)
 }
 
-/// Reads an assembler text to the end of the source, and writes a line for each word that it stands for: the four bytes of
-/// the word in the order of memory, the lowest first, in two digits each.
+/// Reads an assembler text to the end of the source, and writes a line for each of its words. A line has the four bytes of the word,
+/// little-endian, in two hexadecimal digits each.
 ///
 /// # Errors
 ///
-/// The first of these that is met; nothing is written at any but the last:
-/// - while the text is read: `Read` where the source failed in this call, `TooLong` where the text has more than
-///   `ASM_TEXT_MAX` bytes, `NoMemory` where memory for it was refused;
-/// - `Asm` with the first fault of the text, or with `NoMemory` where memory for the words was refused, at a line before which none has a
-///   fault of its own;
-/// - `Write` where the sink failed in this call, or took no byte of a part that was not empty: a beginning of the lines is
-///   written.
+/// The first of these that occurs; only with `Write` may some of the lines be written:
+/// - While the text is read: `Read`, if the source failed in this call; `TooLong`, if the text has more than `ASM_TEXT_MAX` bytes; `NoMemory`,
+///   if memory for the text is exhausted.
+/// - `Asm` with the first error of the text, or with `NoMemory` if memory for the words is exhausted at a line. No line before it then has an
+///   error by itself.
+/// - `Write`, if the sink failed in this call or took no byte of a non-empty part. A prefix of the lines is then written.
 pub fn run_asm<S: Source, W: Sink>(
     alloc: Global,
     source: &mut S,

@@ -1,34 +1,33 @@
-//! What a source of bytes and a sink for bytes promise.
+//! The contracts of a source of bytes and a sink for bytes.
 ghost use Rattle.std.specs.Prelude.{◌≡◌, ℕ, Bool, List, [], ◌++◌, ◌+◌, ◌-◌, ◌^◌, ◌≤◌, ◌==◌, ◌&&◌, ◌||◌, min, take, length, IsTrue, is_err, is_ok};
 ghost use Rattle.rv_streams.specs.Device.{moved_count, answers_none, counted_if};
 
-/// A call of a device failed: nothing was given or taken in that call.
+/// A call of a device failed. No byte was given or taken in that call.
 #[derive(Clone, Copy, Debug, PartialEq, Eq)]
 pub struct DeviceFault;
 
 /// A device that gives bytes.
 pub trait Source {
-    // That it is known which bytes will come.
+    // Whether the bytes that will come are specified.
     ghost is_specified: { Type 0 };
 
-    // The bytes still to come, where they are known.
+    // The remaining bytes, if they are specified.
     ghost remaining: { Self → List ℕ };
 
-    // How many calls with room for a byte were answered with none, up to the greatest `u64`, at which the count stays.
+    // The number of calls that had room for a byte and succeeded without one. It saturates at the largest `u64`.
     ghost ends: { Self → ℕ };
 
-    // How many calls failed, up to the greatest `u64`, at which every call fails.
+    // The number of calls that failed. At the largest `u64` every call fails.
     ghost failures: { Self → ℕ };
 
-    // A bound on the calls that can still give a byte.
+    // An upper bound on the number of calls that can still give a byte.
     ghost calls_left: { Self → ℕ };
 
-    /// Reads some bytes to the front of the buffer, and answers how many: none only at the end, or where the buffer has
-    /// no room.
+    /// Reads some bytes to the start of the buffer, and returns how many. It returns 0 only at the end, or if the buffer has no room.
     ///
     /// # Errors
     ///
-    /// Where the device failed. No byte is lost then, and a later call goes on.
+    /// `DeviceFault`, if the device failed. No byte is lost then, and a later call continues.
     fn read_some(&mut self, buffer: &mut [u8]) -> Result<usize, DeviceFault>
         ensures room { moved_count result ≤ length buffer.new }
         ensures bytes { is_specified → remaining self.old ≡ take (moved_count result) buffer.new ++ remaining self.new }
@@ -41,26 +40,26 @@ pub trait Source {
 
 /// A device that takes bytes.
 pub trait Sink {
-    // That it is known which bytes have been taken.
+    // Whether the bytes that were taken are specified.
     ghost is_specified: { Type 0 };
 
-    // The bytes taken so far, where they are known.
+    // The bytes taken so far, if they are specified.
     ghost taken: { Self → List ℕ };
 
-    // That no byte was taken since a flush was done, or at all.
+    // Whether no byte was taken since the last successful flush, or none at all.
     ghost is_flushed: { Self → Bool };
 
-    // How many parts that were not empty had no byte taken, up to the greatest `u64`, at which the count stays.
+    // The number of calls with a non-empty part that succeeded and took no byte. It saturates at the largest `u64`.
     ghost refusals: { Self → ℕ };
 
-    // How many calls failed, up to the greatest `u64`, at which every call fails.
+    // The number of calls that failed. At the largest `u64` every call fails.
     ghost failures: { Self → ℕ };
 
-    /// Takes some bytes from the front of the part, and answers how many.
+    /// Takes some bytes from the start of the part, and returns how many.
     ///
     /// # Errors
     ///
-    /// Where the device failed. No byte of the part is taken then.
+    /// `DeviceFault`, if the device failed. No byte of the part is taken then.
     fn write_some(&mut self, part: &[u8]) -> Result<usize, DeviceFault>
         ensures bound { moved_count result ≤ length part.now }
         ensures bytes { is_specified → taken self.new ≡ taken self.old ++ take (moved_count result) part.now }
@@ -69,11 +68,11 @@ pub trait Sink {
         ensures failures { failures self.new ≡ counted_if (is_err result) (failures self.old) }
         ensures failing { failures self.old ≡ 2 ^ 64 - 1 → result ≡ Err record {} };
 
-    /// Passes on all that the sink has taken and still holds.
+    /// Passes on all bytes that the sink has taken and still holds.
     ///
     /// # Errors
     ///
-    /// Where the device failed. What was not passed on is still held.
+    /// `DeviceFault`, if the device failed. The sink still holds the bytes that were not passed on.
     fn flush(&mut self) -> Result<(), DeviceFault>
         ensures bytes { is_specified → taken self.new ≡ taken self.old }
         ensures flushed { is_flushed self.new ≡ (is_flushed self.old || is_ok result) }

@@ -1,4 +1,4 @@
-//! From an image to the disassembly of its words.
+//! Disassembles the words of an image.
 
 ghost use Rattle.std.specs.Prelude.{◌≡◌, ◌+◌, ◌≤◌, ◌++◌, ◌⊎◌, true, map, OnOk, OnErr};
 ghost use Rattle.arrayvec.specs.ArrayVec.{array_vec_len};
@@ -20,10 +20,10 @@ use rv_text::{Reply, push_hex, push_text};
 use rv_word::le_word;
 use std::alloc::Global;
 
-/// The most bytes of the line of a word.
+/// The maximal number of bytes in the line of a word.
 const LINE_MAX: usize = 58;
 
-/// Writes a word and its disassembly at the end of a text that has room for them.
+/// Appends a word and its disassembly to a text that has room for them.
 #[tactic(auto, unfolding(crate::specs::DisassemblyText::dis_line))]
 fn push_disassembly(out: &mut Reply, word: u32)
     requires room { array_vec_len out.old + 58 ≤ 2048 }
@@ -42,8 +42,7 @@ fn push_disassembly(out: &mut Reply, word: u32)
 ///
 /// # Errors
 ///
-/// Only where the sink failed in this call, or took no byte of a part that was not empty. A beginning of the lines is
-/// written then.
+/// `DeviceFault`, only if the sink failed in this call or took no byte of a non-empty part. A prefix of the lines is then written.
 fn write_disassembly<W: Sink>(words: &[[u8; 4]], sink: &mut W) -> Result<(), DeviceFault>
     ensures written { OnOk result (W.is_specified → W.taken sink.new ≡ W.taken sink.old ++ disassembly_text (map word_of_bytes words.now)) }
     ensures prefix { W.is_specified → WritesPrefix (W.taken sink.old) (W.taken sink.new) (disassembly_text (map word_of_bytes words.now)) }
@@ -59,16 +58,15 @@ fn write_disassembly<W: Sink>(words: &[[u8; 4]], sink: &mut W) -> Result<(), Dev
     write_last(&gathered, sink)
 }
 
-/// Reads an image as `read_image` does, and writes a line for each word of it: the word in eight digits, a space, and its
-/// disassembly. What follows the line `--` is not read.
+/// Reads an image as `read_image` does, and writes a line for each of its words: the word in eight hexadecimal digits, a space, and its
+/// disassembly. Nothing after the line `--` is read.
 ///
 /// # Errors
 ///
-/// The first of these that is met; nothing is written at any but the last:
-/// - while the image is read, in the order of its lines: `Read`, `Hex`, `TooLong` and `NoMemory`, as `read_image` has them;
-/// - `Hex` where the number of the image's bytes is not a multiple of 4;
-/// - `Write` where the sink failed in this call, or took no byte of a part that was not empty: a beginning of the lines is
-///   written.
+/// The first of these that occurs; only with `Write` may some of the lines be written:
+/// - While the image is read, in the order of its lines: `Read`, `Hex`, `TooLong` and `NoMemory`, as for `read_image`.
+/// - `Hex`, if the number of the image's bytes is not a multiple of 4.
+/// - `Write`, if the sink failed in this call or took no byte of a non-empty part. A prefix of the lines is then written.
 pub fn run_dis<S: Source, W: Sink>(
     alloc: Global,
     lines: &mut Lines<S>,

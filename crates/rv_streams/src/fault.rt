@@ -1,4 +1,4 @@
-//! Why a run ended early.
+//! The errors that end a run.
 ghost use Rattle.std.specs.Prelude.{◌≡◌};
 ghost use Rattle.rv_streams.specs.Faults.{bench_fault_number};
 
@@ -7,38 +7,38 @@ use rv_elf::ElfFault;
 use rv_memory::RamFault;
 use thiserror::Error;
 
-/// Why a run ended early. What it displays is the line that the program prints for it; for `Write` it prints nothing.
+/// Why a run ended early. `Display` gives the line that the program prints for the error. For `Write` the program prints nothing.
 #[derive(Clone, Copy, Debug, PartialEq, Eq, Error)]
 pub enum BenchFault {
-    /// The image can not be loaded.
+    /// The image cannot be loaded.
     #[error("rvbench: image {}", .0.number())]
     Image(ElfFault),
-    /// There is no RAM of the size that was asked for.
+    /// A RAM of the requested size cannot be made.
     #[error("rvbench: ram {}", .0.number())]
     Ram(RamFault),
     /// The source failed.
     #[error("rvbench: read")]
     Read,
-    /// The sink failed, or took no byte of a part that was not empty.
+    /// The sink failed, or took no byte of a non-empty part.
     #[error("rvbench: write")]
     Write,
-    /// A line of the image's text is no line of hexadecimal digits, an even number of them; or an image that is to be words
-    /// has a number of bytes that is not a multiple of 4.
+    /// A line of the image's text is not an even number of hexadecimal digits. Or an image that must consist of words has a number of bytes that
+    /// is not a multiple of 4.
     #[error("rvbench: hex")]
     Hex,
-    /// The image has more than 33554432 bytes, or the assembler text more than 4194304.
+    /// The image has more than 33554432 bytes, or the assembler text has more than 4194304 bytes.
     #[error("rvbench: too long")]
     TooLong,
-    /// Memory was refused.
+    /// Memory is exhausted.
     #[error("rvbench: memory")]
     NoMemory,
-    /// The assembler text has a fault.
+    /// The assembler text has an error.
     #[error("rvbench: line {} fault {}", .0.line, .0.kind.number())]
     Asm(AsmFault),
 }
 
 impl BenchFault {
-    /// The number of the fault.
+    /// Returns the number of the error.
     pub fn number(self) -> u8
         ensures { result ≡ bench_fault_number self }
     {

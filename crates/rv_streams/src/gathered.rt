@@ -1,4 +1,4 @@
-//! Lines on their way to a sink, gathered so that it is not called for each of them.
+//! Gathers lines for a sink, so that it is not called for each of them.
 
 ghost use Rattle.std.specs.Prelude.{◌≡◌, ◌+◌, ◌≤◌, ◌++◌, ◌⊎◌, true, OnOk, OnErr};
 ghost use Rattle.arrayvec.specs.ArrayVec.{array_vec_len};
@@ -9,12 +9,11 @@ use crate::device::{DeviceFault, Sink};
 use crate::transfer::write_all;
 use rv_text::Reply;
 
-/// Writes what is gathered, and gathers anew, where there is no room for so many bytes more.
+/// Writes the gathered bytes and empties the buffer, if it has no room for `room` more bytes.
 ///
 /// # Errors
 ///
-/// Only where the sink failed in this call, or took no byte of a part that was not empty. A beginning of what is gathered
-/// is written then.
+/// `DeviceFault`, only if the sink failed in this call or took no byte of a non-empty part. A prefix of the gathered bytes is then written.
 pub(crate) fn make_room<W: Sink>(
     gathered: &mut Reply,
     room: usize,
@@ -34,12 +33,11 @@ pub(crate) fn make_room<W: Sink>(
     Ok(())
 }
 
-/// Writes what is gathered, the last of a text, and flushes the sink.
+/// Writes the gathered bytes, which are the last of a text, and flushes the sink.
 ///
 /// # Errors
 ///
-/// Only where the sink failed in this call, or took no byte of a part that was not empty. A beginning of what is gathered
-/// is written then.
+/// `DeviceFault`, only if the sink failed in this call or took no byte of a non-empty part. A prefix of the gathered bytes is then written.
 pub fn write_last<W: Sink>(gathered: &Reply, sink: &mut W) -> Result<(), DeviceFault>
     ensures written { OnOk result (W.is_specified → W.taken sink.new ≡ W.taken sink.old ++ gathered.now.items) }
     ensures prefix { W.is_specified → WritesPrefix (W.taken sink.old) (W.taken sink.new) gathered.now.items }

@@ -1,4 +1,4 @@
-//! The image in a text of hexadecimal lines.
+//! Reads the image in a text of hexadecimal lines.
 ghost use Rattle.std.specs.Prelude.{◌≤◌, vec_len, length};
 ghost use Rattle.rv_streams.specs.Image.{AddsBytes};
 ghost use Rattle.rv_streams.specs.ReadImage.{ReadsImage};
@@ -12,16 +12,16 @@ use crate::separator::{is_dashes, only_word};
 use rv_text::MAX_LINE;
 use std::alloc::Global;
 
-/// The most bytes of an image.
+/// The maximal number of bytes of an image.
 pub const IMAGE_MAX: usize = 33554432;
 
-/// Adds the bytes that hexadecimal digits stand for. An `Err` changes nothing.
+/// Appends the bytes of hexadecimal digits. An `Err` changes nothing.
 ///
 /// # Errors
 ///
-/// - `Hex` where the word is not an even number of hexadecimal digits;
-/// - `TooLong` where the image would have more than `IMAGE_MAX` bytes;
-/// - `NoMemory` where memory was refused.
+/// - `Hex`, if the word is not an even number of hexadecimal digits.
+/// - `TooLong`, if the image would have more than `IMAGE_MAX` bytes.
+/// - `NoMemory`, if memory is exhausted.
 fn add_bytes(image: &mut Vec<u8>, word: &[u8]) -> Result<(), BenchFault>
     requires image { vec_len image.old ≤ 33554432 }
     requires word { length word.now ≤ 120 }
@@ -39,16 +39,16 @@ fn add_bytes(image: &mut Vec<u8>, word: &[u8]) -> Result<(), BenchFault>
     add_behind(image, &bytes[..count])
 }
 
-/// Reads the image: the lines up to the first one whose only word is `--`, which is read too, or all lines.
+/// Reads the image: the lines before the first line whose only word is `--`, or all lines. The line `--` is read too.
 ///
 /// # Errors
 ///
-/// The first that is met, and in a line in this order:
-/// - `Read` where the source failed in this call: the image so far is let go, and the front of the line that was begun is kept;
-/// - `Hex` at a line that is too long, has a byte that may not stand in a line, or is not one word of an even number of
-///   hexadecimal digits, with spaces or tabs around it; a line without a word is no fault;
-/// - `TooLong` where the image would have more than `IMAGE_MAX` bytes;
-/// - `NoMemory` where memory was refused.
+/// The first that occurs. Within a line they are checked in this order:
+/// - `Read`, if the source failed in this call. The image so far is dropped, and the prefix of the unfinished line is kept.
+/// - `Hex`, at a line that is too long or has a byte that no line may have. Also at a line that is not one word of an even number of hexadecimal
+///   digits, with optional spaces and tabs around it. A line without a word is no error.
+/// - `TooLong`, if the image would have more than `IMAGE_MAX` bytes.
+/// - `NoMemory`, if memory is exhausted.
 pub fn read_image<S: Source>(alloc: Global, lines: &mut Lines<S>) -> Result<Vec<u8>, BenchFault>
     ensures outcome { ReadsImage lines.old lines.new result }
     ensures end { EndsWithSource lines.old lines.new }

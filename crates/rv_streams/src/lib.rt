@@ -1,8 +1,8 @@
-//! The streams of the program: a [`Source`] and a [`Sink`] of bytes, the lines that come in, the image that they write, and the jobs
-//! that need no bench: a text is assembled, an image disassembled.
+//! The streams of the program: a [`Source`] and a [`Sink`] of bytes, the lines of a source, and the image in them. Two commands that need no
+//! bench are here too: assembling a text, and disassembling an image.
 //!
-//! The specs have an equation for each result of a call, of what was read, kept and written then: `ReadImage`, `Assemble` and
-//! `Disassemble`, over `Unread` and `Script`. The texts that are written are named in `AssemblyText` and `DisassemblyText`.
+//! The specs define each result of a call, with the bytes that were read, kept and written: `ReadImage`, `Assemble` and `Disassemble`, based on
+//! `Unread` and `Script`. `AssemblyText` and `DisassemblyText` define the texts that are written.
 //!
 //! ```text
 //! let mut source = MemorySource::new(b"addi x1, x0, -1\n");

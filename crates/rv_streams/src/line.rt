@@ -1,4 +1,4 @@
-//! The bytes of one line, read one by one.
+//! Reads one line, byte by byte.
 ghost use Rattle.std.specs.Prelude.{◌≡◌, ◌+◌, ◌<◌, ◌≤◌, false, [], ◌++◌, take, length, IsTrue, is_err};
 ghost use Rattle.rv_streams.specs.Device.{counted_if};
 ghost use Rattle.rv_text.specs.Lines.{has_feed};
@@ -10,31 +10,31 @@ use crate::transfer::read_byte;
 use arrayvec::ArrayVec;
 use std::mem;
 
-/// The most bytes that are kept of an unfinished line: any line that begins so is too long.
+/// The maximal number of bytes that are kept of an unfinished line. Any line with this prefix is too long.
 pub(crate) const KEPT_MAX: usize = 122;
 
-/// The most bytes that are shown of a line: a line that shows so many is too long.
+/// The maximal number of bytes that are shown of a line. A line that shows as many is too long.
 pub(crate) const SHOWN_MAX: usize = 121;
 
 const LINE_FEED: u8 = b'\n';
 
 const CARRIAGE_RETURN: u8 = b'\r';
 
-/// The front of a line, or all of it.
+/// A line, or a prefix of it.
 pub type Line = ArrayVec<u8, KEPT_MAX>;
 
-/// What ended a text.
+/// The end of a line's text.
 #[derive(Clone, Copy)]
 pub(crate) enum Stop {
     LineFeed,
     End,
 }
 
-/// Reads on from what the line holds, up to a line feed or the end, and keeps the front of all that.
+/// Reads bytes after those that `line` holds, up to a line feed or the end of the source. Keeps the first `KEPT_MAX` bytes of the line.
 ///
 /// # Errors
 ///
-/// Where the source failed. The line then holds the front of what was read.
+/// `DeviceFault`, if the source failed. The line then holds a prefix of what was read.
 #[inline(always)]
 pub(crate) fn read_text<S: Source>(source: &mut S, line: &mut Line) -> Result<Stop, DeviceFault>
     requires short { length line.old.items ≤ 122 }
@@ -59,7 +59,7 @@ pub(crate) fn read_text<S: Source>(source: &mut S, line: &mut Line) -> Result<St
     Ok(Stop::End)
 }
 
-/// Takes the front of a line out, and leaves none.
+/// Takes the first `count` bytes out of a line, and empties the line.
 #[inline(always)]
 pub(crate) fn take_prefix(line: &mut Line, count: usize) -> Line
     ensures taken { result.items ≡ take count line.old.items }
@@ -70,7 +70,7 @@ pub(crate) fn take_prefix(line: &mut Line, count: usize) -> Line
     prefix
 }
 
-/// How many bytes of a text before a line feed are shown as its line.
+/// Returns the number of bytes that are shown of a text before a line feed.
 pub(crate) fn shown_len(text: &[u8]) -> usize
     requires { length text.now ≤ 122 }
     ensures { take result text.now ≡ take 121 (without_return text.now) }

@@ -9,8 +9,8 @@ use arrayvec::ArrayVec;
 
 /// Reads the lines of a source, which it owns.
 ///
-/// A line ends before a line feed; a carriage return right before that is dropped. What stands after the last line feed is a
-/// line if it is not empty.
+/// A line ends before a line feed. A carriage return directly before the line feed is dropped. The bytes after the last line feed are a line
+/// unless there are none.
 #[derive(Drop, Debug)]
 pub struct Lines<S: Source> {
     source: S,
@@ -28,7 +28,7 @@ impl<S: Source> Lines<S> {
     ghost use Rattle.rv_streams.specs.Script.{ends_script, FindsEnd};
     ghost use Rattle.rv_streams.specs.Unread.{held, unread, ReadsLine};
 
-    /// The lines of this source.
+    /// Returns the lines of this source.
     pub fn new(source: S) -> Lines<S>
         ensures source { result.source ≡ source }
         ensures held { held result ≡ [] }
@@ -41,14 +41,14 @@ impl<S: Source> Lines<S> {
         }
     }
 
-    /// The source, as far as it has been read.
+    /// Returns the source, in its current state.
     pub fn source(&self) -> &S
         ensures { result.now ≡ self.now.source }
     {
         &self.source
     }
 
-    /// Gives the source back. What was kept of an unfinished line is let go.
+    /// Returns the source. The prefix of an unfinished line is dropped.
     pub fn into_source(self) -> S
         ensures { result ≡ self.source }
     {
@@ -60,7 +60,7 @@ impl<S: Source> Lines<S> {
         source
     }
 
-    /// Whether the source has answered its end, so that no line is left.
+    /// Returns whether the source has returned its end, so that no line is left.
     pub fn is_at_end(&self) -> bool
         ensures end { result ≡ self.now.is_at_end }
         ensures told { IsTrue result → 0 < S.ends self.now.source }
@@ -69,13 +69,12 @@ impl<S: Source> Lines<S> {
         self.is_at_end
     }
 
-    /// The next line, or `None` once the source has answered its end and no line is left. Of a line of more than 120 bytes
-    /// the first 121 are given.
+    /// Returns the next line, or `None` if the source has returned its end and no line is left. A line of more than 120 bytes is cut to its
+    /// first 121.
     ///
     /// # Errors
     ///
-    /// Where the source failed in this call. The first 122 bytes of the line that was begun are kept, and a further call goes
-    /// on from there.
+    /// `DeviceFault`, if the source failed in this call. The first 122 bytes of the unfinished line are kept, and a later call continues there.
     #[inline(always)]
     pub fn next_line(&mut self) -> Result<Option<Line>, DeviceFault>
         ensures read { ReadsLine self.old self.new result (λ line. line.items) }
@@ -100,12 +99,12 @@ impl<S: Source> Lines<S> {
         }
     }
 
-    /// The next line of a script, or `None` where the script ends: once the source has answered its end and no line is left, or
-    /// at a line that ends it, which is read.
+    /// Returns the next line of a script, or `None` at its end. A script ends when the source has returned its end and no line is left, or at a
+    /// line that ends it, which is read.
     ///
     /// # Errors
     ///
-    /// As `next_line`.
+    /// As for `next_line`.
     #[inline(always)]
     pub fn next_line_before(&mut self, end: ScriptEnd) -> Result<Option<Line>, DeviceFault>
         ensures read { ReadsLine self.old self.new result (λ line. line.items) }

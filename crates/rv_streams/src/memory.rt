@@ -1,11 +1,11 @@
-//! A source and a sink over memory that is lent to them. They take no memory of their own, and never fail.
+//! A source and a sink over borrowed memory. They allocate no memory, and never fail.
 ghost use Rattle.std.specs.Prelude.{◌≡◌, ◌==◌, ◌&&◌, ◌++◌, ◌+◌, ◌-◌, ◌^◌, ◌≤◌, [], ⊤, true, nat_lt, min, length, take, is_err};
 ghost use Rattle.rv_streams.specs.Device.{moved_count, answers_none, counted_if};
 ghost use Rattle.rv_streams.specs.MemoryStreams.{rest_in_memory, bytes_taken, room_of, has_flushed};
 
 use crate::device::{DeviceFault, Sink, Source};
 
-/// A source that gives the bytes of a slice.
+/// A source that returns the bytes of a slice.
 #[derive(Drop, Debug)]
 pub struct MemorySource<'a> {
     rest: &'a [u8],
@@ -13,7 +13,7 @@ pub struct MemorySource<'a> {
 }
 
 impl<'a> MemorySource<'a> {
-    /// A source of these bytes.
+    /// Returns a source of these bytes.
     pub fn new(bytes: &'a [u8]) -> MemorySource<'a>
         ensures bytes { rest_in_memory result ≡ bytes.entry.now }
         ensures ends { result.end_count ≡ 0 }
@@ -24,7 +24,7 @@ impl<'a> MemorySource<'a> {
         }
     }
 
-    /// The bytes that are still to come.
+    /// Returns the bytes that are not yet read.
     pub fn rest(&self) -> &[u8]
         ensures { result.now ≡ rest_in_memory self.now }
     {
@@ -55,7 +55,7 @@ impl<'a> Source for MemorySource<'a> {
     }
 }
 
-/// A sink that fills a buffer from the front, and takes no byte once that is full.
+/// A sink that fills a buffer from the start, and takes no byte when the buffer is full.
 #[derive(Drop, Debug)]
 pub struct MemorySink<'a> {
     buffer: &'a mut [u8],
@@ -65,7 +65,7 @@ pub struct MemorySink<'a> {
 }
 
 impl<'a> MemorySink<'a> {
-    /// A sink that fills this buffer.
+    /// Returns a sink that fills this buffer.
     pub fn new(buffer: &'a mut [u8]) -> MemorySink<'a>
         ensures bytes { bytes_taken result ≡ [] }
         ensures room { room_of result ≡ length buffer.old }
@@ -80,7 +80,7 @@ impl<'a> MemorySink<'a> {
         }
     }
 
-    /// The bytes that were taken.
+    /// Returns the bytes that were taken.
     pub fn bytes(&self) -> &[u8]
         ensures { result.now ≡ bytes_taken self.now }
     {
@@ -88,7 +88,7 @@ impl<'a> MemorySink<'a> {
         &self.buffer[..count]
     }
 
-    /// Takes as much of the part as fits, and answers how many bytes: none of a part that has some is a refusal.
+    /// Takes as many bytes of the part as fit, and returns how many. Taking no byte of a non-empty part counts as a refusal.
     pub(crate) fn fill(&mut self, part: &[u8]) -> usize
         ensures count { result ≡ min (length part.now) (room_of self.old) }
         ensures bytes { bytes_taken self.new ≡ bytes_taken self.old ++ take result part.now }

@@ -1,14 +1,14 @@
-//! Room for more bytes: the one place where the streams ask for memory.
+//! Allocates memory for more bytes. It is the only place where the streams allocate memory.
 
 ghost use Rattle.std.specs.Prelude.{◌≡◌, ◌<◌, ◌++◌, ◌+◌, IfErr, OnErr, if◌then◌else◌, is_ok, length, vec_capacity};
 
 use crate::fault::BenchFault;
 
-/// Adds bytes behind those that a vector has. An `Err` changes nothing.
+/// Appends bytes to a vector. An `Err` changes nothing.
 ///
 /// # Errors
 ///
-/// `NoMemory` where memory was refused: it is asked for only where the vector has no room for them.
+/// `NoMemory`, if memory is exhausted. Memory is requested only if the vector has no room for the bytes.
 pub(crate) fn add_behind(bytes: &mut Vec<u8>, more: &[u8]) -> Result<(), BenchFault>
     ensures items { bytes.new.items ≡ (if is_ok result then bytes.old.items ++ more.now else bytes.old.items) }
     ensures fault { IfErr result (λ fault. fault ≡ BenchFault.NoMemory) }

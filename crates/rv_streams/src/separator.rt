@@ -1,16 +1,16 @@
-//! The line `--`, which separates an image from a script, and a script from another.
+//! The line `--`, which separates an image from a script, and one script from another.
 ghost use Rattle.std.specs.Prelude.{◌≡◌, codes, option_map};
 ghost use Rattle.std.specs.Str.{bytes_eq};
 ghost use Rattle.rv_streams.specs.Separator.{line_word, is_separator};
 
 use rv_text::{first_words, is_good_line};
 
-/// Where a script ends, or an image.
+/// The end of a script, or of an image.
 #[derive(Clone, Copy)]
 pub enum ScriptEnd {
-    /// With the input: `--` is a line as any other.
+    /// At the end of the input. `--` is an ordinary line.
     Input,
-    /// Before the first line whose only word is `--`, which is read too, or with the input.
+    /// At the first line whose only word is `--`, which is read too, or at the end of the input.
     Separator,
 }
 
@@ -18,7 +18,7 @@ impl ScriptEnd {
     ghost use Rattle.std.specs.Prelude.{◌≡◌};
     ghost use Rattle.rv_streams.specs.Script.{ends_script};
 
-    /// Whether this line ends the script.
+    /// Returns whether this line ends the script.
     pub(crate) fn is_at(self, line: &[u8]) -> bool
         ensures { result ≡ ends_script self line.now }
     {
@@ -29,7 +29,7 @@ impl ScriptEnd {
     }
 }
 
-/// The only word of a line, of no bytes where the line has none; or `None` where the line is faulty.
+/// Returns the only word of a line, which is empty if the line has none. Returns `None` if the line is malformed or has more words.
 #[tactic(auto, unfolding(crate::specs::Separator::line_word))]
 pub(crate) fn only_word(line: &[u8]) -> Option<&[u8]>
     ensures { option_map (λ word. word.now) result ≡ line_word line.now }
@@ -44,14 +44,14 @@ pub(crate) fn only_word(line: &[u8]) -> Option<&[u8]>
     }
 }
 
-/// Whether a word is `--`.
+/// Returns whether a word is `--`.
 pub(crate) fn is_dashes(word: &[u8]) -> bool
     ensures { result ≡ bytes_eq word.now (codes "--") }
 {
     word == b"--".as_slice()
 }
 
-/// Whether the only word of a line is `--`.
+/// Returns whether the only word of a line is `--`.
 fn is_separator(line: &[u8]) -> bool
     ensures { result ≡ is_separator line.now }
 {

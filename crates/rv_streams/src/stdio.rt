@@ -1,14 +1,14 @@
-//! A source over any reader of std and a sink over any writer, as over the standard streams. They tell of their bytes what std tells of the
-//! reader's and the writer's.
+//! A source over any reader of std, and a sink over any writer, such as the standard streams. Their bytes are specified as far as std specifies
+//! those of the reader and the writer.
 ghost use Rattle.std.specs.Prelude.{◌≡◌, ◌-◌, ◌^◌, ◌≤◌, min, take, length};
 
 use crate::device::{DeviceFault, Sink, Source};
 use std::io::{Read, Write};
 
-/// How many bytes are read ahead of what was asked for.
+/// The number of bytes that are read ahead at once.
 const READ_LEN: usize = 4096;
 
-/// Copies as many bytes as there are, and as have room, and answers how many.
+/// Copies as many bytes as there are and as the buffer has room for, and returns how many.
 #[inline(always)]
 fn give(bytes: &[u8], buffer: &mut [u8]) -> usize
     ensures count { result ≡ min (length bytes.now) (length buffer.old) }
@@ -17,7 +17,7 @@ fn give(bytes: &[u8], buffer: &mut [u8]) -> usize
 {
     let count = bytes.len().min(buffer.len());
     if count == 1 {
-        // a line is read byte by byte: one is copied without a call
+        // lines are read byte by byte: copies one byte without a call
         buffer[0] = bytes[0];
         return 1;
     }
@@ -25,7 +25,7 @@ fn give(bytes: &[u8], buffer: &mut [u8]) -> usize
     count
 }
 
-/// A source that reads ahead from a reader. After 2^64 - 1 calls that gave a byte every call fails.
+/// A source that reads ahead from a reader. After 2 ^ 64 - 1 calls that returned a byte, every call with room for a byte fails.
 #[derive(Drop, Debug)]
 pub struct StandardSource<R: Read> {
     reader: R,
@@ -44,7 +44,7 @@ impl<R: Read> StandardSource<R> {
     ghost use Rattle.rv_streams.specs.Device.{counted_if};
     ghost use Rattle.rv_streams.specs.StandardStreams.{AreSpecified, known, rest_of};
 
-    /// A source over this reader, of which nothing is read yet.
+    /// Returns a source over this reader, from which nothing is read yet.
     pub fn new(reader: R) -> StandardSource<R>
         ensures bytes { rest_of result ≡ known (R.remaining reader) }
         ensures ends { result.end_count ≡ 0 }
@@ -62,11 +62,11 @@ impl<R: Read> StandardSource<R> {
         }
     }
 
-    /// Reads ahead. Nothing is ahead then only at the end.
+    /// Reads ahead from the reader. It adds no byte only at the end.
     ///
     /// # Errors
     ///
-    /// Where the reader failed. Nothing is lost then.
+    /// `DeviceFault`, if the reader failed. No byte is lost then.
     #[cold]
     #[inline(never)]
     fn fill(&mut self) -> Result<(), DeviceFault>
@@ -91,11 +91,11 @@ impl<R: Read> StandardSource<R> {
         }
     }
 
-    /// Reads ahead where all that was read ahead is given: then nothing is ahead only at the end.
+    /// Reads ahead from the reader if all bytes that were read ahead have been returned. Then no byte is ahead only at the end.
     ///
     /// # Errors
     ///
-    /// Where the reader failed. Nothing is lost then.
+    /// `DeviceFault`, if the reader failed. No byte is lost then.
     #[inline(always)]
     fn read_ahead(&mut self) -> Result<(), DeviceFault>
         requires { self.old.failed_calls < 2 ^ 64 - 1 }
@@ -148,7 +148,7 @@ impl<R: Read> Source for StandardSource<R> {
     }
 }
 
-/// A sink that passes each part on to a writer at once, so that a reply is seen as soon as it is made. It holds nothing.
+/// A sink that passes each part to a writer at once, so that a reply is visible as soon as it is made. The sink holds no bytes.
 #[derive(Drop, Debug)]
 pub struct StandardSink<W: Write> {
     writer: W,
@@ -160,7 +160,7 @@ pub struct StandardSink<W: Write> {
 impl<W: Write> StandardSink<W> {
     ghost use Rattle.std.specs.Prelude.{◌≡◌, true};
 
-    /// A sink over this writer, to which nothing is passed yet.
+    /// Returns a sink over this writer, to which nothing is passed yet.
     pub fn new(writer: W) -> StandardSink<W>
         ensures writer { result.writer ≡ writer }
         ensures flushed { result.is_flushed ≡ true }
@@ -175,7 +175,7 @@ impl<W: Write> StandardSink<W> {
         }
     }
 
-    /// Gives the writer back, to which all that was taken is passed on.
+    /// Returns the writer, to which all bytes that were taken have been passed.
     pub fn into_writer(self) -> W
         ensures { result ≡ self.writer }
     {

@@ -1,15 +1,15 @@
-//! One byte from a source, and all of a text to a sink.
+//! Reads one byte from a source, and writes a whole text to a sink.
 ghost use Rattle.std.specs.Prelude.{◌≡◌, ◌++◌, ◌⊎◌, ◌+◌, ◌≤◌, [], length, IsTrue, IfOk, OnOk, OnErr, IfNone, is_err};
 ghost use Rattle.rv_streams.specs.Device.{counted_if, HasRisen};
 ghost use Rattle.rv_streams.specs.Transfer.{byte_given, answers_end, WritesPrefix};
 
 use crate::device::{DeviceFault, Sink, Source};
 
-/// The next byte, or `None` where the source answered its end in this call.
+/// Returns the next byte, or `None` if the source returned its end in this call.
 ///
 /// # Errors
 ///
-/// Where the source failed in this call.
+/// `DeviceFault`, if the source failed in this call.
 pub(crate) fn read_byte<S: Source>(source: &mut S) -> Result<Option<u8>, DeviceFault>
     ensures bytes { S.is_specified → S.remaining source.old ≡ byte_given result ++ S.remaining source.new }
     ensures end { S.is_specified → IfOk result (λ byte. IfNone byte (S.remaining source.new ≡ [])) }
@@ -25,12 +25,11 @@ pub(crate) fn read_byte<S: Source>(source: &mut S) -> Result<Option<u8>, DeviceF
     Ok(Some(byte[0]))
 }
 
-/// Writes the whole text, part by part. No text is written for an empty one, and no call made.
+/// Writes the whole text, part by part. For an empty text the sink is not called.
 ///
 /// # Errors
 ///
-/// Only where the sink failed in this call, or took no byte of a part that was not empty. A beginning of the text is
-/// written then.
+/// `DeviceFault`, only if the sink failed in this call or took no byte of a non-empty part. A prefix of the text is then written.
 pub fn write_all<W: Sink>(sink: &mut W, text: &[u8]) -> Result<(), DeviceFault>
     ensures written { OnOk result (W.is_specified → W.taken sink.new ≡ W.taken sink.old ++ text.now) }
     ensures prefix { W.is_specified → WritesPrefix (W.taken sink.old) (W.taken sink.new) text.now }

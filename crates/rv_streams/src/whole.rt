@@ -1,4 +1,4 @@
-//! All bytes of a source, read into memory.
+//! Reads all bytes of a source into memory.
 
 ghost use Rattle.std.specs.Prelude.{◌≤◌, length};
 ghost use Rattle.rv_streams.specs.Assemble.{AddsPart, ReadsText};
@@ -8,18 +8,18 @@ use crate::fault::BenchFault;
 use crate::room::add_behind;
 use std::alloc::Global;
 
-/// The most bytes of an assembler text.
+/// The maximal number of bytes of an assembler text.
 pub const ASM_TEXT_MAX: usize = 4_194_304;
 
-/// How many bytes are read in a call.
+/// The number of bytes that are read in one call.
 const PART_LEN: usize = 4096;
 
-/// Adds a part to the text. An `Err` changes nothing.
+/// Appends a part to the text. An `Err` changes nothing.
 ///
 /// # Errors
 ///
-/// - `TooLong` where the text would have more than `ASM_TEXT_MAX` bytes;
-/// - `NoMemory` where memory was refused.
+/// - `TooLong`, if the text would have more than `ASM_TEXT_MAX` bytes.
+/// - `NoMemory`, if memory is exhausted.
 fn add_part(text: &mut Vec<u8>, part: &[u8]) -> Result<(), BenchFault>
     requires text { length text.old.items ≤ 4194304 }
     requires part { length part.now ≤ 4096 }
@@ -35,10 +35,10 @@ fn add_part(text: &mut Vec<u8>, part: &[u8]) -> Result<(), BenchFault>
 ///
 /// # Errors
 ///
-/// The first that is met:
-/// - `Read` where the source failed in this call;
-/// - `TooLong` where there are more than `ASM_TEXT_MAX` bytes;
-/// - `NoMemory` where memory for them was refused, of which one at least was read.
+/// The first that occurs:
+/// - `Read`, if the source failed in this call.
+/// - `TooLong`, if there are more than `ASM_TEXT_MAX` bytes.
+/// - `NoMemory`, if memory for the bytes is exhausted, after at least one byte was read.
 pub(crate) fn read_whole<S: Source>(alloc: Global, source: &mut S) -> Result<Vec<u8>, BenchFault>
     ensures { ReadsText S.Source source.old source.new result }
 {

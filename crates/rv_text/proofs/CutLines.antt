@@ -1,4 +1,4 @@
--- A line of which the first 121 bytes are shown says what these say.
+-- The first 121 bytes of a line have the same meaning as the line.
 use Rattle.std.proofs.Common.{◌≡◌, ℕ, ◌<◌, leb, false, cond, List, length, take, refl, sym, ◌∙◌, ap, arith, inl, inr}
 use Rattle.std.proofs.lemmas.Bool.{cases_lt}
 use Rattle.std.proofs.lemmas.List.{take_all, length-take}
@@ -7,7 +7,7 @@ use Rattle.rv_text.specs.GoodLines.{is_good_line}
 long_is_bad : (line : List ℕ) → 120 < length line → is_good_line line ≡ false
 long_is_bad line long = let e : leb (length line) 120 ≡ false = grind arith in rw e refl
 
--- whatever is said of good lines alone
+-- a function that is used only for well-formed lines
 pub if_good-take : {A : Type 0} (f : List ℕ → A) (bad : A) (line : List ℕ)
     → cond (is_good_line (take 121 line)) (f (take 121 line)) bad ≡ cond (is_good_line line) (f line) bad
 if_good-take f bad line = elim (cases_lt 120 (length line)) [

@@ -1,4 +1,4 @@
--- A test of every digit against `AllDigits`, and how large a number with so many digits can be.
+-- Lemmas about a test of each digit against `AllDigits`, and about the largest number with a given count of digits.
 use Rattle.std.proofs.Common.{◌≡◌, ℕ, suc, ◌+◌, ◌*◌, ◌^◌, ◌<◌, ◌≤◌, true, List, [], ◌∷◌, length, take, get_or, length-take-le, subst, arith}
 use Rattle.std.specs.List.{list_all}
 use Rattle.std.specs.Char.{is_digit, digit_value}
@@ -18,14 +18,14 @@ AllDigits-from_list_all base (c ∷ text) h =
     let both = digit_from_both base c text h in
     (both.0, AllDigits-from_list_all base text both.1)
 
--- one more digit after so few fits
+-- one more digit fits after fewer than `most`
 pub value_step-lt : (base most i value digit : ℕ) → 2 ≤ base → base ^ most ≤ 2 ^ 32 → i < most → value < base ^ i → digit < base → value * base + digit < 2 ^ 32
 value_step-lt base most i value digit low fits within small below =
     let step : base ^ suc i ≤ base ^ most = pow-le-pow_right (omega arith) (omega arith) in
     let room : suc value * base ≤ base ^ i * base = mul-le-mul_right base (omega arith) in
     omega (arith, pow-suc base i, step, room)
 
--- the number that the first digits write is below the base to the power of their count
+-- the number of the first digits is below the base to the power of their count
 first_digits-lt : (base i value : ℕ) (text : List ℕ) → 2 ≤ base → i ≤ length text → list_all (λ c. is_digit c base) (take i text) ≡ true
     → value ≡ digits_value base (take i text) → value < base ^ i
 first_digits-lt base i value text low within digits is =
@@ -41,7 +41,7 @@ pub number_step-lt : (base most i value digit : ℕ) (text : List ℕ) → 2 ≤
 number_step-lt base most i value digit text low fits within short digits is below =
     value_step-lt base most i value digit low fits (omega arith) (first_digits-lt base i value text low (omega arith) digits is) below
 
--- and so below the base to the power of the digits allowed
+-- the number is below the base to the power of the maximal count of digits
 pub number-lt : (base most i value : ℕ) (text : List ℕ) → 2 ≤ base → i ≤ length text → length text ≤ most
     → list_all (λ c. is_digit c base) (take i text) ≡ true → value ≡ digits_value base (take i text) → value < base ^ most
 number-lt base most i value text low within short digits is =

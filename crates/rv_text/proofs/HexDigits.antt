@@ -1,4 +1,4 @@
--- Hexadecimal digits, written from the first.
+-- Lemmas about hexadecimal digits that are written from the first.
 use Rattle.std.proofs.Common.{◌≡◌, ℕ, zero, suc, ◌+◌, ◌-◌, ◌*◌, ◌/◌, ◌%◌, ◌^◌, ◌<◌, [], ◌∷◌, ◌++◌, length, bit_and, refl}
 use Rattle.std.proofs.Common.{ap, sym, ◌∙◌, arith, add-one, length-append, Option, Some, None}
 use Rattle.std.specs.Option.{SomeIff}
@@ -53,7 +53,7 @@ SomeIff-at_some (Some y) P v x h e =
     let same : y ≡ x = cc in
     (h.0, sym same ∙ h.1)
 
--- what is written reads back as the number
+-- the written digits are read back as the number
 pub AllDigits-hex_digits : (places n : ℕ) → AllDigits 16 (hex_digits places n)
 unfolding hex_digits
 AllDigits-hex_digits zero n = tt

@@ -1,4 +1,4 @@
--- The first line of a text.
+-- Lemmas about the first line of a text.
 use Rattle.std.proofs.Common.{◌≡◌, ◌≢◌, ◌==◌, ◌||◌, ℕ, ◌+◌, ◌<◌, Bool, true, false, not, cond, sym, List, [], ◌∷◌}
 use Rattle.std.proofs.Common.{◌++◌, length, take, get_or, refl, ap, ◌∙◌, arith, append_assoc, suc}
 use Rattle.std.proofs.lemmas.List.{take_all}

@@ -1,4 +1,4 @@
--- The lines of a text that is read byte by byte.
+-- Lemmas about the lines of a text that is read byte by byte.
 use Rattle.std.proofs.Common.{◌≡◌, ◌≢◌, ℕ, suc, zero, inl, inr, ◌<◌, ◌≤◌, nat_eq, Bool, true, false, ◌&&◌, ◌||◌, cond, List}
 use Rattle.std.proofs.Common.{[], ◌∷◌, ◌++◌, length, take, drop, min, refl, sym, ◌∙◌, ap, arith, append-nil}
 use Rattle.std.proofs.lemmas.List.{take-append-le, take_all, take-take, length-take, length-append}
@@ -16,7 +16,7 @@ pub has_feed-append : (xs ys : List ℕ) → has_feed (xs ++ ys) ≡ has_feed xs
 has_feed-append [] ys = refl
 has_feed-append (x ∷ xs) ys = rw (has_feed-append xs ys) (or_assoc (nat_eq x 10) (has_feed xs) (has_feed ys))
 
--- a text with no line feed has no finished line
+-- a text without a line feed has no finished line
 pub through_last_feed-open : (xs : List ℕ) → has_feed xs ≡ false → through_last_feed xs ≡ []
 through_last_feed-open [] h = refl
 through_last_feed-open (x ∷ xs) h = rw h refl
@@ -29,13 +29,13 @@ or_true : (a b : Bool) → b ≡ true → a || b ≡ true
 or_true true b h = refl
 or_true false b h = h
 
--- what follows with no line feed finishes no line
+-- appending a text without a line feed finishes no line
 pub through_last_feed-append_open : (xs ys : List ℕ) → has_feed ys ≡ false → through_last_feed (xs ++ ys) ≡ through_last_feed xs
 through_last_feed-append_open [] ys h = through_last_feed-open ys h
 through_last_feed-append_open (x ∷ xs) ys h =
     rw (has_feed-append xs ys, or_false (has_feed xs) (has_feed ys) h, through_last_feed-append_open xs ys h) refl
 
--- what follows with a line feed finishes all before it
+-- appending a text with a line feed finishes all lines before it
 pub through_last_feed-append_feed : (xs ys : List ℕ) → has_feed ys ≡ true → through_last_feed (xs ++ ys) ≡ xs ++ through_last_feed ys
 through_last_feed-append_feed [] ys h = refl
 through_last_feed-append_feed (x ∷ xs) ys h =
@@ -47,7 +47,7 @@ through_last_feed-cons x xs = go (nat_eq x 10 || has_feed xs) where
   go true e = (refl, cc)
   go false e = cc
 
--- ---- the lines of finished lines and of what follows
+-- ---- the lines of finished lines and of the text after them
 
 onto_first-some : (x : ℕ) (ls : List (List ℕ)) → onto_first x ls ≡ [] → ⊥
 onto_first-some x [] e = cc
@@ -74,7 +74,7 @@ starts_with_feed-append : (xs ys : List ℕ) → has_feed xs ≡ true → starts
 starts_with_feed-append [] ys h = cc
 starts_with_feed-append (x ∷ xs) ys h = refl
 
--- the lines of a text of finished lines, and those of what follows
+-- the lines of a text of finished lines, followed by the lines of the text after it
 pub lines_of-append : (xs ys : List ℕ) → through_last_feed xs ≡ xs → lines_of (xs ++ ys) ≡ lines_of xs ++ lines_of ys
 lines_of-append [] ys h = refl
 lines_of-append (x ∷ xs) ys h =
@@ -97,7 +97,7 @@ and_false false = refl
 
 -- ---- one line
 
--- finished texts make a finished text
+-- two finished texts together are a finished text
 pub through_last_feed-append : (xs ys : List ℕ) → through_last_feed xs ≡ xs → through_last_feed ys ≡ ys → through_last_feed (xs ++ ys) ≡ xs ++ ys
 through_last_feed-append xs [] h e = through_last_feed-append_open xs [] refl ∙ (h ∙ sym (append-nil xs))
 through_last_feed-append xs (y ∷ ys) h e = through_last_feed-append_feed xs (y ∷ ys) ((through_last_feed-cons y ys e).0) ∙ ap (λ t. xs ++ t) e
@@ -111,7 +111,7 @@ one_more true c d x line ms e h k = cc
 one_more false c true x line ms e h k = cc
 one_more false c false x line ms e h k = rw (and_false c) (ap (onto_first x) e)
 
--- with no line feed in them, the bytes before one are one line
+-- bytes without a line feed, followed by a line feed, are one line
 pub lines_of-line : (xs : List ℕ) → has_feed xs ≡ false → lines_of (xs ++ 10 ∷ []) ≡ without_return xs ∷ []
 lines_of-line [] h = refl
 lines_of-line (x ∷ []) h = rw ((or_none (nat_eq x 10) false h).0) (go (nat_eq x 13)) where
@@ -125,7 +125,7 @@ lines_of-line (x ∷ y ∷ ys) h =
     (lines_of-line (y ∷ ys) first.1) first.0 second.0
     ∙ sym (ap (λ (t : List ℕ). t ∷ []) (without_return-cons x y ys))
 
--- with no line feed in them, the last bytes are one line
+-- bytes without a line feed at the end of a text are one line
 pub lines_of-last : (x : ℕ) (xs : List ℕ) → has_feed (x ∷ xs) ≡ false → lines_of (x ∷ xs) ≡ (x ∷ xs) ∷ []
 lines_of-last x [] h = rw ((or_none (nat_eq x 10) false h).0, and_false (nat_eq x 13)) refl
 lines_of-last x (y ∷ ys) h =
@@ -146,7 +146,7 @@ without_return-other [] x h = rw (eq_false x 13 h) refl
 without_return-other (y ∷ []) x h = rw (and_false (nat_eq y 13)) (ap (λ (t : List ℕ). y ∷ t) (without_return-other [] x h))
 without_return-other (y ∷ z ∷ zs) x h = rw (and_false (nat_eq y 13)) (ap (λ (t : List ℕ). y ∷ t) (without_return-other (z ∷ zs) x h))
 
--- all but the last byte of a line are kept
+-- all bytes of a line except the last are kept
 pub take-without_return : (n : ℕ) (xs : List ℕ) → n < length xs → take n (without_return xs) ≡ take n xs
 take-without_return zero xs h = refl
 take-without_return (suc n) [] h = refl
@@ -154,9 +154,9 @@ take-without_return (suc n) (x ∷ []) h = absurd (omega arith)
 take-without_return (suc n) (x ∷ y ∷ ys) h =
     rw (and_false (nat_eq x 13)) (ap (λ (t : List ℕ). x ∷ t) (take-without_return n (y ∷ ys) (omega arith)))
 
--- ---- what is shown of a line
+-- ---- the bytes that are shown of a line
 
--- the front that is kept of a line shows as much as the line
+-- the prefix that is kept of a line shows as much as the line
 pub cut-kept : (xs : List ℕ) → take 121 (without_return (take 122 xs)) ≡ take 121 (without_return xs)
 cut-kept xs = elim (cases_lt 122 (length xs)) [
   | inl more ↦
@@ -184,7 +184,7 @@ shown-return text prefix e h =
       take_all 121 prefix short,
     ) refl
 
--- any other end is
+-- any other last byte is shown
 pub shown-other : (text prefix : List ℕ) (last : ℕ) → text ≡ prefix ++ last ∷ [] → last ≢ 13 → take (min (length text) 121) text ≡ take 121 (without_return text)
 shown-other text prefix last e h = take-min 121 text ∙ ap (take 121) (e ∙ (sym (without_return-other prefix last h) ∙ ap without_return (sym e)))
 
@@ -192,28 +192,28 @@ pub shown-empty : (text : List ℕ) → length text ≡ 0 → take (min (length 
 shown-empty [] h = refl
 shown-empty (x ∷ xs) h = absurd (omega arith)
 
--- ---- what follows a line
+-- ---- the text after a line
 
--- what follows a text with no line feed and a line feed
+-- the text after the first line feed
 pub after_line-feed : (xs ys : List ℕ) → has_feed xs ≡ false → after_line (xs ++ 10 ∷ ys) ≡ ys
 after_line-feed [] ys h = refl
 after_line-feed (x ∷ xs) ys h =
     let parts = or_none (nat_eq x 10) (has_feed xs) h in
     rw parts.0 (after_line-feed xs ys parts.1)
 
--- nothing follows a text with no line feed
+-- there is nothing after a text without a line feed
 pub after_line-open : (xs : List ℕ) → has_feed xs ≡ false → after_line xs ≡ []
 after_line-open [] h = refl
 after_line-open (x ∷ xs) h =
     let parts = or_none (nat_eq x 10) (has_feed xs) h in
     rw parts.0 (after_line-open xs parts.1)
 
--- what follows n lines and one more
+-- the text after n lines and one more
 pub after_lines-more : (n : ℕ) (text : List ℕ) → after_lines (suc n) text ≡ after_line (after_lines n text)
 after_lines-more zero text = refl
 after_lines-more (suc n) text = after_lines-more n (after_line text)
 
--- the lines of what follows the first line are the other lines
+-- the lines of the text after the first line are the other lines
 lines_of-after_line : (text : List ℕ) → lines_of (after_line text) ≡ drop 1 (lines_of text)
 lines_of-after_line [] = refl
 lines_of-after_line (x ∷ xs) = go (nat_eq x 10) (nat_eq x 13 && starts_with_feed xs) (lines_of xs) (lines_of-after_line xs) where
@@ -232,7 +232,7 @@ drop-drop_one zero [] = refl
 drop-drop_one (suc n) [] = refl
 drop-drop_one n (l ∷ ls) = refl
 
--- the lines of what follows n lines are the lines from the nth on
+-- the lines of the text after n lines are the lines from number n on
 pub lines_of-after_lines : (n : ℕ) (text : List ℕ) → lines_of (after_lines n text) ≡ drop n (lines_of text)
 lines_of-after_lines zero text = refl
 lines_of-after_lines (suc n) text = lines_of-after_lines n (after_line text) ∙ (ap (drop n) (lines_of-after_line text) ∙ drop-drop_one n (lines_of text))

@@ -1,4 +1,4 @@
--- The words of a line are its bytes without the blanks, in order; none is empty, and none has a blank.
+-- The words of a line are its bytes without the blanks, in order. No word is empty or has a blank.
 use Rattle.std.proofs.Common.{◌≡◌, ℕ, Bool, true, false, not, cond, ◌&&◌, List, [], ◌∷◌, ◌++◌, refl, ap, ◌∙◌, arith}
 use Rattle.std.proofs.lemmas.Bool.Decides.{nat_tests}
 use Rattle.std.specs.Prelude.{filter}

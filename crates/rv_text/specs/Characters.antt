@@ -1,4 +1,4 @@
--- The characters that lines, words and comments are cut at, by their codes in ASCII, ISO/IEC 646.
+-- The characters that separate lines, words and comments, by their codes in ASCII (ISO/IEC 646).
 use Rattle.std.specs.Prelude.{ℕ}
 
 abbrev pub tab : ℕ

@@ -1,13 +1,13 @@
--- Numbers in hexadecimal with leading zeros, in the digits of ASCII, ISO/IEC 646.
+-- Numbers in hexadecimal with leading zeros, in ASCII digits (ISO/IEC 646).
 use Rattle.std.specs.Prelude.{ℕ, zero, suc, ◌/◌, ◌%◌, List, [], ◌∷◌, ◌++◌}
 use Rattle.std.specs.Char.{digit_char}
 
--- the last hexadecimal digits of a number, as many as there are places, in lower case
+-- the `places` last hexadecimal digits of a number, in lower case
 unfoldable pub hex_digits : ℕ → ℕ → List ℕ
 hex_digits zero n = []
 hex_digits (suc places) n = hex_digits places (n / 16) ++ digit_char (n % 16) ∷ []
 
--- a word, the number of a control and status register, and a byte
+-- the digits of a word, of the number of a control and status register, and of a byte
 abbrev pub hex8 : ℕ → List ℕ
 hex8 n = hex_digits 8 n
 

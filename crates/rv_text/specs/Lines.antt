@@ -2,39 +2,40 @@
 use Rattle.std.specs.Prelude.{ℕ, suc, zero, ◌==◌, Bool, true, false, ◌&&◌, ◌||◌, List, [], ◌∷◌, if◌then◌else◌}
 use Rattle.rv_text.specs.Characters.{line_feed, carriage_return}
 
--- a line feed stands in the text
+-- the text has a line feed
 abbrev pub has_feed : List ℕ → Bool
 has_feed [] = false
 has_feed (b ∷ bs) = (b == line_feed) || has_feed bs
 
--- a line feed comes next
+-- the text starts with a line feed
 abbrev pub starts_with_feed : List ℕ → Bool
 starts_with_feed [] = false
 starts_with_feed (b ∷ bs) = b == line_feed
 
--- the byte goes to the front of the first line
+-- the lines with a byte added at the start of the first
 abbrev pub onto_first : ℕ → List (List ℕ) → List (List ℕ)
 onto_first b [] = (b ∷ []) ∷ []
 onto_first b (line ∷ lines) = (b ∷ line) ∷ lines
 
--- Each line ends before a line feed, or at the end of the text if it is not empty there. A carriage return before a line feed is dropped.
+-- The lines of a text. Each line ends before a line feed; the bytes after the last line feed are a line unless there are none. A carriage return
+-- before a line feed is dropped.
 abbrev pub lines_of : List ℕ → List (List ℕ)
 lines_of [] = []
 lines_of (b ∷ bs) =
     if b == line_feed then [] ∷ lines_of bs
     else (if (b == carriage_return) && starts_with_feed bs then lines_of bs else onto_first b (lines_of bs))
 
--- the front of the text up to its last line feed
+-- the text through its last line feed
 abbrev pub through_last_feed : List ℕ → List ℕ
 through_last_feed [] = []
 through_last_feed (b ∷ bs) = if (b == line_feed) || has_feed bs then b ∷ through_last_feed bs else []
 
--- what follows the first line
+-- the text after the first line
 abbrev pub after_line : List ℕ → List ℕ
 after_line [] = []
 after_line (b ∷ bs) = if b == line_feed then bs else after_line bs
 
--- what follows the first n lines
+-- the text after the first n lines
 abbrev pub after_lines : ℕ → List ℕ → List ℕ
 after_lines zero text = text
 after_lines (suc n) text = after_lines n (after_line text)
@@ -43,7 +44,7 @@ abbrev pub is_empty : List ℕ → Bool
 is_empty [] = true
 is_empty (b ∷ bs) = false
 
--- the text before a line feed, without the carriage return at its end
+-- the text before a line feed, without a carriage return at its end
 abbrev pub without_return : List ℕ → List ℕ
 without_return [] = []
 without_return (b ∷ bs) = if (b == carriage_return) && is_empty bs then [] else b ∷ without_return bs

@@ -1,13 +1,13 @@
--- Numbers that digits write, in the digits of ASCII, ISO/IEC 646.
+-- Numbers in ASCII digits (ISO/IEC 646).
 use Rattle.std.specs.Prelude.{ℕ, Bool, ◌&&◌, List, length, Option, Some, None, nat_lt, nat_le, if◌then◌else◌}
 use Rattle.std.specs.List.{list_all}
 use Rattle.std.specs.Char.{is_digit}
 use Rattle.std.specs.Str.Parse.{digits_value}
 
--- one digit of the base or more, at most so many, and nothing else
+-- a text of 1 to `most` digits of the base
 abbrev pub is_number : ℕ → ℕ → List ℕ → Bool
 is_number base most text = nat_lt 0 (length text) && nat_le (length text) most && list_all (λ c. is_digit c base) text
 
--- the number that digits of the base write, at most so many
+-- the number of 1 to `most` digits of the base
 unfoldable pub number_of_digits : ℕ → ℕ → List ℕ → Option ℕ
 number_of_digits base most text = if is_number base most text then Some (digits_value base text) else None

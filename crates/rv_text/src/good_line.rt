@@ -1,19 +1,19 @@
-//! Lines of text.
+//! Checks the bytes and the length of lines.
 
 ghost use Rattle.std.specs.Prelude.{◌≡◌};
 ghost use Rattle.rv_text.specs.GoodLines.{is_blank as is_blank_of, is_text as is_text_of, is_good_line as is_good_line_of};
 
-/// How many bytes a line may have, without its ending.
+/// The maximal number of bytes of a line, without its ending.
 pub const MAX_LINE: usize = 120;
 
-/// Whether a byte separates words: a space or a tab.
+/// Returns whether a byte separates words: a space or a tab.
 pub fn is_blank(byte: u8) -> bool
     ensures { result ≡ is_blank_of byte }
 {
     matches!(byte, b' ' | b'\t')
 }
 
-/// Whether a byte may stand in a line: a tab, or a printed character of ASCII.
+/// Returns whether a line may have this byte: a tab, or a printable ASCII character or space.
 #[tactic(auto, unfolding(crate::specs::GoodLines::is_text))]
 fn is_text(byte: u8) -> bool
     ensures { result ≡ is_text_of byte }
@@ -21,7 +21,7 @@ fn is_text(byte: u8) -> bool
     matches!(byte, b'\t' | b' '..=b'~')
 }
 
-/// Whether a line is short enough and has only bytes that may stand in one.
+/// Returns whether a line is well-formed: it has at most 120 bytes, and only bytes that a line may have.
 pub fn is_good_line(line: &[u8]) -> bool
     ensures { result ≡ is_good_line_of line.now }
 {

@@ -1,4 +1,4 @@
-//! Numbers in hexadecimal.
+//! Writes numbers in hexadecimal.
 
 ghost use Rattle.std.specs.Prelude.{◌≡◌, ℕ, ◌^◌, ◌<◌, ◌≤◌, false};
 ghost use Rattle.arrayvec.specs.ArrayString.{array_string_len};
@@ -6,7 +6,7 @@ ghost use Rattle.rv_text.specs.Digits.{hex_digits};
 
 use arrayvec::ArrayString;
 
-/// The last hexadecimal digits of a number, as many as there are places, in lower case.
+/// Returns the `places` last hexadecimal digits of a number, in lower case.
 #[inline(always)]
 pub fn hex(value: u32, places: usize) -> ArrayString<8>
     requires { places ≤ 8 }

@@ -1,8 +1,8 @@
-//! Texts of bytes: the lines of a text and which of them are good, the words of a line, numbers of digits, and replies.
-//! A script, an image, an assembler text and the bench's replies share them.
+//! Texts of bytes: the lines of a text, the words of a line, numbers in digits, and replies. Scripts, images, assembler texts and the replies of
+//! the bench use them.
 //!
-//! In the specs `Lines` says what the lines of a text are, `GoodLines` which bytes may stand in one, `Words` its words,
-//! `Numbers` the number that digits write, and `Digits` the digits that write a number.
+//! In the specs, `Lines` defines the lines of a text, `GoodLines` the well-formed lines, and `Words` the words of a line. `Numbers` defines the
+//! number of digits, and `Digits` the digits of a number.
 //!
 //! ```text
 //! for word in &first_words(b"mem 80000000 4") { .. }   // mem, 80000000, 4

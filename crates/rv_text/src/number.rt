@@ -1,9 +1,9 @@
-//! Numbers that digits write.
+//! Reads numbers from digits.
 
 ghost use Rattle.std.specs.Prelude.{◌≡◌, ℕ, ◌^◌, ◌≤◌, ◌<◌, IfSome};
 ghost use Rattle.rv_text.specs.Numbers.{number_of_digits};
 
-/// The number that digits in the base write, where there are one to `most` of them and nothing else.
+/// Returns the number that a text of 1 to `most` digits in the base has, or `None` for any other text.
 #[tactic(auto, unfolding(crate::specs::Numbers::number_of_digits))]
 pub fn digits(text: &[u8], base: u32, most: usize) -> Option<u32>
     requires low { 2 ≤ base }

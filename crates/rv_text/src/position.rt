@@ -1,9 +1,9 @@
-//! Where a byte stands in a text.
+//! Finds a byte in a text.
 
 ghost use Rattle.std.specs.Prelude.{◌≡◌, ◌==◌, ◌≤◌, length};
 ghost use Rattle.std.specs.List.{position_or_len};
 
-/// Where the byte first stands, or the length.
+/// Returns the position of the first such byte, or the length of the text if there is none.
 pub fn position_of(text: &[u8], wanted: u8) -> usize
     ensures value { result ≡ position_or_len (λ b. b == wanted) text.now }
     ensures within { result ≤ length text.now }

@@ -1,4 +1,4 @@
-//! Replies: texts of at most 2048 bytes, and what is written at their end.
+//! Replies: texts of at most 2048 bytes, and functions that append to them.
 
 ghost use Rattle.std.specs.Prelude.{◌≡◌, ℕ, ◌+◌, ◌≤◌, ◌++◌, length, decimal};
 ghost use Rattle.arrayvec.specs.ArrayVec.{array_vec_len};
@@ -8,10 +8,10 @@ use crate::hexadecimal::hex;
 use arrayvec::ArrayVec;
 use itoa::Buffer;
 
-/// The bytes that answer one command.
+/// The bytes of the reply to one command.
 pub type Reply = ArrayVec<u8, 2048>;
 
-/// Writes a text at the end of a reply that has room for it.
+/// Appends a text to a reply that has room for it.
 #[inline(always)]
 pub fn push_text(out: &mut Reply, text: &str)
     requires room { array_vec_len out.old + length text.now ≤ 2048 }
@@ -23,7 +23,7 @@ pub fn push_text(out: &mut Reply, text: &str)
     }
 }
 
-/// Writes the last hexadecimal digits of a number, as many as there are places, in lower case.
+/// Appends the `places` last hexadecimal digits of a number, in lower case.
 #[inline(always)]
 pub fn push_hex(out: &mut Reply, value: u32, places: usize)
     requires places { places ≤ 8 }
@@ -34,7 +34,7 @@ pub fn push_hex(out: &mut Reply, value: u32, places: usize)
     push_text(out, hex(value, places).as_str());
 }
 
-/// Writes a number in decimal.
+/// Appends a number in decimal, which has at most 10 digits.
 pub fn push_decimal(out: &mut Reply, value: u32)
     requires room { array_vec_len out.old + 10 ≤ 2048 }
     ensures items { out.new.items ≡ out.old.items ++ decimal value }
@@ -44,7 +44,7 @@ pub fn push_decimal(out: &mut Reply, value: u32)
     push_text(out, buffer.format(value));
 }
 
-/// Writes a count in decimal, which has at most 20 digits.
+/// Appends a count in decimal, which has at most 20 digits.
 pub fn push_count(out: &mut Reply, value: u64)
     requires room { array_vec_len out.old + 20 ≤ 2048 }
     ensures items { out.new.items ≡ out.old.items ++ decimal value }

@@ -1,4 +1,4 @@
-//! The words in a line of text.
+//! Splits a line into words.
 
 ghost use Rattle.std.specs.Prelude.{◌≡◌, map, take};
 ghost use Rattle.rv_text.specs.Words.{words_of};
@@ -6,10 +6,10 @@ ghost use Rattle.rv_text.specs.Words.{words_of};
 use crate::good_line::is_blank;
 use arrayvec::ArrayVec;
 
-/// How many words are read of a line: more than any command has.
+/// The number of words that are read from a line: more than any command has.
 pub const MOST_WORDS: usize = 6;
 
-/// The first words of a line, at most `MOST_WORDS`.
+/// Returns the first words of a line, at most `MOST_WORDS`.
 pub fn first_words(line: &[u8]) -> ArrayVec<&[u8], MOST_WORDS>
     ensures { map (λ word. word.now) result.items ≡ take MOST_WORDS (words_of line.now) }
 {

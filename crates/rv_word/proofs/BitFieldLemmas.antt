@@ -1,4 +1,4 @@
--- Fields by shifts and masks, and sign extension by a shift up and a signed shift down.
+-- Lemmas about fields by shifts and masks, and about sign extension by a left shift and a signed right shift.
 use Rattle.std.proofs.Common.{◌≡◌, ℕ, suc, ◌+◌, ◌-◌, ◌*◌, ◌/◌, ◌%◌, ◌^◌, ◌<◌, ◌≤◌, negsuc, bit_and, sym, ap, subst, inl, inr, ◌∙◌, arith, add-zero}
 use Rattle.std.specs.Int.{w32, cast_signed, cast_unsigned}
 use Rattle.std.specs.Int.Signed.{shr_z}
@@ -42,7 +42,7 @@ shl_low number width k sum =
     (shl_below (number % 2 ^ width) width k (mod_below number (2 ^ width) (pow_pos width))) in
     ap (λ n. n % 2 ^ 32) split ∙ mod-mul-add (number / 2 ^ width) (2 ^ 32) (number % 2 ^ width * 2 ^ k) below
 
--- those bits shifted back, with their sign: by the value of one half and of the factor shifted by
+-- those bits shifted back with their sign, for a value below one half and for one from there on
 shl_shr_positive : (low half factor : ℕ) → 0 < factor → half * factor ≡ 2 ^ 31 → low < half
     → cast_unsigned w32 (shr_z (cast_signed w32 (low * factor)) factor) ≡ low
 shl_shr_positive low half factor some whole small =
@@ -60,7 +60,7 @@ shl_shr_negative low half factor some whole large fits =
     let quotient : (2 ^ 32 - suc (low * factor)) / factor ≡ rest = ap (λ x. x / factor) split ∙ div-mul-add rest factor (factor - 1) (omega arith) in
     rw is (rw quotient (omega arith))
 
--- one bit more doubles the range
+-- one more bit doubles the range
 double : (width : ℕ) → 1 ≤ width → 2 ^ width ≡ 2 * 2 ^ (width - 1)
 double width positive =
     let one_more : width ≡ 1 + (width - 1) = omega arith in
@@ -84,7 +84,7 @@ sign_extended_by_shifts value width positive within =
           ∙ ap (λ x. low + 2 ^ 32 - x) (sym (double width positive)))
     ])
 
--- ---- the signed value is kept
+-- ---- sign extension keeps the signed value
 
 pub signed-sign_extended : (value width : ℕ) → 1 ≤ width → width ≤ 32 → signed (sign_extended value width) ≡ signed_field value width
 signed-sign_extended value width positive within =

@@ -1,5 +1,5 @@
--- The rows of table 7.1: RISC-V Unprivileged ISA 20191213, section 7.2. Division by zero, and the one signed division whose quotient fits
--- no word: -2^31 by -1.
+-- Examples: rows of table 7.1 (RISC-V Unprivileged ISA 20191213, section 7.2). They cover division by zero, and -2^31 by -1, the only signed
+-- division whose quotient fits in no word.
 use Rattle.std.proofs.Common.{◌≡◌, ℕ, refl}
 use Rattle.rv_word.specs.Division.{quotient, remainder, unsigned_quotient, unsigned_remainder}
 
@@ -17,14 +17,14 @@ div-overflow = refl
 rem-overflow : remainder least minus_one ≡ 0
 rem-overflow = refl
 
--- the same words without a sign are 2^31 and 2^32 - 1
+-- the same words as unsigned numbers are 2^31 and 2^32 - 1
 divu-of_these : unsigned_quotient least minus_one ≡ 0
 divu-of_these = refl
 
 remu-of_these : unsigned_remainder least minus_one ≡ least
 remu-of_these = refl
 
--- by zero: all ones, and the dividend
+-- division by zero: the quotient is all ones, and the remainder is the dividend
 div-by_zero : (dividend : ℕ) → quotient dividend 0 ≡ 0xFFFFFFFF
 div-by_zero dividend = refl
 

@@ -1,4 +1,4 @@
--- std's division meets the equations of a division, and nothing else does.
+-- The division of std satisfies the equations of a division, and its results are the only ones that do.
 use Rattle.std.proofs.Common.{◌≡◌, ℕ, zero, suc, ◌+◌, ◌-◌, ◌*◌, ◌/◌, ◌%◌, ◌^◌, ◌<◌, ℤ, pos, negsuc, sym, ap, ◌∙◌, arith}
 use Rattle.std.specs.Prelude.{unsigned_abs, int_div, int_rem, ◌≤ℤ◌, ◌≢◌}
 use Rattle.std.proofs.lemmas.Nat.{div-add-mod', div-mul-add, mod-mul-add, mod_below}
@@ -6,7 +6,7 @@ use Rattle.std.proofs.lemmas.Int.{ints, quot-rem, rem_below}
 use Rattle.rv_word.specs.Word.{signed, low_word}
 use Rattle.rv_word.specs.Division.{IsDivision, IsQuotient, IsRemainder, quotient, remainder, IsUnsignedQuotient, IsUnsignedRemainder}
 
--- ---- std's quotient and remainder are those of a division
+-- ---- the quotient and remainder of std are those of a division
 
 remainder-not_negative : (a d : ℤ) → pos 0 ≤ℤ a → pos 0 ≤ℤ int_rem a d
 remainder-not_negative (pos n) d h = grind (arith, ints)
@@ -59,7 +59,7 @@ remainder-equation dividend divisor word fits is nonzero = (
   is ∙ remainder-word dividend divisor nonzero,
 )
 
--- ---- no other numbers are
+-- ---- no other numbers are those of a division
 
 record Divides (n k q r : ℕ) : Type 0 where
   quotient_is : n / k ≡ q

@@ -1,11 +1,11 @@
--- The machine's operations on bits are those on the lists of bits.
+-- The machine's bit operations agree with those on lists of bits.
 use Rattle.std.proofs.Common.{◌≡◌, ℕ, zero, suc, ◌+◌, ◌-◌, ◌*◌, ◌/◌, ◌%◌, ◌^◌, ◌<◌, Bool, refl, sym, ap, ◌∙◌, arith, bit_and, bit_or, bit_xor}
 use Rattle.std.specs.Prelude.{◌&&◌, ◌||◌, ◌==◌, not}
 use Rattle.std.proofs.lemmas.Nat.{and_block, or_block, xor_block, div-add-mod', and-not, and_comm, and_le_r}
 use Rattle.std.proofs.Math.Nat.{pow-suc}
 use Rattle.rv_word.specs.Logic.{bit_list, word_of_bits, digit, bitwise, by_bits, exclusive_or, and_by_bits, or_by_bits, xor_by_bits, and_not_by_bits}
 
--- ---- an operation on numbers that goes bit by bit
+-- ---- an operation on numbers, bit by bit
 
 -- half of a number below 2 ^ (k + 1) is below 2 ^ k
 half-lt : (k a : ℕ) → a < 2 ^ suc k → a / 2 < 2 ^ k
@@ -64,7 +64,7 @@ last_and_not r (suc (suc s)) p q = absurd (omega arith)
 halved : (n : ℕ) → n ≡ n / 2 * 2 ^ 1 + n % 2
 halved n = sym (div-add-mod' n 2)
 
--- both operands of an operation split so
+-- both operands of an operation are split into their lowest bit and the rest
 split : (g : ℕ → ℕ → ℕ) (a b : ℕ) → g a b ≡ g (a / 2 * 2 ^ 1 + a % 2) (b / 2 * 2 ^ 1 + b % 2)
 split g a b = ap (λ n. g n b) (halved a) ∙ ap (g (a / 2 * 2 ^ 1 + a % 2)) (halved b)
 
@@ -86,7 +86,7 @@ xor-step a b =
     let last = last_xor (a % 2) (b % 2) (omega arith) (omega arith) in
     split bit_xor a b ∙ block ∙ omega (arith, last)
 
--- a and not b is a less what both share
+-- the bits of a that are not in b are a minus the bits of both
 and_not-step : (a b : ℕ) → a - bit_and b a ≡ digit (a % 2 == 1 && not (b % 2 == 1)) + 2 * (a / 2 - bit_and (b / 2) (a / 2))
 and_not-step a b =
     let whole = split bit_and b a in

@@ -1,4 +1,4 @@
--- The high word of a product is the bits above its low word, as std's casts have them.
+-- The high word of a product has the bits above its low word, as the casts of std compute them.
 use Rattle.std.proofs.Common.{◌≡◌, ℕ, ◌-◌, ◌/◌, ◌%◌, ◌^◌, ◌<◌, ◌≤◌, ℤ, pos, negsuc, ◌*ℤ◌, sym, ap, subst, ◌∙◌, arith}
 use mir.Val.{to_z, of_z}
 use Rattle.std.specs.Prelude.{FitsSigned, unsigned_abs}
@@ -13,18 +13,18 @@ pub high_word_is : (product : ℤ) (number : ℕ) → FitsSigned w64 product →
 high_word_is (pos n) number fits is = grind (arith, ints)
 high_word_is (negsuc n) number fits is = grind (arith, ints)
 
--- that word solves the equation
+-- this word solves the equation
 pub IsSignedHighWord-high : (product : ℤ) (number : ℕ) → FitsSigned w64 product → number ≡ cast_unsigned w64 product
     → IsSignedHighWord product (number / 2 ^ 32)
 IsSignedHighWord-high (pos n) number fits is = (number % 2 ^ 32, mod_below number (2 ^ 32) (omega arith), grind (arith, ints, signed-low))
 IsSignedHighWord-high (negsuc n) number fits is = (number % 2 ^ 32, mod_below number (2 ^ 32) (omega arith), grind (arith, ints, signed-is))
 
--- and no other word does
+-- no other word solves it
 pub high_word-unique : (product : ℤ) (high : ℕ) → high < 2 ^ 32 → IsSignedHighWord product high → high ≡ high_word product
 high_word-unique (pos n) high fits is = grind (arith, ints)
 high_word-unique (negsuc n) high fits is = grind (arith, ints)
 
--- ---- the products of which a high word is taken
+-- ---- products whose high word is computed
 
 pub signed-size : (n : ℕ) → n < 2 ^ 32 → unsigned_abs (signed n) ≤ 2 ^ 32 - 1
 signed-size n fits = grind (arith, ints)
@@ -32,13 +32,13 @@ signed-size n fits = grind (arith, ints)
 signed-small : (n : ℕ) → n < 2 ^ 32 → unsigned_abs (signed n) ≤ 2 ^ 31
 signed-small n fits = grind (arith, ints)
 
--- the signed value of a word keeps its value in 64 bits
+-- the signed value of a word is the same in 64 bits
 pub signed-kept : (z : ℤ) (n : ℕ) → n < 2 ^ 32 → z ≡ signed n → to_z w64 (of_z w64 z) ≡ signed n
 signed-kept z n fits is =
     let small : unsigned_abs (signed n) ≤ 2 ^ 31 = signed-small n fits in
     to_z-of_z w64 z (subst (λ z. FitsSigned w64 z) (sym is) (grind arith)) ∙ is
 
--- and so does its product with a number of 32 bits
+-- the product of this value with a number of 32 bits fits in 64 bits
 pub product-fits : (x y : ℤ) (n : ℕ) (q : ℤ) → n < 2 ^ 32 → x ≡ signed n → y ≡ q → unsigned_abs q ≤ 2 ^ 32 - 1 → FitsSigned w64 (x *ℤ y)
 product-fits x y n q fits left right less =
     subst (λ z. FitsSigned w64 z) (sym (ap (λ a. a *ℤ y) left ∙ ap (λ b. signed n *ℤ b) right))

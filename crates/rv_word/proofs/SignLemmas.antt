@@ -1,4 +1,4 @@
--- The signed value of a word by cases, and as std's cast has it.
+-- The signed value of a word by cases, and by the cast of std.
 use Rattle.std.proofs.Common.{◌≡◌, ℕ, ◌^◌, ◌<◌, pos, arith}
 use Rattle.std.specs.Int.{w32, cast_signed}
 use Rattle.std.proofs.lemmas.Int.{ints}

@@ -1,26 +1,26 @@
--- Bits and fields of bits, and their signs: RISC-V Unprivileged ISA 20191213, sections 2.2 and 2.3. Bit k has the weight 2 ^ k.
+-- Bits and fields of bits, and their signs (RISC-V Unprivileged ISA 20191213, sections 2.2 and 2.3). Bit k has the weight 2 ^ k.
 use Rattle.std.specs.Prelude.{ℕ, ◌+◌, ◌-◌, ◌*◌, ◌/◌, ◌%◌, ◌^◌, ◌==◌, Bool, ℤ, pos, ◌-ℤ◌, nat_lt, if◌then◌else◌}
 use Rattle.rv_word.specs.Logic.{digit}
 
--- Whether bit k of a word is 1.
+-- whether bit k of a word is 1
 abbrev pub is_set : ℕ → ℕ → Bool
 is_set word k = word / 2 ^ k % 2 == 1
 
--- The word with bit k alone, or 0.
+-- the word with only bit k set, or 0
 abbrev pub flag : ℕ → Bool → ℕ
 flag k set = digit set * 2 ^ k
 
--- Bits hi down to lo of a word, as a number.
+-- bits hi down to lo of a word, as a number
 abbrev pub bits : ℕ → ℕ → ℕ → ℕ
 bits word hi lo = word / 2 ^ lo % 2 ^ (hi + 1 - lo)
 
--- The signed value of the low width bits of a number, in two's complement.
+-- the signed value of the low `width` bits of a number, in two's complement
 abbrev pub signed_field : ℕ → ℕ → ℤ
 signed_field number width =
     let low = number % 2 ^ width
     in if nat_lt low (2 ^ (width - 1)) then pos low else (pos low -ℤ pos (2 ^ width))
 
--- The word with that signed value: the bits above are copies of the highest one.
+-- the word with that signed value: the upper bits are copies of the highest bit of the field
 abbrev pub sign_extended : ℕ → ℕ → ℕ
 sign_extended number width =
     let low = number % 2 ^ width

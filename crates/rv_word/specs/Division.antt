@@ -1,28 +1,29 @@
--- Quotients and remainders: RISC-V Unprivileged ISA 20191213, section 7.2 and its table 7.1.
+-- Quotients and remainders (RISC-V Unprivileged ISA 20191213, section 7.2 and table 7.1).
 use Rattle.std.specs.Prelude.{◌≡◌, ℕ, ◌+◌, ◌-◌, ◌*◌, ◌/◌, ◌%◌, ◌^◌, ◌<◌, ◌==◌, Bool, ◌&&◌, if◌then◌else◌}
 use Rattle.std.specs.Prelude.{ℤ, pos, ◌+ℤ◌, ◌*ℤ◌, ◌≤ℤ◌, unsigned_abs, int_div, int_rem}
 use Rattle.rv_word.specs.Word.{signed, low_word}
 
--- Signed division: dividend = quotient * divisor + remainder, where the remainder is nearer to 0 than the divisor, and
--- has the dividend's sign. So the quotient is rounded towards zero.
+-- Signed division: dividend = quotient * divisor + remainder. The absolute value of the remainder is smaller than that of the divisor, and its
+-- sign is that of the dividend. The quotient is thus rounded towards zero.
 pub record IsDivision (dividend divisor quotient remainder : ℤ) : Type 0 where
   pub whole : (quotient *ℤ divisor) +ℤ remainder ≡ dividend
   pub smaller : unsigned_abs remainder < unsigned_abs divisor
   pub not_negative : pos 0 ≤ℤ dividend → pos 0 ≤ℤ remainder
   pub not_positive : dividend ≤ℤ pos 0 → remainder ≤ℤ pos 0
 
--- A word is the quotient, or the remainder, of such a division modulo 2 ^ 32.
+-- a word is the quotient, or the remainder, of such a division modulo 2 ^ 32
 abbrev pub IsQuotient : ℤ → ℤ → ℕ → Type 0
 IsQuotient dividend divisor word = (q : ℤ) × (r : ℤ) × IsDivision dividend divisor q r × (word ≡ low_word q)
 
 abbrev pub IsRemainder : ℤ → ℤ → ℕ → Type 0
 IsRemainder dividend divisor word = (q : ℤ) × (r : ℤ) × IsDivision dividend divisor q r × (word ≡ low_word r)
 
--- Signed overflow: -2 ^ 31 by -1, whose quotient fits no word.
+-- signed overflow: -2 ^ 31 by -1, whose quotient fits in no word
 abbrev pub overflows : ℕ → ℕ → Bool
 overflows dividend divisor = dividend == 2 ^ 31 && divisor == 2 ^ 32 - 1
 
--- The signed columns of table 7.1: by 0 all ones, and the dividend; where the quotient overflows the dividend, and 0; else those words.
+-- The signed columns of table 7.1. Division by 0 gives all ones and the dividend. If the quotient overflows, the results are the dividend and 0.
+-- Otherwise they are the words of the division.
 abbrev pub quotient : ℕ → ℕ → ℕ
 quotient dividend divisor =
     if divisor == 0 then 2 ^ 32 - 1
@@ -35,7 +36,8 @@ remainder dividend divisor =
     else (if overflows dividend divisor then 0
     else low_word (int_rem (signed dividend) (signed divisor)))
 
--- Unsigned division: dividend = quotient * divisor + remainder, where the remainder is below the divisor; by 0 all ones, and the dividend.
+-- Unsigned division: dividend = quotient * divisor + remainder, and the remainder is below the divisor. Division by 0 gives all ones and the
+-- dividend.
 abbrev pub IsUnsignedQuotient : ℕ → ℕ → ℕ → Type 0
 IsUnsignedQuotient dividend divisor word = (r : ℕ) × (r < divisor) × (word * divisor + r ≡ dividend)
 

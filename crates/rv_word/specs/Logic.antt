@@ -1,7 +1,7 @@
--- Logic on words by their lists of bits: RISC-V Unprivileged ISA 20191213, section 2.4.
+-- Logic on words, by their lists of bits (RISC-V Unprivileged ISA 20191213, section 2.4).
 use Rattle.std.specs.Prelude.{ℕ, zero, suc, ◌+◌, ◌*◌, ◌/◌, ◌%◌, ◌==◌, Bool, true, false, ◌&&◌, ◌||◌, not, List, [], ◌∷◌}
 
--- The lowest bits of a number, so many of them, the lowest first.
+-- the `count` lowest bits of a number, the lowest first
 abbrev pub bit_list : ℕ → ℕ → List Bool
 bit_list zero number = []
 bit_list (suc count) number = (number % 2 == 1) ∷ bit_list count (number / 2)
@@ -10,18 +10,18 @@ abbrev pub digit : Bool → ℕ
 digit true = 1
 digit false = 0
 
--- The number of these bits, the lowest first.
+-- the number with these bits, the lowest first
 abbrev pub word_of_bits : List Bool → ℕ
 word_of_bits [] = 0
 word_of_bits (bit ∷ bits) = digit bit + 2 * word_of_bits bits
 
--- An operation on each bit of one list and the bit at its place in the other.
+-- an operation on each bit of one list and the bit at the same position of the other
 abbrev pub bitwise : (Bool → Bool → Bool) → List Bool → List Bool → List Bool
 bitwise f [] ys = []
 bitwise f (x ∷ xs) [] = []
 bitwise f (x ∷ xs) (y ∷ ys) = f x y ∷ bitwise f xs ys
 
--- An operation on the lowest bits of two numbers, so many of them.
+-- an operation on the `count` lowest bits of two numbers
 unfoldable pub by_bits : (Bool → Bool → Bool) → ℕ → ℕ → ℕ → ℕ
 by_bits f count left right = word_of_bits (bitwise f (bit_list count left) (bit_list count right))
 

@@ -1,4 +1,4 @@
--- Shifts as products and quotients by powers of 2: RISC-V Unprivileged ISA 20191213, section 2.4.
+-- Shifts as products and quotients by powers of 2 (RISC-V Unprivileged ISA 20191213, section 2.4).
 use Rattle.std.specs.Prelude.{ℕ, ◌*◌, ◌/◌, ◌%◌, ◌^◌}
 use Rattle.rv_word.specs.Word.{signed, low_word, rounded_down}
 
@@ -8,6 +8,6 @@ shifted_left word amount = word * 2 ^ amount % 2 ^ 32
 abbrev pub shifted_right : ℕ → ℕ → ℕ
 shifted_right word amount = word / 2 ^ amount
 
--- The sign is copied into the vacated bits, so the signed value is divided and rounded down.
+-- an arithmetic right shift: the sign is copied into the vacated bits, so the signed value is divided and rounded down
 abbrev pub shifted_right_signed : ℕ → ℕ → ℕ
 shifted_right_signed word amount = low_word (rounded_down (signed word) (2 ^ amount))

@@ -1,4 +1,4 @@
--- The widths of accesses to memory, in bytes: RISC-V Unprivileged ISA 20191213, section 2.6.
+-- The widths of accesses to memory, in bytes (RISC-V Unprivileged ISA 20191213, section 2.6).
 use Rattle.std.specs.Prelude.{ℕ}
 use Rattle.rv_word.specs.declared.width.Width.{Width}
 use Rattle.rv_word.specs.declared.width.Width.TheVariants.{Byte, Half, Word}

@@ -4,7 +4,7 @@ ghost use Rattle.std.specs.Prelude.{◌≡◌, ◌+◌, ◌-◌, ◌^◌, ◌<�
 ghost use Rattle.rv_word.specs.Word.{signed};
 ghost use Rattle.rv_word.specs.BitFields.{bits as bits_of, sign_extended, signed_field};
 
-/// Bits `hi` down to `lo` of a word, as a number; bit 0 is the lowest.
+/// Returns bits `hi` down to `lo` of a word, as a number. Bit 0 is the lowest.
 pub const fn bits(word: u32, hi: u8, lo: u8) -> u32
     requires ordered { lo ≤ hi }
     requires within { hi ≤ 31 }
@@ -14,7 +14,7 @@ pub const fn bits(word: u32, hi: u8, lo: u8) -> u32
     (word >> lo) & (u32::MAX >> (31 - (hi - lo)))
 }
 
-/// The word whose signed value is that of the low `width` bits of `value`, from 1 to 32 of them.
+/// Sign-extends the low `width` bits of `value` to 32 bits. The width is from 1 to 32.
 pub const fn sext(value: u32, width: u8) -> u32
     requires positive { 1 ≤ width }
     requires within { width ≤ 32 }

@@ -1,12 +1,12 @@
-//! Quotients and remainders (Unprivileged ISA, section 7.2). Division by zero, and the one signed
-//! division whose quotient fits no word, have the results of that section's table.
+//! Computes quotients and remainders (Unprivileged ISA, section 7.2). Division by zero, and the only signed division whose quotient fits in no
+//! word, have the results of that section's table.
 
 ghost use Rattle.std.specs.Prelude.{◌≡◌, ◌≢◌, ℕ};
 ghost use Rattle.rv_word.specs.Word.{signed};
 ghost use Rattle.rv_word.specs.Division.{quotient, remainder, IsQuotient, IsRemainder, unsigned_quotient, unsigned_remainder};
 ghost use Rattle.rv_word.specs.Division.{IsUnsignedQuotient, IsUnsignedRemainder};
 
-/// The signed quotient, rounded towards zero and taken modulo 2^32; by zero all ones.
+/// Returns the signed quotient, rounded towards zero, modulo 2^32. Division by zero gives all ones.
 pub const fn div(dividend: u32, divisor: u32) -> u32
     ensures value { result ≡ quotient dividend divisor }
     ensures equation { divisor ≢ 0 → IsQuotient (signed dividend) (signed divisor) result }
@@ -22,7 +22,7 @@ pub const fn div(dividend: u32, divisor: u32) -> u32
     }
 }
 
-/// The unsigned quotient, rounded down; by zero all ones.
+/// Returns the unsigned quotient, rounded down. Division by zero gives all ones.
 pub const fn divu(dividend: u32, divisor: u32) -> u32
     ensures value { result ≡ unsigned_quotient dividend divisor }
     ensures equation { divisor ≢ 0 → IsUnsignedQuotient dividend divisor result }
@@ -35,7 +35,7 @@ pub const fn divu(dividend: u32, divisor: u32) -> u32
     }
 }
 
-/// The remainder of the signed division, with the dividend's sign; by zero the dividend.
+/// Returns the remainder of the signed division, with the sign of the dividend. Division by zero gives the dividend.
 pub const fn rem(dividend: u32, divisor: u32) -> u32
     ensures value { result ≡ remainder dividend divisor }
     ensures equation { divisor ≢ 0 → IsRemainder (signed dividend) (signed divisor) result }
@@ -51,7 +51,7 @@ pub const fn rem(dividend: u32, divisor: u32) -> u32
     }
 }
 
-/// The remainder of the unsigned division; by zero the dividend.
+/// Returns the remainder of the unsigned division. Division by zero gives the dividend.
 pub const fn remu(dividend: u32, divisor: u32) -> u32
     ensures value { result ≡ unsigned_remainder dividend divisor }
     ensures equation { divisor ≢ 0 → IsUnsignedRemainder dividend divisor result }

@@ -1,9 +1,8 @@
-//! Words of 32 bits as the RISC-V Unprivileged ISA 20191213 uses them (chapters 2 and 7): register
-//! numbers, fields of bits and their signs, the bytes of a word, high words of products, divisions,
-//! logic bit by bit, shifts, and the widths of accesses.
+//! Words of 32 bits, as the RISC-V Unprivileged ISA 20191213 uses them (chapters 2 and 7). The crate has register numbers, bit fields, the bytes
+//! of a word, shifts, bitwise logic, high words of products, divisions, and the widths of accesses.
 //!
-//! A word is a `u32`, and its signed value is that of two's complement. No call refuses anything:
-//! what a call needs of its arguments stands in its `requires`.
+//! A word is a `u32`, and its signed value is that of two's complement. No function returns an error: the `requires` clauses of a function state
+//! the conditions on its arguments.
 //!
 //! ```text
 //! let immediate = bits(0xfff0_8093, 31, 20); // 0xfff

@@ -1,4 +1,4 @@
-//! The high words of products (Unprivileged ISA, section 7.1).
+//! Computes the high words of products (Unprivileged ISA, section 7.1).
 
 ghost use Rattle.std.specs.Prelude.{◌≡◌, ℕ, ◌*◌, ◌/◌, ◌^◌, ◌<◌, pos, ◌*ℤ◌};
 ghost use Rattle.rv_word.specs.Word.{signed as signed_of};
@@ -6,7 +6,7 @@ ghost use Rattle.rv_word.specs.Products.{high_word as high_word_of, IsSignedHigh
 
 use crate::sign::signed;
 
-/// The word above the low word of a product.
+/// Returns the high word of a product of 64 bits.
 const fn high_word(product: i64) -> u32
     ensures value { result ≡ high_word_of product }
     ensures equation { IsSignedHighWord product result }
@@ -15,7 +15,7 @@ const fn high_word(product: i64) -> u32
     (product.cast_unsigned() >> 32) as u32
 }
 
-/// The high word of the product of two signed words.
+/// Returns the high word of the product of two signed words.
 pub const fn mulh(left: u32, right: u32) -> u32
     ensures value { result ≡ high_word_of (signed_of left *ℤ signed_of right) }
     ensures equation { IsSignedHighWord (signed_of left *ℤ signed_of right) result }
@@ -25,7 +25,7 @@ pub const fn mulh(left: u32, right: u32) -> u32
     high_word(signed(left) * signed(right))
 }
 
-/// The high word of the product of a signed and an unsigned word.
+/// Returns the high word of the product of a signed and an unsigned word.
 pub const fn mulhsu(left: u32, right: u32) -> u32
     ensures value { result ≡ high_word_of (signed_of left *ℤ pos right) }
     ensures equation { IsSignedHighWord (signed_of left *ℤ pos right) result }
@@ -35,7 +35,7 @@ pub const fn mulhsu(left: u32, right: u32) -> u32
     high_word(signed(left) * right as i64)
 }
 
-/// The high word of the product of two unsigned words.
+/// Returns the high word of the product of two unsigned words.
 pub const fn mulhu(left: u32, right: u32) -> u32
     ensures value { result ≡ high_word_of (pos left *ℤ pos right) }
     ensures equation { result ≡ left * right / 2 ^ 32 }

@@ -21,7 +21,7 @@ impl Model for Reg {
 }
 
 impl Reg {
-    /// The register of a number from 0 to 31.
+    /// Returns the register with a number from 0 to 31.
     pub const fn new(number: u8) -> Self
         requires { number ≤ 31 }
         ensures { result ≡ number }
@@ -29,7 +29,7 @@ impl Reg {
         Reg { number }
     }
 
-    /// The register's number, 0 to 31.
+    /// Returns the number of the register, 0 to 31.
     pub const fn number(self) -> u8
         ensures value { result ≡ self }
         ensures in_range { result < 32 }

@@ -3,7 +3,7 @@
 ghost use Rattle.std.specs.Prelude.{◌≡◌};
 ghost use Rattle.rv_word.specs.Word.{signed as signed_of};
 
-/// The signed value of a word, that of two's complement.
+/// Returns the signed value of a word, in two's complement.
 pub const fn signed(word: u32) -> i64
     ensures { result ≡ signed_of word }
 {

@@ -3,7 +3,7 @@
 ghost use Rattle.std.specs.Prelude.{◌≡◌};
 ghost use Rattle.rv_word.specs.Widths.{bytes_in};
 
-/// How many bytes an access to memory reads or writes.
+/// The number of bytes that an access to memory reads or writes.
 #[derive(Clone, Copy, Debug, PartialEq, Eq)]
 pub enum Width {
     /// One byte.
@@ -15,7 +15,7 @@ pub enum Width {
 }
 
 impl Width {
-    /// The number of bytes: 1, 2 or 4.
+    /// Returns the number of bytes: 1, 2 or 4.
     pub const fn bytes(self) -> u8
         ensures { result ≡ bytes_in self }
     {

@@ -1,4 +1,4 @@
-//! The bench over the standard streams: it hands its words and the streams to `perform`, and ends with the status that this gives.
+//! Runs the bench over the standard streams: passes the arguments and the streams to `perform`, and exits with the status that it returns.
 #![tactic(auto)]
 
 use rv_bench::{Sink, StandardSink, StandardSource, WordsFault, perform, refuse};
@@ -6,7 +6,7 @@ use std::env;
 use std::io::ErrorKind;
 use std::process::ExitCode;
 
-/// The program's words. Words that are not UTF-8 are refused as any others that name no job.
+/// Returns the arguments of the program. Arguments that are not UTF-8 are refused like any others that give no job.
 fn words(rt: &HostRuntime) -> Result<Vec<String>, WordsFault> {
     let words = match env::args(rt) {
         Ok(words) => words,
@@ -19,7 +19,7 @@ fn words(rt: &HostRuntime) -> Result<Vec<String>, WordsFault> {
     }
 }
 
-/// Does what the words ask for from standard input to the sink, and gives the status.
+/// Executes the job of the arguments, from standard input to the sink, and returns the exit status.
 fn performed<W: Sink>(rt: &HostRuntime, words: &[String], sink: &mut W) -> u8 {
     let Ok(texts) = words
         .iter()

@@ -1,4 +1,4 @@
-//! Lines of each form of operands, in place of what was there.
+//! Writes lines with each form of operands. The line replaces the old text, except in functions whose name begins with `push`.
 
 ghost use Rattle.std.specs.Prelude.{◌≡◌, ℕ, ◌+◌, ◌/◌, ◌^◌, ◌<◌, ◌≤◌, [], ◌∷◌, ◌++◌, length, codes, decimal};
 ghost use Rattle.arrayvec.specs.ArrayString.{array_string_len};
@@ -21,7 +21,7 @@ fn put_mnemonic(out: &mut Line, name: &str)
     out.push_str(" ");
 }
 
-/// Writes what stands between two operands.
+/// Appends the separator of two operands.
 fn push_comma(out: &mut Line)
     requires room { array_string_len out.old + 2 ≤ 48 }
     ensures bytes { out.new.bytes ≡ out.old.bytes ++ codes ", " }
@@ -30,7 +30,7 @@ fn push_comma(out: &mut Line)
     out.push_str(", ");
 }
 
-/// Writes a mnemonic with its first register.
+/// Writes a mnemonic and its first register.
 fn put_name_and_register(out: &mut Line, name: &str, register: Reg)
     requires { length name.now ≤ 10 }
     ensures bytes { out.new.bytes ≡ name.now ++ codes " " ++ register_operand_text register }
@@ -40,7 +40,7 @@ fn put_name_and_register(out: &mut Line, name: &str, register: Reg)
     push_register(out, register);
 }
 
-/// Writes a register that is not the first operand.
+/// Appends a register that is not the first operand.
 fn push_next_register(out: &mut Line, register: Reg)
     requires room { array_string_len out.old + 6 ≤ 48 }
     ensures bytes { out.new.bytes ≡ out.old.bytes ++ codes ", " ++ register_operand_text register }
@@ -50,7 +50,7 @@ fn push_next_register(out: &mut Line, register: Reg)
     push_register(out, register);
 }
 
-/// `name`
+/// Writes `name`.
 #[tactic(auto, unfolding(crate::specs::Spelling::line_text))]
 pub(super) fn put_name(out: &mut Line, name: &str)
     requires { length name.now ≤ 10 }
@@ -60,7 +60,7 @@ pub(super) fn put_name(out: &mut Line, name: &str)
     out.push_str(name);
 }
 
-/// `name rd, 0xhhhhh`: bits 31 to 12 of the immediate.
+/// Writes `name rd, 0xhhhhh`, with bits 31 to 12 of the immediate.
 #[tactic(auto, unfolding(crate::specs::Spelling::line_text))]
 pub(super) fn put_upper(out: &mut Line, name: &str, rd: Reg, imm: UpperImm)
     requires { length name.now ≤ 10 }
@@ -71,7 +71,7 @@ pub(super) fn put_upper(out: &mut Line, name: &str, rd: Reg, imm: UpperImm)
     push_hex(out, imm.word() >> 12);
 }
 
-/// `name rd, offset`
+/// Writes `name rd, offset`.
 #[tactic(auto, unfolding(crate::specs::Spelling::line_text))]
 pub(super) fn put_jump(out: &mut Line, name: &str, rd: Reg, offset: u32)
     requires name { length name.now ≤ 10 }
@@ -83,7 +83,7 @@ pub(super) fn put_jump(out: &mut Line, name: &str, rd: Reg, offset: u32)
     push_signed(out, offset, 21);
 }
 
-/// `name register, offset(base)`
+/// Writes `name register, offset(base)`.
 #[tactic(auto, unfolding(crate::specs::Spelling::line_text))]
 pub(super) fn put_address(out: &mut Line, name: &str, register: Reg, offset: Imm12, base: Reg)
     requires { length name.now ≤ 10 }
@@ -94,7 +94,7 @@ pub(super) fn put_address(out: &mut Line, name: &str, register: Reg, offset: Imm
     push_address(out, offset, base);
 }
 
-/// `name a, b, number`: the number is that of a field of so many bits in two's complement.
+/// Writes `name a, b, number`, with the signed number of a field of `width` bits in two's complement.
 #[tactic(auto, unfolding(crate::specs::Spelling::line_text))]
 pub(super) fn put_signed(out: &mut Line, name: &str, a: Reg, b: Reg, field: u32, width: u32)
     requires name { length name.now ≤ 10 }
@@ -108,7 +108,7 @@ pub(super) fn put_signed(out: &mut Line, name: &str, a: Reg, b: Reg, field: u32,
     push_signed(out, field, width);
 }
 
-/// `name rd, rs1, shamt`
+/// Writes `name rd, rs1, shamt`.
 #[tactic(auto, unfolding(crate::specs::Spelling::line_text))]
 pub(super) fn put_shift(out: &mut Line, name: &str, rd: Reg, rs1: Reg, shamt: u32)
     requires { length name.now ≤ 10 }
@@ -120,7 +120,7 @@ pub(super) fn put_shift(out: &mut Line, name: &str, rd: Reg, rs1: Reg, shamt: u3
     push_decimal(out, shamt);
 }
 
-/// `name a, b`
+/// Writes `name a, b`.
 #[tactic(auto, unfolding(crate::specs::Spelling::line_text))]
 pub(super) fn put_two_registers(out: &mut Line, name: &str, a: Reg, b: Reg)
     requires { length name.now ≤ 10 }
@@ -130,7 +130,7 @@ pub(super) fn put_two_registers(out: &mut Line, name: &str, a: Reg, b: Reg)
     push_next_register(out, b);
 }
 
-/// `name a, b, c`
+/// Writes `name a, b, c`.
 #[tactic(auto, unfolding(crate::specs::Spelling::line_text))]
 pub(super) fn put_three_registers(out: &mut Line, name: &str, a: Reg, b: Reg, c: Reg)
     requires { length name.now ≤ 10 }
@@ -141,7 +141,7 @@ pub(super) fn put_three_registers(out: &mut Line, name: &str, a: Reg, b: Reg, c:
     push_next_register(out, c);
 }
 
-/// `name pred, succ`
+/// Writes `name pred, succ`.
 #[tactic(auto, unfolding(crate::specs::Spelling::line_text))]
 pub(super) fn put_fence(out: &mut Line, name: &str, pred: FenceSet, succ: FenceSet)
     requires { length name.now ≤ 10 }
@@ -153,7 +153,7 @@ pub(super) fn put_fence(out: &mut Line, name: &str, pred: FenceSet, succ: FenceS
     push_accesses(out, succ);
 }
 
-/// `name rd, 0xccc, rs1`
+/// Writes `name rd, 0xccc, rs1`.
 #[tactic(auto, unfolding(crate::specs::Spelling::line_text))]
 pub(super) fn put_csr(out: &mut Line, name: &str, rd: Reg, csr: CsrNumber, rs1: Reg)
     requires { length name.now ≤ 10 }
@@ -165,7 +165,7 @@ pub(super) fn put_csr(out: &mut Line, name: &str, rd: Reg, csr: CsrNumber, rs1: 
     push_next_register(out, rs1);
 }
 
-/// `name rd, 0xccc, uimm`
+/// Writes `name rd, 0xccc, uimm`.
 #[tactic(auto, unfolding(crate::specs::Spelling::line_text))]
 pub(super) fn put_csr_imm(out: &mut Line, name: &str, rd: Reg, csr: CsrNumber, uimm: u32)
     requires { length name.now ≤ 10 }

@@ -1,4 +1,4 @@
-//! The mnemonics (Unprivileged ISA, chapter 24, and the listings of Privileged Architecture 20211203).
+//! Returns the mnemonics of instructions (Unprivileged ISA, chapter 24, and the listings of Privileged Architecture 20211203).
 
 ghost use Rattle.std.specs.Prelude.{◌≡◌, ◌≤◌, ◌%◌, ◌^◌, length};
 ghost use Rattle.rv_encoding.specs.Codes as spec;
@@ -7,7 +7,7 @@ ghost use Rattle.rv_encoding.specs.Rows.{row_of_instr};
 
 use rv_encoding::{BranchKind, CsrKind, Instr, LoadKind, OpImmKind, OpKind, ShiftKind, StoreKind};
 
-/// The mnemonic of an instruction, as in the listings.
+/// Returns the mnemonic of an instruction, as in the listings.
 #[tactic(auto, using(crate::proofs::ShortNames::short_name))]
 pub(super) fn mnemonic(instr: &Instr) -> &'static str
     ensures name { result.now ≡ name_of instr.now }
@@ -16,7 +16,7 @@ pub(super) fn mnemonic(instr: &Instr) -> &'static str
     name(instr)
 }
 
-/// The name of an instruction.
+/// Returns the name of an instruction.
 fn name(instr: &Instr) -> &'static str
     ensures { result.now ≡ name_of instr.now }
 {
@@ -36,7 +36,7 @@ fn name(instr: &Instr) -> &'static str
     }
 }
 
-/// The name of an instruction of opcode 1110011.
+/// Returns the name of an instruction with the opcode 1110011.
 fn system_name(instr: &Instr) -> &'static str
     requires { (row_of_instr instr.now).match % 2 ^ 7 ≡ 0b1110011 }
     ensures { result.now ≡ name_of instr.now }
@@ -53,7 +53,7 @@ fn system_name(instr: &Instr) -> &'static str
     }
 }
 
-/// The mnemonic of a branch.
+/// Returns the mnemonic of a branch.
 fn branch_name(kind: BranchKind) -> &'static str
     ensures { result.now ≡ spec.branch_name kind }
 {
@@ -67,7 +67,7 @@ fn branch_name(kind: BranchKind) -> &'static str
     }
 }
 
-/// The mnemonic of a load.
+/// Returns the mnemonic of a load.
 fn load_name(kind: LoadKind) -> &'static str
     ensures { result.now ≡ spec.load_name kind }
 {
@@ -80,7 +80,7 @@ fn load_name(kind: LoadKind) -> &'static str
     }
 }
 
-/// The mnemonic of a store.
+/// Returns the mnemonic of a store.
 fn store_name(kind: StoreKind) -> &'static str
     ensures { result.now ≡ spec.store_name kind }
 {
@@ -91,7 +91,7 @@ fn store_name(kind: StoreKind) -> &'static str
     }
 }
 
-/// The mnemonic of an operation on a register and an immediate.
+/// Returns the mnemonic of an operation on a register and an immediate.
 fn op_imm_name(kind: OpImmKind) -> &'static str
     ensures { result.now ≡ spec.op_imm_name kind }
 {
@@ -105,7 +105,7 @@ fn op_imm_name(kind: OpImmKind) -> &'static str
     }
 }
 
-/// The mnemonic of a shift by an immediate.
+/// Returns the mnemonic of a shift by an immediate.
 fn shift_name(kind: ShiftKind) -> &'static str
     ensures { result.now ≡ spec.shift_name kind }
 {
@@ -116,7 +116,7 @@ fn shift_name(kind: ShiftKind) -> &'static str
     }
 }
 
-/// The mnemonic of an operation on two registers.
+/// Returns the mnemonic of an operation on two registers.
 fn op_name(kind: OpKind) -> &'static str
     ensures { result.now ≡ spec.op_name kind }
 {
@@ -142,7 +142,7 @@ fn op_name(kind: OpKind) -> &'static str
     }
 }
 
-/// The mnemonic of a change of a control and status register by a register.
+/// Returns the mnemonic of a CSR instruction with a register.
 fn csr_name(kind: CsrKind) -> &'static str
     ensures { result.now ≡ spec.csr_name kind }
 {
@@ -153,7 +153,7 @@ fn csr_name(kind: CsrKind) -> &'static str
     }
 }
 
-/// The mnemonic of a change of a control and status register by an immediate.
+/// Returns the mnemonic of a CSR instruction with an immediate.
 fn csr_imm_name(kind: CsrKind) -> &'static str
     ensures { result.now ≡ spec.csr_imm_name kind }
 {

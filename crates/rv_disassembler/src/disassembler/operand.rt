@@ -1,4 +1,4 @@
-//! The operands of instructions, written at the end of a line (Unprivileged ISA, chapters 24 and 25).
+//! Appends the operands of instructions to a line (Unprivileged ISA, chapters 24 and 25).
 
 ghost use Rattle.std.specs.Prelude.{◌≡◌, ℕ, ◌+◌, ◌^◌, ◌<◌, ◌≤◌, ◌++◌, length, decimal};
 ghost use Rattle.arrayvec.specs.ArrayString.{array_string_len};
@@ -14,7 +14,7 @@ use rv_word::Reg;
 /// A line of the disassembler.
 pub(super) type Line = ArrayString<48>;
 
-/// Writes a number in decimal.
+/// Appends a number in decimal.
 pub(super) fn push_decimal(out: &mut Line, number: u32)
     requires room { array_string_len out.old + 10 ≤ 48 }
     ensures bytes { out.new.bytes ≡ out.old.bytes ++ decimal number }
@@ -23,7 +23,7 @@ pub(super) fn push_decimal(out: &mut Line, number: u32)
     out.push_str(Buffer::new().format(number));
 }
 
-/// Writes a register by its number.
+/// Appends a register, by its number.
 pub(super) fn push_register(out: &mut Line, register: Reg)
     requires room { array_string_len out.old + 4 ≤ 48 }
     ensures bytes { out.new.bytes ≡ out.old.bytes ++ register_operand_text register }
@@ -33,7 +33,7 @@ pub(super) fn push_register(out: &mut Line, register: Reg)
     out.push_str(Buffer::new().format(register.number()));
 }
 
-/// Writes a number of at most 20 bits in hexadecimal, without leading zeros.
+/// Appends a number of at most 20 bits in hexadecimal, without leading zeros.
 pub(super) fn push_hex(out: &mut Line, number: u32)
     requires small { number < 2 ^ 20 }
     requires room { array_string_len out.old + 7 ≤ 48 }
@@ -44,7 +44,7 @@ pub(super) fn push_hex(out: &mut Line, number: u32)
     out.push_str(hex(number, digit_count(number)).as_str());
 }
 
-/// Writes a control and status register by its number, in three digits.
+/// Appends a control and status register, by its number in three digits.
 pub(super) fn push_csr(out: &mut Line, csr: CsrNumber)
     requires room { array_string_len out.old + 5 ≤ 48 }
     ensures bytes { out.new.bytes ≡ out.old.bytes ++ csr_operand_text csr }
@@ -54,7 +54,7 @@ pub(super) fn push_csr(out: &mut Line, csr: CsrNumber)
     out.push_str(hex(u32::from(csr.number()), 3).as_str());
 }
 
-/// Writes the signed number that a field of so many bits is in two's complement.
+/// Appends the signed number of a field of `width` bits in two's complement.
 pub(super) fn push_signed(out: &mut Line, field: u32, width: u32)
     requires width { (0 < width) × (width ≤ 21) }
     requires field { field < 2 ^ width }
@@ -70,7 +70,7 @@ pub(super) fn push_signed(out: &mut Line, field: u32, width: u32)
     }
 }
 
-/// Writes an offset from a register.
+/// Appends an offset and its base register.
 pub(super) fn push_address(out: &mut Line, offset: Imm12, base: Reg)
     requires room { array_string_len out.old + 17 ≤ 48 }
     ensures bytes { out.new.bytes ≡ out.old.bytes ++ address_text offset base }
@@ -82,7 +82,7 @@ pub(super) fn push_address(out: &mut Line, offset: Imm12, base: Reg)
     out.push_str(")");
 }
 
-/// Writes a letter where a set has the bit.
+/// Appends a letter if the set has the bit.
 fn push_letter(out: &mut Line, set: u8, bit: u8, letter: &str)
     requires bit { 0 < bit }
     requires letter { length letter.now ≤ 1 }
@@ -95,7 +95,7 @@ fn push_letter(out: &mut Line, set: u8, bit: u8, letter: &str)
     }
 }
 
-/// Writes the accesses on one side of a fence, by their letters (section 2.7).
+/// Appends the accesses on one side of a fence, by their letters (section 2.7).
 pub(super) fn push_accesses(out: &mut Line, accesses: FenceSet)
     requires room { array_string_len out.old + 4 ≤ 48 }
     ensures bytes { out.new.bytes ≡ out.old.bytes ++ accesses_text accesses }

@@ -1,4 +1,4 @@
-//! The kind of each code (Unprivileged ISA, chapter 24).
+//! Finds the kind of each code (Unprivileged ISA, chapter 24).
 
 ghost use Rattle.std.specs.Prelude.{◌≡◌, IfSome};
 ghost use Rattle.rv_encoding.specs.Codes.{branch_funct3, load_funct3, store_funct3, op_imm_funct3, shift_functs, op_functs, csr_funct3};
@@ -8,7 +8,7 @@ ghost use Rattle.rv_encoding.specs.Codes.{shift_kind as shift_kind_of, op_kind a
 
 use crate::kind::{BranchKind, CsrKind, LoadKind, OpImmKind, OpKind, ShiftKind, StoreKind};
 
-/// The branch of this funct3.
+/// Returns the branch with this funct3, if there is one.
 #[inline(always)]
 pub(super) const fn branch_kind(funct3: u32) -> Option<BranchKind>
     ensures exact { result ≡ branch_kind_of funct3 }
@@ -25,7 +25,7 @@ pub(super) const fn branch_kind(funct3: u32) -> Option<BranchKind>
     }
 }
 
-/// The load of this funct3.
+/// Returns the load with this funct3, if there is one.
 #[inline(always)]
 pub(super) const fn load_kind(funct3: u32) -> Option<LoadKind>
     ensures exact { result ≡ load_kind_of funct3 }
@@ -41,7 +41,7 @@ pub(super) const fn load_kind(funct3: u32) -> Option<LoadKind>
     }
 }
 
-/// The store of this funct3.
+/// Returns the store with this funct3, if there is one.
 #[inline(always)]
 pub(super) const fn store_kind(funct3: u32) -> Option<StoreKind>
     ensures exact { result ≡ store_kind_of funct3 }
@@ -55,7 +55,7 @@ pub(super) const fn store_kind(funct3: u32) -> Option<StoreKind>
     }
 }
 
-/// The operation with an immediate of this funct3.
+/// Returns the operation on an immediate with this funct3, if there is one.
 #[inline(always)]
 pub(super) const fn op_imm_kind(funct3: u32) -> Option<OpImmKind>
     ensures exact { result ≡ op_imm_kind_of funct3 }
@@ -72,7 +72,7 @@ pub(super) const fn op_imm_kind(funct3: u32) -> Option<OpImmKind>
     }
 }
 
-/// The change by a register of this funct3.
+/// Returns the CSR instruction with a register and this funct3, if there is one.
 #[inline(always)]
 pub(super) const fn csr_kind(funct3: u32) -> Option<CsrKind>
     ensures exact { result ≡ csr_kind_of funct3 }
@@ -86,7 +86,7 @@ pub(super) const fn csr_kind(funct3: u32) -> Option<CsrKind>
     }
 }
 
-/// The change by an immediate of this funct3.
+/// Returns the CSR instruction with an immediate and this funct3, if there is one.
 #[inline(always)]
 pub(super) const fn csr_imm_kind(funct3: u32) -> Option<CsrKind>
     ensures exact { result ≡ csr_imm_kind_of funct3 }
@@ -100,7 +100,7 @@ pub(super) const fn csr_imm_kind(funct3: u32) -> Option<CsrKind>
     }
 }
 
-/// The shift by an immediate of this funct3 and funct7.
+/// Returns the shift by an immediate with this funct3 and funct7, if there is one.
 #[inline(always)]
 pub(super) const fn shift_kind(funct3: u32, funct7: u32) -> Option<ShiftKind>
     ensures exact { result ≡ shift_kind_of funct3 funct7 }
@@ -115,7 +115,7 @@ pub(super) const fn shift_kind(funct3: u32, funct7: u32) -> Option<ShiftKind>
     }
 }
 
-/// The operation on registers of this funct3 and funct7.
+/// Returns the operation on registers with this funct3 and funct7, if there is one.
 #[inline(always)]
 pub(super) const fn op_kind(funct3: u32, funct7: u32) -> Option<OpKind>
     ensures exact { result ≡ op_kind_of funct3 funct7 }

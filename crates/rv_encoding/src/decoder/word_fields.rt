@@ -1,4 +1,4 @@
-//! The fields of a word, each from its places (Unprivileged ISA, sections 2.2 and 2.3).
+//! Reads the fields of a word (Unprivileged ISA, sections 2.2 and 2.3).
 
 ghost use Rattle.std.specs.Prelude.{◌≡◌, ◌*◌, ◌^◌};
 ghost use Rattle.rv_encoding.specs.Places.{rd_at, rs1_at, rs2_at, i_immediate_at, s_immediate_at, b_immediate_at, j_immediate_at, u_immediate_at};
@@ -9,42 +9,42 @@ use crate::field::{
 };
 use rv_word::{Reg, bits};
 
-/// rd, from bits 11:7.
+/// Returns rd, from bits 11:7.
 pub(super) const fn rd(word: u32) -> Reg
     ensures { result ≡ taken rd_at word }
 {
     Reg::new(bits(word, 11, 7) as u8)
 }
 
-/// rs1, from bits 19:15.
+/// Returns rs1, from bits 19:15.
 pub(super) const fn rs1(word: u32) -> Reg
     ensures { result ≡ taken rs1_at word }
 {
     Reg::new(bits(word, 19, 15) as u8)
 }
 
-/// rs2, from bits 24:20.
+/// Returns rs2, from bits 24:20.
 pub(super) const fn rs2(word: u32) -> Reg
     ensures { result ≡ taken rs2_at word }
 {
     Reg::new(bits(word, 24, 20) as u8)
 }
 
-/// The immediate of format I, from bits 31:20.
+/// Returns the immediate of format I, from bits 31:20.
 pub(super) const fn i_immediate(word: u32) -> Imm12
     ensures { result ≡ taken i_immediate_at word }
 {
     Imm12::new(bits(word, 31, 20))
 }
 
-/// The immediate of format S, from bits 31:25 and 11:7.
+/// Returns the immediate of format S, from bits 31:25 and 11:7.
 pub(super) const fn s_immediate(word: u32) -> Imm12
     ensures { result ≡ taken s_immediate_at word }
 {
     Imm12::new((bits(word, 31, 25) << 5) + bits(word, 11, 7))
 }
 
-/// The offset of format B, from bits 31, 7, 30:25 and 11:8, and a 0.
+/// Returns the offset of format B, from bits 31, 7, 30:25 and 11:8, and a 0.
 pub(super) const fn b_offset(word: u32) -> BranchOffset
     ensures { result ≡ taken b_immediate_at word }
 {
@@ -56,7 +56,7 @@ pub(super) const fn b_offset(word: u32) -> BranchOffset
     )
 }
 
-/// The offset of format J, from bits 31, 19:12, 20 and 30:21, and a 0.
+/// Returns the offset of format J, from bits 31, 19:12, 20 and 30:21, and a 0.
 pub(super) const fn j_offset(word: u32) -> JumpOffset
     ensures { result ≡ taken j_immediate_at word }
 {
@@ -68,49 +68,49 @@ pub(super) const fn j_offset(word: u32) -> JumpOffset
     )
 }
 
-/// The immediate of format U, from bits 31:12, and twelve 0s.
+/// Returns the immediate of format U, from bits 31:12, and twelve 0s.
 pub(super) const fn u_immediate(word: u32) -> UpperImm
     ensures { result ≡ taken u_immediate_at word }
 {
     UpperImm::new(bits(word, 31, 12) << 12)
 }
 
-/// The amount of a shift, from bits 24:20.
+/// Returns the amount of a shift, from bits 24:20.
 pub(super) const fn shamt(word: u32) -> Shamt
     ensures { result ≡ taken shamt_at word }
 {
     Shamt::new(bits(word, 24, 20))
 }
 
-/// A fence's mode, from bits 31:28.
+/// Returns the mode of a fence, from bits 31:28.
 pub(super) const fn fm(word: u32) -> FenceMode
     ensures { result ≡ taken fm_at word }
 {
     FenceMode::new(bits(word, 31, 28) as u8)
 }
 
-/// What a fence orders before it, from bits 27:24.
+/// Returns the predecessor set of a fence, from bits 27:24.
 pub(super) const fn pred(word: u32) -> FenceSet
     ensures { result ≡ taken pred_at word }
 {
     FenceSet::new(bits(word, 27, 24) as u8)
 }
 
-/// What a fence orders after it, from bits 23:20.
+/// Returns the successor set of a fence, from bits 23:20.
 pub(super) const fn succ(word: u32) -> FenceSet
     ensures { result ≡ taken succ_at word }
 {
     FenceSet::new(bits(word, 23, 20) as u8)
 }
 
-/// The number of a control and status register, from bits 31:20.
+/// Returns the number of a control and status register, from bits 31:20.
 pub(super) const fn csr(word: u32) -> CsrNumber
     ensures { result ≡ taken csr_at word }
 {
     CsrNumber::new(bits(word, 31, 20) as u16)
 }
 
-/// The immediate of csrrwi, csrrsi and csrrci, from bits 19:15.
+/// Returns the immediate of csrrwi, csrrsi and csrrci, from bits 19:15.
 pub(super) const fn uimm(word: u32) -> Uimm
     ensures { result ≡ taken uimm_at word }
 {

@@ -1,4 +1,4 @@
-//! The codes of the kinds (Unprivileged ISA, chapter 24).
+//! Returns the codes of the kinds (Unprivileged ISA, chapter 24).
 
 ghost use Rattle.std.specs.Prelude.{◌≡◌, ◌+◌, ◌*◌, ◌^◌, ◌<◌};
 ghost use Rattle.rv_encoding.specs.Codes.{branch_funct3, load_funct3, store_funct3, op_imm_funct3, csr_funct3, csr_imm_funct3};
@@ -6,7 +6,7 @@ ghost use Rattle.rv_encoding.specs.Codes as spec;
 
 use crate::kind::{BranchKind, CsrKind, LoadKind, OpImmKind, OpKind, ShiftKind, StoreKind};
 
-/// funct3 of a branch.
+/// Returns the funct3 of a branch.
 pub(super) const fn branch_code(kind: BranchKind) -> u32
     ensures value { result ≡ branch_funct3 kind }
     ensures in_range { result < 8 }
@@ -21,7 +21,7 @@ pub(super) const fn branch_code(kind: BranchKind) -> u32
     }
 }
 
-/// funct3 of a load.
+/// Returns the funct3 of a load.
 pub(super) const fn load_code(kind: LoadKind) -> u32
     ensures value { result ≡ load_funct3 kind }
     ensures in_range { result < 8 }
@@ -35,7 +35,7 @@ pub(super) const fn load_code(kind: LoadKind) -> u32
     }
 }
 
-/// funct3 of a store.
+/// Returns the funct3 of a store.
 pub(super) const fn store_code(kind: StoreKind) -> u32
     ensures value { result ≡ store_funct3 kind }
     ensures in_range { result < 8 }
@@ -47,7 +47,7 @@ pub(super) const fn store_code(kind: StoreKind) -> u32
     }
 }
 
-/// funct3 of an operation with an immediate.
+/// Returns the funct3 of an operation on an immediate.
 pub(super) const fn op_imm_code(kind: OpImmKind) -> u32
     ensures value { result ≡ op_imm_funct3 kind }
     ensures in_range { result < 8 }
@@ -62,7 +62,7 @@ pub(super) const fn op_imm_code(kind: OpImmKind) -> u32
     }
 }
 
-/// funct3 of a change by a register.
+/// Returns the funct3 of a CSR instruction with a register.
 pub(super) const fn csr_code(kind: CsrKind) -> u32
     ensures value { result ≡ csr_funct3 kind }
     ensures in_range { result < 8 }
@@ -74,7 +74,7 @@ pub(super) const fn csr_code(kind: CsrKind) -> u32
     }
 }
 
-/// funct3 of a change by an immediate.
+/// Returns the funct3 of a CSR instruction with an immediate.
 pub(super) const fn csr_imm_code(kind: CsrKind) -> u32
     ensures value { result ≡ csr_imm_funct3 kind }
     ensures in_range { result < 8 }
@@ -93,14 +93,14 @@ pub(super) struct Functs {
     pub funct3: u32,
 }
 
-/// The codes as one value.
+/// Returns both codes as one value.
 const fn funct(funct7: u32, funct3: u32) -> Functs
     ensures { result ≡ record { funct7 = funct7; funct3 = funct3 } }
 {
     Functs { funct7, funct3 }
 }
 
-/// funct7 and funct3 of a shift by an immediate.
+/// Returns the funct7 and the funct3 of a shift by an immediate.
 pub(super) const fn shift_functs(kind: ShiftKind) -> Functs
     ensures funct7 { result.funct7 ≡ (spec.shift_functs kind).funct7 }
     ensures funct3 { result.funct3 ≡ (spec.shift_functs kind).funct3 }
@@ -114,7 +114,7 @@ pub(super) const fn shift_functs(kind: ShiftKind) -> Functs
     }
 }
 
-/// funct7 and funct3 of an operation on registers.
+/// Returns the funct7 and the funct3 of an operation on registers.
 pub(super) const fn op_functs(kind: OpKind) -> Functs
     ensures funct7 { result.funct7 ≡ (spec.op_functs kind).funct7 }
     ensures funct3 { result.funct3 ≡ (spec.op_functs kind).funct3 }

@@ -1,4 +1,4 @@
-//! Fields at their places in a word (Unprivileged ISA, sections 2.2 and 2.3).
+//! Places fields at their positions in a word (Unprivileged ISA, sections 2.2 and 2.3).
 
 ghost use Rattle.std.specs.Prelude.{◌≡◌, ◌/◌, ◌^◌, ◌<◌};
 ghost use Rattle.rv_encoding.specs.Places.{rd_at, rs1_at, rs2_at, i_immediate_at, s_immediate_at, b_immediate_at, j_immediate_at, u_immediate_at};
@@ -10,7 +10,7 @@ use crate::field::{
 };
 use rv_word::{Reg, bits};
 
-/// rd in bits 11:7.
+/// Returns the word with rd in bits 11:7.
 pub(super) const fn at_rd(rd: Reg) -> u32
     ensures value { result ≡ placed rd_at rd }
     ensures in_range { rd < 32 }
@@ -18,7 +18,7 @@ pub(super) const fn at_rd(rd: Reg) -> u32
     (rd.number() as u32) << 7
 }
 
-/// rs1 in bits 19:15.
+/// Returns the word with rs1 in bits 19:15.
 pub(super) const fn at_rs1(rs1: Reg) -> u32
     ensures value { result ≡ placed rs1_at rs1 }
     ensures in_range { rs1 < 32 }
@@ -26,7 +26,7 @@ pub(super) const fn at_rs1(rs1: Reg) -> u32
     (rs1.number() as u32) << 15
 }
 
-/// rs2 in bits 24:20.
+/// Returns the word with rs2 in bits 24:20.
 pub(super) const fn at_rs2(rs2: Reg) -> u32
     ensures value { result ≡ placed rs2_at rs2 }
     ensures in_range { rs2 < 32 }
@@ -34,7 +34,7 @@ pub(super) const fn at_rs2(rs2: Reg) -> u32
     (rs2.number() as u32) << 20
 }
 
-/// The immediate of format I in bits 31:20.
+/// Returns the word with the immediate of format I in bits 31:20.
 pub(super) const fn at_i(imm: Imm12) -> u32
     ensures value { result ≡ placed i_immediate_at imm }
     ensures in_range { imm < 2 ^ 12 }
@@ -42,7 +42,7 @@ pub(super) const fn at_i(imm: Imm12) -> u32
     imm.bits() << 20
 }
 
-/// The immediate of format S in bits 31:25 and 11:7.
+/// Returns the word with the immediate of format S in bits 31:25 and 11:7.
 pub(super) const fn at_s(imm: Imm12) -> u32
     ensures value { result ≡ placed s_immediate_at imm }
     ensures in_range { imm < 2 ^ 12 }
@@ -51,7 +51,7 @@ pub(super) const fn at_s(imm: Imm12) -> u32
     (bits(imm, 11, 5) << 25) + (bits(imm, 4, 0) << 7)
 }
 
-/// The offset of format B in bits 31, 7, 30:25 and 11:8.
+/// Returns the word with the offset of format B in bits 31, 7, 30:25 and 11:8.
 pub(super) const fn at_b(offset: BranchOffset) -> u32
     ensures value { result ≡ placed b_immediate_at offset }
     ensures in_range { IsBranchOffset offset }
@@ -63,7 +63,7 @@ pub(super) const fn at_b(offset: BranchOffset) -> u32
         + (bits(offset, 4, 1) << 8)
 }
 
-/// The offset of format J in bits 31, 19:12, 20 and 30:21.
+/// Returns the word with the offset of format J in bits 31, 19:12, 20 and 30:21.
 pub(super) const fn at_j(offset: JumpOffset) -> u32
     ensures value { result ≡ placed j_immediate_at offset }
     ensures in_range { IsJumpOffset offset }
@@ -75,7 +75,7 @@ pub(super) const fn at_j(offset: JumpOffset) -> u32
         + (bits(offset, 10, 1) << 21)
 }
 
-/// The immediate of format U in bits 31:12.
+/// Returns the word with the immediate of format U in bits 31:12.
 pub(super) const fn at_u(imm: UpperImm) -> u32
     ensures value { result ≡ placed u_immediate_at imm }
     ensures in_range { IsUpperImmediate imm }
@@ -83,7 +83,7 @@ pub(super) const fn at_u(imm: UpperImm) -> u32
     imm.word()
 }
 
-/// The amount of a shift in bits 24:20.
+/// Returns the word with the amount of a shift in bits 24:20.
 pub(super) const fn at_shamt(shamt: Shamt) -> u32
     ensures value { result ≡ placed shamt_at shamt }
     ensures in_range { shamt < 32 }
@@ -91,7 +91,7 @@ pub(super) const fn at_shamt(shamt: Shamt) -> u32
     shamt.amount() << 20
 }
 
-/// A fence's mode in bits 31:28.
+/// Returns the word with the mode of a fence in bits 31:28.
 pub(super) const fn at_fm(fm: FenceMode) -> u32
     ensures value { result ≡ placed fm_at fm }
     ensures in_range { fm < 16 }
@@ -99,7 +99,7 @@ pub(super) const fn at_fm(fm: FenceMode) -> u32
     (fm.bits() as u32) << 28
 }
 
-/// What a fence orders before it, in bits 27:24.
+/// Returns the word with the predecessor set of a fence in bits 27:24.
 pub(super) const fn at_pred(pred: FenceSet) -> u32
     ensures value { result ≡ placed pred_at pred }
     ensures in_range { pred < 16 }
@@ -107,7 +107,7 @@ pub(super) const fn at_pred(pred: FenceSet) -> u32
     (pred.bits() as u32) << 24
 }
 
-/// What a fence orders after it, in bits 23:20.
+/// Returns the word with the successor set of a fence in bits 23:20.
 pub(super) const fn at_succ(succ: FenceSet) -> u32
     ensures value { result ≡ placed succ_at succ }
     ensures in_range { succ < 16 }
@@ -115,7 +115,7 @@ pub(super) const fn at_succ(succ: FenceSet) -> u32
     (succ.bits() as u32) << 20
 }
 
-/// The number of a control and status register in bits 31:20.
+/// Returns the word with the number of a control and status register in bits 31:20.
 pub(super) const fn at_csr(csr: CsrNumber) -> u32
     ensures value { result ≡ placed csr_at csr }
     ensures in_range { csr < 2 ^ 12 }
@@ -123,7 +123,7 @@ pub(super) const fn at_csr(csr: CsrNumber) -> u32
     (csr.number() as u32) << 20
 }
 
-/// The immediate of csrrwi, csrrsi and csrrci in bits 19:15.
+/// Returns the word with the immediate of csrrwi, csrrsi and csrrci in bits 19:15.
 pub(super) const fn at_uimm(uimm: Uimm) -> u32
     ensures value { result ≡ placed uimm_at uimm }
     ensures in_range { uimm < 32 }

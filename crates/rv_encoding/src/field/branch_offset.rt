@@ -7,7 +7,7 @@ ghost use Rattle.rv_encoding.specs.Ranges.{IsBranchOffset};
 use rv_word::sext;
 use std::marker::Model;
 
-/// The thirteen bits of a branch's signed offset in bytes, which is even.
+/// The 13 bits of a branch's signed offset in bytes, which is even.
 #[derive(Clone, Copy, Debug, PartialEq, Eq)]
 pub struct BranchOffset {
     bits: u32,
@@ -24,7 +24,7 @@ impl Model for BranchOffset {
 }
 
 impl BranchOffset {
-    /// The offset of these thirteen bits.
+    /// Returns the offset with these 13 bits.
     pub const fn new(bits: u32) -> Self
         requires { IsBranchOffset bits }
         ensures { result ≡ bits }
@@ -32,7 +32,7 @@ impl BranchOffset {
         BranchOffset { bits }
     }
 
-    /// The thirteen bits.
+    /// Returns the 13 bits.
     pub const fn bits(self) -> u32
         ensures value { result ≡ self }
         ensures in_range { IsBranchOffset result }
@@ -40,7 +40,7 @@ impl BranchOffset {
         self.bits
     }
 
-    /// The offset as a word, sign-extended.
+    /// Returns the offset, sign-extended to 32 bits.
     pub const fn word(self) -> u32
         ensures { result ≡ sign_extended self 13 }
     {

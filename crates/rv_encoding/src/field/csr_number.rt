@@ -21,7 +21,7 @@ impl Model for CsrNumber {
 }
 
 impl CsrNumber {
-    /// The register of this number.
+    /// Returns the register with this number.
     pub const fn new(number: u16) -> Self
         requires { number < 2 ^ 12 }
         ensures { result ≡ number }
@@ -29,7 +29,7 @@ impl CsrNumber {
         CsrNumber { number }
     }
 
-    /// The register's number.
+    /// Returns the number of the register.
     pub const fn number(self) -> u16
         ensures value { result ≡ self }
         ensures in_range { result < 2 ^ 12 }

@@ -4,7 +4,7 @@ ghost use Rattle.std.specs.Prelude.{◌≡◌, ℕ, ◌<◌};
 
 use std::marker::Model;
 
-/// The four bits fm of a fence: which kind of fence it is.
+/// The four bits fm of a fence, which select the kind of fence.
 #[derive(Clone, Copy, Debug, PartialEq, Eq)]
 pub struct FenceMode {
     bits: u8,
@@ -21,7 +21,7 @@ impl Model for FenceMode {
 }
 
 impl FenceMode {
-    /// The mode of these four bits.
+    /// Returns the mode with these four bits.
     pub const fn new(bits: u8) -> Self
         requires { bits < 16 }
         ensures { result ≡ bits }
@@ -29,7 +29,7 @@ impl FenceMode {
         FenceMode { bits }
     }
 
-    /// The four bits.
+    /// Returns the four bits.
     pub const fn bits(self) -> u8
         ensures value { result ≡ self }
         ensures in_range { result < 16 }

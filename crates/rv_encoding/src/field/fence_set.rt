@@ -22,7 +22,7 @@ impl Model for FenceSet {
 }
 
 impl FenceSet {
-    /// The set of these four bits.
+    /// Returns the set with these four bits.
     pub const fn new(bits: u8) -> Self
         requires { bits < 16 }
         ensures { result ≡ bits }
@@ -30,7 +30,7 @@ impl FenceSet {
         FenceSet { bits }
     }
 
-    /// The four bits.
+    /// Returns the four bits.
     pub const fn bits(self) -> u8
         ensures value { result ≡ self }
         ensures in_range { result < 16 }

@@ -6,7 +6,7 @@ ghost use Rattle.rv_word.specs.BitFields.{sign_extended};
 use rv_word::sext;
 use std::marker::Model;
 
-/// The twelve bits of a signed immediate: an operand, or an offset in bytes.
+/// The 12 bits of a signed immediate: an operand, or an offset in bytes.
 #[derive(Clone, Copy, Debug, PartialEq, Eq)]
 pub struct Imm12 {
     bits: u32,
@@ -23,7 +23,7 @@ impl Model for Imm12 {
 }
 
 impl Imm12 {
-    /// The immediate of these twelve bits.
+    /// Returns the immediate with these 12 bits.
     pub const fn new(bits: u32) -> Self
         requires { bits < 2 ^ 12 }
         ensures { result ≡ bits }
@@ -31,7 +31,7 @@ impl Imm12 {
         Imm12 { bits }
     }
 
-    /// The twelve bits.
+    /// Returns the 12 bits.
     pub const fn bits(self) -> u32
         ensures value { result ≡ self }
         ensures in_range { result < 2 ^ 12 }
@@ -39,7 +39,7 @@ impl Imm12 {
         self.bits
     }
 
-    /// The immediate as a word, sign-extended.
+    /// Returns the immediate, sign-extended to 32 bits.
     pub const fn word(self) -> u32
         ensures { result ≡ sign_extended self 12 }
     {

@@ -24,7 +24,7 @@ impl Model for JumpOffset {
 }
 
 impl JumpOffset {
-    /// The offset of these 21 bits.
+    /// Returns the offset with these 21 bits.
     pub const fn new(bits: u32) -> Self
         requires { IsJumpOffset bits }
         ensures { result ≡ bits }
@@ -32,7 +32,7 @@ impl JumpOffset {
         JumpOffset { bits }
     }
 
-    /// The 21 bits.
+    /// Returns the 21 bits.
     pub const fn bits(self) -> u32
         ensures value { result ≡ self }
         ensures in_range { IsJumpOffset result }
@@ -40,7 +40,7 @@ impl JumpOffset {
         self.bits
     }
 
-    /// The offset as a word, sign-extended.
+    /// Returns the offset, sign-extended to 32 bits.
     pub const fn word(self) -> u32
         ensures { result ≡ sign_extended self 21 }
     {

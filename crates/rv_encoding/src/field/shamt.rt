@@ -21,7 +21,7 @@ impl Model for Shamt {
 }
 
 impl Shamt {
-    /// The shift by this amount.
+    /// Returns the shift amount with this value.
     pub const fn new(amount: u32) -> Self
         requires { amount < 32 }
         ensures { result ≡ amount }
@@ -29,7 +29,7 @@ impl Shamt {
         Shamt { amount }
     }
 
-    /// The amount.
+    /// Returns the value of the amount.
     pub const fn amount(self) -> u32
         ensures value { result ≡ self }
         ensures in_range { result < 32 }

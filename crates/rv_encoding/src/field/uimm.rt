@@ -21,7 +21,7 @@ impl Model for Uimm {
 }
 
 impl Uimm {
-    /// The immediate that is this number.
+    /// Returns the immediate with this value.
     pub const fn new(number: u32) -> Self
         requires { number < 32 }
         ensures { result ≡ number }
@@ -29,7 +29,7 @@ impl Uimm {
         Uimm { number }
     }
 
-    /// The immediate's number, which is the word that stands for rs1.
+    /// Returns the value of the immediate, which the instruction uses instead of the word in rs1.
     pub const fn number(self) -> u32
         ensures value { result ≡ self }
         ensures in_range { result < 32 }

@@ -5,7 +5,7 @@ ghost use Rattle.rv_encoding.specs.Ranges.{IsUpperImmediate};
 
 use std::marker::Model;
 
-/// The immediate of lui and auipc: a word whose low twelve bits are 0.
+/// The immediate of lui and auipc: a word whose 12 low bits are 0.
 #[derive(Clone, Copy, Debug, PartialEq, Eq)]
 pub struct UpperImm {
     word: u32,
@@ -22,7 +22,7 @@ impl Model for UpperImm {
 }
 
 impl UpperImm {
-    /// The immediate that is this word.
+    /// Returns the immediate with this word.
     pub const fn new(word: u32) -> Self
         requires { IsUpperImmediate word }
         ensures { result ≡ word }
@@ -30,7 +30,7 @@ impl UpperImm {
         UpperImm { word }
     }
 
-    /// The immediate as a word.
+    /// Returns the immediate as a word.
     pub const fn word(self) -> u32
         ensures value { result ≡ self }
         ensures in_range { IsUpperImmediate result }

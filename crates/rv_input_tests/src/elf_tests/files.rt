@@ -1,14 +1,14 @@
-//! ELF files for tests, made of their parts, and what must be planned. The assertions that compare stand here, once for each
-//! type: in each test they would make its proof long.
+//! Makes ELF files for the tests, and checks plans. The assertions are in functions of their own, one for each type, because they would lengthen
+//! the proof of each test.
 
 use arrayvec::ArrayVec;
 use rv_elf::{ElfFault, Plan, Segment, plan_raw};
 use std::process::Abort;
 
-/// The most bytes that a file made here has.
+/// The maximal number of bytes of a file that is made here.
 const MAX_FILE: usize = 4096;
 
-/// A file made here.
+/// A file that is made here.
 pub(crate) type File = ArrayVec<u8, MAX_FILE>;
 
 /// A program header: p_type, p_offset, p_vaddr, p_paddr, p_filesz, p_memsz, p_flags and p_align.
@@ -19,7 +19,7 @@ const FILE_HEADER: [u8; 24] = [
     0x7f, 0x45, 0x4c, 0x46, 1, 1, 1, 0, 0, 0, 0, 0, 0, 0, 0, 0, 2, 0, 0xf3, 0, 1, 0, 0, 0,
 ];
 
-/// The header of a segment, to be loaded at another address than its p_vaddr.
+/// Returns the program header of a segment whose load address differs from its p_vaddr.
 pub(crate) fn segment(
     offset: u32,
     address: u32,
@@ -53,7 +53,7 @@ fn append_words(rt: &impl Abort, file: &mut File, words: &[u32]) {
     }
 }
 
-/// A file of an ELF header, a table of program headers behind it, and bytes behind that.
+/// Returns a file with an ELF header, a table of program headers after it, and then data.
 pub(crate) fn file_of(rt: &impl Abort, entry: u32, headers: &[ProgramHeader], data: &[u8]) -> File {
     let mut file = ArrayVec::new();
     let count = u32::try_from(headers.len()).expect(rt, "few headers");
@@ -67,7 +67,7 @@ pub(crate) fn file_of(rt: &impl Abort, entry: u32, headers: &[ProgramHeader], da
     file
 }
 
-/// A file cut to a length, with other bytes at some places.
+/// Returns a file, cut to a length, with some bytes changed.
 pub(crate) fn changed(rt: &impl Abort, file: &[u8], len: usize, changes: &[(usize, u8)]) -> File {
     let mut made = ArrayVec::new();
     append(rt, &mut made, file.get(..len).expect(rt, "a longer file"));
@@ -77,19 +77,18 @@ pub(crate) fn changed(rt: &impl Abort, file: &[u8], len: usize, changes: &[(usiz
     made
 }
 
-/// A number that must be this, of a case that a number names.
+/// Expects a number, in a case that has its own number.
 pub(crate) fn expect_number(rt: &impl Abort, found: u64, want: u64, case: u64) {
     assert_eq!(rt; found, want, "case {case}");
 }
 
-/// A plan of this entry and these segments.
+/// Expects a plan with this entry and these segments.
 pub(crate) fn expect_plan(rt: &impl Abort, plan: &Plan, entry: u32, segments: &[Segment]) {
     expect_number(rt, u64::from(plan.entry()), u64::from(entry), 0);
     assert_eq!(rt; plan.segments(), segments);
 }
 
-/// A raw image of so many bytes is planned as one segment at an address, where execution also begins, or as none where it has
-/// no byte.
+/// Expects the plan of a raw image of `len` bytes: one segment at an address, which is also the entry, or no segment if the image is empty.
 pub(crate) fn expect_raw_plan(
     rt: &impl Abort,
     (size, ram_size): (u32, u32),
@@ -107,7 +106,7 @@ pub(crate) fn expect_raw_plan(
     expect_plan(rt, &plan, address, &whole[..taken]);
 }
 
-/// A raw image of so many bytes has this fault.
+/// Expects an error of a raw image of `len` bytes.
 pub(crate) fn expect_raw_fault(
     rt: &impl Abort,
     (len, ram_size): (usize, u32),

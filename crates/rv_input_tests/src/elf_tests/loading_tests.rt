@@ -1,4 +1,4 @@
-//! What is in RAM after an image was loaded, or refused: the bytes of its segments, zeros behind them, and all others as before.
+//! Tests of RAM after an image was loaded or refused: the bytes of its segments, the zeros after them, and all other bytes unchanged.
 
 use super::files::{ProgramHeader, expect_number, file_of, segment};
 use rv_elf::{ElfFault, load, plan, plan_raw};
@@ -6,7 +6,7 @@ use rv_memory::{RAM_BASE, Ram};
 use std::alloc::Global;
 use std::process::Abort;
 
-/// A file with one segment of 8 bytes at 80000000, of which the file has 4.
+/// A file with one segment of 8 bytes at 80000000. The file has the first 4 of them.
 const WORKED: [u8; 88] = [
     0x7f, 0x45, 0x4c, 0x46, 1, 1, 1, 0, 0, 0, 0, 0, 0, 0, 0, 0, 2, 0, 0xf3, 0, 1, 0, 0, 0, 0, 0, 0,
     0x80, 0x34, 0, 0, 0, 0, 0, 0, 0, 0, 0, 0, 0, 0x34, 0, 0x20, 0, 1, 0, 0x28, 0, 0, 0, 0, 0, 1, 0,
@@ -16,12 +16,12 @@ const WORKED: [u8; 88] = [
 
 const RAM_SIZE: u32 = 65_536;
 
-/// The byte at an address before an image is loaded. It is not 0, nor that of a neighbour.
+/// Returns the byte at an address before an image is loaded. It is not 0, and differs from its neighbours.
 fn byte_before(address: u32) -> u8 {
     (address % 251) as u8 + 1
 }
 
-/// A RAM as it is before an image is loaded, with other bytes at some addresses.
+/// Returns a RAM as it is before an image is loaded, with other bytes at some addresses.
 fn ram_with(rt: &impl Abort, alloc: Global, parts: &[(u32, &[u8])]) -> Ram {
     let mut ram = Ram::new(alloc, RAM_SIZE).expect(rt, "a RAM");
     for address in RAM_BASE..RAM_BASE + RAM_SIZE {
@@ -33,7 +33,7 @@ fn ram_with(rt: &impl Abort, alloc: Global, parts: &[(u32, &[u8])]) -> Ram {
     ram
 }
 
-/// Puts bytes from an address on, as far as they are inside.
+/// Writes bytes from an address on, as far as they are inside RAM.
 fn put(ram: &mut Ram, start: u32, bytes: &[u8]) {
     let mut address = start;
     for byte in bytes {
@@ -42,19 +42,19 @@ fn put(ram: &mut Ram, start: u32, bytes: &[u8]) {
     }
 }
 
-/// Whether two RAMs hold the same bytes.
+/// Returns whether two RAMs have the same bytes.
 fn are_equal(one: &Ram, other: &Ram) -> bool {
     one.part(RAM_BASE, one.size()) == other.part(RAM_BASE, other.size())
 }
 
-/// Loads an ELF file, and answers its entry.
+/// Loads an ELF file, and returns its entry.
 fn load_file(file: &[u8], ram: &mut Ram) -> Result<u32, ElfFault> {
     let plan = plan(file, ram.size(), false)?;
     load(&plan, file, ram);
     Ok(plan.entry())
 }
 
-/// Loads an ELF file into the RAM as it was before: its entry, and what is elsewhere than before.
+/// Loads an ELF file into a RAM, and expects its entry and the bytes that change.
 fn expect_loaded(rt: &impl Abort, alloc: Global, file: &[u8], entry: u32, parts: &[(u32, &[u8])]) {
     let mut ram = ram_with(rt, alloc, &[]);
     let found = load_file(file, &mut ram).expect(rt, "no fault");
@@ -68,8 +68,8 @@ fn loads_the_worked_file(rt: HostRuntime) {
     expect_loaded(&rt, rt.alloc(), &WORKED, 0x8000_0000, &parts);
 }
 
-/// In falling order and at odd addresses, side by side and apart, with zeros behind, of zeros alone, of no bytes at an address
-/// that RAM does not have, of the same bytes of the file as another, and of the header.
+/// Segments in descending order and at odd addresses, adjacent and separate. Some end with zeros, have only zeros, have no bytes at an address
+/// outside RAM, share bytes of the file, or have bytes of the header.
 #[test]
 fn loads_several_segments(rt: HostRuntime) {
     let headers = [
@@ -92,8 +92,8 @@ fn loads_several_segments(rt: HostRuntime) {
     expect_loaded(&rt, rt.alloc(), file.as_slice(), RAM_BASE + 4, &parts);
 }
 
-/// Headers of 64 segments in an order that steps over so many of them: each takes 5 of 8 bytes of RAM, and has three bytes of
-/// the 192 behind the table.
+/// Returns the headers of 64 segments in an order with steps of `step`. Each occupies 5 of 8 bytes of RAM, and has three of the 192 bytes after
+/// the table.
 fn headers_of_64(step: u32) -> [ProgramHeader; 64] {
     let mut headers = [[0; 8]; 64];
     for (header, index) in headers.iter_mut().zip(0..64u32) {
@@ -103,7 +103,7 @@ fn headers_of_64(step: u32) -> [ProgramHeader; 64] {
     headers
 }
 
-/// The RAM behind them, where the 192 bytes are the numbers from 0 on.
+/// Returns the RAM after they are loaded. The 192 bytes are the numbers from 0 on.
 fn ram_of_64(rt: &impl Abort, alloc: Global) -> Ram {
     let mut ram = ram_with(rt, alloc, &[]);
     for number in 0..64u32 {
@@ -144,7 +144,7 @@ fn loads_both_ends_of_ram(rt: HostRuntime) {
     expect_loaded(&rt, rt.alloc(), file.as_slice(), RAM_BASE, &parts);
 }
 
-/// The zeros of one segment, which is all of a RAM.
+/// One segment of zeros fills all of RAM.
 #[test]
 fn loads_all_of_ram(rt: HostRuntime) {
     let file = file_of(
@@ -160,14 +160,14 @@ fn loads_all_of_ram(rt: HostRuntime) {
     assert!(rt; are_equal(&ram, &wanted));
 }
 
-/// A file is refused for this, and RAM is as it was before.
+/// Expects that a file is refused with this error, and that RAM is unchanged.
 fn expect_refused(rt: &impl Abort, alloc: Global, file: &[u8], fault: ElfFault) {
     let mut ram = ram_with(rt, alloc, &[]);
     assert!(rt; load_file(file, &mut ram) == Err(fault), "{fault:?}");
     assert!(rt; are_equal(&ram, &ram_with(rt, alloc, &[])));
 }
 
-/// Two segments that share a byte, and one that lies behind RAM: what comes before them in the table is not loaded either.
+/// Two segments that share a byte, and one after the end of RAM. The segments before them in the table are not loaded either.
 #[test]
 fn refused_files_leave_ram(rt: HostRuntime) {
     let first = segment(116, RAM_BASE, 4, 8);
@@ -185,7 +185,7 @@ fn refused_files_leave_ram(rt: HostRuntime) {
     }
 }
 
-/// Loads a raw image into the RAM as it was before.
+/// Loads a raw image into a RAM, and expects its bytes and all others unchanged.
 fn expect_raw(rt: &impl Abort, alloc: Global, image: &[u8]) {
     let mut ram = ram_with(rt, alloc, &[]);
     let plan = plan_raw(image.len(), ram.size(), false).expect(rt, "no fault");

@@ -1,4 +1,4 @@
-//! What is planned with a monitor: no image may meet its range, 80000000 to 8000FFFF. Each case is also asked without one.
+//! Tests of plans with a monitor: no image may use its range, 80000000 to 8000FFFF. Each case is also planned without a monitor.
 
 use super::company::FILE;
 use super::files::{
@@ -8,15 +8,15 @@ use rv_elf::{ElfFault, load, plan, plan_raw};
 use rv_memory::{RAM_BASE, Ram};
 use std::process::Abort;
 
-/// The address behind the range.
+/// The address after the range.
 const FIRST: u32 = 0x8001_0000;
 
-/// The size of RAM in these tests, and the address behind its last byte.
+/// The size of RAM in these tests, and the address after its last byte.
 const RAM_SIZE: u32 = 0x2_0000;
 
 const END: u32 = RAM_BASE + RAM_SIZE;
 
-/// The number of the fault of a file, or 0 where it has none.
+/// Returns the number of the error of a file, or 0 if there is none.
 fn fault_of(file: &[u8], monitored: bool) -> u64 {
     match plan(file, RAM_SIZE, monitored) {
         Ok(_) => 0,
@@ -24,7 +24,7 @@ fn fault_of(file: &[u8], monitored: bool) -> u64 {
     }
 }
 
-/// The numbers of the fault of a file without a monitor and with one.
+/// Expects the numbers of the errors of a file without a monitor and with one.
 fn expect_faults(rt: &impl Abort, file: &[u8], (bare, monitored): (u64, u64), case: u64) {
     expect_number(rt, fault_of(file, false), bare, case);
     expect_number(rt, fault_of(file, true), monitored, case);
@@ -35,7 +35,7 @@ fn refuses_a_file_for_the_bare_bench(rt: HostRuntime) {
     expect_faults(&rt, &FILE, (0, 9), 0);
 }
 
-/// An address, how many bytes are there, and the faults without a monitor and with one.
+/// An address, the number of bytes there, and the errors without a monitor and with one.
 const PLACES: &[(u32, u32, u64, u64)] = &[
     (RAM_BASE, 1, 0, 9),
     (RAM_BASE, 0x1_0000, 0, 9),
@@ -64,18 +64,18 @@ const PLACES: &[(u32, u32, u64, u64)] = &[
     (0, 0, 0, 0),
 ];
 
-/// Segments at both ends of the range and of RAM, over them, and one that takes no memory.
+/// Segments at both ends of the range and of RAM, segments across these ends, and one that occupies no memory.
 #[test]
-fn asks_the_places_of_segments(rt: HostRuntime) {
+fn checks_the_addresses_of_segments(rt: HostRuntime) {
     for &(address, memory_size, bare, monitored) in PLACES {
         let file = file_of(&rt, FIRST, &[segment(0, address, 0, memory_size)], b"");
         expect_faults(&rt, file.as_slice(), (bare, monitored), u64::from(address));
     }
 }
 
-/// The segments behind the first are asked too.
+/// Segments after the first are checked too.
 #[test]
-fn asks_each_segment(rt: HostRuntime) {
+fn checks_each_segment(rt: HostRuntime) {
     let lawful = segment(0, FIRST, 0, 8);
     let meets = segment(0, FIRST - 8, 0, 9);
     let beside = segment(0, FIRST + 8, 0, 8);
@@ -90,13 +90,13 @@ fn asks_each_segment(rt: HostRuntime) {
     }
 }
 
-/// The plan of a file without segments, with a monitor.
+/// Expects the plan of a file without segments, with a monitor.
 fn expect_entry(rt: &impl Abort, file: &[u8], entry: u32) {
     let plan = plan(file, RAM_SIZE, true).expect(rt, "no fault");
     expect_plan(rt, &plan, entry, &[]);
 }
 
-/// An entry, and the faults without a monitor and with one.
+/// An entry, and the errors without a monitor and with one.
 const ENTRIES: &[(u32, u64, u64)] = &[
     (RAM_BASE - 4, 11, 11),
     (RAM_BASE, 0, 11),
@@ -114,7 +114,7 @@ const ENTRIES: &[(u32, u64, u64)] = &[
 ];
 
 #[test]
-fn asks_the_entry(rt: HostRuntime) {
+fn checks_the_entry(rt: HostRuntime) {
     for &(entry, bare, monitored) in ENTRIES {
         let file = file_of(&rt, entry, &[], b"");
         expect_faults(&rt, file.as_slice(), (bare, monitored), u64::from(entry));
@@ -124,9 +124,10 @@ fn asks_the_entry(rt: HostRuntime) {
     }
 }
 
-/// Files with two faults: the meeting of the range comes before a shared byte and the entry, and behind the parts of the file.
+/// Files with two errors. The error of meeting the range precedes those of a shared byte and of the entry, and follows those of the parts in the
+/// file.
 #[test]
-fn tells_the_least_fault(rt: HostRuntime) {
+fn reports_the_error_with_the_smallest_number(rt: HostRuntime) {
     let meets = segment(0, RAM_BASE, 0, 8);
     for (entry, other, bare, monitored) in [
         (FIRST, segment(0, RAM_BASE + 4, 0, 8), 10, 9),
@@ -144,7 +145,7 @@ fn tells_the_least_fault(rt: HostRuntime) {
     expect_faults(&rt, file.as_slice(), (10, 10), 0);
 }
 
-/// How many bytes an image has, and RAM.
+/// The size of an image, and of RAM, in bytes.
 const RAW: &[(u32, u32)] = &[
     (0, 0x1_0004),
     (4, 0x1_0004),
@@ -154,7 +155,7 @@ const RAW: &[(u32, u32)] = &[
     (0xff_0000, 0x100_0000),
 ];
 
-/// A raw image stands behind the range, and execution begins there.
+/// A raw image is loaded after the range, and its first byte is the entry.
 #[test]
 fn plans_raw_images(rt: HostRuntime) {
     for &sizes in RAW {
@@ -162,7 +163,7 @@ fn plans_raw_images(rt: HostRuntime) {
     }
 }
 
-/// How many bytes an image has, and RAM, and the fault.
+/// The size of an image and of RAM in bytes, and the error.
 const RAW_FAULTS: &[(usize, u32, ElfFault)] = &[
     (0, 0x1_0000, ElfFault::BadEntry),
     (1, 0x1_0000, ElfFault::SegmentOutside),
@@ -200,7 +201,7 @@ fn load_raw(image: &[u8], ram: &mut Ram) -> Result<(), ElfFault> {
     Ok(())
 }
 
-/// Whether each byte of the range is this one, and the bytes behind it are those.
+/// Returns whether each byte of the range is this one, and the bytes after the range are those.
 fn holds(ram: &Ram, byte: u8, behind: &[u8]) -> bool {
     for address in RAM_BASE..FIRST {
         if ram.peek(address) != Some(byte) {
@@ -217,7 +218,7 @@ fn holds(ram: &Ram, byte: u8, behind: &[u8]) -> bool {
     true
 }
 
-/// The range stays as it was, and so does what lies behind the image.
+/// The range is unchanged, and so are the bytes after the image.
 #[test]
 fn loads_behind_the_range(rt: HostRuntime) {
     let mut ram = Ram::new(rt.alloc(), RAM_SIZE).expect(&rt, "a RAM");

@@ -1,4 +1,4 @@
-//! What is planned without a monitor, and each fault: alone, at its borders, and in company of others.
+//! Tests of plans without a monitor, and of each error: alone, at its boundaries, and together with others.
 
 use super::company::{COMPANY, FILE};
 use super::files::{
@@ -8,12 +8,12 @@ use rv_elf::{ElfFault, Segment, is_elf, plan};
 use rv_memory::RAM_BASE;
 use std::process::Abort;
 
-/// The size of RAM in these tests, and the address behind its last byte.
+/// The size of RAM in these tests, and the address after its last byte.
 const RAM_SIZE: u32 = 65_536;
 
 const END: u32 = RAM_BASE + RAM_SIZE;
 
-/// The number of the fault of a file, or 0 where it has none.
+/// Expects the number of the error of a file, or 0 if there is none.
 fn expect_fault(rt: &impl Abort, file: &[u8], want: u64, case: u64) {
     let found = match plan(file, RAM_SIZE, false) {
         Ok(_) => 0,
@@ -22,7 +22,7 @@ fn expect_fault(rt: &impl Abort, file: &[u8], want: u64, case: u64) {
     expect_number(rt, found, want, case);
 }
 
-/// The faults, with their numbers.
+/// The errors, with their numbers.
 const FAULTS: &[(u64, ElfFault)] = &[
     (1, ElfFault::Truncated),
     (2, ElfFault::NotElf),
@@ -61,7 +61,7 @@ fn magic_is_four_bytes(rt: HostRuntime) {
     }
 }
 
-/// A segment of four bytes of the file, and four zeros.
+/// Returns a segment of four bytes of the file, followed by four zeros.
 fn planned(offset: u32, address: u32) -> Segment {
     Segment {
         offset,
@@ -82,8 +82,8 @@ fn plans_its_segments(rt: HostRuntime) {
     expect_plan(&rt, &plan, RAM_BASE, &segments);
 }
 
-/// Bytes of the file that differ, and the one fault that they give it: for each fault what is next to a lawful value, and sums
-/// that wrap to one.
+/// For each row, bytes of the file that differ, and the only error that they cause. The values are next to valid ones, or their sums wrap to
+/// valid ones.
 const ALONE: [(u64, &[(usize, u8)]); 46] = [
     (2, &[(0, 0x7e)]),
     (2, &[(1, 0x44)]),
@@ -133,7 +133,7 @@ const ALONE: [(u64, &[(usize, u8)]); 46] = [
     (11, &[(24, 0xfc), (25, 0xff), (26, 0xff), (27, 0xff)]),
 ];
 
-/// Files with other bytes, each with the number of its fault.
+/// Expects for each file with other bytes the number of its error.
 fn expect_each(rt: &impl Abort, rows: &[(u64, &[(usize, u8)])]) {
     let mut case = 0u64;
     for (number, changes) in rows {
@@ -144,13 +144,13 @@ fn expect_each(rt: &impl Abort, rows: &[(u64, &[(usize, u8)])]) {
 }
 
 #[test]
-fn tells_each_fault_alone(rt: HostRuntime) {
+fn reports_each_error_alone(rt: HostRuntime) {
     expect_fault(&rt, &FILE, 0, 0);
     expect_each(&rt, &ALONE);
 }
 
-/// What is lawful next to a fault, or not looked at: e_version, e_flags and the like, p_vaddr, p_flags and p_align; with no
-/// program headers also their place and size.
+/// Values that are valid next to an error, or not checked: e_version, e_flags and the like, p_vaddr, p_flags and p_align. Without program
+/// headers, the offset and the size of their table are not checked either.
 const LAWFUL: [(u64, &[(usize, u8)]); 15] = [
     (0, &[(7, 0xff), (15, 0xff)]),
     (0, &[(20, 0), (21, 0xff)]),
@@ -184,9 +184,9 @@ fn takes_what_is_lawful(rt: HostRuntime) {
     expect_each(&rt, &LAWFUL);
 }
 
-/// The header has 52 bytes, its table ends at 148, and the parts of the segments at 152, 156 and 160.
+/// The header has 52 bytes, its table ends at 148, and the parts of the segments end at 152, 156 and 160.
 #[test]
-fn tells_where_a_file_is_cut(rt: HostRuntime) {
+fn reports_where_a_file_is_cut(rt: HostRuntime) {
     for len in 0..FILE.len() {
         let number = match len {
             0..52 => 1,
@@ -197,7 +197,7 @@ fn tells_where_a_file_is_cut(rt: HostRuntime) {
     }
 }
 
-/// Files with two faults: the lesser, the greater, how long the file is, and its bytes that differ.
+/// Expects the error with the smaller number. A row has both numbers, the length of the file, and its bytes that differ.
 fn expect_lesser(rt: &impl Abort, rows: &[(u8, u8, usize, &[(usize, u8)])]) {
     for (lesser, greater, len, changes) in rows {
         let file = changed(rt, &FILE, *len, changes);
@@ -205,9 +205,9 @@ fn expect_lesser(rt: &impl Abort, rows: &[(u8, u8, usize, &[(usize, u8)])]) {
     }
 }
 
-/// Files that have two faults have the one of the lesser number.
+/// A file with two errors is refused with the error that has the smaller number.
 #[test]
-fn tells_the_least_of_two_faults(rt: HostRuntime) {
+fn reports_the_smaller_of_two_errors(rt: HostRuntime) {
     expect_lesser(&rt, &COMPANY);
 }
 
@@ -220,14 +220,14 @@ fn takes_64_headers_alone(rt: HostRuntime) {
     }
 }
 
-/// A segment of so many bytes of the file, from an offset on, and of memory.
+/// Expects the error of a file with one segment, by its offset, and its sizes in the file and in memory.
 fn expect_part(rt: &impl Abort, offset: u32, (file_size, memory_size): (u32, u32), number: u64) {
     let header = segment(offset, RAM_BASE, file_size, memory_size);
     let file = file_of(rt, RAM_BASE, &[header], b"data");
     expect_fault(rt, file.as_slice(), number, u64::from(offset));
 }
 
-/// The offset and the size of a part, and the fault where the memory has its size.
+/// The offset and the size of a part, and the error if the segment has the same size in memory.
 const PARTS: &[(u32, u32, u64)] = &[
     (0, 88, 0),
     (0, 89, 7),
@@ -242,9 +242,9 @@ const PARTS: &[(u32, u32, u64)] = &[
     (1 << 31, 1 << 31, 7),
 ];
 
-/// Parts of the file, at both its ends and past them; the file has 88 bytes.
+/// Parts at both ends of the file and past them. The file has 88 bytes.
 #[test]
-fn asks_the_parts_of_the_file(rt: HostRuntime) {
+fn checks_the_parts_of_the_file(rt: HostRuntime) {
     for &(offset, file_size, number) in PARTS {
         expect_part(&rt, offset, (file_size, file_size), number);
         let least = if number == 0 && file_size > 0 {
@@ -256,7 +256,7 @@ fn asks_the_parts_of_the_file(rt: HostRuntime) {
     }
 }
 
-/// An address, how many bytes are there, and the fault.
+/// An address, the number of bytes there, and the error.
 const PLACES: &[(u32, u32, u64)] = &[
     (RAM_BASE, RAM_SIZE, 0),
     (RAM_BASE, RAM_SIZE + 1, 9),
@@ -275,16 +275,16 @@ const PLACES: &[(u32, u32, u64)] = &[
     (u32::MAX, RAM_BASE + 5, 9),
 ];
 
-/// Places in memory, at both ends of RAM and past them.
+/// Segments at both ends of RAM and past them.
 #[test]
-fn asks_the_places_in_ram(rt: HostRuntime) {
+fn checks_the_addresses_in_ram(rt: HostRuntime) {
     for &(address, memory_size, number) in PLACES {
         let file = file_of(&rt, RAM_BASE, &[segment(0, address, 0, memory_size)], b"");
         expect_fault(&rt, file.as_slice(), number, u64::from(address));
     }
 }
 
-/// Where two segments are, how many bytes each has, and the fault.
+/// The offsets of two segments in RAM with their sizes in bytes, and the error.
 const PAIRS: &[(u16, u32, u16, u32, u64)] = &[
     (0x100u16, 0x10, 0x110u16, 8, 0),
     (0x100, 0x11, 0x110, 8, 10),
@@ -298,9 +298,9 @@ const PAIRS: &[(u16, u32, u16, u32, u64)] = &[
     (0x100, 0xfeff, 0xffff, 1, 0),
 ];
 
-/// Two segments, in both orders, with one between them that takes no memory, and one elsewhere.
+/// Two segments in both orders, with one between them that occupies no memory, and one elsewhere.
 #[test]
-fn asks_for_shared_bytes(rt: HostRuntime) {
+fn checks_for_shared_bytes(rt: HostRuntime) {
     for &(first, size, other, other_size, number) in PAIRS {
         let one = segment(0, RAM_BASE + u32::from(first), 0, size);
         let two = segment(0, RAM_BASE + u32::from(other), 0, other_size);
@@ -313,13 +313,13 @@ fn asks_for_shared_bytes(rt: HostRuntime) {
     }
 }
 
-/// The plan of a file without segments.
+/// Expects the plan of a file without segments.
 fn expect_entry(rt: &impl Abort, file: &[u8], entry: u32) {
     let plan = plan(file, RAM_SIZE, false).expect(rt, "no fault");
     expect_plan(rt, &plan, entry, &[]);
 }
 
-/// An entry, and the fault.
+/// An entry, and the error.
 const ENTRIES: &[(u32, u64)] = &[
     (RAM_BASE, 0),
     (RAM_BASE + 0x1234, 0),
@@ -338,7 +338,7 @@ const ENTRIES: &[(u32, u64)] = &[
 
 /// The entry need not be in a segment.
 #[test]
-fn asks_the_entry(rt: HostRuntime) {
+fn checks_the_entry(rt: HostRuntime) {
     for &(entry, number) in ENTRIES {
         let file = file_of(&rt, entry, &[], b"");
         expect_fault(&rt, file.as_slice(), number, u64::from(entry));
@@ -348,7 +348,7 @@ fn asks_the_entry(rt: HostRuntime) {
     }
 }
 
-/// How many bytes an image has, and RAM.
+/// The size of an image, and of RAM, in bytes.
 const RAW: &[(u32, u32)] = &[
     (0, 4),
     (4, 4),
@@ -357,7 +357,7 @@ const RAW: &[(u32, u32)] = &[
     (u32::MAX, u32::MAX),
 ];
 
-/// A raw image is one segment at the first address, or none where it has no byte.
+/// A raw image is one segment at the first address, or none if it is empty.
 #[test]
 fn plans_raw_images(rt: HostRuntime) {
     for &sizes in RAW {
@@ -365,7 +365,7 @@ fn plans_raw_images(rt: HostRuntime) {
     }
 }
 
-/// How many bytes an image has, and RAM, and the fault.
+/// The size of an image and of RAM in bytes, and the error.
 const RAW_FAULTS: &[(usize, u32, ElfFault)] = &[
     (0, 3, ElfFault::BadEntry),
     (0, 0, ElfFault::BadEntry),

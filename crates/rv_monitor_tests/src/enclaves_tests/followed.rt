@@ -1,4 +1,4 @@
-//! What a test does with a memory and a table of enclaves, as lines.
+//! Executes the lines of a test on a memory and a table of enclaves.
 
 use rv_enclaves::{CreateArgs, EnclaveState, Shared, Slot, Table, World, write_layout};
 use rv_memory::Ram;
@@ -7,32 +7,32 @@ use rv_state::Regs;
 use rv_word::Reg;
 use std::test::Fail;
 
-/// A line of a test: a call, with what it is to answer. A call that is refused answers its status.
+/// A line of a test: a call, and its expected result. The result of a refused call is its status.
 #[derive(Clone, Copy)]
 pub enum Line {
-    /// By a0 to a4: the region's base and size, the window's, and the entry.
+    /// Creates an enclave with a0 to a4: the base and size of the region, those of the window, and the entry.
     Create([u32; 5], Result<u32, u32>),
-    /// Of the slot of a number.
+    /// Destroys the enclave in the slot with a number.
     Destroy(u32, Result<u32, u32>),
-    /// By a world, of the slot of a number, at an address, under the entries of the table and that world.
+    /// Measures the enclave in the slot with a number, for a world and to an address, with the PMP entries of the table and that world.
     Measure(World, u32, u32, Result<u32, u32>),
     Scramble(u32, bool),
     SetState(u32, EnclaveState),
-    /// The state in a slot, if its enclave is live.
+    /// Expects the state in a slot, if its enclave is live.
     State(u32, Option<EnclaveState>),
-    /// A register that is kept for a slot, if a context is.
+    /// Expects a register of the saved context of a slot, if there is one.
     Kept(u32, u8, Option<u32>),
     Poke(u32, u8),
     Byte(u32, Option<u8>),
-    /// An entry of the table and a world: its cfg byte and its address.
+    /// Expects the cfg byte and the address of a PMP entry, for the table and a world.
     Entry(World, u8, u8, u32),
 }
 
-/// Follows lines with a new memory of 262144 bytes and a table without enclaves. It fails at the first that does not hold, and tells its
-/// place, from 0.
+/// Executes lines on a new memory of 262144 bytes and a table without enclaves. Fails at the first line that does not hold, and returns its
+/// index.
 ///
-/// What this calls promises nothing: a run shows what it does, and the proof of a test is small as long as it need not carry what
-/// each call ensures.
+/// The helper functions have no contracts. A run of the test shows what they do, and the proof of a test stays small without the contracts of
+/// each call.
 pub fn run(rt: HostRuntime, lines: &[Line]) -> Result<(), Fail> {
     let mut shared = Shared {
         memory: Ram::new(rt.alloc(), 262_144).ok().ok_or("a RAM")?,
@@ -47,7 +47,7 @@ pub fn run(rt: HostRuntime, lines: &[Line]) -> Result<(), Fail> {
     Ok(())
 }
 
-/// Whether a line holds.
+/// Returns whether a line holds.
 fn holds(shared: &mut Shared, line: Line) -> bool {
     match line {
         Line::Create(arguments, wanted) => create(shared, &arguments) == wanted,
@@ -62,7 +62,7 @@ fn holds(shared: &mut Shared, line: Line) -> bool {
     }
 }
 
-/// Whether a line about a slot holds.
+/// Returns whether a line about a slot holds.
 fn holds_of_slot(shared: &mut Shared, line: Line) -> bool {
     match line {
         Line::Scramble(number, wanted) => scramble(shared, number) == Some(wanted),

@@ -1,4 +1,4 @@
-//! What a test does with a machine, as lines.
+//! Executes the lines of a test on a machine.
 
 use rv_hart::{Interval, Limits, Machine, StepOutcome, Trap};
 use rv_memory::{RAM_BASE, Ram};
@@ -6,43 +6,42 @@ use rv_pmp::Mode;
 use rv_word::{Reg, le_bytes};
 use std::test::Fail;
 
-/// A line of a test: what is done, or what is to be seen then.
+/// A line of a test: an operation, or an expected state.
 #[derive(Clone, Copy)]
 pub enum Line {
     /// Sets a register by its number, 0 to 31.
     Set(u8, u32),
-    /// Writes a control and status register in mode M, which is not refused.
+    /// Writes a control and status register in mode M. The write must succeed.
     Write(u16, u32),
     Mepc(u32),
     Mie(u32),
     Timer(bool),
-    /// Goes on at the first word in a mode.
+    /// Sets pc to the first word, and the mode.
     Enter(Mode),
     /// Writes the bytes of the first word.
     Patch([u8; 4]),
-    /// A step, of which nothing is asked.
+    /// Executes a step, with any outcome.
     Step,
-    /// Fast steps, at most so many, fetched below an address, and how many were done.
+    /// Executes fast steps: the maximal number, the limit of addresses for fetches, and the expected number.
     Fast(u32, u64, u32),
-    /// A step, and its trap.
+    /// Executes a step, and expects its trap.
     Trap(Option<Trap>),
-    /// A step, and all that it shows.
+    /// Executes a step, and expects its outcome.
     Outcome(StepOutcome),
     Pc(u32),
     Mode(Mode),
-    /// What a register holds.
+    /// Expects the word in a register.
     X(u8, u32),
-    /// What a control and status register reads in mode M.
+    /// Expects the value of a control and status register, read in mode M.
     Csr(u16, u32),
-    /// The byte of memory at an address.
+    /// Expects the byte of memory at an address.
     Byte(u32, u8),
 }
 
-/// Follows lines with a new machine in mode M over the words of a program. It fails at the first that does not hold, and tells its
-/// place, from 0.
+/// Executes lines on a new machine in mode M with the words of a program. Fails at the first line that does not hold, and returns its index.
 ///
-/// What this calls promises nothing: a run shows what it does, and the proof of a test is small as long as it need not carry what
-/// each call of the machine ensures.
+/// The helper functions have no contracts. A run of the test shows what they do, and the proof of a test stays small without the contracts of
+/// each call of the machine.
 pub fn run(rt: HostRuntime, words: &[u32], lines: &[Line]) -> Result<(), Fail> {
     let mut machine = machine_with(rt, words)?;
     for (place, line) in lines.iter().enumerate() {
@@ -53,7 +52,7 @@ pub fn run(rt: HostRuntime, words: &[u32], lines: &[Line]) -> Result<(), Fail> {
     Ok(())
 }
 
-/// A machine over the words of a program.
+/// Returns a machine with the words of a program.
 fn machine_with(rt: HostRuntime, words: &[u32]) -> Result<Machine, Fail> {
     let mut ram = Ram::new(rt.alloc(), 65_536).ok().ok_or("a RAM")?;
     let mut address = RAM_BASE;
@@ -66,7 +65,7 @@ fn machine_with(rt: HostRuntime, words: &[u32]) -> Result<Machine, Fail> {
     Ok(Machine::new(ram, RAM_BASE, Mode::M))
 }
 
-/// Does what a line says; whether what it is to show holds.
+/// Executes a line, and returns whether its expectation holds.
 fn holds(machine: &mut Machine, line: Line) -> bool {
     match line {
         Line::Set(register, word) => set(machine, register, word),

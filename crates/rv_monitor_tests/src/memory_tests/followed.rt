@@ -1,4 +1,4 @@
-//! What a test does with a memory and PMP entries, as lines.
+//! Executes the lines of a test on a memory and PMP entries.
 
 use super::END;
 use rv_memory::{AccessFault, RAM_BASE, Ram};
@@ -6,22 +6,22 @@ use rv_pmp::{Access, Mode, Pmp, PmpIndex, Verdict};
 use rv_word::Width;
 use std::test::Fail;
 
-/// A line of a test: a call, with what it is to answer.
+/// A line of a test: a call, and its expected result.
 #[derive(Clone, Copy)]
 pub enum Line {
     Load(Mode, u32, Width, Result<u32, AccessFault>),
     Fetch(Mode, u32, Result<u32, AccessFault>),
-    /// A store, with its word.
+    /// A store of a word, and its expected result.
     Store(Mode, u32, Width, u32, Result<(), AccessFault>),
-    /// A store to the last address that has room for it, and loads and stores at addresses that are outside.
+    /// A store at the last address with room for it, and loads and stores at addresses outside.
     Edges(Width, u32),
-    /// Sets the address and the configuration of entry 0.
+    /// Sets the address and the cfg byte of entry 0.
     Entry(u32, u8),
     Judge(Mode, Access, u32, Width, Verdict),
-    /// The first six bytes of the memory, and its last five.
+    /// Expects the first six bytes of the memory, or its last five.
     First([u8; 6]),
     Last([u8; 5]),
-    /// Writes the first five bytes, and the last four.
+    /// Writes the first five bytes, or the last four.
     WriteFirst([u8; 5]),
     WriteLast([u8; 4]),
     Zero(u32, u32),
@@ -31,11 +31,10 @@ pub enum Line {
     Peek(u32, Option<u8>),
 }
 
-/// Follows lines with a new memory of 65536 bytes and reset entries. It fails at the first that does not hold, and tells its place,
-/// from 0.
+/// Executes lines on a new memory of 65536 bytes and PMP entries at reset. Fails at the first line that does not hold, and returns its index.
 ///
-/// What this calls promises nothing: a run shows what it does, and the proof of a test is small as long as it need not carry what
-/// each call of the memory ensures.
+/// The helper functions have no contracts. A run of the test shows what they do, and the proof of a test stays small without the contracts of
+/// each call of the memory.
 pub fn run(rt: HostRuntime, lines: &[Line]) -> Result<(), Fail> {
     let mut ram = Ram::new(rt.alloc(), 65_536).ok().ok_or("a RAM")?;
     let mut pmp = Pmp::new();
@@ -47,7 +46,7 @@ pub fn run(rt: HostRuntime, lines: &[Line]) -> Result<(), Fail> {
     Ok(())
 }
 
-/// Whether a line holds, if it is about accesses and entries; else it is about bytes.
+/// Returns whether a line about accesses and PMP entries holds. Other lines are passed to `bytes`.
 fn accesses(ram: &mut Ram, pmp: &mut Pmp, line: Line) -> bool {
     match line {
         Line::Load(mode, address, width, wanted) => {
@@ -69,7 +68,7 @@ fn accesses(ram: &mut Ram, pmp: &mut Pmp, line: Line) -> bool {
     }
 }
 
-/// Whether a line about bytes holds.
+/// Returns whether a line about bytes holds.
 fn bytes(ram: &mut Ram, line: Line) -> bool {
     match line {
         Line::First(wanted) => shows(ram, RAM_BASE, 6, &wanted),
@@ -130,12 +129,12 @@ fn set_entry(pmp: &mut Pmp, address: u32, configuration: u8) {
     pmp.write_cfg(first, configuration);
 }
 
-/// Whether bytes are those from an address on.
+/// Returns whether the bytes from an address on are these.
 fn shows(ram: &Ram, base: u32, size: u32, wanted: &[u8]) -> bool {
     ram.contains(base, size) && ram.part(base, size) == wanted
 }
 
-/// Writes bytes, and says whether they have room.
+/// Writes bytes, and returns whether there is room for them.
 fn write(ram: &mut Ram, base: u32, bytes: &[u8]) -> bool {
     let Ok(size) = u32::try_from(bytes.len()) else {
         return false;

@@ -1,4 +1,4 @@
-//! The machine of the tests, and what a test does with it.
+//! Executes the lines of a test on a monitored machine.
 
 ghost use Rattle.std.specs.Prelude.{◌<◌};
 ghost use Rattle.rv_monitor.specs.MonitoredMachine.{count_of};
@@ -11,10 +11,10 @@ use std::test::Fail;
 
 const FIRST: u32 = 0x8001_0000;
 
-/// What a7 is in a call.
+/// The value of a7 in a call.
 pub const KEY: u32 = 0x0a45_4e43;
 
-// the registers by their names in the calling convention
+// the registers, by their names in the calling convention
 pub const X0: u8 = 0;
 
 pub const RA: u8 = 1;
@@ -39,10 +39,10 @@ pub const A7: u8 = 17;
 
 pub const T6: u8 = 31;
 
-/// What a machine shows; of two harts, the one that the lines name.
+/// The parts of a machine that a line can show. With two harts, they are those of the hart that the lines select.
 #[derive(Clone, Copy)]
 pub enum Shown {
-    /// The slot whose enclave runs; none where the host does.
+    /// The slot of the enclave that runs, or none if the host runs.
     World,
     Pc,
     /// 0 for U, 1 for S, 3 for M.
@@ -51,29 +51,30 @@ pub enum Shown {
     X(u8),
     /// A control and status register, as mode M reads it.
     Csr(u16),
-    /// The configuration of a PMP entry, 0 to 15, and its address.
+    /// The cfg byte of a PMP entry, 0 to 15, and its address.
     PmpCfg(u8),
     PmpAddr(u8),
     /// The byte of memory at an address.
     Byte(u32),
-    /// The bytes before 80020000, at it, at the end of its 4096 bytes and behind them, from the left in one word.
+    /// Four bytes in one word, from the highest: the byte before 80020000, the bytes at both ends of the 4096 bytes from there, and the byte
+    /// after them.
     Ends,
     /// The base of the region of a slot's enclave, if it is live.
     Region(u8),
-    /// Whether a slot's enclave has ended, 1 or 0, if it is live.
+    /// 1 if the enclave of a slot has exited, otherwise 0, if it is live.
     Exited(u8),
-    /// How many harts there are.
+    /// The number of harts.
     Harts,
     /// The slot that the last step entered.
     Entered,
-    /// Whether the last step trapped, 1 or 0.
+    /// 1 if the last step trapped, otherwise 0.
     Trapped,
 }
 
-/// A line of a test: what is done, or what is to be seen then.
+/// A line of a test: an operation, or an expected state.
 #[derive(Clone, Copy)]
 pub enum Line {
-    /// Names the hart of the lines behind it; before the first they name hart 0.
+    /// Selects the hart for the lines after it. Before the first such line, hart 0 is selected.
     On(u8),
     /// Sets a register by its number.
     Set(u8, u32),
@@ -82,41 +83,42 @@ pub enum Line {
     Step,
     Poke(u32, u8),
     Timer(bool),
-    /// Scrambles a slot, and whether that is to be done.
+    /// Scrambles a slot, and expects whether this succeeds.
     Scramble(u8, bool),
     See(Shown, Option<u32>),
-    /// What is not to be seen.
+    /// Expects another value than this one.
     SeeOther(Shown, Option<u32>),
-    /// Calls create for a region alone of 4096 bytes, whose first word is the entry: its base, and the status and the slot.
+    /// Calls create for a region of 4096 bytes without a window, whose first word is the entry. The fields are its base, and the expected status
+    /// and slot.
     Create(u32, u32, u32),
-    /// Calls a function by a key, with 1 to 5, and is told that the call is nobody's: the key and the function.
+    /// Calls a function with a key and the arguments 1 to 5, and expects that it is refused as no call. The fields are the key and the function.
     Nobody(u32, u32),
-    /// What is known of the enclave of slot 0, which is live.
+    /// Expects the record of the enclave in slot 0, which is live.
     Record(SlotInfo),
-    /// The bytes of memory from an address on.
+    /// Expects the bytes of memory from an address on.
     Bytes(u32, [u8; 32]),
 }
 
-/// Follows lines with a new machine over the words of a program. It fails at the first line where something else is seen, and tells
-/// its place, from 0, and what is seen there.
+/// Executes lines on a new machine with the words of a program. Fails at the first line with an unexpected state, and returns its index and the
+/// state there.
 pub fn run(rt: HostRuntime, words: &[u32], lines: &[Line]) -> Result<(), Fail> {
     let mut machine = Machine::new(rt, words, Harts::One)?;
     machine.follow(lines)
 }
 
-/// The same with a machine of two harts.
+/// Executes lines on a new machine with two harts, as `run` does.
 pub fn run_two(rt: HostRuntime, words: &[u32], lines: &[Line]) -> Result<(), Fail> {
     let mut machine = Machine::new(rt, words, Harts::Two)?;
     machine.follow(lines)
 }
 
-/// The number of a slot.
+/// Returns the number of a slot.
 fn number(slot: Slot) -> u32 {
     u32::from(slot.number())
 }
 
-/// A monitored machine, the hart that the lines name, and what the last step showed. Its methods promise nothing but that there is such
-/// a hart: a run shows what they do, and the proof of a test is small as long as it need not carry what each call ensures.
+/// A monitored machine, the selected hart, and the outcome of the last step. The contracts of its methods state only that the machine has this
+/// hart. A run of the test shows what they do, and the proof of a test stays small without the contracts of each call.
 #[derive(Drop)]
 struct Machine {
     monitored: MonitoredMachine,
@@ -126,7 +128,7 @@ struct Machine {
 }
 
 impl Machine {
-    /// A machine over the words of a program at 80010000.
+    /// Returns a machine with the words of a program at 80010000.
     fn new(rt: HostRuntime, words: &[u32], harts: Harts) -> Result<Self, Fail> {
         let mut ram = Ram::new(rt.alloc(), 1_048_576).ok().ok_or("a RAM")?;
         let mut address = FIRST;
@@ -144,7 +146,7 @@ impl Machine {
         })
     }
 
-    /// Follows the lines of a test, and fails at the first where something else is seen.
+    /// Executes the lines of a test. Fails at the first line with an unexpected state.
     fn follow(&mut self, lines: &[Line]) -> Result<(), Fail> {
         for (place, line) in lines.iter().enumerate() {
             if let Some(seen) = self.other(*line) {
@@ -154,7 +156,7 @@ impl Machine {
         Ok(())
     }
 
-    /// What is seen at a line, if it is not what the line says.
+    /// Executes a line. Returns the state there, if it is not the expected one.
     fn other(&mut self, line: Line) -> Option<Option<u32>> {
         match line {
             Line::On(hart) => self.named = hart,
@@ -200,7 +202,7 @@ impl Machine {
             .or(self.other_than(A2, 3))
     }
 
-    /// The first byte of memory that is another one, from an address on.
+    /// Returns the first byte of memory from an address on that is not the expected one.
     fn other_byte(&self, address: u32, bytes: [u8; 32]) -> Option<Option<u32>> {
         let mut at = address;
         for byte in bytes {
@@ -213,13 +215,13 @@ impl Machine {
         None
     }
 
-    /// What a register holds, if it is another word.
+    /// Returns the word in a register, if it is not the expected one.
     fn other_than(&self, register: u8, word: u32) -> Option<Option<u32>> {
         let held = self.x(register);
         (held != word).then_some(Some(held))
     }
 
-    /// The hart that the lines name, where there is such a hart.
+    /// Returns the selected hart, or hart 0 if there is no such hart.
     fn hart(&self) -> u8
         ensures { result < count_of self.now.monitored }
     {
@@ -269,7 +271,7 @@ impl Machine {
         }
     }
 
-    /// What is shown, if there is such a thing.
+    /// Returns the value of a part of the machine, if there is one.
     fn show(&self, what: Shown) -> Option<u32> {
         match what {
             Shown::World => self.slot().map(number),
@@ -344,7 +346,7 @@ impl Machine {
         Some(u32::from(info.state == EnclaveState::Exited))
     }
 
-    /// The record of a slot's enclave, if it is live.
+    /// Returns the record of the enclave in a slot, if it is live.
     fn record(&self, slot: u8) -> Option<SlotInfo> {
         let slot = Slot::new(u32::from(slot))?;
         self.monitored.table().get(slot).copied()

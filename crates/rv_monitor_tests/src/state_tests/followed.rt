@@ -1,44 +1,44 @@
-//! What a test does with the control and status registers, as lines.
+//! Executes the lines of a test on control and status registers.
 
 use rv_pmp::Mode;
 use rv_state::{Cause, Csrs, Interrupt, SContext};
 use std::test::Fail;
 
-/// A line of a test: what is done, or what is to be seen then.
+/// A line of a test: an operation, or an expected state.
 #[derive(Clone, Copy)]
 pub enum Line {
-    /// Writes a register in mode M; whether that was done shows in what it reads then.
+    /// Writes a register in mode M. A later read shows whether the write succeeded.
     Put(u16, u32),
-    /// What a register reads in mode M.
+    /// Expects the value that a register reads in mode M.
     Reads(u16, u32),
     Mie(u32),
     Timer(bool),
     Mepc(u32),
     Mpp(Mode),
-    /// A trap from a mode, with pc, its cause and mtval; and the address where it goes on.
+    /// Takes a trap from a mode, with pc, its cause and mtval, and expects the address at which the hart continues.
     Trap(Mode, u32, Cause, u32, u32),
-    /// The mode and the address where a return goes on.
+    /// Executes a return, and expects the mode and the address at which the hart continues.
     Mret(Mode, u32),
     Sret(Mode, u32),
-    /// The interrupt that is taken in a mode.
+    /// Expects the interrupt that is taken in a mode.
     Pending(Mode, Option<Interrupt>),
-    /// Counts a step: whether it retired, what is held, and the register that it wrote.
+    /// Counts a step: whether it retired, the counters that are held, and the register that it wrote.
     Tick(bool, u32, Option<u16>),
-    /// Counts a step that retired and wrote nothing, holding what mcountinhibit says.
+    /// Counts a step that retired and wrote no register. mcountinhibit gives the counters that are held.
     TickHeld,
-    /// Sets the registers of mode S, and what they are.
+    /// Sets the registers of mode S, or expects their values.
     SetContext(SContext),
     Context(SContext),
-    /// What mstatus, stvec and mepc are by their own calls.
+    /// Expects the values that the accessors of mstatus, stvec and mepc return.
     Mstatus(u32),
     StvecIs(u32),
     MepcIs(u32),
 }
 
-/// Follows lines with registers, and fails at the first that does not hold: it tells its place, from 0.
+/// Executes lines on registers. Fails at the first line that does not hold, and returns its index.
 ///
-/// What this calls promises nothing: a run shows what it does, and the proof of a test is small as long as it need not carry what
-/// each call ensures.
+/// The helper functions have no contracts. A run of the test shows what they do, and the proof of a test stays small without the contracts of
+/// each call.
 pub fn follow(mut csrs: Csrs, lines: &[Line]) -> Result<(), Fail> {
     for (place, line) in lines.iter().enumerate() {
         if !holds(&mut csrs, *line) {
@@ -48,12 +48,12 @@ pub fn follow(mut csrs: Csrs, lines: &[Line]) -> Result<(), Fail> {
     Ok(())
 }
 
-/// Follows lines with registers at reset.
+/// Executes lines on registers at reset.
 pub fn run(lines: &[Line]) -> Result<(), Fail> {
     follow(Csrs::new(), lines)
 }
 
-/// Does what a line says; whether what it is to show holds.
+/// Executes a line, and returns whether its expectation holds.
 fn holds(csrs: &mut Csrs, line: Line) -> bool {
     match line {
         Line::Put(number, word) => put(csrs, number, word),
@@ -69,7 +69,7 @@ fn holds(csrs: &mut Csrs, line: Line) -> bool {
     true
 }
 
-/// Whether a line holds that is about an answer.
+/// Returns whether a line with an expected result holds.
 fn shows(csrs: &mut Csrs, line: Line) -> bool {
     match line {
         Line::Trap(mode, pc, cause, tval, target) => {

@@ -1,4 +1,4 @@
-//! Every number in every mode.
+//! Tests of every register number in every mode.
 
 use super::followed::{Line, run};
 use rv_pmp::Mode;
@@ -6,8 +6,8 @@ use rv_state::{CsrFault, Csrs, Regs};
 use rv_word::Reg;
 use std::test::Fail;
 
-/// The registers that there are, by rising numbers, written from the table of docs/ISA.md: the first and the last
-/// number of those that are alike, what they read at reset, and in mode M after all ones were written.
+/// The registers in ascending order of their numbers, from the table in docs/ISA.md. Each row has the first and the last number of similar
+/// registers, their value at reset, and their value in mode M after all ones were written.
 const REGISTERS: [(u16, u16, u32, u32); 35] = [
     (0x100, 0x100, 0, 0x0008_0122), // sstatus
     (0x104, 0x104, 0, 0), // sie
@@ -46,7 +46,7 @@ const REGISTERS: [(u16, u16, u32, u32); 35] = [
     (0xF14, 0xF15, 0, 0), // mhartid, mconfigptr
 ];
 
-/// What a register of this number reads at reset and after all ones, if there is one.
+/// Returns the value of a register at reset and after all ones, if there is a register with this number.
 fn expected(number: u16) -> Option<(u32, u32)> {
     for (first, last, at_reset, after_ones) in REGISTERS {
         if first <= number && number <= last {
@@ -56,7 +56,7 @@ fn expected(number: u16) -> Option<(u32, u32)> {
     None
 }
 
-/// The least mode of a register: 1xx are of mode S, all others that there are of mode M.
+/// Returns whether a mode may access a register: numbers 1xx require mode S, and all other numbers of registers mode M.
 fn is_allowed(number: u16, mode: Mode) -> bool {
     match mode {
         Mode::U => false,
@@ -65,7 +65,7 @@ fn is_allowed(number: u16, mode: Mode) -> bool {
     }
 }
 
-/// What a read of a register in a mode gives at reset.
+/// Returns the expected result of a read of a register in a mode, at reset.
 fn wanted_read(number: u16, mode: Mode) -> Result<u32, CsrFault> {
     match expected(number) {
         None => Err(CsrFault::Missing),
@@ -74,7 +74,7 @@ fn wanted_read(number: u16, mode: Mode) -> Result<u32, CsrFault> {
     }
 }
 
-/// What a write of all ones in a mode gives at reset, and what is read in mode M then.
+/// The result of a write of all ones in a mode at reset, and of a read in mode M after it.
 type Written = (Result<(), CsrFault>, Result<u32, CsrFault>);
 
 fn wanted_write(number: u16, mode: Mode) -> Written {
@@ -88,7 +88,7 @@ fn wanted_write(number: u16, mode: Mode) -> Written {
     }
 }
 
-// these promise nothing: a run shows what they do, and the proofs of the tests need not carry what their calls ensure
+// these functions have no contracts: a run of the tests shows what they do, and the proofs of the tests stay small
 
 fn read(csrs: &Csrs, number: u16, mode: Mode) -> Result<u32, CsrFault> {
     csrs.read(number, mode)
@@ -155,13 +155,13 @@ const FIELDS: [Line; 10] = [
     Line::Reads(0xB82, 0),
 ];
 
-/// MPP (bits 12:11) has no mode 2, and each half of a counter is kept apart.
+/// MPP (bits 12:11) cannot have the value 2, which is no mode. Each half of a counter is stored separately.
 #[test]
 fn keeps_fields_and_halves() -> Result<(), Fail> {
     run(&FIELDS)
 }
 
-/// What satp reads in a mode, and the fault of a write.
+/// The result of a read of satp in a mode, and the error of a write.
 type Answered = (Result<u32, CsrFault>, Option<CsrFault>);
 
 fn satp(csrs: &mut Csrs, mode: Mode) -> Answered {
@@ -169,7 +169,7 @@ fn satp(csrs: &mut Csrs, mode: Mode) -> Answered {
     (shown, write(csrs, 0x180, 1, mode).err())
 }
 
-/// What satp answers in mode U, in mode S and in mode M while TVM (bit 20) is set.
+/// Accesses satp in mode U, in mode S and in mode M, with TVM (bit 20) set.
 fn satp_under_tvm() -> [Answered; 3] {
     let mut csrs = Csrs::new();
     let _ = write(&mut csrs, 0x300, 0x0010_0000, Mode::M);
@@ -178,7 +178,7 @@ fn satp_under_tvm() -> [Answered; 3] {
     [of_user, of_supervisor, satp(&mut csrs, Mode::M)]
 }
 
-/// satp is refused to mode S while TVM is set, after all other faults.
+/// satp is refused to mode S while TVM is set. All other errors are checked first.
 #[test]
 fn refuses_satp_under_tvm(rt: HostRuntime) {
     let denied = CsrFault::Privilege;

@@ -1,4 +1,4 @@
-//! Traps, returns, interrupts and counters, by hand from the manual.
+//! Tests of traps, returns, interrupts and counters, with values computed by hand from the manual.
 
 use super::followed::{Line, follow, run};
 use rv_pmp::Mode;
@@ -26,13 +26,13 @@ const TRAPS: [Line; 12] = [
     Line::Reads(0x300, 0x1800),
 ];
 
-/// A timer interrupt in mode M with mtvec 401 (mode Vectored), and an exception after it.
+/// A timer interrupt in mode M with mtvec 401 (mode Vectored), followed by an exception.
 #[test]
 fn takes_a_timer_interrupt() -> Result<(), Fail> {
     follow(Csrs::default(), &TRAPS)
 }
 
-/// The interrupt that is taken in a mode, for what mstatus, mie and mip were written and the timer line.
+/// Returns the lines for the interrupt that is taken in a mode, with the words of mstatus, mie and mip, and the timer line.
 fn taken(words: [u32; 3], timer: bool, mode: Mode, interrupt: Option<Interrupt>) -> [Line; 5] {
     let [mstatus, mie, mip] = words;
     [
@@ -74,7 +74,7 @@ const TAKEN: [([u32; 3], bool, Mode, Option<Interrupt>); 7] = [
     ([8, 0x080, 0], true, Mode::M, Some(Interrupt::MachineTimer)),
 ];
 
-/// Of those that can be raised here, 7 comes before 9 before 1 before 5; in mode M only where MIE is set.
+/// The order of the interrupts that can be pending here is 7, 9, 1, 5. In mode M an interrupt is taken only if MIE is set.
 #[test]
 fn takes_interrupts_in_order() -> Result<(), Fail> {
     for (words, timer, mode, interrupt) in TAKEN {
@@ -90,7 +90,7 @@ const FROM_USER: [Line; 4] = [
     Line::Reads(0x342, 1),
 ];
 
-/// sret at reset goes to mode U; a trap from there is taken in mode M.
+/// sret at reset returns to mode U. A trap from there is taken in mode M.
 #[test]
 fn traps_from_mode_u_to_mode_m() -> Result<(), Fail> {
     run(&FROM_USER)
@@ -111,7 +111,7 @@ const RETURNS: [Line; 12] = [
     Line::Reads(0x300, 0x0002_0080),
 ];
 
-/// MPRV (bit 17) stays only where mret goes to mode M, and sret clears it.
+/// MPRV (bit 17) stays set only if mret returns to mode M. sret clears it.
 #[test]
 fn returns_to_the_mode_before() -> Result<(), Fail> {
     run(&RETURNS)
@@ -136,7 +136,7 @@ const COUNTS: [Line; 16] = [
     Line::Reads(0xB02, 3),
 ];
 
-/// A held counter stands still, and a write to one half replaces the increment of the whole.
+/// A held counter does not change. A write to one half replaces the increment of the whole counter.
 #[test]
 fn counts_steps() -> Result<(), Fail> {
     run(&COUNTS)
@@ -155,7 +155,7 @@ const ONES: SContext = SContext {
     mxr: true,
 };
 
-/// From what the registers of mode S are at first.
+/// Returns the lines for the registers of mode S, with their values at the start.
 fn contexts(first: SContext) -> [Line; 18] {
     [
         Line::Put(0x300, 0x0000_0088),
@@ -179,8 +179,8 @@ fn contexts(first: SContext) -> [Line; 18] {
     ]
 }
 
-/// The registers of mode S, all ones set at once: each keeps what its write keeps, and mstatus its other fields. Set back, they
-/// read as at first.
+/// All registers of mode S are set to all ones at once. Each keeps the same bits as a write to it, and mstatus keeps its other fields. After
+/// they are set back, they read as at the start.
 #[test]
 fn sets_the_registers_of_mode_s() -> Result<(), Fail> {
     run(&contexts(Csrs::new().s_context()))

@@ -11,7 +11,7 @@ pub record CountersState : Type 0 where
   pub minstret : ℕ
   pub inhibit : ℕ
 
--- the value of a counter: the stored value if it is inhibited, and else the sum of that and the count
+-- the value of a counter: the stored value if the counter is inhibited, otherwise the sum of the stored value and the count
 abbrev pub running : Bool → ℕ → ℕ → ℕ
 running is_held kept count = if is_held then kept else (kept + count) % 2 ^ 64
 
@@ -20,19 +20,19 @@ abbrev pub later : Bool → ℕ → ℕ → ℕ
 later is_held counter zero = counter
 later is_held counter (suc steps) = incremented (later is_held counter steps) is_held
 
--- both counters after `steps` steps, each of which retired and wrote no counter
+-- both counters after `steps` steps that each retired and wrote no counter
 abbrev pub counted_on : ℕ → CountersState → CountersState
 counted_on steps c = record c {
   mcycle = later (is_set c.inhibit 0) c.mcycle steps;
   minstret = later (is_set c.inhibit 2) c.minstret steps;
 }
 
--- the software interrupts that are pending, and the timer line
+-- the pending software interrupts, and the timer line
 pub record RaisedState : Type 0 where
   pub software : ℕ
   pub timer : Bool
 
--- both, of one word
+-- both, from one word
 abbrev pub raised_in : ℕ → RaisedState
 raised_in word = record { software = software_pending_of word; timer = is_set word 7 }
 

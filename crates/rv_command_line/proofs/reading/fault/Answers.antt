@@ -12,7 +12,7 @@ among test k [] holds h = absurd h
 among test k (x ∷ xs) holds (inl e) = rw (sym e, holds) refl
 among test k (x ∷ xs) holds (inr h) = rw (among test k xs holds h) (or-true (test x))
 
--- any kind but the request for help is a mistake
+-- any kind except the request for help is a mistake
 no_help : (k : ErrorKind) → (k ≡ kind.DisplayHelp → ⊥) → not (is_help k) ≡ true
 no_help kind.DisplayHelp other = absurd (other refl)
 no_help _ other = refl

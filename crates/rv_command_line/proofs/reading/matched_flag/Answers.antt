@@ -8,7 +8,7 @@ use Rattle.rv_command_line.proofs.Numbers.{got}
 use Rattle.rv_command_line.specs.Job.{truth_in_text}
 use Rattle.rv_command_line.proofs.reading.matched_flag.Goals as goal
 
--- the value that `get_one::<bool>` reads of a text
+-- the value that `get_one::<bool>` returns for a text
 reads_truth : (E : Type 0) (text : List ℕ) (r : Option Bool) → ReadsOne {E = E} ParsesBool text r → r ≡ truth_in_text text
 reads_truth E text (Some true) read = rw read refl
 reads_truth E text (Some false) read = rw read refl

@@ -15,7 +15,7 @@ returns-in-Ok-try_get_matches_from c =
     let met = (c.in-Ok-try_get_matches_from.ensures.matches c.in-Ok.ensures.simple).1 ∙ c.in-Ok.ensures.subcommand words in
     rw (c.with_its_monitor.ensures, c.matched_job.ensures ∙ ap named_job met) (answers words taken (has_its_monitor (job_of words)) refl)
 
--- a kind among the first faults is among those with further ones behind
+-- a kind among the first errors is among them with more errors after them
 with_more : (faults more : Kinds) (error : Error) → HasKind faults error → HasKind (or_else faults more) error
 with_more [] more error (inl e) = inl e
 with_more [] more error (inr h) = absurd h

@@ -18,7 +18,7 @@ use Rattle.rv_streams.proofs.asm.run_asm.Given as given
 use Rattle.rv_streams.proofs.asm.run_asm.Goals as goal
 use Rattle.rv_streams.proofs.asm.run_asm.Goals.{In-Ok}
 
--- a text that is not read to its end
+-- the result for a text that is not read to its end
 unread : {S W : Type 0} (Z : Type 0) (g : SourceGhosts S) (h : SinkGhosts W) (old new : S) (sink : W) (fault : BenchFault)
     → ReadsText g {Z = Z} old new (Err fault) → RunsAsm g h old new sink sink (Err fault)
 unread Z g h old new sink Read reads = (reads, refl)
@@ -40,7 +40,7 @@ returns-in_err-text g c =
 few : (text read : List ℕ) → read ≡ text → length text ≤ 4194304 → length read ≤ 4194304
 few text read is short = subst (λ t. length t ≤ 4194304) (sym is) short
 
--- the output is that of the words
+-- the output has a line for each word
 is_ok : (g : given.Over) (c : In-Ok g) → g.S.Source.is_specified → asm_output (g.S.Source.remaining c.args.source.now) ≡ Ok (asm_text c.in-Ok.words.items)
 is_ok g c is_specified =
     let read = c.as_slice.ensures.value ∙ c.in_ok-text.ensures.2 is_specified in
@@ -66,7 +66,7 @@ returns-in-Ok g c =
           (c.write_words.ensures.prefix told)),
     ))
 
--- a text that has a fault
+-- the result for a text that has an error
 fails : (text : List ℕ) (fault : AsmFault) → length text ≤ 4194304 → FailsFor text fault → FailsAsm text fault
 fails text fault short (inl told) = inl (asm_output-fault text fault short told)
 fails text fault short (inr out_of_memory) = inr out_of_memory

@@ -1,6 +1,6 @@
 use Rattle.std.proofs.Common.{[], refl, sym, append-nil}
 use Rattle.rv_streams.proofs.gathered.make_room.Goals as goal
 
--- nothing is written
+-- the case in which nothing is written
 pub returns-else-remaining_capacity-room-clause-prefix : goal.returns-else-remaining_capacity-room-clause-prefix
 returns-else-remaining_capacity-room-clause-prefix g c = λ _. (c.args.gathered.now.items, ([], sym (append-nil _), refl))

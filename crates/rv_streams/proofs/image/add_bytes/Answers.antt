@@ -1,4 +1,4 @@
--- What the crate hex decodes is what the pairs of digits write.
+-- The crate hex decodes the same bytes as `bytes_of_digits`.
 use Rattle.std.proofs.Common.{rules, ◌≡◌, ℕ, ◌+◌, ◌*◌, ◌%◌, Bool, true, false, cond, ◌&&◌, inl, inr, List, [], ◌∷◌, length}
 use Rattle.std.proofs.Common.{Option, Some, None, Result, Ok, Err, refl, sym, subst, ◌∙◌, ap, arith}
 use Rattle.std.proofs.lemmas.Grind.{common_steps}
@@ -14,11 +14,11 @@ use Rattle.rv_streams.specs.Faults.{Outcome}
 use Rattle.rv_streams.specs.Image.{AddsBytes, pair_values, bytes_of_digits}
 use Rattle.rv_streams.proofs.image.add_bytes.Goals as goal
 
--- the two readings of a digit agree
+-- both definitions of the value of a digit agree
 hex_digit_value-is : (c : ℕ) → hex_digit_value c ≡ cond (is_digit c 16) (Some (digit_value c)) None
 hex_digit_value-is c = grind (arith, nat_tests)
 
--- a byte of two digits, before others
+-- the bytes of two digits followed by others
 byte_before : Option ℕ → Option ℕ → Option (List ℕ) → Option (List ℕ)
 byte_before (Some high) (Some low) (Some bytes) = Some ((high * 16 + low) ∷ bytes)
 byte_before (Some high) (Some low) None = None
@@ -58,7 +58,7 @@ decode_pairs-is i (a ∷ b ∷ rest) even =
     ∙ (ap (λ o. byte_before (cond (is_digit a 16) (Some (digit_value a)) None) (cond (is_digit b 16) (Some (digit_value b)) None) o) more
     ∙ byte_before-tests (is_digit a 16) (is_digit b 16) all (digit_value a) (digit_value b) (pair_values rest))))
 
--- the bytes of digits are what the crate hex decodes
+-- the bytes of a word are those that the crate hex decodes
 pub bytes_of_digits-decoded : (word : List ℕ) → bytes_of_digits word ≡ result_ok (decode_of word)
 unfolding bytes_of_digits
 bytes_of_digits-decoded word =

@@ -14,7 +14,7 @@ use Rattle.rv_streams.proofs.image.read_image.Given as given
 use Rattle.rv_streams.proofs.image.read_image.Goals as goal
 use Rattle.rv_streams.proofs.image.read_image.Goals.{After-as_slice}
 
--- the lines so far, and the one that was taken
+-- the lines so far, and the line that was taken
 taken : (g : given.Over) (c : After-as_slice g) → is_separator c.as_slice.result.now ≡ false → g.S.Source.is_specified
     → TakesInImage (unread c.args.lines.now) (unread c.loop-image.lines)
     (unread c.next_line.new.self) c.next_line.new.self.is_at_end c.loop-image.image.items c.as_slice.result.now

@@ -3,7 +3,7 @@ use Rattle.rv_streams.specs.Unread.{unread, calls_left, EndsWithSource}
 use Rattle.rv_streams.proofs.ImageLemmas.{EncodesImage}
 use Rattle.rv_streams.proofs.image.read_image.Given as goal
 
--- the lines so far spell the image, and no call has failed
+-- the lines so far give the image, and no call has failed
 abbrev pub invariant-loop-image : goal.invariant-loop-image
 invariant-loop-image g l = record {
   short : vec_len l.image ≤ 33554432;

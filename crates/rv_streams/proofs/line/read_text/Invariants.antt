@@ -3,7 +3,7 @@ use Rattle.rv_text.specs.Lines.{has_feed}
 use Rattle.rv_streams.specs.LineText.{ReadsLineText}
 use Rattle.rv_streams.proofs.line.read_text.Given as goal
 
--- a text with no line feed is read so far, and no call has failed
+-- the bytes read so far have no line feed, and no call has failed
 abbrev pub invariant-loop-byte : goal.invariant-loop-byte
 invariant-loop-byte g l = record {
   bytes : g.S.Source.is_specified → ReadsLineText (l.initial.line.items ++ g.S.Source.remaining l.initial.source) (g.S.Source.remaining l.source) l.line.items;

@@ -2,7 +2,7 @@ use Rattle.std.proofs.Common.{arith, sym, ◌∙◌}
 use Rattle.std.proofs.lemmas.List.{take_more, take_more_set}
 use Rattle.rv_streams.proofs.stdio.give.Goals as goal
 
--- one byte
+-- the case of one byte
 pub returns-then-count-eq1-clause-copied : goal.returns-then-count-eq1-clause-copied
 returns-then-count-eq1-clause-copied c =
     let bytes = c.args.bytes.now in

@@ -2,7 +2,7 @@ use Rattle.std.proofs.Common.{◌≡◌, length}
 use Rattle.rv_streams.specs.Transfer.{WritesUpTo}
 use Rattle.rv_streams.proofs.transfer.write_all.Given as goal
 
--- the text was written up to the rest, and no call has failed
+-- the text is written except for the rest, and no call has failed
 abbrev pub invariant-loop-rest : goal.invariant-loop-rest
 invariant-loop-rest g l = record {
   failures : g.W.Sink.failures l.sink ≡ g.W.Sink.failures l.initial.sink;

@@ -8,7 +8,7 @@ use Rattle.rv_streams.specs.Calls.{SourceWorked}
 use Rattle.rv_streams.proofs.Mapped.{ok_mapped, passed_on}
 use Rattle.rv_streams.proofs.whole.read_whole.Goals as goal
 
--- a part that is not added
+-- the result for a part that is not appended
 refused : {S : Type 0} (Z : Type 0) (g : Ghosts S) (old new : S) (text part added : List ℕ) (fault : BenchFault)
     → SourceWorked g old new → g.ends new ≡ g.ends old → (g.is_specified → g.remaining old ≡ (text ++ part) ++ g.remaining new)
     → AddsPart part text added (Err fault) → ReadsText g {Z = Z} old new (Err fault)

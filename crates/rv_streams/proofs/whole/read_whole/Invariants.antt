@@ -1,7 +1,7 @@
 use Rattle.std.proofs.Common.{◌≡◌, ◌≤◌, ◌++◌, length}
 use Rattle.rv_streams.proofs.whole.read_whole.Given as goal
 
--- the text so far is the front of what the source had, and no call has failed
+-- the text so far is a prefix of the bytes of the source, and no call has failed
 abbrev pub invariant-loop-text : goal.invariant-loop-text
 invariant-loop-text g l = record {
   few : length l.text.items ≤ 4194304;

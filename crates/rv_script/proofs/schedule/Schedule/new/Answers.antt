@@ -4,7 +4,7 @@ use Rattle.rv_script.specs.Schedules.{schedule_of}
 use Rattle.rv_script.specs.declared.schedule.Schedule.{Schedule}
 use Rattle.rv_script.proofs.schedule.Schedule.new.Goals as goal
 
--- zeros stay behind what is copied over the first
+-- a word copied to the start of zeros is followed by the other zeros
 copied : (most : ℕ) (word prefix : List ℕ) → prefix ≡ word → prefix ++ drop (length word) (replicate most 0) ≡ word ++ replicate (most - length word) 0
 copied most word prefix is = ap₂ (λ (a b : List ℕ). a ++ b) is (drop-replicate (length word) most 0)
 
