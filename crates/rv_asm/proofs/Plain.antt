@@ -42,8 +42,8 @@ pub is_plain-blank : (b : ℕ) → is_plain b ≡ true → is_blank b ≡ false
 is_plain-blank b plain = grind (arith, nat_tests)
 
 -- a condition that no plain byte meets is met by no byte of a plain text
-pub out_of_memory : (q : ℕ → Bool) (text : List ℕ) → ((b : ℕ) → is_plain b ≡ true → q b ≡ false) → list_all is_plain text ≡ true → All (λ b. q b ≡ false) text
-out_of_memory q text other plain = λ k d below. other _ (AllPass-from_list_all is_plain text plain k d below)
+pub meets_none : (q : ℕ → Bool) (text : List ℕ) → ((b : ℕ) → is_plain b ≡ true → q b ≡ false) → list_all is_plain text ≡ true → All (λ b. q b ≡ false) text
+meets_none q text other plain = λ k d below. other _ (AllPass-from_list_all is_plain text plain k d below)
 
 -- ---- blanks
 
@@ -96,7 +96,7 @@ spaced first more = 32 ∷ (first ++ flat_map (λ operand. codes ", " ++ operand
 -- a blank and a piece have no comma
 no_comma : (text : List ℕ) → list_all is_plain text ≡ true → (k d : ℕ) → k < length (32 ∷ text) → (slice_index_or (32 ∷ text) k d == 44) ≡ false
 no_comma text plain zero d below = refl
-no_comma text plain (suc k) d below = out_of_memory (λ b. b == 44) text is_plain-comma plain k d (omega (arith, below))
+no_comma text plain (suc k) d below = meets_none (λ b. b == 44) text is_plain-comma plain k d (omega (arith, below))
 
 split-spaced : (first : List ℕ) (more : List (List ℕ)) → IsPiece first → ArePieces more
     → slice_split (λ b. b == 44) (spaced first more) ≡ map (λ t. 32 ∷ t) (first ∷ more)
