@@ -1,7 +1,7 @@
 #!/usr/bin/env python3
-"""Prints the table of verdicts at the borders of a few sets of PMP entries, for crates/rv_monitor_tests/src/pmp_tests/verdict_table.rt.
+"""Prints the table of verdicts at the borders of a few sets of PMP entries, for crates/rv_machine_tests/src/pmp_tests/verdict_table.rt.
 
-    python3 -m generators.pmp_verdicts > crates/rv_monitor_tests/src/pmp_tests/verdict_table.rt && (cd crates/rv_monitor_tests && rt fmt)
+    python3 -m generators.pmp_verdicts > crates/rv_machine_tests/src/pmp_tests/verdict_table.rt && (cd crates/rv_machine_tests && rt fmt)
 
 Each verdict is worked out byte by byte, in pmp_entries.py.
 """

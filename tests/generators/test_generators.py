@@ -8,7 +8,7 @@ import pytest
 from conftest import ROOT
 
 TESTS = ROOT / "tests"
-TABLE = ROOT / "crates/rv_monitor_tests/src/pmp_tests/verdict_table.rt"
+TABLE = ROOT / "crates/rv_machine_tests/src/pmp_tests/verdict_table.rt"
 
 
 def generator(name, *arguments):

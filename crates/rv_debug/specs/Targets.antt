@@ -1,7 +1,7 @@
 -- What commands work on, in the few words in which the answers speak of it. (This project's own debugger.)
 use Rattle.std.specs.Prelude.{ℕ, Bool, false, List, [], ◌∷◌, ◌++◌, codes, decimal, Option, Some, None, IfSome}
 use Rattle.std.specs.Option.{option_map}
-use Rattle.rv_hart.specs.HartState.{Hart}
+use Rattle.rv_hart.specs.HartRecord.{Hart}
 use Rattle.rv_hart.specs.Step.{step}
 use Rattle.rv_enclaves.specs.declared.world.World.{World}
 use Rattle.rv_enclaves.specs.declared.world.World.TheVariants.{Host, Enclave}

@@ -11,7 +11,7 @@ use Rattle.rv_memory.specs.declared.touched.Touched.{Touched}
 use Rattle.rv_memory.proofs.AccessLaws.{store_done, fetch_refused_too, load_refused_too, store_refused_too, store_done_too, fetch_same, load_same}
 use Rattle.rv_memory.proofs.MemoryLaws.{length-bytes_of, write_at}
 use Rattle.rv_hart.specs.Confinement.{SameIn, EqualOn, EndAlike, IsConfined}
-use Rattle.rv_hart.specs.HartState.{Hart}
+use Rattle.rv_hart.specs.HartRecord.{Hart}
 use Rattle.rv_hart.specs.Machine.{Machine, Ended, over}
 use Rattle.rv_hart.specs.Step.{step, from_fetch, from_decode, from_access, retired_or_trapped, data_mode, from_execute, span, fetch_of, load_of, store_of}
 use Rattle.rv_hart.specs.declared.request.Request.{Request}

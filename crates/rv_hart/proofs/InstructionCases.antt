@@ -17,7 +17,7 @@ use Rattle.rv_hart.specs.Arithmetic.{sum_of, is_taken}
 use Rattle.rv_hart.specs.CsrInstructions.{is_written, changed_word, old_word, new_csrs, unless_fault, csr_changed}
 use Rattle.rv_hart.specs.Exceptions.{misaligned}
 use Rattle.rv_hart.specs.Hart.{advanced, with_result, jumped, branched}
-use Rattle.rv_hart.specs.HartState.{Hart}
+use Rattle.rv_hart.specs.HartRecord.{Hart}
 use Rattle.rv_hart.specs.Instructions.{request, executed, where_allowed, unless_refused, unless_illegal, returned_from_machine}
 use Rattle.rv_hart.specs.Instructions.{returned_from_supervisor, address_of, made_even}
 use Rattle.rv_hart.specs.declared.request.Request.TheVariants as requests

@@ -15,7 +15,7 @@ use Rattle.rv_hart.proofs.InstructionCases.{store_retires}
 use Rattle.rv_hart.specs.CsrInstructions.{written_csr}
 use Rattle.rv_hart.specs.Exceptions.{illegal, access_fault, interrupted}
 use Rattle.rv_hart.specs.Hart.{advanced}
-use Rattle.rv_hart.specs.HartState.{Hart}
+use Rattle.rv_hart.specs.HartRecord.{Hart}
 use Rattle.rv_hart.specs.Instructions.{request, executed}
 use Rattle.rv_hart.specs.Permitted.{MayTouchAll}
 use Rattle.rv_hart.specs.Machine.{Machine, Ended, Stepped, over}

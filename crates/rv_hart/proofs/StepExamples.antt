@@ -7,7 +7,7 @@ use Rattle.rv_pmp.specs.Covers.{covers}
 use Rattle.rv_pmp.specs.Verdicts.{matching_entry, verdict}
 use Rattle.rv_memory.specs.Memory.{ram_base, read}
 use Rattle.rv_hart.specs.Hart.{at_reset}
-use Rattle.rv_hart.specs.HartState.{Hart}
+use Rattle.rv_hart.specs.HartRecord.{Hart}
 use Rattle.rv_hart.specs.Instructions.{request, executed}
 use Rattle.rv_hart.specs.Machine.{Machine}
 use Rattle.rv_hart.specs.Step.{step, retired_or_trapped, fetch_of}

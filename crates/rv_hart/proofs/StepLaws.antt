@@ -8,7 +8,7 @@ use Rattle.rv_state.specs.Interrupts.{is_machine}
 use Rattle.rv_state.specs.MachineParts.{machine_parts}
 use Rattle.rv_state.specs.Traps.{mode_of_spp}
 use Rattle.rv_state.proofs.MachinePartsLemmas.{write_keeps_parts, same_mprv}
-use Rattle.rv_hart.specs.HartState.{Hart}
+use Rattle.rv_hart.specs.HartRecord.{Hart}
 use Rattle.rv_hart.specs.Instructions.{returned_from_supervisor}
 use Rattle.rv_hart.specs.Permitted.{TouchesPermitted}
 use Rattle.rv_hart.specs.Machine.{Machine, Stepped}

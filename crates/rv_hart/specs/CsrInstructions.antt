@@ -11,7 +11,7 @@ use Rattle.rv_state.specs.CsrState.{CsrState}
 use Rattle.rv_state.specs.CsrTable.{read_result, write_result}
 use Rattle.rv_state.specs.declared.csr_fault.CsrFault.{CsrFault}
 use Rattle.rv_hart.specs.Hart.{with_result}
-use Rattle.rv_hart.specs.HartState.{Hart}
+use Rattle.rv_hart.specs.HartRecord.{Hart}
 
 -- whether the register is read: csrrw and csrrwi do not read it if rd is x0
 abbrev pub is_read : CsrKind → ℕ → Bool

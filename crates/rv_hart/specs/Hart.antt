@@ -9,7 +9,7 @@ use Rattle.rv_state.specs.CsrState.{at_reset as csrs_at_reset}
 use Rattle.rv_state.specs.Traps.{after_trap, trap_target}
 use Rattle.rv_hart.specs.Arithmetic.{sum_of}
 use Rattle.rv_hart.specs.Exceptions.{misaligned}
-use Rattle.rv_hart.specs.HartState.{Hart}
+use Rattle.rv_hart.specs.HartRecord.{Hart}
 use Rattle.rv_state.specs.Registers.{with_register}
 use Rattle.rv_hart.specs.declared.trap.Trap.{Trap}
 

@@ -16,7 +16,7 @@ use Rattle.rv_state.specs.declared.csr_fault.CsrFault.{CsrFault}
 use Rattle.rv_hart.specs.CsrInstructions.{csr_changed}
 use Rattle.rv_hart.specs.Exceptions.{illegal, breakpoint, environment_call}
 use Rattle.rv_hart.specs.Hart.{advanced, with_result, jumped, branched}
-use Rattle.rv_hart.specs.HartState.{Hart}
+use Rattle.rv_hart.specs.HartRecord.{Hart}
 use Rattle.rv_state.specs.Registers.{register}
 use Rattle.rv_hart.specs.declared.request.Request.{Request}
 use Rattle.rv_hart.specs.declared.request.Request.TheVariants as requests

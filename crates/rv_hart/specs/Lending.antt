@@ -2,7 +2,7 @@
 use Rattle.std.specs.Prelude.{ℕ, List}
 use Rattle.std.specs.Borrow.{Lends, MutBor, Fml}
 use Rattle.rv_memory.specs.contracts.ram.Ram.{the_row as ram_row}
-use Rattle.rv_hart.specs.HartState.{Hart}
+use Rattle.rv_hart.specs.HartRecord.{Hart}
 use Rattle.rv_hart.specs.Machine.{Machine}
 use Rattle.rv_hart.specs.contracts.hart.Hart.{the_row as hart_row}
 use Rattle.rv_hart.specs.contracts.machine.Machine.{the_row as machine_row}

@@ -5,7 +5,7 @@ pub mod Cache
 pub mod Exceptions
 pub mod FastSteps
 pub mod Hart
-pub mod HartState
+pub mod HartRecord
 pub mod Instructions
 pub mod Lending
 pub mod Permitted

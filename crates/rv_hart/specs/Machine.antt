@@ -1,6 +1,6 @@
 -- The state of a machine, and the result of a step (RISC-V Unprivileged ISA 20191213, section 1.6).
 use Rattle.std.specs.Prelude.{ℕ, List}
-use Rattle.rv_hart.specs.HartState.{Hart}
+use Rattle.rv_hart.specs.HartRecord.{Hart}
 use Rattle.rv_hart.specs.declared.trap.StepOutcome.{StepOutcome}
 
 -- a hart and its memory

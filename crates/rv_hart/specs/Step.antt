@@ -15,7 +15,7 @@ use Rattle.rv_state.specs.Interrupts.{pending}
 use Rattle.rv_hart.specs.CsrInstructions.{written_csr}
 use Rattle.rv_hart.specs.Exceptions.{access_fault, illegal, interrupted}
 use Rattle.rv_hart.specs.Hart.{trapped, step_counted}
-use Rattle.rv_hart.specs.HartState.{Hart}
+use Rattle.rv_hart.specs.HartRecord.{Hart}
 use Rattle.rv_hart.specs.Instructions.{request, executed}
 use Rattle.rv_hart.specs.Machine.{Machine, Ended, Stepped, over}
 use Rattle.rv_state.specs.declared.cause.Exception.TheVariants.{InstructionAccessFault, LoadAccessFault, StoreAccessFault}

@@ -9,7 +9,7 @@ use Rattle.rv_state.specs.Interrupts.{is_machine}
 use Rattle.rv_state.specs.Registers.{register}
 use Rattle.rv_hart.specs.Confinement.{IsConfined}
 use Rattle.rv_hart.specs.Hart.{trapped, step_counted}
-use Rattle.rv_hart.specs.HartState.{Hart}
+use Rattle.rv_hart.specs.HartRecord.{Hart}
 use Rattle.rv_hart.specs.Permitted.{TouchesPermitted}
 use Rattle.rv_hart.specs.Machine.{Machine, Stepped}
 

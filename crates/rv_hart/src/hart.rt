@@ -1,7 +1,7 @@
 //! One hart, and its step.
 
 ghost use Rattle.std.specs.Prelude.{◌≡◌, ◌%◌, Ok, Err};
-ghost use Rattle.rv_hart.specs.HartState.{Hart as HartState};
+ghost use Rattle.rv_hart.specs.HartRecord.{Hart as HartValue};
 
 use crate::arithmetic::{is_taken, load_value, load_width, op, op_imm, shift, store_width};
 use crate::request::Request;
@@ -25,9 +25,9 @@ pub struct Hart {
 
 impl Model for Hart {
     ghost use Rattle.std.specs.Prelude.{◌≡◌, ◌%◌};
-    ghost use Rattle.rv_hart.specs.HartState.{Hart as HartState};
+    ghost use Rattle.rv_hart.specs.HartRecord.{Hart as HartValue};
 
-    ghost Value = { HartState };
+    ghost Value = { HartValue };
 
     ghost view = { λ hart. record { regs = hart.regs; csrs = hart.csrs; pc = hart.pc; mode = hart.mode } };
 
@@ -37,7 +37,7 @@ impl Model for Hart {
 impl Hart {
     ghost use Rattle.std.specs.Prelude.{◌≡◌, ◌%◌, Some, None, Ok, Err, true, false};
     ghost use Rattle.std.specs.Borrow.{sem};
-    ghost use Rattle.rv_hart.specs.HartState.{Hart as HartState};
+    ghost use Rattle.rv_hart.specs.HartRecord.{Hart as HartValue};
     ghost use Rattle.rv_hart.specs.Hart.{at_reset, advanced, with_result, jumped, branched, trapped, step_counted};
     ghost use Rattle.rv_hart.specs.Arithmetic.{sum_of, op_value, op_imm_value, shift_value, is_taken as is_taken_of};
     ghost use Rattle.rv_hart.specs.Instructions.{request, executed, made_even};

@@ -31,7 +31,7 @@ pub use Rattle.rv_enclaves.specs.declared.slot_info.EnclaveState.TheVariants.{Ex
 pub use Rattle.rv_enclaves.specs.declared.world.World.{World}
 pub use Rattle.rv_enclaves.specs.declared.world.World.TheVariants.{Enclave, Host}
 pub use Rattle.rv_hart.specs.Arithmetic.{sum_of}
-pub use Rattle.rv_hart.specs.HartState.{Hart}
+pub use Rattle.rv_hart.specs.HartRecord.{Hart}
 pub use Rattle.rv_hart.specs.Machine.{Machine, Stepped}
 pub use Rattle.rv_hart.specs.Step.{data_mode, span}
 unfoldable pub use Rattle.rv_hart.specs.Step.{retired_or_trapped, step}
