@@ -1,4 +1,4 @@
--- Where the second script of two benches ends: at the line that enters the slot, or before any does.
+-- The end of the second script of a pair: at the line that enters the slot, or at the end of the input.
 use Rattle.std.proofs.Common.{◌≡◌, ℕ, true, false, cond, List, [], ◌++◌, inl, inr, Option, Some, None, Ok, Err, sym}
 use Rattle.std.proofs.Common.{◌∙◌, ap, subst, append-nil}
 use Rattle.std.specs.Option.{IsSomeAnd}
@@ -29,7 +29,7 @@ use Rattle.rv_bench.proofs.PairLemmas.{at_input_end, ended_all, ended_prefix, en
 use Rattle.rv_bench.proofs.Runs.{RespondsToLines-all, RespondsToLines-state}
 use Rattle.rv_bench.proofs.Runs.{RespondsToNext-going, RespondsToNext-state, RespondsToNext-stops, RespondsToNext-taken, RespondsToNext-wrote}
 
--- ---- the same of what was written before by another name
+-- ---- the same, for equal written bytes
 
 StopsAtRead-after : {A : Type 0} {by : Responding A} {start : A} {is_specified : Type 0} {unread left kept old other new : List ℕ} → (is_specified → old ≡ other)
     → StopsAtRead by Input start is_specified unread left kept old new → StopsAtRead by Input start is_specified unread left kept other new
@@ -80,9 +80,9 @@ write_after slot (Some pair) is_specified unread left old other new same (inr st
           (stopped.written told);
     })
 
--- ---- a line that enters
+-- ---- a line that enters the slot
 
--- a line that enters the slot is told so
+-- the reply to a line that enters the slot reports it
 pub told_entered : (slot : ℕ) (now after : Pair) (line reply : List ℕ) → pair_line slot now line ≡ record { state = after; reply = reply }
     → now.entered ≡ false → after.entered ≡ true
     → reply ≡ entered_text after.ran
@@ -102,7 +102,7 @@ told_entered slot now after line reply is going over =
       by (Given NotBlind blank) both is = absurd (false≢true (enters (done_by (Given NotBlind blank) both now.ran) is))
       by Faulty both is = absurd (false≢true (enters (done_by Faulty both now.ran) is))
 
--- ---- the script that both answer
+-- ---- the script that both benches respond to
 
 -- a failure in a line
 pub two_benches-stop : {S W : Type 0} {g : SourceGhosts S} (h : SinkGhosts W) (slot : ℕ) (start : Pair) (old new : Lines S g) (before after : W)
@@ -123,7 +123,7 @@ two_benches-stop h slot start old new before after Write stops =
 two_benches-stop h slot start old new before after _ stops = absurd stops
 
 module _ {S W : Type 0} {g : SourceGhosts S} (h : SinkGhosts W) (slot : ℕ) {start now : Pair} {old new : Lines S g} {before mid : W} where
-  -- to its end
+  -- to the end of the script
   module _ (run : RespondsToEnd h (both_benches slot) Input start now old new before mid) (is_specified : g.is_specified) where
     all_state : now ≡ state_after (pair_line slot) start (lines_of (unread old))
     all_state = RespondsToLines-state (run.responded is_specified) (FindsEnd-whole old run.last new Input _ run.found (run.responded is_specified).taken is_specified)
@@ -134,7 +134,7 @@ module _ {S W : Type 0} {g : SourceGhosts S} (h : SinkGhosts W) (slot : ℕ) {st
     never_entered : (state_after (pair_line slot) start (lines_of (unread old))).entered ≡ false
     never_entered = ap (λ (pair : Pair). pair.entered) (sym all_state) ∙ run.going
 
-  -- to the line that enters
+  -- to the line that enters the slot
   module _ (run : RespondsUntilOver h (both_benches slot) Input start now old new before mid) where
     enters : g.is_specified → EntersSlot slot start (unread old) (unread new) new.is_at_end
     enters is_specified = let next = run.next is_specified in record {
@@ -150,7 +150,7 @@ module _ {S W : Type 0} {g : SourceGhosts S} (h : SinkGhosts W) (slot : ℕ) {st
         let all = RespondsToNext-wrote (run.next is_specified) run.told in
         entered_all slot start now _ _ _ _ _ _ all.taken.reads all.state run.over (all.written told)
 
-  -- and what is told last
+  -- and the last text
   module _ (responds : RespondsToAll h (both_benches slot) Input start now old new before mid) {last : List ℕ} (last_is : last ≡ last_text now) where
     last_going : now.entered ≡ false → last ≡ end_text now.ran
     last_going going = last_is ∙ ap (λ b. cond b [] (end_text now.ran)) going
@@ -193,7 +193,7 @@ module _ {S W : Type 0} {g : SourceGhosts S} (h : SinkGhosts W) (slot : ℕ) {st
         ];
       }
 
-    -- the sink fails in it
+    -- the sink fails in the last text
     module _ {after : W} (stops : h.is_specified → WritesPrefix (h.taken mid) (h.taken after) last) where
       nothing_wrote : now.entered ≡ true → h.is_specified → h.taken after ≡ h.taken mid
       nothing_wrote over told = prefix_none (h.taken mid) (h.taken after) (subst (WritesPrefix (h.taken mid) (h.taken after)) (last_over over) (stops told))

@@ -1,4 +1,4 @@
--- Every script spares each enclave that rests through a part of it, by the law of one command.
+-- Every part of a script preserves each enclave that it leaves undisturbed, by the law of one command.
 use Rattle.std.proofs.Common.{◌≡◌, ℕ, List, [], ◌∷◌, Result, Ok, Err, IfOk, refl, sym, ◌∙◌, subst}
 use Rattle.rv_word.specs.Cases.{result_case}
 use Rattle.rv_debug.specs.Execute.{execute, execute_or_fault, execute_line}
@@ -20,7 +20,7 @@ use Rattle.rv_bench.specs.Replies.{bench_line, state_after}
 use Rattle.rv_bench.proofs.RepliesLemmas.{state_after-append}
 use Rattle.rv_bench.proofs.Starts.{started_keeps}
 
--- lines leave what their commands leave
+-- lines have the effect of their commands
 after_lines : (bench : BenchState) (lines : List (List ℕ)) → state_after bench_line bench lines ≡ after_commands bench (commands_of lines)
 unfolding execute_line
 after_lines bench [] = refl

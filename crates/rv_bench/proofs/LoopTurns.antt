@@ -1,4 +1,4 @@
--- Answering the lines of a script, turn by turn.
+-- The loop over the lines of a script, iteration by iteration.
 use Rattle.std.proofs.Common.{◌≡◌, ℕ, false, true, arith, inl, inr, List, [], ◌++◌, ◌∙◌, refl}
 use Rattle.rv_streams.specs.declared.device.Sink.{Ghosts as SinkGhosts}
 use Rattle.rv_streams.specs.declared.device.Source.{Ghosts as SourceGhosts}
@@ -18,7 +18,7 @@ use Rattle.rv_bench.proofs.Runs.{RespondsToLines-none, RespondsToLines-going, Re
 
 module _ {S W : Type 0} {g : SourceGhosts S} (h : SinkGhosts W) {A : Type 0} (by : Responding A) (end : ScriptEnd) (start : A) (old : Lines S g) (before : W)
     (now : A) (mid : Lines S g) (between : W) where
-  -- The lines so far are answered, it is not over, and no call has failed.
+  -- The lines so far have their responses, the responder is not over, and no call has failed.
   pub record SoFar : Type 0 where
     pub responded : g.is_specified
         → RespondsToLines by end start h.is_specified (unread old) (h.taken before) now (unread mid) mid.is_at_end (h.taken between)
@@ -27,7 +27,7 @@ module _ {S W : Type 0} {g : SourceGhosts S} (h : SinkGhosts W) {A : Type 0} (by
     pub source : SourceWorked g old.source mid.source
     pub sink : SinkWorked h before between
 
-  -- One line more was taken and answered.
+  -- One more line was taken and has its response.
   pub record Turn (after : A) (new : Lines S g) (reply : List ℕ) : Type 0 where
     pub so_far : SoFar
     pub shown : List ℕ
@@ -100,7 +100,7 @@ module _ {S W : Type 0} {g : SourceGhosts S} {h : SinkGhosts W} {A : Type 0} {by
       )
 
       module _ {last : W} (worked : SinkWorked h between last) (wrote : h.is_specified → h.taken last ≡ h.taken between ++ reply) where
-        -- it goes on
+        -- the loop continues
         pub Turn-goes : by.is_over after ≡ false → SoFar h by end start old before after new last
         Turn-goes going = record {
           responded = λ is_specified. RespondsToNext-wrote (next is_specified) wrote;
@@ -110,7 +110,7 @@ module _ {S W : Type 0} {g : SourceGhosts S} {h : SinkGhosts W} {A : Type 0} {by
           sink = (worked.0 ∙ turn.so_far.sink.0, worked.1 ∙ turn.so_far.sink.1);
         }
 
-        -- it is over
+        -- the responder is over
         pub Turn-over : by.is_over after ≡ true → RespondsToAll h by end start after old new before last
         Turn-over over = record {
           source = turn.source ∙ turn.so_far.source;

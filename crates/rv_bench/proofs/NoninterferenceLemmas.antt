@@ -1,4 +1,4 @@
--- Scripts conceal: by the law of one command, over the lines of a part; and from one input to another.
+-- Noninterference of scripts: over the lines of a part, by the law of one command; and from one input to another.
 use Rattle.std.proofs.Common.{◌≡◌, inl, inr, ℕ, Bool, true, false, List, [], ◌∷◌, ◌++◌, Result, Ok, Err, IfOk, IsOkAnd, refl, sym, ◌∙◌, ap, ap₂, subst}
 use Rattle.rv_word.specs.Cases.{result_case}
 use Rattle.rv_text.specs.Lines.{lines_of, through_last_feed}
@@ -32,11 +32,11 @@ use Rattle.rv_bench.proofs.IntegrityLemmas.{keeps_line, keeps_lines}
 use Rattle.rv_bench.proofs.Starts.{started_keeps}
 
 module _ (e : ℕ) where
-  -- the replies are equal, and the benches agree again
+  -- the replies are equal, and the benches are equivalent again
   abbrev Alike : Executed → Executed → Type 0
   Alike one other = (one.reply ≡ other.reply) × BenchesEquivExcept e one.state other.state
 
-  -- ---- lines that pass over the enclave
+  -- ---- lines that avoid the enclave
 
   line_alike : (first second : BenchState) (line : List ℕ) → TargetInvariant first.target → TargetInvariant second.target → BenchesEquivExcept e first second
       → LineAvoidsEnclave e first line → LineAvoidsHart e first line → Alike (execute_line first line) (execute_line second line)
@@ -49,7 +49,7 @@ module _ (e : ℕ) where
         let passed = both.passed over.past in (passed.reply, (let state = passed.state in state.but))
     go (Err fault) over by = (refl, equiv)
 
-  -- what holds of benches that agree while the enclave is live holds once it has ended, where it holds of equal ones
+  -- a property of equivalent benches while the enclave is live holds after its end too, if it holds of equal benches
   while_live : (first second : BenchState) → TargetInvariant first.target → TargetInvariant second.target → BenchesEquivExcept e first second
       → (P : BenchState → BenchState → Type 0) → (live : Bool) → is_live_in e first.target ≡ live
       → (is_live_in e first.target ≡ true → P first second) → (TargetInvariant first.target → P first first) → P first second
@@ -120,7 +120,7 @@ module _ (e : ℕ) where
       subst (λ (l : List ℕ). Alike (execute_line first line) (execute_line second l)) passes.0
       (line_alike first second line kept kept' equiv passes.1 by)
 
-  -- so many of either
+  -- lines of either bench
   record PokedAlike (first second : BenchState) (lines others : List (List ℕ)) : Type 0 where
     pub text : replies bench_line first lines ≡ replies bench_line second others
     pub equiv : BenchesEquivExcept e (state_after bench_line first lines) (state_after bench_line second others)
@@ -136,7 +136,7 @@ module _ (e : ℕ) where
       (keeps_line first line kept) (keeps_line second other kept') next more_by more in
       record { text = ap₂ (λ (one other : List ℕ). one ++ other) reply rest.text; equiv = rest.equiv }
 
-  -- behind which the enclave runs where it did
+  -- after a poke the enclave still runs on no hart
   poke_rests : (bench : BenchState) (line : List ℕ) → TargetInvariant bench.target → RunsOnNoHart e bench.target → IsOkAnd (parse_of line) (PokesInto e bench)
       → RunsOnNoHart e (execute_line bench line).state.target
   unfolding execute_line
@@ -150,7 +150,7 @@ module _ (e : ℕ) where
   poke_or_pass_rests first second line other kept not_running (inl pokes) = (by_at_rest first line kept not_running, poke_rests first line kept not_running pokes.0)
   poke_or_pass_rests first second line other kept not_running (inr passes) = line_rests first line kept not_running passes.1
 
-  -- what lines lead to that differ in pokes
+  -- the facts after lines that differ in pokes
   record RestsThrough (bench : BenchState) (lines : List (List ℕ)) : Type 0 where
     pub by : EachLineAvoidsHart e bench lines
     pub not_running : RunsOnNoHart e (state_after bench_line bench lines).target
@@ -221,7 +221,7 @@ stream_noninterference setup input = from_start (bench_in setup input) (bench_ke
 
 module _ (setup : Setup) (e : ℕ) (prefix secret another rest : List ℕ) (whole : through_last_feed prefix ≡ prefix) (separated : has_separator prefix ≡ true)
     (whole_secret : through_last_feed secret ≡ secret) (whole_another : through_last_feed another ≡ another) where
-  -- the output for an input that begins so
+  -- the output for an input with this prefix
   output_is : (text : List ℕ) → through_last_feed text ≡ text
       → output setup (prefix ++ (text ++ rest)) ≡ replies_of (bench_in setup prefix) (lines_of (after_separator prefix) ++ (lines_of text ++ lines_of rest))
   output_is text all =

@@ -1,4 +1,4 @@
--- What is told of a script's lines by two benches that are apart.
+-- The replies of a pair to the lines of a script.
 use Rattle.std.proofs.Common.{◌≡◌, ℕ, ◌+◌, ◌<◌, ◌==◌, Bool, true, cond, List, [], ◌∷◌, ◌++◌, length, take, drop, get_or}
 use Rattle.std.proofs.Common.{refl, sym, ◌∙◌, ap, ap₂, subst, inl, inr, append_assoc, append-nil}
 use Rattle.std.proofs.lemmas.Bool.{false≢true}
@@ -32,7 +32,7 @@ marked_step mark begins text k was joined now inside marks pushed =
 
 -- ---- a line
 
--- lines that begin with the same 121 bytes are told the same
+-- lines that begin with the same 121 bytes have the same effect and reply
 pub pair_line-prefix : (slot : ℕ) (pair : Pair) (other line : List ℕ) → take 121 other ≡ take 121 line
     → pair_line slot pair other ≡ pair_line slot pair line
 unfolding pair_line
@@ -40,7 +40,7 @@ pair_line-prefix slot pair other line same =
     ap (λ both. cond pair.entered (record { state = pair; reply = [] }) (pair_replied pair both))
     (both_line-prefix slot pair.first pair.second other line same)
 
--- once the slot was entered nothing is told
+-- once the slot was entered, a line has no reply
 silent : (slot : ℕ) (pair : Pair) (line : List ℕ) → pair.entered ≡ true → pair_line slot pair line ≡ record { state = pair; reply = [] }
 unfolding pair_line
 silent slot pair line over = rw over refl
@@ -55,7 +55,7 @@ silent_state slot pair (line ∷ lines) over = rw (silent slot pair line over) (
 
 -- ---- a script
 
--- the text of a script of which a line entered the slot
+-- the text of a script with a line that entered the slot
 pub entered_script : (slot : ℕ) (start now : Pair) (lines others : List (List ℕ)) (unread : List ℕ) → now ≡ state_after (pair_line slot) start lines
     → now.entered ≡ true → lines_of unread ≡ lines ++ others → script_text slot start (lines_of unread) ≡ replies (pair_line slot) start lines
 entered_script slot start now lines others unread is over all =
@@ -71,21 +71,21 @@ entered_script slot start now lines others unread is over all =
     ∙ (ap (λ t. t ++ last_text (state_after (pair_line slot) start (lines ++ others))) texts
     ∙ (ap (λ t. replies (pair_line slot) start lines ++ t) last ∙ append-nil (replies (pair_line slot) start lines)))
 
--- what is written once a line entered the slot is the whole text
+-- the written bytes after a line that entered the slot are the whole text
 pub entered_all : (slot : ℕ) (start now : Pair) (unread left : List ℕ) (is_at_end : Bool) (lines : List (List ℕ)) (old new : List ℕ)
     → ReadsLines unread left is_at_end lines → now ≡ state_after (pair_line slot) start lines → now.entered ≡ true
     → new ≡ old ++ replies (pair_line slot) start lines → new ≡ old ++ script_text slot start (lines_of unread)
 entered_all slot start now unread left is_at_end lines old new reads is over wrote =
     wrote ∙ ap (λ t. old ++ t) (sym (entered_script slot start now lines (lines_of left) unread is over reads.all))
 
--- ---- what is written
+-- ---- the written bytes
 
--- a front of a text is one of a longer text
+-- a prefix of a text is a prefix of a longer text
 pub prefix_more : (old new text more : List ℕ) → WritesPrefix old new text → WritesPrefix old new (text ++ more)
 prefix_more old new text more (rest, (prefix, wrote, split)) =
     (rest ++ more, (prefix, wrote, ap (λ t. t ++ more) split ∙ append_assoc prefix rest more))
 
--- a front of what follows a text that is written
+-- a prefix of the text that follows a written text
 pub prefix_after : (old mid new text more : List ℕ) → mid ≡ old ++ text → WritesPrefix mid new more → WritesPrefix old new (text ++ more)
 prefix_after old mid new text more is (rest, (prefix, wrote, split)) = (
   rest,
@@ -106,7 +106,7 @@ pub prefix_none : (old new : List ℕ) → WritesPrefix old new [] → new ≡ o
 prefix_none old new (rest, ([], wrote, split)) = wrote ∙ append-nil old
 prefix_none old new (rest, (byte ∷ prefix, wrote, split)) = cc
 
--- the last is told, once all lines of the script are
+-- the last text follows the replies to all lines of the script
 module _ (slot : ℕ) (start now : Pair) (lines : List (List ℕ)) (old mid last : List ℕ) (is : now ≡ state_after (pair_line slot) start lines)
     (wrote : mid ≡ old ++ replies (pair_line slot) start lines) (is_specified : last ≡ last_text now) where
   last_is : last ≡ last_text (state_after (pair_line slot) start lines)
@@ -119,7 +119,7 @@ module _ (slot : ℕ) (start now : Pair) (lines : List (List ℕ)) (old mid last
   pub ended_prefix : (new : List ℕ) → WritesPrefix mid new last → WritesPrefix old new (script_text slot start lines)
   ended_prefix new stops = prefix_after old mid new (replies (pair_line slot) start lines) _ wrote (subst (WritesPrefix mid new) last_is stops)
 
--- a script of the input ends where the source has answered its end
+-- the script ends at the end of the input, which the source has reported
 pub at_input_end : {S : Type 0} {g : Ghosts S} {mid new : Lines S g} → FindsEnd Input mid new → IsAtEnd mid new
 at_input_end (inl at_end) = at_end
 at_input_end (inr reads) = absurd (false≢true reads.ends)

@@ -1,4 +1,4 @@
--- Inputs that begin with the same whole lines, the separator among them.
+-- Inputs that begin with the same whole lines, including the separator.
 use Rattle.std.proofs.Common.{◌≡◌, ℕ, zero, suc, ◌+◌, ◌≤◌, Bool, true, false, cond, not, ◌||◌, List, [], ◌∷◌, ◌++◌}
 use Rattle.std.proofs.Common.{length, drop, Err, refl, sym, ◌∙◌, ap, arith, subst, nat_eq}
 use Rattle.std.proofs.lemmas.List.Sums.{take_while-cons}
@@ -12,7 +12,7 @@ use Rattle.rv_streams.specs.Separator.{is_separator, has_separator, before_separ
 use Rattle.rv_bench.specs.Loaded.{started}
 use Rattle.rv_bench.specs.Output.{bench_in}
 
--- ---- the first line that passes a test
+-- ---- the first line that satisfies a test
 
 module _ (found : List ℕ → Bool) where
   abbrev before : List (List ℕ) → List (List ℕ)

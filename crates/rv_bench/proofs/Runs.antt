@@ -29,7 +29,7 @@ use Rattle.rv_bench.proofs.RepliesLemmas.{replies-append, state_after-append, re
 
 -- ---- a line
 
--- what is answered to a line, by other names
+-- the response to a line, for an equal responder and an equal line
 pub RespondsToLine-same : {A : Type 0} {old by : Responding A} {now : A} {given line : List ℕ} {responded : Replied A} → old ≡ by → given ≡ line
     → RespondsToLine old now given responded → RespondsToLine by now line responded
 RespondsToLine-same {old = old} {now = now} {line = line} {responded = responded} responds same is =
@@ -47,12 +47,12 @@ module _ {A : Type 0} {by : Responding A} {end : ScriptEnd} {start : A} {is_spec
   }
 
   module _ {now : A} {left new : List ℕ} where
-    -- lines that go on are not at their end
+    -- if the input is not at its end after the lines, it is not at its end
     pub RespondsToLines-going : {is_at_end : Bool} → is_at_end ≡ false → RespondsToLines by end start is_specified unread old now left is_at_end new
         → RespondsToLines by end start is_specified unread old now left false new
     RespondsToLines-going going so_far = subst (λ b. RespondsToLines by end start is_specified unread old now left b new) going so_far
 
-    -- the source fails within a line
+    -- the source fails in a line
     pub RespondsToLines-read : {rest kept : List ℕ} → RespondsToLines by end start is_specified unread old now left false new → by.is_over now ≡ false
         → ReadsLineText left rest kept → StopsAtRead by end start is_specified unread rest kept old new
     RespondsToLines-read so_far going begun = let reads = so_far.taken.reads in record {
@@ -92,7 +92,7 @@ module _ {A : Type 0} {by : Responding A} {end : ScriptEnd} {start : A} {is_spec
         written = λ told. ([], ([], kept told ∙ (so_far.written told ∙ sym (append-nil (old ++ replies by.respond start so_far.lines))), refl));
       }
 
-  -- what is written where the sink fails is a beginning of all replies
+  -- the written bytes, if the sink fails, are a prefix of all replies
   pub StopsAtWrite-prefix : {left new : List ℕ} → StopsAtWrite by end start is_specified unread left old new → is_specified
       → WritesPrefix old new (replies by.respond start (script_lines end (lines_of unread)))
   StopsAtWrite-prefix {left = left} stops told =
@@ -114,14 +114,14 @@ module _ {A : Type 0} {by : Responding A} {end : ScriptEnd} {start : A} {is_spec
         ),
       )
 
--- ---- one line more
+-- ---- one more line
 
 module _ {A : Type 0} {by : Responding A} {end : ScriptEnd} {start : A} {is_specified : Type 0} {unread old mid : List ℕ} {after : A} {rest : List ℕ}
     {ends : Bool} {reply : List ℕ} (next : RespondsToNext by end start is_specified unread old mid after rest ends reply) where
   abbrev lines : List (List ℕ)
   lines = next.so_far.lines ++ next.takes.line ∷ []
 
-  -- after the lines so far it has the answer of what is shown of it
+  -- after the lines so far, it has the response to the bytes that are taken of it
   next_response : by.respond (state_after by.respond start next.so_far.lines) next.takes.line ≡ record { state = after; reply = reply }
   next_response = let line = next.takes.line in
       ap (λ s. by.respond s line) (sym next.so_far.state)
@@ -174,7 +174,7 @@ module _ {A : Type 0} {by : Responding A} {end : ScriptEnd} {start : A} {is_spec
             (more, (prefix, wrote ∙ ap (λ t. t ++ prefix) (so_far.written told), said ∙ split));
       }
 
--- ---- a script that is answered
+-- ---- the responses to a script
 
 module _ {S W : Type 0} {g : SourceGhosts S} (h : SinkGhosts W) where
   -- no line of the script was left, and its replies are written
@@ -197,7 +197,7 @@ module _ {S W : Type 0} {g : SourceGhosts S} (h : SinkGhosts W) where
   RunsScript-whole Separator output {old = old} {mid = mid} {new = new} source emptied sink flushed ends found taken written =
       record { reads = FindsEnd-separator old mid new source emptied found taken; sink = sink; written = written }
 
-  -- What is written may be flushed after it; a sink that fails then has all replies.
+  -- The sink may be flushed after the replies; if it fails then, it has all replies.
   module _ {end : ScriptEnd} {start now : BenchState} {old new : Lines S g} {before mid : W}
       (responds : RespondsToAll h one_bench end start now old new before mid) (ends : EndsWithSource old new) where
     pub one_bench-state : g.is_specified → now ≡ state_after bench_line start (script_lines end (lines_of (unread old)))

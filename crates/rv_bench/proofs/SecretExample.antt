@@ -1,5 +1,5 @@
--- An example of the law of secrets: a script pokes a key into the enclave of slot 0, and its other lines pass over that enclave. Whatever the
--- key, the output is the same.
+-- An example of the law of secrets: a script pokes a key into the enclave of slot 0, and its other lines avoid that enclave. The output is the
+-- same for every key.
 use Rattle.std.proofs.Common.{◌≡◌, inl, inr, List, ℕ, ◌++◌, codes, IfOk, Result, Ok, Err, refl, true}
 use Rattle.rv_platform.specs.Blocks.{has}
 use Rattle.rv_text.specs.GoodLines.{is_text}

@@ -15,7 +15,7 @@ use Rattle.rv_memory.specs.declared.ram_fault.RamFault.TheVariants.{BadSize}
 use Rattle.rv_streams.specs.declared.fault.BenchFault.TheVariants.{Image, Ram}
 use Rattle.rv_bench.specs.Loaded.{memory_loaded, planned, reset_over, started}
 
--- a RAM that is made, loaded by the image's plan and given to a bench
+-- a RAM is created, loaded by the image's plan and given to a bench
 pub started_ok : (image : List ℕ) (setup : Setup) (plan : LoadPlan) (zeros memory : List ℕ) (entry : ℕ) (bench : BenchState)
     → is_ram_size setup.ram ≡ true → planned image setup ≡ Ok plan → zeros ≡ replicate setup.ram 0
     → memory ≡ loaded_memory image plan.segments zeros → entry ≡ plan.entry
@@ -24,7 +24,7 @@ unfolding started
 started_ok image setup plan zeros memory entry bench valid plans made loads enters is =
     rw (valid, plans, is, enters, loads, made) refl
 
--- an image that can not be loaded
+-- an image that cannot be loaded
 pub started_err : (image : List ℕ) (setup : Setup) (fault : ElfFault) → is_ram_size setup.ram ≡ true → planned image setup ≡ Err fault
     → started image setup ≡ Err (Image fault)
 unfolding started
@@ -45,7 +45,7 @@ has_ram image setup bench is = go (is_ram_size setup.ram) is where
   go true e = refl
   go false e = cc
 
--- and an image has faults only where there is one
+-- an error of the image is reported only if there is a RAM
 pub fault_has_ram : (image : List ℕ) (setup : Setup) (fault : ElfFault) → started image setup ≡ Err (Image fault) → is_ram_size setup.ram ≡ true
 unfolding started
 fault_has_ram image setup fault is = go (is_ram_size setup.ram) is where
@@ -55,7 +55,7 @@ fault_has_ram image setup fault is = go (is_ram_size setup.ram) is where
   go true e = refl
   go false e = cc
 
--- a bench that starts is, where it is monitored, as every state is
+-- a monitored bench satisfies the invariant when it starts
 loaded_size : (image : List ℕ) (setup : Setup) (plan : LoadPlan) → length (memory_loaded image setup plan) ≡ setup.ram
 unfolding loaded_memory
 loaded_size image setup plan =

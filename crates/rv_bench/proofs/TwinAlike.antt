@@ -1,4 +1,4 @@
--- Two benches with one script stay alike, and each spares what rests: by the laws of one command, over the lines.
+-- Two benches with the same script stay equivalent, and each preserves undisturbed enclaves, by the laws of one command over the lines.
 use Rattle.std.proofs.Common.{◌≡◌, ℕ, Bool, true, false, List, [], ◌∷◌, ◌++◌, Option, Some, None, IfSome, Result, Ok, Err, IfOk, refl, sym}
 use Rattle.std.proofs.Common.{◌∙◌, ap, subst}
 use Rattle.std.specs.Prelude.{◌&&◌, ◌||◌, if◌then◌else◌}
@@ -39,7 +39,7 @@ use Rattle.rv_bench.proofs.NoninterferenceLemmas.{bench_keeps}
 use Rattle.rv_bench.proofs.RepliesLemmas.{state_after-append}
 use Rattle.rv_bench.proofs.IntegrityLemmas.{keeps_lines, stream_integrity}
 
--- both benches after a command, as they are told of a line
+-- both benches after a command, as the result of a line
 abbrev with_line : BothExecuted → BothLine → BothLineExecuted
 with_line after line =
     record { first = after.first; second = after.second; first_reply = after.first_reply; second_reply = after.second_reply; line = line }
@@ -50,15 +50,15 @@ module _ (slot : ℕ) where
   abbrev done : BenchState → BenchState → Command → BothExecuted
   done a b c = both_do slot (execute a c) (execute b c)
 
-  -- done by both, where it is blind in both, and else by neither
+  -- both execute a command that is blind in both; neither executes any other
   abbrev after_if : Bool → BenchState → BenchState → Command → BothExecuted
   after_if blind a b c = if blind then done a b c else record { first = a; second = b; first_reply = []; second_reply = []; why = NotBlind }
 
-  -- they agree, and the slot's enclave runs on no hart
+  -- the benches are equivalent, and the slot's enclave runs on no hart
   abbrev Together : BenchState → BenchState → Type 0
   Together a b = BenchesEquivExcept slot a b × RunsOnNoHart slot a.target
 
-  -- what becomes of both, whether they did it or not
+  -- the state of both benches, whether they executed the command or not
   record Becomes (a b : BenchState) (c : Command) (after : BothExecuted) : Type 0 where
     pub first_kept : TargetInvariant after.first.target
     pub second_kept : TargetInvariant after.second.target
@@ -106,13 +106,13 @@ module _ (slot : ℕ) where
 
   -- ---- lines
 
-  -- the benches are kept, and agree as long as the slot was not entered
+  -- the benches satisfy the invariant, and are equivalent until the slot is entered
   record Going (pair : Pair) : Type 0 where
     pub equiv : pair.entered ≡ false → Together pair.first pair.second
     pub first : TargetInvariant pair.first.target
     pub second : TargetInvariant pair.second.target
 
-  -- what both did with a line of this command
+  -- the result of a line with this command on both benches
   abbrev of_command : Command → BothExecuted → BothWhy → Pair → Replied Pair
   of_command command after why pair = done_by (Given why (has_no_command command)) (with_line after (Given after.why (has_no_command command))) pair.ran
 
@@ -141,7 +141,7 @@ module _ (slot : ℕ) where
   lines_going pair [] going = going
   lines_going pair (line ∷ lines) going = lines_going (pair_line slot pair line).state lines (line_going pair line going)
 
-  -- ---- confidentiality
+  -- ---- noninterference
 
   told_alike : (pair : Pair) (line : List ℕ) → Going pair → pair.entered ≡ false → RepliesAlikeTo slot pair line
   told_alike pair line going is = go (parse_of line) where
@@ -159,7 +159,7 @@ module _ (slot : ℕ) where
 
   -- ---- integrity
 
-  -- each bench is where its own commands lead
+  -- each bench is in the state after its own commands
   record Follows (pair : Pair) (commands : List Command) (end : Pair) : Type 0 where
     pub first : end.first ≡ after_commands pair.first commands
     pub second : end.second ≡ after_commands pair.second commands

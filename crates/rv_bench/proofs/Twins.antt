@@ -1,4 +1,4 @@
--- A twin run over an input, by its image and by its two scripts.
+-- A twin run over an input, from its image and its two scripts.
 use Rattle.std.proofs.Common.{◌≡◌, ℕ, true, false, List, ◌++◌, inl, inr, Option, Some, None, Result, Ok, Err, refl, sym, ◌∙◌, ap}
 use Rattle.std.proofs.Common.{subst, arith, append_assoc}
 use Rattle.std.specs.Option.{IsSomeAnd}
@@ -42,9 +42,9 @@ use Rattle.rv_bench.proofs.PairLemmas.{prefix_after, prefix_more}
 use Rattle.rv_bench.proofs.Entering.{read_after, write_after}
 use Rattle.rv_bench.proofs.Starts.{no_ram, has_ram, fault_has_ram}
 
--- ---- the benches that are set apart
+-- ---- the pair after the scramble
 
--- no enclave can be scrambled, or that of the slot is; over 12 there is no slot
+-- no enclave can be scrambled, or that of the slot is; there is no slot above 12
 pub not_pair : (slot : ℕ) (bench : BenchState) → can_scramble slot bench ≡ false → None ≡ make_pair slot bench
 not_pair slot bench none = rw none refl
 
@@ -56,7 +56,7 @@ none_numbered : (number : ℕ) (target : Target) → TargetInvariant target → 
 none_numbered number (Bare machine) kept none = refl
 none_numbered number (Monitored selected) kept none = ap is_held (none_past selected.state.shared.table number kept.shared.valid.count none)
 
--- what is said of two benches that are set apart is said of the slot that was named
+-- a property of the pair holds of the given slot number
 pub make_pair_at : (P : ℕ → Option Pair → Type 0) (number : ℕ) (bench : BenchState) (found : PairOnSlot)
     → (found.slot ≡ number) × (make_pair number bench ≡ Some found.pair) → P found.slot (Some found.pair) → P number (make_pair number bench)
 make_pair_at P number bench found is holds =
@@ -67,13 +67,13 @@ not_numbered number bench kept none = sym (not_pair number bench (none_numbered 
 
 -- ---- the image, and the first script
 
--- the image was read, and the text through the separator behind it
+-- the image was read, and the text after it, through the separator
 pub record ReadsImage {S : Type 0} {g : SourceGhosts S} (old mid : Lines S g) (image : List ℕ) : Type 0 where
   pub through : ReadsThroughSeparator old mid
   pub gives : g.is_specified → image_in (unread old) ≡ Ok image
   pub ends : EndsWithSource old mid
 
--- the first script was run over the bench of the image, which is another bench then
+-- the first script was run on the bench of the image, whose state it changed
 pub record RunsFirst {S W : Type 0} {g : SourceGhosts S} (h : SinkGhosts W) (bench : BenchState) (mid : Lines S g) (before : W) : Type 0 where
   pub next : Lines S g
   pub between : W
@@ -100,7 +100,7 @@ module _ {S W : Type 0} {g : SourceGhosts S} (h : SinkGhosts W) (setup : Setup) 
       (bench_is (Ok bench) starts is_specified)
       ∙ ap (λ (t : List ℕ). Ok (scripts_text slot bench t)) (sym (read.through.rest is_specified))
 
-  -- the benches do not start
+  -- the bench does not start
   pub not_started : (fault : BenchFault) → Starts image (monitored_setup setup) (Err fault) → RunsTwin h setup slot old mid before before (Err fault)
   not_started (Ram BadSize) none = (none, read.through, fault_is (Ram BadSize) (no_ram image (monitored_setup setup) none), refl)
   not_started (Ram NoRamMemory) some = (some, read.through, λ is_specified. rw (read.gives is_specified) refl, refl)
@@ -128,7 +128,7 @@ module _ {S W : Type 0} {g : SourceGhosts S} (h : SinkGhosts W) (setup : Setup) 
             ),
           )
 
-      -- the sink failed in it
+      -- the sink failed in the first script
       first_write : RunsLines h Separator bench mid new before after (Err Write) → RunsTwin h setup slot old new before after (Err Write)
       first_write run = (
         has_size,
@@ -153,7 +153,7 @@ module _ {S W : Type 0} {g : SourceGhosts S} (h : SinkGhosts W) (setup : Setup) 
       first_fails Write run = first_write run
       first_fails _ run = absurd run
 
-    -- ---- the first script was run, and the benches are set apart
+    -- ---- after the first script, the slot is scrambled in the second bench
 
     module _ (ran : RunsFirst h bench mid before) (new : Lines S g) (after : W) (second_end : EndsWithSource ran.next new) where
       abbrev next : Lines S g
@@ -181,7 +181,7 @@ module _ {S W : Type 0} {g : SourceGhosts S} (h : SinkGhosts W) (setup : Setup) 
       rest_end : EndsWithSource mid new
       rest_end = EndsWithSource-more mid next new ran.ends second_end
 
-      -- what holds of the second script and the benches that are set apart, of both scripts,
+      -- a property of the second script and the pair holds of both scripts
       of_rest : g.is_specified → (P : Option Pair → List ℕ → Type 0) → P (make_pair slot then) (unread next)
           → P (pair_at (unread mid)) (after_separator (unread mid))
       of_rest is_specified P holds =

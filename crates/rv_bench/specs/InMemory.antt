@@ -1,4 +1,4 @@
--- What a job comes to from bytes in memory to bytes in memory, where no device is left that might not tell. (This project's own jobs.)
+-- The result of a job from bytes in memory to bytes in memory, with devices whose bytes are specified. (This project's own jobs.)
 use Rattle.std.specs.Prelude.{◌≡◌, ◌⊎◌, ℕ, ⊤, List, Result, Err}
 use Rattle.rv_asm.specs.OutOfMemory.{RunsOutOfMemory}
 use Rattle.rv_memory.specs.declared.ram_fault.RamFault.TheVariants.{NoMemory as NoRamMemory}
@@ -12,15 +12,15 @@ use Rattle.rv_bench.specs.Noninterference.{SecretNoninterference}
 use Rattle.rv_bench.specs.Output.{output}
 use Rattle.rv_bench.specs.Twin.{twin_output}
 
--- what a job puts out for an input, or the fault of the input
+-- the output of a job for an input, or the error of the input
 abbrev pub job_output : Job → List ℕ → Result (List ℕ) BenchFault
 job_output (Run setup) input = output setup input
 job_output (Twin setup slot) input = twin_output setup slot input
 job_output Asm input = asm_output input
 job_output Dis input = dis_output input
 
--- A fault is that of the input; but a call may fail, and memory be refused, at any: in a text that is assembled at a line which has no fault
--- that is told there in the place of that.
+-- An error is that of the input. But a call may fail, and memory be refused, for any input. In the assembly of a text, the program may run out
+-- of memory at a line that has no error which is reported instead.
 abbrev pub MeetsFault : Job → List ℕ → BenchFault → Type 0
 MeetsFault job input Read = ⊤
 MeetsFault job input Write = ⊤
@@ -29,7 +29,7 @@ MeetsFault job input (Ram NoRamMemory) = ⊤
 MeetsFault job input (AsmText fault) = (job_output job input ≡ Err (AsmText fault)) ⊎ RunsOutOfMemory input fault
 MeetsFault job input fault = job_output job input ≡ Err fault
 
--- the output of a run tells no secret that its script pokes
+-- the output of a run reveals no secret that its script pokes
 abbrev pub InMemoryNoninterference : Job → List ℕ → Type 0
 InMemoryNoninterference (Run setup) input = SecretNoninterference setup input
 InMemoryNoninterference job input = ⊤

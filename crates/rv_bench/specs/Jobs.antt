@@ -1,4 +1,4 @@
--- What each job does: what the call of that job does. (This project's own jobs.)
+-- Jobs: the effect of each job is that of its call. (This project's own jobs.)
 use Rattle.std.specs.Prelude.{◌≡◌, false, [], IfOk}
 use Rattle.rv_command_line.specs.declared.job.Job.{Job}
 use Rattle.rv_command_line.specs.declared.job.Job.TheVariants.{Run, Twin, Asm, Dis}
@@ -17,7 +17,7 @@ use Rattle.rv_bench.specs.Twin.{RunsTwin}
 use Rattle.rv_bench.specs.TwinLaws.{TwinNoninterference, TwinIntegrity}
 
 module _ {S : Type 0} (g : SourceGhosts S) where
-  -- New lines of a source, as far as they were read, when the source is given back.
+  -- New lines of a source, as far as they were read, when the source is returned.
   pub record ReadsByLines (source left : S) (old new : Lines S g) : Type 0 where
     pub made : old.source ≡ source
     pub empty : held old ≡ []
@@ -26,7 +26,7 @@ module _ {S : Type 0} (g : SourceGhosts S) where
     pub back : left ≡ new.source
 
 module _ {S W : Type 0} (g : SourceGhosts S) (h : SinkGhosts W) (source left : S) (before after : W) where
-  -- what each result of a job means
+  -- the meaning of each result of a job
   abbrev pub DoesJob : Job → Outcome → Type 0
   DoesJob (Run setup) outcome =
       (old : Lines S g) × (new : Lines S g) × ReadsByLines g source left old new × RunsStream h setup old new before after outcome

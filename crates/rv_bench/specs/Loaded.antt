@@ -1,4 +1,4 @@
--- What an image denotes: the bench that it starts, by the memory and the entry that it gives, or its fault (System V gABI, chapter 5, program loading).
+-- The bench that an image starts, from the memory and the entry that it specifies, or its error (System V gABI, chapter 5, program loading).
 use Rattle.std.specs.Prelude.{◌≡◌, ℕ, Bool, true, false, List, length, replicate, take, Result, Ok, Err, if◌then◌else◌}
 use Rattle.std.specs.Str.{bytes_eq}
 use Rattle.rv_word.specs.Cases.{result_case}
@@ -18,35 +18,35 @@ use Rattle.rv_command_line.specs.declared.setup.Setup.{Setup}
 use Rattle.rv_streams.specs.declared.fault.BenchFault.{BenchFault}
 use Rattle.rv_streams.specs.declared.fault.BenchFault.TheVariants.{Image, Ram}
 
--- the image is read as an ELF file: by its first four bytes, where the kind leaves that open
+-- the image is read as an ELF file; if the kind does not decide it, the first four bytes do
 abbrev pub is_read_as_elf : ImageKind → List ℕ → Bool
 is_read_as_elf Auto image = bytes_eq (take 4 image) magic
 is_read_as_elf Raw image = false
 is_read_as_elf Elf image = true
 
--- what is loaded where, or the fault of the least number
+-- the load plan, or the error of the lowest number
 abbrev pub planned : List ℕ → Setup → Result LoadPlan ElfFault
 planned image setup =
     if is_read_as_elf setup.kind image then file_plan image setup.ram setup.monitored else raw_plan (length image) setup.ram setup.monitored
 
--- the loaded memory, every other byte of which is 0
+-- the loaded memory; every byte that the image does not set is 0
 abbrev pub memory_loaded : List ℕ → Setup → LoadPlan → List ℕ
 memory_loaded image setup plan = loaded_memory image plan.segments (replicate setup.ram 0)
 
--- the bench at reset over a memory: the image alone on one hart in mode M, or the host on each hart above the monitor, with hart 0 chosen
+-- the bench at reset with a memory: the image on one hart in mode M, or the host on each hart above the monitor, with hart 0 selected
 abbrev pub reset_over : Setup → List ℕ → ℕ → BenchState
 reset_over setup memory entry =
     if setup.monitored then monitored_bench (at_start memory entry setup.harts)
     else bare (record { hart = at_reset entry M; memory = memory })
 
--- the bench at reset, or the first fault: of the RAM's size, then of the image
+-- the bench at reset, or the first error: of the RAM's size, then of the image
 unfoldable pub started : List ℕ → Setup → Result BenchState BenchFault
 started image setup =
     if is_ram_size setup.ram
     then result_case (planned image setup) (λ plan. Ok (reset_over setup (memory_loaded image setup plan) plan.entry)) (λ fault. Err (Image fault))
     else Err (Ram BadSize)
 
--- what each result of starting a bench means: the size of the RAM is asked before the image
+-- the meaning of each result of starting a bench; the size of the RAM is checked before the image
 abbrev pub Starts : List ℕ → Setup → Result BenchState BenchFault → Type 0
 Starts image setup (Ok bench) = started image setup ≡ Ok bench
 Starts image setup (Err (Ram BadSize)) = is_ram_size setup.ram ≡ false

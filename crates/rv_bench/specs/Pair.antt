@@ -1,4 +1,4 @@
--- What two benches reply that differ in what is private to the enclave of a slot, line by line. (This project's own commands.)
+-- The replies of a pair, line by line: two benches that differ in what is private to the enclave of a slot. (This project's own commands.)
 use Rattle.std.specs.Prelude.{ℕ, ◌==◌, Bool, true, false, List, [], ◌∷◌, ◌++◌, codes, decimal, Option, None, Some, if◌then◌else◌}
 use Rattle.rv_text.specs.Characters.{line_feed}
 use Rattle.rv_debug.specs.BenchState.{BenchState}
@@ -35,11 +35,11 @@ end_text ran = codes "twin end " ++ (decimal ran ++ codes "\n")
 
 -- ---- one line
 
--- the commands that were run, and that of this line; a blank one has none
+-- the number of commands with that of this line; a blank line has none
 abbrev pub with_line : Bool → ℕ → ℕ
 with_line is_blank ran = if is_blank then ran else one_more ran
 
--- what both did with it
+-- the result of a line on both benches
 abbrev pub done_by : BothLine → BothLineExecuted → ℕ → Replied Pair
 done_by Faulty both ran = record {
   state = record { first = both.first; second = both.second; ran = ran; entered = false };
@@ -61,7 +61,7 @@ done_by (Given NotBlind is_blank) both ran = record {
 abbrev pub pair_replied : Pair → BothLineExecuted → Replied Pair
 pair_replied pair both = done_by both.line both pair.ran
 
--- once the slot was entered no line is told anything
+-- once the slot was entered, a line has no effect and no reply
 unfoldable pub pair_line : ℕ → Pair → List ℕ → Replied Pair
 pair_line slot pair line =
     if pair.entered then record { state = pair; reply = [] } else pair_replied pair (both_execute_line slot pair.first pair.second line)
@@ -72,14 +72,14 @@ both_benches slot = record { respond = pair_line slot; is_over = λ pair. pair.e
 
 -- ---- a script
 
--- the end of the input is told where the slot was not entered
+-- the last line reports the end of the input, unless the slot was entered
 abbrev pub last_text : Pair → List ℕ
 last_text pair = if pair.entered then [] else end_text pair.ran
 
 abbrev pub script_text : ℕ → Pair → List (List ℕ) → List ℕ
 script_text slot pair script = replies (pair_line slot) pair script ++ last_text (state_after (pair_line slot) pair script)
 
--- the second of two equal benches is scrambled, where that can be
+-- the second of two equal benches is scrambled, if possible
 abbrev pub make_pair : ℕ → BenchState → Option Pair
 make_pair slot bench =
     if can_scramble slot bench then Some (record { first = bench; second = scrambled slot bench; ran = 0; entered = false })

@@ -1,4 +1,5 @@
--- What the program does with its words and its streams, and its status. (This project's own program; the text is ASCII, ISO/IEC 646.)
+-- The program: what it does with its arguments and its streams, and its exit status. (This project's own program; the text is ASCII, ISO/IEC
+-- 646.)
 use Rattle.std.specs.Prelude.{◌≡◌, ◌⊎◌, ℕ, List, [], ◌++◌, codes, decimal, string_bytes, Ok, Err}
 use Rattle.clap.specs.Words.{Text}
 use Rattle.rv_asm.specs.Faults.{asm_fault_number}
@@ -19,9 +20,9 @@ use Rattle.rv_streams.specs.Faults.{Outcome}
 use Rattle.rv_streams.specs.Transfer.{WritesPrefix}
 use Rattle.rv_bench.specs.Jobs.{DoesJob}
 
--- ---- the lines of faults
+-- ---- the lines of errors
 
--- of a fault of the output nothing is written
+-- an error of the output has no line
 unfoldable pub fault_text : BenchFault → List ℕ
 fault_text (Image fault) = codes "rvbench: image " ++ (decimal (elf_fault_number fault) ++ codes "\n")
 fault_text (Ram fault) = codes "rvbench: ram " ++ (decimal (ram_fault_number fault) ++ codes "\n")
@@ -33,36 +34,36 @@ fault_text NoMemory = codes "rvbench: memory\n"
 fault_text (Asm fault) =
     codes "rvbench: line " ++ (decimal fault.line ++ (codes " fault " ++ (decimal (asm_fault_number fault.kind) ++ codes "\n")))
 
--- ---- statuses
+-- ---- exit statuses
 
 abbrev pub exit_status : Outcome → ℕ
 exit_status (Ok _) = 0
 exit_status (Err fault) = 1
 
--- ---- what is done
+-- ---- the effect of the program
 
 module _ {W : Type 0} (h : SinkGhosts W) where
-  -- A text was written behind what was taken before, and the sink flushed.
+  -- A text was written after what the sink had taken, and the sink was flushed.
   pub record WritesAll (before after : W) (text : List ℕ) : Type 0 where
     pub sink : SinkFlushed h before after
     pub written : h.is_specified → h.taken after ≡ h.taken before ++ text
 
-  -- The sink failed, and took a beginning of the text.
+  -- The sink failed, and took a prefix of the text.
   pub record WritesOnlyPrefix (before after : W) (text : List ℕ) : Type 0 where
     pub sink : SinkFailed h before after
     pub prefix : h.is_specified → WritesPrefix (h.taken before) (h.taken after) text
 
-  -- what was told in addition, where that did not change the status
+  -- a text was written, or a prefix of it if the sink failed; the status is the same
   abbrev pub TriesToWrite : W → W → List ℕ → Type 0
   TriesToWrite before after text = WritesAll before after text ⊎ WritesOnlyPrefix before after text
 
-  -- what is told of an outcome, behind what the job has written: the line of its fault
+  -- the report of an outcome, after the output of the job: the line of its error
   abbrev pub ReportsOutcome : Outcome → W → W → Type 0
   ReportsOutcome (Ok _) before after = after ≡ before
   ReportsOutcome (Err Write) before after = after ≡ before
   ReportsOutcome (Err fault) before after = TriesToWrite before after (fault_text fault)
 
-  -- What is told of words that name no job, and the status: help is done where its text was written.
+  -- The report for arguments that name no job, and the status. Help succeeds if its text was written.
   abbrev pub Refuses : W → W → WordsFault → ℕ → Type 0
   Refuses before after words.Refused status = TriesToWrite before after (codes "rvbench: command line\n") × (status ≡ 2)
   Refuses before after words.NoMemory status = TriesToWrite before after (codes "rvbench: memory\n") × (status ≡ 1)
@@ -70,7 +71,7 @@ module _ {W : Type 0} (h : SinkGhosts W) where
       (WritesAll before after (string_bytes text) × (status ≡ 0)) ⊎ (WritesOnlyPrefix before after (string_bytes text) × (status ≡ 1))
 
 module _ {S W : Type 0} (g : SourceGhosts S) (h : SinkGhosts W) (source : S) (before after : W) where
-  -- the job was done, and its outcome told
+  -- the job was performed, and its outcome reported
   pub record DoesAndReports (job : Job) (status : ℕ) : Type 0 where
     pub left : S
     pub outcome : Outcome
@@ -79,12 +80,12 @@ module _ {S W : Type 0} (g : SourceGhosts S) (h : SinkGhosts W) (source : S) (be
     pub told : ReportsOutcome h outcome mid after
     pub status_is : status ≡ exit_status outcome
 
-  -- the words name no job, for one of the reasons that they have, or memory was refused
+  -- the arguments name no job, for one of the reasons that hold, or memory was refused
   pub record RefusesArguments (given : List Text) (status : ℕ) : Type 0 where
     pub fault : WordsFault
     pub reason : IsFaultOf (refusals_of given) fault
     pub refuses : Refuses h before after fault status
 
-  -- the words name a job, which was done, or they name none
+  -- the arguments name a job, which was performed, or they name none
   abbrev pub Performs : List Text → ℕ → Type 0
   Performs given status = ((refusals_of given ≡ []) × DoesAndReports (job_of given) status) ⊎ RefusesArguments given status

@@ -1,4 +1,4 @@
--- What is answered to the lines of a script, one after another. (This project's own commands.)
+-- The replies to the lines of a script, one after another. (This project's own commands.)
 use Rattle.std.specs.Prelude.{ℕ, Bool, false, List, [], ◌∷◌, ◌++◌}
 use Rattle.rv_debug.specs.Execute.{execute_line}
 use Rattle.rv_debug.specs.BenchState.{BenchState}
@@ -8,7 +8,7 @@ pub record Replied (A : Type 0) : Type 0 where
   pub state : A
   pub reply : List ℕ
 
--- What answers the lines of a script: what it answers in a state, and the states in which it is over, so that no more lines are read.
+-- A responder to the lines of a script: its reply in each state, and the states in which it is over and reads no further line.
 pub record Responding (A : Type 0) : Type 0 where
   pub respond : A → List ℕ → Replied A
   pub is_over : A → Bool
@@ -19,12 +19,12 @@ replies respond state [] = []
 replies respond state (line ∷ script) =
     let first = respond state line in first.reply ++ replies respond first.state script
 
--- the state after them
+-- the state after the lines
 abbrev pub state_after : {A : Type 0} → (A → List ℕ → Replied A) → A → List (List ℕ) → A
 state_after respond state [] = state
 state_after respond state (line ∷ script) = state_after respond (respond state line).state script
 
--- what a bench answers
+-- the reply of a bench
 abbrev pub bench_line : BenchState → List ℕ → Replied BenchState
 bench_line bench line = let responded = execute_line bench line in record { state = responded.state; reply = responded.reply }
 

@@ -1,5 +1,5 @@
--- What is answered to the lines of a script, by whatever answers them, as far as it is read: to its end, or to the line after which it is
--- over. (This project's own streams.)
+-- The responses to the lines of a script, as far as it is read: to its end, or to the line after which the responder is over. (This project's
+-- own streams.)
 use Rattle.std.specs.Prelude.{◌≡◌, ◌⊎◌, ℕ, Bool, true, false, List, [], ◌++◌, take, Ok, Err}
 use Rattle.rv_streams.specs.declared.device.Sink.{Ghosts as SinkGhosts}
 use Rattle.rv_streams.specs.declared.device.Source.{Ghosts as SourceGhosts}
@@ -13,20 +13,20 @@ use Rattle.rv_streams.specs.Unread.{held, unread}
 use Rattle.rv_bench.specs.Replies.{Responding, Replied, replies, state_after}
 use Rattle.rv_bench.specs.Run.{FailsIn}
 
--- a line has this answer, and so has every one that begins with the same 121 bytes
+-- a line has this response, and so has every line that begins with the same 121 bytes
 abbrev pub RespondsToLine : {A : Type 0} → Responding A → A → List ℕ → Replied A → Type 0
 RespondsToLine by now line responded =
     (by.respond now line ≡ responded) × ((other : List ℕ) → take 121 other ≡ take 121 line → by.respond now other ≡ by.respond now line)
 
 module _ {A : Type 0} (by : Responding A) (end : ScriptEnd) (start : A) (is_specified : Type 0) (unread old : List ℕ) where
-  -- The lines of the script that were taken have their replies, where the sink tells.
+  -- The lines of the script that were taken have their replies, if the bytes of the sink are specified.
   pub record RespondsToLines (now : A) (left : List ℕ) (is_at_end : Bool) (new : List ℕ) : Type 0 where
     pub lines : List (List ℕ)
     pub taken : TakesScript end unread left is_at_end lines
     pub state : now ≡ state_after by.respond start lines
     pub written : is_specified → new ≡ old ++ replies by.respond start lines
 
-  -- After these, after which it is not over, one more line was taken, which has this reply.
+  -- After these lines the responder is not over. One more line was taken, which has this reply.
   pub record RespondsToNext (mid : List ℕ) (after : A) (rest : List ℕ) (ends : Bool) (reply : List ℕ) : Type 0 where
     pub now : A
     pub left : List ℕ
@@ -39,7 +39,7 @@ module _ {A : Type 0} (by : Responding A) (end : ScriptEnd) (start : A) (is_spec
 
 module _ {S W : Type 0} {g : SourceGhosts S} (h : SinkGhosts W) {A : Type 0} (by : Responding A) (end : ScriptEnd) (start now : A) (old new : Lines S g)
     (before after : W) where
-  -- All lines of the script were answered, and it is not over.
+  -- All lines of the script have their responses, and the responder is not over.
   pub record RespondsToEnd : Type 0 where
     pub last : Lines S g
     pub found : FindsEnd end last new
@@ -47,7 +47,7 @@ module _ {S W : Type 0} {g : SourceGhosts S} (h : SinkGhosts W) {A : Type 0} (by
     pub responded : g.is_specified
         → RespondsToLines by end start h.is_specified (unread old) (h.taken before) now (unread last) last.is_at_end (h.taken after)
 
-  -- The last line that was read is the one after which it is over.
+  -- After the last line that was read, the responder is over.
   pub record RespondsUntilOver : Type 0 where
     pub was : A
     pub shown : List ℕ
@@ -59,14 +59,14 @@ module _ {S W : Type 0} {g : SourceGhosts S} (h : SinkGhosts W) {A : Type 0} (by
     pub told : h.is_specified → h.taken after ≡ mid ++ reply
     pub next : g.is_specified → RespondsToNext by end start h.is_specified (unread old) (h.taken before) mid now (unread new) new.is_at_end reply
 
-  -- All lines that were read were answered.
+  -- All lines that were read have their responses.
   pub record RespondsToAll : Type 0 where
     pub source : SourceWorked g old.source new.source
     pub sink : SinkWorked h before after
     pub emptied : held new ≡ []
     pub stopped : RespondsToEnd ⊎ RespondsUntilOver
 
-  -- what each result of answering the lines of a script means
+  -- the meaning of each result of responding to a script
   abbrev pub RespondsToScript : Outcome → Type 0
   RespondsToScript (Ok _) = RespondsToAll
   RespondsToScript (Err fault) = FailsIn h by end start old new before after fault

@@ -1,4 +1,4 @@
--- What a run over the lines of a script does, result by result. (This project's own streams.)
+-- A run over the lines of a script, result by result. (This project's own streams.)
 use Rattle.std.specs.Prelude.{◌≡◌, ℕ, ◌+◌, ◌≤◌, true, false, List, [], ◌++◌, length, take, IsOkAnd, Result, Ok, Err}
 use Rattle.rv_text.specs.Lines.{has_feed, lines_of, through_last_feed}
 use Rattle.rv_debug.specs.BenchState.{BenchState}
@@ -21,8 +21,8 @@ use Rattle.rv_bench.specs.Loaded.{started}
 use Rattle.rv_bench.specs.Replies.{Responding, bench_line, one_bench, replies, state_after}
 
 module _ {A : Type 0} (by : Responding A) where
-  -- The source failed. A text of whole lines of the script has its replies, after which it is not over, and the line that was begun is
-  -- kept, at most 122 bytes of it, so that a later call goes on from there. What was written is known where the sink tells.
+  -- The source failed. A text of whole lines of the script has its replies, and the responder is not over after it. At most 122 bytes of the
+  -- line that was begun are held, so that a later call continues from there. The written bytes are known if those of the sink are specified.
   pub record StopsAtRead (end : ScriptEnd) (start : A) (is_specified : Type 0) (unread left kept old new : List ℕ) : Type 0 where
     pub text : List ℕ
     pub begun : List ℕ
@@ -34,8 +34,9 @@ module _ {A : Type 0} (by : Responding A) where
     pub going : by.is_over (state_after by.respond start (lines_of text)) ≡ false
     pub written : is_specified → new ≡ old ++ replies by.respond start (lines_of text)
 
-  -- The sink failed, or took nothing. Lines of the script were answered, after which it is not over, and at most one more line was read:
-  -- the next of the script, of whose reply a beginning was written, or the line that ends the script. A later call goes on after these.
+  -- The sink failed, or took nothing. Some lines of the script have their responses, and the responder is not over after them. At most one more
+  -- line was read: the next line of the script, of whose reply a prefix was written, or the line that ends the script. A later call continues
+  -- after these.
   pub record StopsAtWrite (end : ScriptEnd) (start : A) (is_specified : Type 0) (unread left old new : List ℕ) : Type 0 where
     pub text : List ℕ
     pub responded : List (List ℕ)
@@ -49,7 +50,7 @@ module _ {A : Type 0} (by : Responding A) where
         → WritesPrefix (old ++ replies by.respond start responded) new (replies by.respond (state_after by.respond start responded) next)
 
 module _ {S W : Type 0} {g : SourceGhosts S} (h : SinkGhosts W) where
-  -- All was read, to the end that the source answered, and just the output was written, and the sink flushed behind it.
+  -- All was read, to the end that the source reported. Exactly the output was written, and the sink was flushed afterwards.
   pub record RunsToEnd (output : Result (List ℕ) BenchFault) (old new : Lines S g) (before after : W) : Type 0 where
     pub at_end : new.is_at_end ≡ true
     pub ended : HasEnded old new
@@ -59,7 +60,7 @@ module _ {S W : Type 0} {g : SourceGhosts S} (h : SinkGhosts W) where
     pub used_up : g.is_specified → unread new ≡ []
     pub written : g.is_specified → IsOkAnd output (λ text. h.is_specified → h.taken after ≡ h.taken before ++ text)
 
-  -- All was read through the first separator, or to the end that the source answered, and just the output was written.
+  -- All was read through the first separator, or to the end that the source reported. Exactly the output was written.
   pub record RunsToSeparator (output : Result (List ℕ) BenchFault) (old new : Lines S g) (before after : W) : Type 0 where
     pub reads : ReadsThroughSeparator old new
     pub sink : SinkWorked h before after
@@ -70,20 +71,20 @@ module _ {S W : Type 0} {g : SourceGhosts S} (h : SinkGhosts W) where
   RunsScript Input = RunsToEnd
   RunsScript Separator = RunsToSeparator
 
-  -- The source failed, and not the sink.
+  -- The source failed, and the sink did not.
   pub record FailsToRead (old new : Lines S g) (before after : W) : Type 0 where
     pub source : SourceFailed g old.source new.source
     pub sink : SinkWorked h before after
     pub going : new.is_at_end ≡ false
 
-  -- The sink failed, and not the source: a beginning of the output is written.
+  -- The sink failed, and the source did not: a prefix of the output is written.
   pub record FailsToWrite (output : Result (List ℕ) BenchFault) (old new : Lines S g) (before after : W) : Type 0 where
     pub source : SourceWorked g old.source new.source
     pub sink : SinkFailed h before after
     pub emptied : held new ≡ []
     pub prefix : g.is_specified → IsOkAnd output (λ text. h.is_specified → WritesPrefix (h.taken before) (h.taken after) text)
 
-  -- what each failure means of a run over the lines of a script, from the state before it
+  -- the meaning of each failure of a run over the lines of a script, from the state before it
   abbrev pub FailsIn : {A : Type 0} → Responding A → ScriptEnd → A → Lines S g → Lines S g → W → W → BenchFault → Type 0
   FailsIn by end start old new before after Read =
       FailsToRead old new before after
@@ -93,14 +94,14 @@ module _ {S W : Type 0} {g : SourceGhosts S} (h : SinkGhosts W) where
       × (g.is_specified → StopsAtWrite by end start h.is_specified (unread old) (unread new) (h.taken before) (h.taken after))
   FailsIn by end start old new before after _ = ⊥
 
-  -- what each result of a run of one bench over the lines of a script means, from the state of the bench before it
+  -- the meaning of each result of a run of one bench over the lines of a script, from the state of the bench before it
   abbrev pub RunsLines : ScriptEnd → BenchState → Lines S g → Lines S g → W → W → Outcome → Type 0
   RunsLines end bench old new before after (Ok _) =
       RunsScript end (Ok (replies bench_line bench (script_lines end (lines_of (unread old))))) old new before after
   RunsLines end bench old new before after (Err fault) = FailsIn one_bench end bench old new before after fault
 
-  -- What each result of `run_bench` means. Where the setup or the image has a fault, nothing is read or written; else the lines
-  -- are run by the bench that the image starts.
+  -- The meaning of each result of `run_bench`. If the setup or the image has an error, nothing is read or written. Otherwise the bench that the
+  -- image starts runs the lines.
   abbrev pub RunsBench : List ℕ → Setup → Lines S g → Lines S g → W → W → Outcome → Type 0
   RunsBench image setup old new before after (Err (Ram BadSize)) = (is_ram_size setup.ram ≡ false) × (new ≡ old) × (after ≡ before)
   RunsBench image setup old new before after (Err (Ram NoRamMemory)) = (is_ram_size setup.ram ≡ true) × (new ≡ old) × (after ≡ before)

@@ -1,4 +1,4 @@
--- What a run over an input does, result by result: an image, the line `--`, and a script. (This project's own streams.)
+-- A run over an input, result by result: an image, the line `--`, and a script. (This project's own streams.)
 use Rattle.std.specs.Prelude.{◌≡◌, ◌⊎◌, true, false, IsTrue, IsOk, IsOkAnd, Ok, Err}
 use Rattle.rv_memory.specs.Memory.{is_ram_size}
 use Rattle.rv_memory.specs.declared.ram_fault.RamFault.TheVariants.{BadSize, NoMemory as NoRamMemory}
@@ -20,11 +20,11 @@ use Rattle.rv_bench.specs.Replies.{one_bench}
 use Rattle.rv_bench.specs.Run.{RunsToEnd, FailsToRead, FailsToWrite, StopsAtRead, StopsAtWrite}
 
 module _ {S W : Type 0} {g : SourceGhosts S} (h : SinkGhosts W) (setup : Setup) (old new : Lines S g) (before after : W) where
-  -- the input has this fault in place of an output
+  -- the input has this error instead of an output
   abbrev pub IsFault : BenchFault → Type 0
   IsFault fault = g.is_specified → output setup (unread old) ≡ Err fault
 
-  -- The source failed: in the image, when nothing is written, or else in the script, which follows a separator.
+  -- The source failed: in the image, and then nothing is written, or in the script, which follows a separator.
   abbrev pub StopsStreamAtRead : Type 0
   StopsStreamAtRead =
       (ReadsInImage (unread old) (g.remaining new.source) (held new) × (after ≡ before))
@@ -37,7 +37,7 @@ module _ {S W : Type 0} {g : SourceGhosts S} (h : SinkGhosts W) (setup : Setup) 
       IsOkAnd (bench_in setup (unread old)) (λ state.
       StopsAtWrite one_bench Input state h.is_specified (after_separator (unread old)) (unread new) (h.taken before) (h.taken after))
 
-  -- What each result of `run_stream` means. The image's text, the RAM's size and the image are asked in this order, before a
+  -- The meaning of each result of `run_stream`. The text of the image, the size of the RAM and the image are checked in this order, before a
   -- byte is written.
   abbrev pub RunsStream : Outcome → Type 0
   RunsStream (Ok _) = (is_ram_size setup.ram ≡ true) × RunsToEnd h (output setup (unread old)) old new before after

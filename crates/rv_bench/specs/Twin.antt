@@ -1,4 +1,4 @@
--- What a twin run over an input does, result by result: an image, a first script for two equal benches, and a second one for both once the
+-- A twin run over an input, result by result. The input has an image, a first script for two equal benches, and a second one for both after the
 -- enclave of a slot is scrambled in the second bench. (This project's own streams.)
 use Rattle.std.specs.Prelude.{◌≡◌, ◌⊎◌, ℕ, Bool, true, false, List, [], ◌∷◌, ◌++◌, IsTrue, IsOk, IsOkAnd, IsSomeAnd, Option, Some, None}
 use Rattle.std.specs.Prelude.{Result, Ok, Err}
@@ -29,7 +29,7 @@ use Rattle.rv_bench.specs.Output.{bench_in}
 use Rattle.rv_bench.specs.Replies.{bench_line, one_bench, replies, state_after}
 use Rattle.rv_bench.specs.Run.{FailsToRead, FailsToWrite, StopsAtRead, StopsAtWrite}
 
--- the setup of a twin run is monitored, whatever it says
+-- the setup of a twin run is monitored, whatever the given one specifies
 abbrev pub monitored_setup : Setup → Setup
 monitored_setup setup = record setup { monitored = true }
 
@@ -42,23 +42,23 @@ after_first_script bench input = state_after bench_line bench (before_separator 
 abbrev pub first_text : BenchState → List ℕ → List ℕ
 first_text bench input = replies bench_line bench (before_separator (lines_of input))
 
--- what is told once the benches are set apart, of the second script, which is all that follows
+-- the text for the second script, which is the rest of the input, once the benches differ
 abbrev pub second_text : ℕ → Option Pair → List ℕ → List ℕ
 second_text slot None input = no_slot_text
 second_text slot (Some pair) input = script_text slot pair (lines_of input)
 
--- the text over both scripts
+-- the text for both scripts
 abbrev pub scripts_text : ℕ → BenchState → List ℕ → List ℕ
 scripts_text slot bench input = first_text bench input ++ second_text slot (make_pair slot (after_first_script bench input)) (after_separator input)
 
--- the text for a whole input, or the fault of its image
+-- the text for a whole input, or the error of its image
 abbrev pub twin_output : Setup → ℕ → List ℕ → Result (List ℕ) BenchFault
 twin_output setup slot input =
     result_case (bench_in (monitored_setup setup) input) (λ bench. Ok (scripts_text slot bench (after_separator input))) Err
 
--- ---- what was read
+-- ---- the lines that were read
 
--- Lines were read, none of which entered the slot, and the one that entered it: this one through its line feed, or to the end of the input.
+-- Lines were read that did not enter the slot, and then the line that entered it, through its line feed or to the end of the input.
 pub record EntersSlot (slot : ℕ) (pair : Pair) (unread left : List ℕ) (is_at_end : Bool) : Type 0 where
   pub lines : List (List ℕ)
   pub line : List ℕ
@@ -75,29 +75,29 @@ IsOver slot (Some pair) unread left is_at_end = EntersSlot slot pair unread left
 abbrev pub IsNeverEntered : ℕ → Option Pair → List ℕ → Type 0
 IsNeverEntered slot pair input = IsSomeAnd pair (λ pair. (state_after (pair_line slot) pair (lines_of input)).entered ≡ false)
 
--- The sink failed in the line that tells the end of the input, no line having entered the slot.
+-- The sink failed in the line that reports the end of the input, and no line entered the slot.
 pub record StopsInEnd (slot : ℕ) (pair : Pair) (is_specified : Type 0) (unread left old new : List ℕ) : Type 0 where
   pub used_up : left ≡ []
   pub going : (state_after (pair_line slot) pair (lines_of unread)).entered ≡ false
   pub written : is_specified
       → WritesPrefix (old ++ replies (pair_line slot) pair (lines_of unread)) new (end_text (state_after (pair_line slot) pair (lines_of unread)).ran)
 
--- the sink failed in the second script, or in the line that tells that there is no slot
+-- the sink failed in the second script, or in the line `twin no slot`
 abbrev pub StopsSecondAtWrite : ℕ → Option Pair → Type 0 → List ℕ → List ℕ → List ℕ → List ℕ → Type 0
 StopsSecondAtWrite slot None is_specified unread left old new = (left ≡ unread) × (is_specified → WritesPrefix old new no_slot_text)
 StopsSecondAtWrite slot (Some pair) is_specified unread left old new =
     StopsAtWrite (both_benches slot) Input pair is_specified unread left old new ⊎ StopsInEnd slot pair is_specified unread left old new
 
--- this is the last that was written
+-- the written bytes end in this text
 abbrev pub EndsIn : List ℕ → List ℕ → Type 0
 EndsIn last written = (prefix : List ℕ) × (written ≡ prefix ++ last)
 
--- what is told last where the run was over before the end
+-- the last line, if the run was over before the end
 abbrev pub ReportsEnd : {W : Type 0} → SinkGhosts W → W → Type 0
 ReportsEnd h after = h.is_specified → EndsIn no_slot_text (h.taken after) ⊎ ((ran : ℕ) × EndsIn (entered_text ran) (h.taken after))
 
 module _ {S W : Type 0} {g : SourceGhosts S} (h : SinkGhosts W) where
-  -- The run went to the end of the input, which the source answered, and no line entered the slot. That is told last.
+  -- The run reached the end of the input, which the source reported, and no line entered the slot. The last line reports it.
   pub record GoesToEnd (NeverEntered : Type 0) (old new : Lines S g) (after : W) : Type 0 where
     pub at_end : new.is_at_end ≡ true
     pub ended : HasEnded old new
@@ -105,7 +105,7 @@ module _ {S W : Type 0} {g : SourceGhosts S} (h : SinkGhosts W) where
     pub going : g.is_specified → NeverEntered
     pub told : h.is_specified → (ran : ℕ) × EndsIn (end_text ran) (h.taken after)
 
-  -- The text was written, the sink flushed behind it, and all was read to the end of the input, or as far as the run went.
+  -- The text was written, and the sink flushed afterwards. The input was read to its end, or as far as the run continued.
   pub record TellsTwin (output : Result (List ℕ) BenchFault) (NeverEntered Over : Type 0) (old new : Lines S g) (before after : W) : Type 0 where
     pub source : SourceWorked g old.source new.source
     pub sink : SinkFlushed h before after
@@ -113,7 +113,7 @@ module _ {S W : Type 0} {g : SourceGhosts S} (h : SinkGhosts W) where
     pub read : GoesToEnd NeverEntered old new after ⊎ ((g.is_specified → Over) × ReportsEnd h after)
     pub written : g.is_specified → IsOkAnd output (λ text. h.is_specified → h.taken after ≡ h.taken before ++ text)
 
-  -- What each result of the second part means, by the benches once they are set apart.
+  -- The meaning of each result of the second part, for the pair after the scramble.
   abbrev pub RunsSecond : ℕ → Option Pair → Lines S g → Lines S g → W → W → Outcome → Type 0
   RunsSecond slot pair old new before after (Ok _) =
       TellsTwin (Ok (second_text slot pair (unread old))) (IsNeverEntered slot pair (unread old)) (IsOver slot pair (unread old) (unread new) new.is_at_end)
@@ -128,7 +128,7 @@ module _ {S W : Type 0} {g : SourceGhosts S} (h : SinkGhosts W) where
   RunsSecond slot pair old new before after (Err _) = ⊥
 
 module _ {S W : Type 0} {g : SourceGhosts S} (h : SinkGhosts W) (setup : Setup) (slot : ℕ) (old new : Lines S g) (before after : W) where
-  -- the input has this fault in place of a text
+  -- the input has this error instead of a text
   abbrev pub HasFault : BenchFault → Type 0
   HasFault fault = g.is_specified → twin_output setup slot (unread old) ≡ Err fault
 
@@ -140,7 +140,7 @@ module _ {S W : Type 0} {g : SourceGhosts S} (h : SinkGhosts W) (setup : Setup) 
       StopsAtRead (both_benches slot) Input pair h.is_specified (after_separator scripts) (g.remaining new.source) (held new)
       (h.taken before ++ first_text bench scripts) (h.taken after)))
 
-  -- The source failed: in the image, when nothing is written, or else in a script, which follows a separator.
+  -- The source failed: in the image, and then nothing is written, or in a script, which follows a separator.
   abbrev pub StopsTwinAtRead : Type 0
   StopsTwinAtRead =
       (ReadsInImage (unread old) (g.remaining new.source) (held new) × (after ≡ before))
@@ -170,7 +170,8 @@ module _ {S W : Type 0} {g : SourceGhosts S} (h : SinkGhosts W) (setup : Setup) 
       let scripts = after_separator (unread old) in
       IsOver slot (make_pair slot (after_first_script bench scripts)) (after_separator scripts) (unread new) new.is_at_end)
 
-  -- What each result of `run_twin` means. The image's text, the RAM's size and the image are asked in this order, before a byte is written.
+  -- The meaning of each result of `run_twin`. The text of the image, the size of the RAM and the image are checked in this order, before a byte
+  -- is written.
   abbrev pub RunsTwin : Outcome → Type 0
   RunsTwin (Ok _) = (is_ram_size setup.ram ≡ true) × TellsTwin h (twin_output setup slot (unread old)) IsTwinNeverEntered IsTwinOver old new before after
   RunsTwin (Err Read) = FailsToRead h old new before after × (g.is_specified → StopsTwinAtRead)

@@ -1,5 +1,5 @@
--- Two benches that are given the same script once one of them is scrambled: both stay alike until the slot is entered, and each spares every
--- enclave that rests. (Laws of this project's own monitor under its own debugger.)
+-- Laws of a twin run: two benches execute the same script after one of them is scrambled. They stay equivalent until the slot is entered, and
+-- each preserves every enclave that is undisturbed. (Laws of this project's own monitor and debugger.)
 use Rattle.std.specs.Prelude.{◌≡◌, ℕ, false, List, [], ◌∷◌, ◌++◌, IfOk, IfSome, if◌then◌else◌}
 use Rattle.rv_word.specs.Cases.{result_case}
 use Rattle.rv_script.specs.Command.{parse_of}
@@ -17,16 +17,16 @@ use Rattle.rv_bench.specs.Output.{bench_in}
 use Rattle.rv_bench.specs.Replies.{state_after}
 use Rattle.rv_bench.specs.Twin.{after_first_script, monitored_setup}
 
--- ---- confidentiality
+-- ---- noninterference
 
--- a line that both benches do has the same reply of both
+-- a line that both benches execute has the same reply in both
 abbrev pub RepliesAlikeTo : ℕ → Pair → List ℕ → Type 0
 RepliesAlikeTo slot pair line =
     IfOk (parse_of line) (λ command.
     let after = both_execute slot pair.first pair.second command in
     after.why ≡ All → after.first_reply ≡ after.second_reply)
 
--- as long as the slot was not entered, the benches agree but for it, its enclave runs on no hart, and the next line is told alike
+-- until the slot is entered, the benches are equivalent except for it, its enclave runs on no hart, and the replies to the next line are alike
 abbrev pub StayTogether : ℕ → Pair → Type 0
 StayTogether slot start =
     (lines : List (List ℕ)) (line : List ℕ)
@@ -36,7 +36,7 @@ StayTogether slot start =
 
 -- ---- integrity
 
--- the command that both benches did, or none
+-- the command that both benches executed, or none
 abbrev pub done_by_both : BothWhy → Command → List Command
 done_by_both NotBlind command = []
 done_by_both _ command = command ∷ []
@@ -46,13 +46,14 @@ done_in_line slot pair line =
     if pair.entered then []
     else result_case (parse_of line) (λ command. done_by_both (both_execute slot pair.first pair.second command).why command) (λ _. [])
 
--- the commands that both benches did of lines, in their order
+-- the commands of lines that both benches executed, in their order
 abbrev pub commands_done : ℕ → Pair → List (List ℕ) → List Command
 commands_done slot pair [] = []
 commands_done slot pair (line ∷ lines) =
     done_in_line slot pair line ++ commands_done slot (pair_line slot pair line).state lines
 
--- After any lines, what both benches do of any part that follows them spares in each of the two every enclave that rests through it there.
+-- After any lines, take any part that follows them, and the commands of it that both benches execute. In each bench, these preserve every
+-- enclave that they leave undisturbed there.
 abbrev pub BothPreserve : ℕ → Pair → Type 0
 BothPreserve slot start =
     (k : ℕ) (before part : List (List ℕ))
@@ -64,7 +65,7 @@ BothPreserve slot start =
 
 -- ---- a whole input
 
--- the benches once they are set apart, where the input starts any and a slot can be scrambled
+-- the pair after the scramble, if the input starts a bench and the slot can be scrambled
 abbrev pub OfPair : Setup → ℕ → List ℕ → (Pair → Type 0) → Type 0
 OfPair setup slot input Law =
     IfOk (bench_in (monitored_setup setup) input) (λ bench. IfSome (make_pair slot (after_first_script bench (after_separator input))) Law)
@@ -72,7 +73,7 @@ OfPair setup slot input Law =
 abbrev pub TwinNoninterference : Setup → ℕ → List ℕ → Type 0
 TwinNoninterference setup slot input = OfPair setup slot input (StayTogether slot)
 
--- in the first script, and in both benches in the second
+-- for the first script, and for both benches in the second
 pub record TwinIntegrity (setup : Setup) (slot : ℕ) (input : List ℕ) : Type 0 where
   pub first : IfOk (bench_in (monitored_setup setup) input) PreservesThrough
   pub second : OfPair setup slot input (BothPreserve slot)

@@ -1,4 +1,4 @@
-//! Two benches that are equal, and answer as one.
+//! Two equal benches, which respond as one.
 
 ghost use Rattle.std.specs.Prelude.{◌≡◌};
 ghost use Rattle.rv_bench.specs.Replies.{one_bench};
@@ -7,7 +7,7 @@ use crate::responder::Responder;
 use rv_debug::Bench;
 use rv_text::Reply;
 
-/// Two benches that are equal.
+/// Two equal benches.
 #[derive(Drop)]
 pub(crate) struct EqualBenches {
     pub(crate) first: Bench,

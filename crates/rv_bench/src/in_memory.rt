@@ -8,12 +8,12 @@ use rv_command_line::Job;
 use rv_streams::{BenchFault, StandardSink, StandardSource};
 use std::alloc::Global;
 
-/// What a job puts out for an input. It is `run_job` over the program's own devices, here over a slice and a vector of std, of which std
-/// tells the bytes: so no premise is left of what a device tells. `secret` is that of `run_stream`.
+/// Returns the output of a job for an input. It calls `run_job` with the program's own devices over a slice and a vector of the standard
+/// library. Their bytes are specified, so there is no premise about the devices. `secret` is the clause of `run_stream`.
 ///
 /// # Errors
 ///
-/// Those of `run_job`. `Read` and `Write` come only where the slice or the vector refused a call, as the vector does where it finds no
+/// Those of `run_job`. `Read` and `Write` are returned only if the slice or the vector refused a call, as the vector does if it is out of
 /// memory.
 pub fn run_in_memory(alloc: Global, job: &Job, input: &[u8]) -> Result<Vec<u8>, BenchFault>
     ensures ok { IfOk result (λ written. job_output job.now input.now ≡ Ok written.items) }

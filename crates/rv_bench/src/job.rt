@@ -1,4 +1,4 @@
-//! What the program is asked to do.
+//! The jobs of the program.
 
 ghost use Rattle.rv_bench.specs.Jobs.{DoesJob};
 
@@ -8,15 +8,15 @@ use rv_command_line::Job;
 use rv_streams::{BenchFault, Lines, Sink, Source, run_asm, run_dis};
 use std::alloc::Global;
 
-/// Does a job from a source to a sink, and gives the source back, with the call's outcome. What was kept of an unfinished
-/// line is let go.
+/// Performs a job from a source to a sink, and returns the source with the outcome of the call. The unfinished line that was read, if any, is
+/// discarded.
 ///
 /// # Errors
 ///
-/// - those of `run_stream` where the job is `Run`;
-/// - those of `run_twin` where it is `Twin`;
-/// - those of `run_asm` where it is `Asm`;
-/// - those of `run_dis` where it is `Dis`.
+/// - those of `run_stream` if the job is `Run`;
+/// - those of `run_twin` if it is `Twin`;
+/// - those of `run_asm` if it is `Asm`;
+/// - those of `run_dis` if it is `Dis`.
 pub fn run_job<S: Source, W: Sink>(
     alloc: Global,
     job: &Job,

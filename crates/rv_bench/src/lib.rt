@@ -1,9 +1,9 @@
-//! The bench from bytes to bytes: an image and a script come in through a [`Source`], and the replies go out through a
-//! [`Sink`]. The same way a text is assembled, and an image disassembled.
+//! The bench from bytes to bytes. An image and a script are read from a [`Source`], and the replies are written to a [`Sink`]. In the same way a
+//! text is assembled, and an image disassembled.
 //!
-//! What a line of a script does is the business of the crate `rv_debug`; lines, images and the jobs that need no bench that of
-//! `rv_streams`. The specs have an equation for each result of a call, of what was read, kept and written then: `Run` (of `run_bench`),
-//! `Stream`, `Twin` and `Jobs`. The texts that are written are named in `Output`, `Replies` and `Pair`.
+//! The crate `rv_debug` executes the lines of a script. The crate `rv_streams` has lines, images and the jobs that need no bench. The specs have
+//! an equation for each result of a call, about what was read, held and written: `Run` (of `run_bench`), `Stream`, `Twin` and `Jobs`. `Output`,
+//! `Replies` and `Pair` define the texts that are written.
 //!
 //! ```text
 //! let mut lines = Lines::new(MemorySource::new(b"9300f0ff\n--\nstep 1\nreg 1\n"));

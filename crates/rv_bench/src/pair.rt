@@ -1,4 +1,4 @@
-//! Two benches that differ in what is private to the enclave of a slot.
+//! A pair: two benches that differ in what is private to the enclave of a slot.
 
 ghost use Rattle.std.specs.Prelude.{◌≡◌, ◌+◌, ◌*◌, ◌≤◌, ◌++◌, ℕ, List, false, [], true, take, length};
 ghost use Rattle.arrayvec.specs.ArrayVec.{array_vec_len};
@@ -10,13 +10,13 @@ use rv_debug::{Bench, BothLine, BothWhy, both_line};
 use rv_monitor::Slot;
 use rv_text::{Reply, push_count, push_text};
 
-/// The most bytes that are told of one line: each byte of two replies may begin a line, which has a mark of three bytes.
+/// The maximum number of bytes that are written for one line. Each byte of two replies may begin a line, which has a mark of three bytes.
 const TOLD_MAX: usize = 16384;
 
-/// What is told of one line.
+/// The text that is written for one line.
 pub(crate) type Told = ArrayVec<u8, TOLD_MAX>;
 
-/// Two benches, how many commands both have run, and whether the slot was entered, after which no more are run.
+/// Two benches, the number of commands that both have executed, and whether the slot was entered. After that they execute no commands.
 #[derive(Drop)]
 pub(crate) struct Pair {
     pub(crate) first: Bench,
@@ -25,7 +25,7 @@ pub(crate) struct Pair {
     pub(crate) entered: bool,
 }
 
-/// Writes a text at the end of one that has room for it.
+/// Appends a text to a buffer that has room for it.
 fn push_all(out: &mut Told, text: &[u8])
     requires room { array_vec_len out.old + length text.now ≤ 16384 }
     ensures items { out.new.items ≡ out.old.items ++ text.now }
@@ -36,7 +36,7 @@ fn push_all(out: &mut Told, text: &[u8])
     }
 }
 
-/// Writes a text with a mark of three bytes before each of its lines.
+/// Appends a text with a mark of three bytes before each of its lines.
 fn push_marked(out: &mut Told, mark: &[u8; 3], text: &[u8])
     requires room { array_vec_len out.old + 4 * length text.now ≤ 16384 }
     ensures items { out.new.items ≡ out.old.items ++ marked mark.now true text.now }
@@ -52,7 +52,7 @@ fn push_marked(out: &mut Told, mark: &[u8; 3], text: &[u8])
     }
 }
 
-/// Writes that the slot was entered, after so many commands.
+/// Appends that the slot was entered, after this number of commands.
 #[tactic(auto, unfolding(crate::specs::Pair::entered_text))]
 fn push_entered(out: &mut Told, ran: u64)
     requires { array_vec_len out.old + 34 ≤ 16384 }
@@ -65,7 +65,7 @@ fn push_entered(out: &mut Told, ran: u64)
     push_all(out, text.as_slice());
 }
 
-/// The text that ends a run in which the slot was not entered, after so many commands.
+/// Returns the last line of a run in which the slot was not entered, with this number of commands.
 #[tactic(auto, unfolding(crate::specs::Pair::end_text))]
 fn end_of(ran: u64) -> Reply
     ensures { result.items ≡ end_text ran }
@@ -78,8 +78,8 @@ fn end_of(ran: u64) -> Reply
 }
 
 impl Pair {
-    /// Gives a line to both benches, and puts what is told of it in place of what the buffer holds. Every line that begins with the same
-    /// 121 bytes is told the same.
+    /// Executes a line on both benches, and replaces the contents of the buffer by the text for it. Every line that begins with the same 121
+    /// bytes has the same effect and text.
     #[tactic(auto, unfolding(crate::specs::Pair::pair_line))]
     fn respond_to_line(&mut self, slot: Slot, line: &[u8], out: &mut Told)
         requires { self.old.entered ≡ false }
@@ -100,7 +100,7 @@ impl Pair {
         self.report(line, &first, &second, out);
     }
 
-    /// Tells what both did with a line, and counts its command.
+    /// Writes the replies of both benches to a line, and counts its command.
     fn report(&mut self, line: BothLine, first: &Reply, second: &Reply, out: &mut Told)
         requires empty { out.old.items ≡ [] }
         requires going { self.old.entered ≡ false }
@@ -128,7 +128,7 @@ impl Pair {
         }
     }
 
-    /// What is told once no more lines are read.
+    /// Returns the text that follows the last line.
     pub(crate) fn last(&self) -> Reply
         ensures { result.items ≡ last_text self.now }
     {
@@ -140,7 +140,7 @@ impl Pair {
     }
 }
 
-/// Two benches that are apart, and the slot of the enclave in which they are.
+/// A pair, and the slot of the enclave in which its benches differ.
 #[derive(Drop)]
 pub(crate) struct PairOnSlot {
     pub(crate) pair: Pair,

@@ -1,4 +1,4 @@
-//! What the program does between its words and its status.
+//! The program, from its arguments to its exit status.
 
 ghost use Rattle.std.specs.Prelude.{◌≡◌, ◌≤◌, ◌++◌, OnOk, OnErr, codes, decimal, length};
 ghost use Rattle.clap.specs.Walk.{texts};
@@ -12,16 +12,16 @@ use rv_streams::{BenchFault, DeviceFault, Sink, Source, write_all};
 use rv_text::{Reply, push_count, push_text};
 use std::alloc::Global;
 
-/// The status of a job that was done, and of help.
+/// The status of a job that succeeded, and of help.
 const DONE: u8 = 0;
 
-/// The status of a job that was not done.
+/// The status of a job that failed.
 const FAILED: u8 = 1;
 
 /// The status of a command line that is refused.
 const REFUSED: u8 = 2;
 
-/// The line of a fault that has a number.
+/// Returns the line of an error that has a number.
 fn numbered(text: &str, number: u8) -> Reply
     requires { length text.now ≤ 120 }
     ensures { result.items ≡ text.now ++ (decimal number ++ codes "\n") }
@@ -33,7 +33,7 @@ fn numbered(text: &str, number: u8) -> Reply
     line
 }
 
-/// A line that is this text.
+/// Returns a line with this text.
 fn line_of(text: &str) -> Reply
     requires { length text.now ≤ 120 }
     ensures { result.items ≡ text.now }
@@ -43,7 +43,7 @@ fn line_of(text: &str) -> Reply
     line
 }
 
-/// The line of a fault of an assembler text.
+/// Returns the line of an error in an assembler text.
 fn asm_line(fault: AsmFault) -> Reply
     ensures { result.items ≡ codes "rvbench: line " ++ (decimal fault.line ++ (codes " fault " ++ (decimal (asm_fault_number fault.kind) ++ codes "\n"))) }
 {
@@ -56,7 +56,7 @@ fn asm_line(fault: AsmFault) -> Reply
     line
 }
 
-/// The line of a fault; of one of the output, nothing.
+/// Returns the line of an error. It is empty for an error of the output.
 #[tactic(auto, unfolding(crate::specs::Performing::fault_text))]
 fn fault_line(fault: BenchFault) -> Reply
     ensures { result.items ≡ fault_text fault }
@@ -77,7 +77,7 @@ fn fault_line(fault: BenchFault) -> Reply
 ///
 /// # Errors
 ///
-/// Where the sink failed in this call, or took no byte of a part that was not empty. A beginning of the text is written then.
+/// `DeviceFault`, if the sink failed in this call, or took no byte of a part that was not empty. A prefix of the text is then written.
 fn report<W: Sink>(sink: &mut W, text: &[u8]) -> Result<(), DeviceFault>
     ensures all { OnOk result (WritesAll W.Sink sink.old sink.new text.now) }
     ensures prefix { OnErr result (WritesOnlyPrefix W.Sink sink.old sink.new text.now) }
@@ -86,8 +86,8 @@ fn report<W: Sink>(sink: &mut W, text: &[u8]) -> Result<(), DeviceFault>
     sink.flush()
 }
 
-/// Tells why words name no job, and gives the status that goes with it. A line that cannot be written changes nothing about it; help
-/// that cannot be is not done.
+/// Writes why arguments name no job, and returns the status. If the line for a refusal cannot be written, the status is the same. If help cannot
+/// be written, it is 1.
 pub fn refuse<W: Sink>(fault: &WordsFault, sink: &mut W) -> u8
     ensures { Refuses W.Sink sink.old sink.new fault.now result }
 {
@@ -107,7 +107,7 @@ pub fn refuse<W: Sink>(fault: &WordsFault, sink: &mut W) -> u8
     }
 }
 
-/// Does a job, tells its fault, and gives the status. A line that cannot be written changes nothing about it.
+/// Performs a job, writes the line of its error, and returns the status. If the line cannot be written, the status is the same.
 fn done<S: Source + Drop, W: Sink>(alloc: Global, job: &Job, source: S, sink: &mut W) -> u8
     ensures { DoesAndReports S.Source W.Sink source sink.old sink.new job.now result }
 {
@@ -122,9 +122,11 @@ fn done<S: Source + Drop, W: Sink>(alloc: Global, job: &Job, source: S, sink: &m
     }
 }
 
-/// Does what the words ask for, the program's name first, from a source to a sink, and gives the status: 0 where the job was done, or the
-/// help that was asked for, and the sink was flushed behind it; 1 at a fault, whose line is written behind what the job wrote, but for one
-/// of the output itself; 2 where the words are refused, which is told too.
+/// Performs the job that the arguments request, from a source to a sink, and returns the status. The first argument is the name of the program.
+/// The status is:
+/// - 0 if the job succeeded, or the requested help was written, and the sink was flushed afterwards;
+/// - 1 after an error. Its line follows the output of the job. An error of the output itself has no line;
+/// - 2 if the arguments are refused. A line reports this too.
 pub fn perform<'a, S: Source + Drop, W: Sink>(
     alloc: Global,
     words: &'a [&'a str],

@@ -1,4 +1,4 @@
-//! From lines read to replies written.
+//! The run of a script, from the lines that are read to the replies that are written.
 
 ghost use Rattle.std.specs.Prelude.{◌≡◌, IfOk, false};
 ghost use Rattle.rv_bench.specs.Responses.{RespondsToScript};
@@ -18,8 +18,8 @@ use rv_streams::{BenchFault, Lines, ScriptEnd, Sink, Source, read_image, write_a
 use std::alloc::Global;
 use std::convert::AsSlice;
 
-/// Answers the lines of a script, and writes what is told of each, to the end of the script or to the line after which it is over, which is
-/// the last that is read. It takes no memory.
+/// Responds to the lines of a script, and writes each response. It ends at the end of the script, or after the line at which the responder is
+/// over, which is the last line that is read. It allocates no memory.
 pub(crate) fn run_lines<T: Responder, S: Source, W: Sink>(
     responding: &mut T,
     lines: &mut Lines<S>,
@@ -42,7 +42,7 @@ pub(crate) fn run_lines<T: Responder, S: Source, W: Sink>(
     Ok(())
 }
 
-/// Writes the reply of a bench to each line, until the source answers its end, and flushes the sink then.
+/// Writes the reply of a bench to each line until the source reports its end, and then flushes the sink.
 fn run_script<S: Source, W: Sink>(
     bench: &mut Bench,
     lines: &mut Lines<S>,
@@ -55,23 +55,22 @@ fn run_script<S: Source, W: Sink>(
     sink.flush().map_err(|_| BenchFault::Write)
 }
 
-/// Loads an image into the RAM of a new machine, and writes the reply to each line, until the source answers its end. A monitored
-/// bench has as many harts as the setup says, any other has one. Once the RAM is made, no memory is taken.
+/// Loads an image into the RAM of a new machine, and writes the reply to each line until the source reports its end. A monitored bench has as
+/// many harts as the setup specifies; any other bench has one. Once the RAM exists, no memory is allocated.
 ///
-/// Under the monitor every part of a script spares each enclave that rests through it (`integrity`), and is answered alike by every
-/// bench that agrees but for an enclave over which it passes, and of whose hart it steps and shows nothing: byte for byte, and the benches
-/// agree again after it (`noninterference`).
+/// For a monitored bench there are two laws:
+/// - `integrity`: every part of a script preserves each enclave that it leaves undisturbed.
+/// - `noninterference`: take a part of a script that avoids an enclave, and neither steps nor shows its hart. Every bench that is equivalent
+///   except for that enclave replies the same to it, byte for byte, and is equivalent again after it.
 ///
 /// # Errors
 ///
-/// In this order, and nothing is read or written at the first three:
-/// - `Ram(BadSize)` exactly where the RAM's size is not a multiple of 65536, from 65536 to 16777216;
-/// - `Ram(NoMemory)` where memory for the RAM was refused;
-/// - `Image` where the image does not load, with the fault of the least number that it has;
-/// - `Read` where the source failed in this call: the lines that were complete have their replies, and the line that was
-///   begun is kept in `lines`;
-/// - `Write` where the sink failed in this call, or took no byte of a part that was not empty: a beginning of the replies
-///   is written.
+/// In this order; with the first three, nothing is read or written:
+/// - `Ram(BadSize)`, if and only if the RAM's size is not a multiple of 65536, from 65536 to 16777216;
+/// - `Ram(NoMemory)`, if memory for the RAM was refused;
+/// - `Image`, if the image does not load, with the error of the lowest number that it has;
+/// - `Read`, if the source failed in this call. The complete lines have their replies, and the line that was begun stays in `lines`;
+/// - `Write`, if the sink failed in this call, or took no byte of a part that was not empty. A prefix of the replies is written.
 pub fn run_bench<S: Source, W: Sink>(
     alloc: Global,
     image: &[u8],
@@ -88,21 +87,19 @@ pub fn run_bench<S: Source, W: Sink>(
     run_script(&mut bench, lines, sink)
 }
 
-/// Reads an image, and then runs the lines after it as `run_bench` does, under the same laws of integrity and of confidentiality.
+/// Reads an image, and then runs the lines after it as `run_bench` does, with the same laws of integrity and noninterference.
 ///
-/// `secret` is confidentiality from bytes to bytes: two inputs that differ only in what lines of the script poke into the region of an
-/// enclave, over which all other lines from there on pass, and by the hart on which it runs, have the same output. What stood in the
-/// region when it was created is not concealed, since the measurement tells it.
+/// `secret` is noninterference from bytes to bytes. It is about two inputs that differ only in what lines of the script poke into the region of
+/// an enclave. From there on, all other lines must avoid the enclave and the hart on which it runs. The outputs are then equal. The contents of
+/// the region when the enclave was created are not protected, since the measurement reveals them.
 ///
 /// # Errors
 ///
-/// The first of these that is met; nothing is written at any but the last two:
-/// - while the image is read, in the order of its lines: `Read`, `Hex`, `TooLong` and `NoMemory`, as `read_image` has them;
-/// - `Ram`, then `Image`, as `run_bench` has them;
-/// - `Read` where the source failed in this call: the lines that were complete have their replies, and the line that was
-///   begun is kept in `lines`;
-/// - `Write` where the sink failed in this call, or took no byte of a part that was not empty: a beginning of the replies
-///   is written.
+/// The first of these that occurs. Nothing is written, except with the last two:
+/// - while the image is read, in the order of its lines: `Read`, `Hex`, `TooLong` and `NoMemory`, as `read_image` returns them;
+/// - `Ram`, then `Image`, as `run_bench` returns them;
+/// - `Read`, if the source failed in this call. The complete lines have their replies, and the line that was begun stays in `lines`;
+/// - `Write`, if the sink failed in this call, or took no byte of a part that was not empty. A prefix of the replies is written.
 pub fn run_stream<S: Source, W: Sink>(
     alloc: Global,
     setup: &Setup,

@@ -13,7 +13,7 @@ use rv_pmp::Mode;
 use rv_streams::BenchFault;
 use std::alloc::Global;
 
-/// Whether the image is read as an ELF file: by its first four bytes, where the kind leaves that open.
+/// Returns whether the image is read as an ELF file. If the kind does not decide it, the first four bytes do.
 fn is_read_as_elf(kind: ImageKind, image: &[u8]) -> bool
     ensures { result ≡ is_read_as_elf_of kind image.now }
 {
@@ -24,11 +24,11 @@ fn is_read_as_elf(kind: ImageKind, image: &[u8]) -> bool
     }
 }
 
-/// What of the image is loaded where: of a monitored bench nothing in the range that its monitor keeps for itself.
+/// Returns which parts of the image are loaded where. For a monitored bench, nothing is loaded into the range that is reserved for the monitor.
 ///
 /// # Errors
 ///
-/// The fault of the least number that the image has.
+/// The error of the lowest number that the image has.
 fn planned(image: &[u8], setup: &Setup) -> Result<Plan, ElfFault>
     ensures value { result ≡ planned_of image.now setup.now }
     ensures of_these { IfOk result (λ plan. (plan.image_size ≡ length image.now) × (plan.ram_size ≡ setup.now.ram)) }
@@ -40,7 +40,8 @@ fn planned(image: &[u8], setup: &Setup) -> Result<Plan, ElfFault>
     }
 }
 
-/// The bench at reset over a RAM: its image alone on one hart in mode M, or the host on each hart above the monitor.
+/// Returns the bench at reset with a RAM. A bare bench has the image on one hart in mode M. A monitored bench has the host on each hart, above
+/// the monitor.
 fn reset(ram: Ram, entry: u32, setup: &Setup) -> Bench
     requires { entry % 4 ≡ 0 }
     ensures { result ≡ reset_over setup.now ram entry }
@@ -52,7 +53,14 @@ fn reset(ram: Ram, entry: u32, setup: &Setup) -> Bench
     }
 }
 
-/// The bench at reset, with the image in its RAM.
+/// Returns the bench at reset, with the image in its RAM.
+///
+/// # Errors
+///
+/// In this order:
+/// - `Ram(BadSize)`, if the RAM's size is not valid;
+/// - `Ram(NoMemory)`, if memory for the RAM was refused;
+/// - `Image`, if the image does not load, with the error of the lowest number that it has.
 pub(crate) fn start(alloc: Global, image: &[u8], setup: &Setup) -> Result<Bench, BenchFault>
     ensures { Starts image.now setup.now result }
 {

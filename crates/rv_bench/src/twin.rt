@@ -1,4 +1,4 @@
-//! Two benches that are given the same script, and differ in what is private to an enclave.
+//! The twin run: two benches execute the same script, and differ in what is private to an enclave.
 
 ghost use Rattle.std.specs.Prelude.{◌≡◌, Ok, Err, Some, None, MatchOption, MatchResult, IfSome, [], false};
 ghost use Rattle.rv_bench.specs.Pair.{make_pair as make_pair_of, no_slot_text};
@@ -17,7 +17,11 @@ use rv_streams::{BenchFault, Lines, ScriptEnd, Sink, Source, read_image, write_l
 use rv_text::{Reply, push_text};
 use std::alloc::Global;
 
-/// Two monitored benches at reset, with the image in the RAM of each.
+/// Returns two monitored benches at reset, with the image in the RAM of each.
+///
+/// # Errors
+///
+/// `Ram` or `Image`, as `start` returns them.
 fn start_two(alloc: Global, image: &[u8], setup: &Setup) -> Result<EqualBenches, BenchFault>
     ensures { MatchResult result
         (λ benches. started image.now (monitored_setup setup.now) ≡ Ok benches.first)
@@ -34,7 +38,7 @@ fn start_two(alloc: Global, image: &[u8], setup: &Setup) -> Result<EqualBenches,
     Ok(EqualBenches { first, second })
 }
 
-/// The text that tells that no slot could be scrambled.
+/// Returns the text that no slot could be scrambled.
 fn no_slot() -> Reply
     ensures { result.items ≡ no_slot_text }
 {
@@ -43,7 +47,7 @@ fn no_slot() -> Reply
     text
 }
 
-/// Scrambles the slot in the second bench, where that can be.
+/// Scrambles the slot in the second bench, if possible.
 fn scrambled(benches: EqualBenches, slot: Slot) -> Option<Pair>
     ensures pair { result ≡ make_pair_of slot benches.first }
     ensures going { IfSome result (λ pair. pair.entered ≡ false) }
@@ -61,7 +65,7 @@ fn scrambled(benches: EqualBenches, slot: Slot) -> Option<Pair>
     })
 }
 
-/// Scrambles the slot of a number in the second bench, where that can be; over 12 there is none.
+/// Scrambles the slot with a number in the second bench, if possible. There is no slot with a number above 12.
 #[tactic(auto, using(crate::proofs::Twins::not_numbered))]
 fn make_pair(benches: EqualBenches, number: u8) -> Option<PairOnSlot>
     ensures pair { MatchOption result
@@ -75,7 +79,7 @@ fn make_pair(benches: EqualBenches, number: u8) -> Option<PairOnSlot>
     Some(PairOnSlot { pair, slot })
 }
 
-/// Scrambles the slot of a number in the second bench, and runs the second script; or tells that this could not be.
+/// Scrambles the slot with a number in the second bench, and runs the second script. If it cannot be scrambled, writes `twin no slot`.
 fn run_second<S: Source, W: Sink>(
     benches: EqualBenches,
     number: u8,
@@ -93,25 +97,26 @@ fn run_second<S: Source, W: Sink>(
     write_last(&found.pair.last(), sink).map_err(|_| BenchFault::Write)
 }
 
-/// Reads an image, gives the lines up to the next `--` to two equal benches of the setup, which are monitored whatever it says, and writes
-/// the replies of the first. Then it scrambles the slot in the second bench; where no live enclave is there, or it runs on a hart, it
-/// writes `twin no slot` and is done. It gives each further line to both, by `both_line`: the lines of the first bench's reply are
-/// written after `a: `, and then those of the second's after `b: `. A command that is not blind is skipped and told as `error blind`; a
-/// faulty line is told its fault once. The run ends with `twin entered N` once a command enters the slot, or with `twin end N` at the end
-/// of the input, where N counts the commands that were run (it stays at 2^64 - 1). The line that enters the slot is the last that is read.
+/// Performs a twin run:
+/// - Reads an image, and starts two equal benches, which are monitored whatever the setup specifies.
+/// - Executes the lines up to the next `--` on both, and writes the replies of the first.
+/// - Scrambles the slot in the second bench. If the slot has no live enclave, or that runs on a hart, writes `twin no slot` and ends.
+/// - Executes each further line on both benches, as `both_line` does. Writes the lines of the first bench's reply after `a: `, and then those of
+///   the second's after `b: `. A command that is not blind is skipped, with the reply `error blind`. A line with an error has one reply.
+/// - Ends with `twin entered N` after a command that enters the slot, and that line is the last that is read. Otherwise ends with `twin end N`
+///   at the end of the input. N is the number of executed commands; it stays at 2^64 - 1.
 ///
-/// `outcome` is all of it. `noninterference` is that as long as the slot was not entered the two benches agree but for it, and of each line that both
-/// did the two replies are equal. `integrity` is that in the first script, and in both benches in the second, every part of what is done
-/// spares each enclave that rests through it.
+/// `outcome` specifies the run completely. `noninterference` states that the two benches are equivalent except for the slot until it is entered.
+/// The two replies to each line that both benches executed are then equal. `integrity` is about the first script, and about both benches in the
+/// second. It states that every part of what is executed preserves each enclave that it leaves undisturbed.
 ///
 /// # Errors
 ///
-/// The first of these that is met; nothing is written at any but the last two:
-/// - while the image is read, in the order of its lines: `Read`, `Hex`, `TooLong` and `NoMemory`, as `read_image` has them;
-/// - `Ram`, then `Image`, as `run_bench` has them;
-/// - `Read` where the source failed in this call: what there is to tell of the lines that were complete is written, and the line that was
-///   begun is kept in `lines`;
-/// - `Write` where the sink failed in this call, or took no byte of a part that was not empty: a beginning of the text is written.
+/// The first of these that occurs. Nothing is written, except with the last two:
+/// - while the image is read, in the order of its lines: `Read`, `Hex`, `TooLong` and `NoMemory`, as `read_image` returns them;
+/// - `Ram`, then `Image`, as `run_bench` returns them;
+/// - `Read`, if the source failed in this call. The text for the complete lines is written, and the line that was begun stays in `lines`;
+/// - `Write`, if the sink failed in this call, or took no byte of a part that was not empty. A prefix of the text is written.
 pub fn run_twin<S: Source, W: Sink>(
     alloc: Global,
     setup: &Setup,

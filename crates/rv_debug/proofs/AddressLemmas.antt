@@ -27,21 +27,21 @@ sorted_above-at a (x ∷ xs) (suc k) all inside =
     let more : x < get_or xs k 0 = sorted_above-at x xs k all.1 (omega arith) in
     omega arith
 
--- each is above those before it
+-- each address is above those before it
 pub sorted-at : (xs : List ℕ) → IsSorted xs → (i j : ℕ) → i < j → j < length xs → get_or xs i 0 < get_or xs j 0
 sorted-at [] all i j lt inside = absurd (omega arith)
 sorted-at (x ∷ xs) all i zero lt inside = absurd (omega arith)
 sorted-at (x ∷ xs) all zero (suc j) lt inside = sorted_above-at x xs j all (omega arith)
 sorted-at (x ∷ xs) all (suc i) (suc j) lt inside = sorted-at xs (sorted_above-is x xs all) i j (omega arith) (omega arith)
 
--- and so a binary search of them finds
+-- therefore a binary search finds it
 pub sorted-le : (xs : List ℕ) → IsSorted xs → (i j : ℕ) → i ≤ j → j < length xs → get_or xs i 0 ≤ get_or xs j 0
 sorted-le xs all i j le inside = elim (cases_lt i j) [
   | inl lt ↦ let up : get_or xs i 0 < get_or xs j 0 = sorted-at xs all i j lt inside in omega arith
   | inr ge ↦ let same : i ≡ j = omega arith in let e : get_or xs i 0 ≡ get_or xs j 0 = ap (λ k. get_or xs k 0) same in omega arith
 ]
 
--- what a binary search of them gives
+-- the result of a binary search
 pub searched-place : (xs : List ℕ) (x : ℕ) (r : Result ℕ ℕ) → IsSorted xs → IsBinarySearchResult (λ y. nat_cmp y x) xs r
     → MatchResult r (λ i. (i < length xs) × (get_or xs i 0 ≡ x)) (HasPlace xs x)
 searched-place xs x r all is = go r (searched xs x r is (sorted-le xs all)) where
@@ -52,14 +52,14 @@ searched-place xs x r all is = go r (searched xs x r is (sorted-le xs all)) wher
   go (Ok i) found = found
   go (Err i) (within, below, above) = record { within = within; below = below; above = above }
 
--- no address has its place beside one that is there already
+-- an address that has an index for insertion is not in the list
 pub not_there : (x : ℕ) (xs : List ℕ) (i : ℕ) → HasPlace xs x i → (k : ℕ) → k < length xs → get_or xs k 0 ≢ x
 not_there x xs i place k inside same = elim (cases_lt k i) [
   | inl lt ↦ let down : get_or xs k 0 < x = place.below k lt in absurd (omega arith)
   | inr ge ↦ let up : x < get_or xs k 0 = place.above k ge inside in absurd (omega arith)
 ]
 
--- ---- an address among others
+-- ---- an address in the list
 
 pub among-found : (x : ℕ) (xs : List ℕ) (i : ℕ) → i < length xs → get_or xs i 0 ≡ x → is_among x xs ≡ true
 among-found x xs i inside is = list_any_at (λ a. a == x) xs i 0 inside (grind arith)
@@ -73,15 +73,15 @@ among-absent x (y ∷ ys) none =
 pub among-not : (x : ℕ) (xs : List ℕ) (i : ℕ) → HasPlace xs x i → is_among x xs ≡ false
 among-not x xs i place = among-absent x xs (not_there x xs i place)
 
--- what a search of them tells
+-- the search succeeds if and only if the address is in the list
 pub found-is : (x : ℕ) (xs : List ℕ) (r : Result ℕ ℕ) → MatchResult r (λ i. (i < length xs) × (get_or xs i 0 ≡ x)) (HasPlace xs x)
     → is_ok r ≡ is_among x xs
 found-is x xs (Ok i) found = sym (among-found x xs i found.0 found.1)
 found-is x xs (Err i) place = sym (among-not x xs i place)
 
--- ---- an address put in at its place: these below it, those above it
+-- ---- an address inserted at its index: the lower addresses before it, the higher ones after it
 
--- its place among all but the first, which is above it or below it
+-- its index without the first address, which is above it or below it
 place_first : (x y : ℕ) (ys : List ℕ) → HasPlace (y ∷ ys) x zero → HasPlace ys x zero
 place_first x y ys place = record {
   within = omega arith;
@@ -139,7 +139,7 @@ pub room : (x : ℕ) (xs : List ℕ) (i : ℕ) → HasPlace xs x i → length xs
 unfolding with_room_for
 room x xs i place few = let yes : ltb (length xs) 32 ≡ true = grind (arith, nat_tests) in rw (among-not x xs i place, yes) (ap Some (insert-is x xs i place))
 
--- ---- an address taken out
+-- ---- an address removed
 
 without-absent : (x : ℕ) (xs : List ℕ) → ((k : ℕ) → k < length xs → get_or xs k 0 ≢ x) → without_address x xs ≡ xs
 without-absent x [] none = refl
@@ -177,7 +177,7 @@ sorted-filter p (x ∷ xs) all = go (p x) (sorted_above-filter p x xs all) where
   go true more = more
   go false more = sorted_above-is x (filter p xs) more
 
--- ---- the first address that passes a test
+-- ---- the first address that satisfies a test
 
 find-first : (p : ℕ → Bool) (xs : List ℕ) (i : ℕ) → ((k : ℕ) → k < i → p (get_or xs k 0) ≡ false) → i < length xs
     → p (get_or xs i 0) ≡ true → find p xs ≡ Some (get_or xs i 0)
@@ -204,7 +204,7 @@ lower-after : (x : ℕ) (found : Option ℕ) → ((a : ℕ) → found ≡ Some a
 lower-after x None above = refl
 lower-after x (Some a) above = let up : x < a = above a refl in let e : min a x ≡ x = omega arith in ap Some e
 
--- the first that passes either of two tests is the lower of the first of each
+-- the first address that satisfies either of two tests is the lower of the first for each
 pub find-either : (p q : ℕ → Bool) (xs : List ℕ) → IsSorted xs → lower (find p xs) (find q xs) ≡ find (λ x. p x || q x) xs
 find-either p q [] all = refl
 find-either p q (x ∷ xs) all = go (p x) (q x) (find-either p q xs (sorted_above-is x xs all)) where
@@ -215,7 +215,7 @@ find-either p q (x ∷ xs) all = go (p x) (q x) (find-either p q xs (sorted_abov
   go false true more = lower-after x (find p xs) (λ a. find-above p x xs a all)
   go false false more = more
 
--- the lowest that passes a test is the first
+-- the lowest address that satisfies a test is the first
 pub lowest-is : (p : ℕ → Bool) (xs : List ℕ) → IsSorted xs → find p xs ≡ lowest (filter p xs)
 lowest-is p [] all = refl
 lowest-is p (x ∷ xs) all = go (p x) (lowest-is p xs (sorted_above-is x xs all)) where
@@ -223,7 +223,7 @@ lowest-is p (x ∷ xs) all = go (p x) (lowest-is p xs (sorted_above-is x xs all)
   go true more = sym (ap (lower (Some x)) (sym more) ∙ lower-before x (find p xs) (λ a. find-above p x xs a all))
   go false more = more
 
--- the first of so many addresses from one on: that one,
+-- the first of `count` addresses from x on: x itself, if it is in the list
 pub find-here : (x count : ℕ) (xs : List ℕ) (i : ℕ) → IsSorted xs → 0 < count → i < length xs → get_or xs i 0 ≡ x
     → Some x ≡ find (is_between x count) xs
 find-here x count xs i all some inside is =
@@ -232,7 +232,7 @@ find-here x count xs i all some inside is =
     let no : is_between x count (get_or xs k 0) ≡ false = grind (arith, nat_tests) in no in
     ap Some (sym is) ∙ sym (find-first (is_between x count) xs i before inside yes)
 
--- or the one at its place, where that is near enough
+-- otherwise the address at the index for insertion, if it is below x + count
 pub find-near : (x count : ℕ) (xs : List ℕ) (i : ℕ) → HasPlace xs x i → i < length xs → get_or xs i 0 < x + count
     → Some (get_or xs i 0) ≡ find (is_between x count) xs
 find-near x count xs i place inside near =
@@ -252,11 +252,11 @@ find-far x count xs i all place far = sym (find-none (is_between x count) xs eac
         grind (arith, nat_tests)
   ]
 
--- no address is in no span
+-- no address is in a missing span
 pub find-no_span : (xs : List ℕ) → None ≡ find (is_in None) xs
 find-no_span xs = sym (find-none (is_in None) xs (λ k inside. refl))
 
--- ---- the gap around a place: none of these is from past the one before it up to the one at it
+-- ---- the gap around an index: no address lies between the one before the index and the one at it
 pub gap-free : (xs : List ℕ) (i from to x : ℕ) → IsSorted xs → i ≤ length xs → (0 < i → get_or xs (i - 1) 0 < from)
     → (i < length xs → to ≤ get_or xs i 0) → from ≤ x → x < to → is_among x xs ≡ false
 gap-free xs i from to x all within below above low high = among-absent x xs each where

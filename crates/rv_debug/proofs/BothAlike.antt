@@ -1,4 +1,4 @@
--- Commands given to two benches, one after another: what becomes of each, and what they have in common.
+-- Two benches that execute the same commands one after another: the state of each, and their equivalence.
 use Rattle.std.proofs.Common.{◌≡◌, ℕ, suc, ◌+◌, ◌<◌, Bool, true, false, List, [], ◌∷◌, length, take, drop, get_or, ◌⊎◌, refl, sym}
 use Rattle.std.proofs.Common.{◌∙◌, ap, ap₂, subst, inl, inr, arith, not}
 use Rattle.std.specs.Prelude.{◌&&◌, ◌||◌, if◌then◌else◌}
@@ -18,7 +18,7 @@ module _ (e : ℕ) where
 
   -- ---- one command
 
-  -- a command that is blind in both is done by both, and any other by neither
+  -- both benches execute a command that is blind in both; neither executes any other
   one_cases : (a b : BenchState) (c : Command)
       → (((is_blind e a c && is_blind e b c) ≡ false) × (both_execute e a b c ≡ stopped a b))
       ⊎ ((is_blind e a c ≡ true) × (both_execute e a b c ≡ done a b c))
@@ -44,7 +44,7 @@ module _ (e : ℕ) where
   neither true y same none = same ∙ none
   neither false y same none = refl
 
-  -- the benches after a command that both did
+  -- the reason after a command that both executed
   why_is : (a b : BenchState) (c : Command) (x y : Bool) → is_entered e (execute a c).entered ≡ x → is_entered e (execute b c).entered ≡ y
       → (done a b c).why ≡ (if x || y then Entered else All)
   why_is a b c x y here there = ap₂ (λ (x y : Bool). if x || y then Entered else All) here there
@@ -84,7 +84,7 @@ module _ (e : ℕ) where
   unfolding both_run
   none_by a b = refl
 
-  -- each ends where its own commands lead
+  -- each bench ends as if it alone had executed its commands
   abbrev pub Folded : BenchState → BenchState → List Command → BothRan → Type 0
   Folded a b cs end = (end.first ≡ after_commands a (take end.ran cs)) × (end.second ≡ after_commands b (take end.ran cs))
 
@@ -107,7 +107,7 @@ module _ (e : ℕ) where
         (folded_by a b c cs _ (both_run e (execute a c).state (execute b c).state cs) (not_stopped _) (folded (execute a c).state (execute b c).state cs))
   ]
 
-  -- ---- what both have in common
+  -- ---- equivalence of both
 
   abbrev pub EndAlike : BenchState → BenchState → List Command → BothRan → Type 0
   EndAlike a b cs end = CommandsAvoidHart e a (take end.ran cs) → DoneAlike e a b cs end.ran end.why
@@ -128,7 +128,7 @@ module _ (e : ℕ) where
   more_passed a b c cs ran NotBlind reply more = one_passed a b c (take ran cs) reply more
   more_passed a b c cs ran Entered reply more = (suc more.0, ap (λ (n : ℕ). suc n) more.1, one_passed a b c (take more.0 cs) reply more.2)
 
-  -- the last that was done entered the slot
+  -- the last executed command entered the slot
   entered_last : (a b : BenchState) (c : Command) (cs : List Command) → TargetInvariant a.target → BenchesEquivExcept e a b
       → both_execute e a b c ≡ done a b c → (done a b c).why ≡ Entered → EndAlike a b (c ∷ cs) (both_run e a b (c ∷ cs))
   entered_last a b c cs kept equiv goes why =
@@ -156,7 +156,7 @@ module _ (e : ℕ) where
 
   -- ---- in the loop
 
-  -- the end, after so many commands before it
+  -- the result, counted with `n` commands before it
   abbrev pub later : ℕ → BothRan → BothRan
   later n rest = record { first = rest.first; second = rest.second; ran = n + rest.ran; why = rest.why }
 

@@ -1,4 +1,4 @@
--- Effects keep the invariant of a target.
+-- Effects preserve the invariant of a target.
 use Rattle.std.proofs.Common.{◌≡◌, ℕ, List, [], ◌∷◌, Option, Some, None, refl, sym, subst}
 use Rattle.rv_debug.specs.Prelude.{Bare, Command, Invariant, Monitored, Machine, Target, option_case, with_register, write}
 use Rattle.rv_debug.proofs.Prelude.{BenchState, Selected, Effect, IsBare, TargetInvariant, Nothing, OneByte, Register, Steps, TimerLine, execute}
@@ -6,11 +6,11 @@ use Rattle.rv_debug.proofs.Prelude.{selected_hart_state, effect, done, invariant
 use Rattle.rv_debug.proofs.Prelude.{written_invariant}
 use Rattle.rv_debug.proofs.ScheduledSteps.{by_bare, stays_bare, step_scheduled_bare, schedule_is_sched}
 
--- what is left where a byte is written, or is not in memory
+-- the target after a write of a byte, or unchanged if the address is not in RAM
 abbrev pub poke_of : Target → Option (List ℕ) → Target
 poke_of target memory = option_case (option_map (over_memory target) memory) target (λ after. after)
 
--- ---- a machine alone stays one
+-- ---- a bare machine stays bare
 
 bare_poked : (machine : Machine) (memory : Option (List ℕ)) → IsBare (poke_of (Bare machine) memory)
 bare_poked machine None = tt
@@ -21,7 +21,7 @@ bare_done machine (Steps harts selected) = step_scheduled_bare selected _ (stays
 bare_done machine (OneByte address byte) = bare_poked machine (write machine.memory address (byte ∷ []))
 bare_done machine _ = tt
 
--- ---- a machine under the monitor
+-- ---- a monitored machine
 
 poke_keeps : (machine : Selected) (address byte : ℕ) (memory : Option (List ℕ)) → write machine.state.shared.memory address (byte ∷ []) ≡ memory
     → Invariant machine.state → TargetInvariant (poke_of (Monitored machine) memory)
@@ -43,7 +43,7 @@ effect_keeps (Monitored machine) (TimerLine raised) kept = written_invariant mac
 effect_keeps (Monitored machine) (OneByte address byte) kept =
     poke_keeps machine address byte (write machine.state.shared.memory address (byte ∷ [])) refl kept
 
--- so each command keeps it
+-- each command preserves the invariant
 pub keeps_monitor : (bench : BenchState) (command : Command) → TargetInvariant bench.target → TargetInvariant (execute bench command).state.target
 unfolding execute
 keeps_monitor bench command = effect_keeps bench.target (effect bench command)

@@ -1,4 +1,5 @@
--- The law of confidentiality of a command: two benches that agree but for an enclave show and leave the same, where they do not enter it.
+-- Noninterference of a command: if two benches are equivalent except for an enclave and do not enter it, they reply the same and stay
+-- equivalent.
 use Rattle.std.proofs.Common.{◌≡◌, ℕ, zero, suc, ◌==◌, ◌+◌, ◌-◌, ◌<◌, ◌≤◌, Bool, true, false, List, [], ◌∷◌, Option, refl, sym, ◌∙◌, ap}
 use Rattle.std.proofs.Common.{ap₂, subst, inl, inr, arith}
 use Rattle.std.specs.Prelude.{nat_lt, ◌++◌, if◌then◌else◌}
@@ -31,7 +32,7 @@ use Rattle.rv_debug.proofs.StepsAlike.{RunAlike, run-alike}
 use Rattle.rv_debug.proofs.TargetRuns.{hart_pc, hart_stepped, target_of, run_monitored}
 use Rattle.rv_debug.proofs.ScheduledSteps.{after_schedule, by_bare}
 
--- ---- what is shown of both, before it is said that they are equal once the enclave is gone
+-- ---- equal replies and equivalent states, before it is proved that they are equal once the enclave has ended
 
 record Passes (e : ℕ) (first second : Executed) : Type 0 where
   pub reply : first.reply ≡ second.reply
@@ -45,7 +46,7 @@ record Alike (e : ℕ) (first second : Executed) : Type 0 where
 abbrev over : Target → List ℕ → List ℕ → BenchState
 over target breaks watches = record { target = target; breaks = breaks; watches = watches }
 
--- a command that enters nothing
+-- a command that enters no enclave
 abbrev executed_with : Target → List ℕ → List ℕ → List ℕ → Executed
 executed_with target breaks watches reply = record { state = over target breaks watches; reply = reply; entered = 0 }
 
@@ -56,7 +57,7 @@ passes e one other breaks watches reply reply' equiv same = record {
   passed = λ none. record { reply = same; entered = refl; state = record { target = equiv; breaks = refl; watches = refl } };
 }
 
--- ---- steps of named harts, of which the same is told of both
+-- ---- steps of named harts, with the same summary for both
 
 same_line : (e hart : ℕ) (ran : HartRan) (one other : Selected) → SelectedEquivExcept e one other → RunsOnNoHart e (Monitored one)
     → hart_summary_text (Monitored one) hart ran ≡ hart_summary_text (Monitored other) hart ran
@@ -71,7 +72,7 @@ same_lines e did one other equiv not_running =
     ap₂ (λ (line lines : List ℕ). line ++ lines) (same_line e 0 did.first one other equiv not_running)
     (ap₂ (λ (n : ℕ) (line : List ℕ). if nat_lt 1 n then line else []) state.harts (same_line e 1 did.second one other equiv not_running))
 
--- the answer that tells of them
+-- the execution of a schedule
 abbrev schedule_executed : ℕ → List ℕ → List ℕ → AfterSchedule → Executed
 schedule_executed hart breaks watches after =
     record { state = over (with_selected hart after.state) breaks watches; reply = harts_summary_text after; entered = after.did.entered }
@@ -110,7 +111,7 @@ run_execute target breaks watches at_breaks at_watches count =
     let d = run_effect target at_breaks at_watches count in
     record { state = over (done target d) breaks watches; reply = ran_reply (steps_of target at_breaks at_watches count); entered = entered_by target d }
 
--- it is told of where the run ends
+-- the summary is that of the state at the end of the run
 run_told : (target : Target) (breaks watches at_breaks at_watches : List ℕ) (count : ℕ)
     → run_execute target breaks watches at_breaks at_watches count ≡ steps_execute breaks watches (steps_of target at_breaks at_watches count)
 run_told target breaks watches at_breaks at_watches count =
@@ -118,9 +119,9 @@ run_told target breaks watches at_breaks at_watches count =
     ap₂ (λ (after : Target) (entered : ℕ). record { state = over after breaks watches; reply = reply; entered = entered })
     (run_done target at_breaks at_watches count) (run_entered target at_breaks at_watches count)
 
--- ---- machines under the monitor
+-- ---- monitored machines
 
--- the enclave runs on no hart, where it runs on none that there is
+-- the enclave runs on no hart, if it runs on none of the harts of the machine
 on_none : (e n first j : ℕ) (machine : MonitoredMachine) → RunsOnNone e (range_with_len first n) machine → first ≤ j → j < first + n → runs_on e j machine ≡ false
 on_none e zero first j machine none low high = absurd (omega (arith, low, high))
 on_none e (suc n) first j machine none low high = elim (cases_eq j first) [
@@ -150,17 +151,17 @@ module _ (e hart : ℕ) (one other : MonitoredMachine) (equiv : EquivExcept e on
   both : TargetsEquivExcept e (at one) (at other)
   both = record { hart = refl; state = equiv }
 
-  -- a command that leaves both as they are
+  -- a command that leaves both unchanged
   shown : (reply reply' : List ℕ) → reply ≡ reply'
       → Alike e (executed_with (at one) breaks watches reply) (executed_with (at other) breaks watches reply')
   shown reply reply' same = passes e (at one) (at other) breaks watches reply reply' both same
 
-  -- ---- what is shown of a hart that does not run the enclave
+  -- ---- replies about a hart that does not run the enclave
 
   hart_states : AvoidsHart e here Regs → hart_state_of hart one ≡ hart_state_of hart other
   hart_states by = let own = equiv.hart_states hart in own.same by.0
 
-  -- and of the entries of any, which are those of the table and its world
+  -- the PMP entries of every hart, which are those of the table and its world
   same_entries : Invariant one → Invariant other → (hart_state_of hart one).hart.csrs.pmp ≡ (hart_state_of hart other).hart.csrs.pmp
   same_entries kept kept' =
       let own = equiv.hart_states hart in
@@ -176,7 +177,7 @@ module _ (e hart : ℕ) (one other : MonitoredMachine) (equiv : EquivExcept e on
             mine ∙ ap₂ of tables own.world ∙ sym theirs
       ]
 
-  -- ---- what is shown of memory
+  -- ---- replies about memory
 
   abbrev memory_equiv : EqualOutside (is_private one.shared.table e) one.shared.memory other.shared.memory
   memory_equiv = let shared = equiv.shared in shared.memory
@@ -193,7 +194,7 @@ module _ (e hart : ℕ) (one other : MonitoredMachine) (equiv : EquivExcept e on
             read-none one.shared.memory block.base block.size outside ∙ sym (read-none other.shared.memory block.base block.size (rw (← sizes) outside))
       ]
 
-  -- an access is told by its place and the entries, whatever the bytes are
+  -- the reply to `access` depends on its address and the PMP entries, not on the bytes
   same-access : (entries : Entries) (mode : Mode) (access : AccessKind) (address : ℕ) (width : Width)
       → access_reply one.shared.memory entries mode access address width ≡ access_reply other.shared.memory entries mode access address width
   unfolding read
@@ -205,7 +206,7 @@ module _ (e hart : ℕ) (one other : MonitoredMachine) (equiv : EquivExcept e on
         | inr outside ↦ rw (← sizes, outside) refl
       ]
 
-  -- ---- a byte that is poked
+  -- ---- a poked byte
 
   abbrev poke_execute : MonitoredMachine → Option (List ℕ) → Executed
   poke_execute machine memory =
@@ -257,7 +258,7 @@ module _ (e hart : ℕ) (one other : MonitoredMachine) (equiv : EquivExcept e on
     };
   }
 
-  -- what is told of a run, said of the machine
+  -- the run of the target, stated for the machine
   run-is : (machine : MonitoredMachine) (at_breaks at_watches : List ℕ) (count : ℕ)
       → (let ran = run (hart_stepped hart) (hart_pc hart) at_breaks at_watches count (no_steps machine) in
       run_execute (at machine) breaks watches at_breaks at_watches count ≡ steps_execute breaks watches (target_of (selected_at hart) ran))
@@ -364,12 +365,12 @@ monitored-alike e one other breaks watches command kept kept' equiv blind by =
     (execute (over (selected_at hart other.state) breaks watches) command)) equiv.hart
     (alike e one.hart one.state other.state equiv.state breaks watches command kept kept' blind by)
 
--- a machine alone stays one
+-- a bare machine stays bare
 bare-stays : (machine : Machine) (breaks watches : List ℕ) (command : Command) → IsBare (execute (over (Bare machine) breaks watches) command).state.target
 unfolding execute
 bare-stays machine breaks watches command = bare_done machine (effect (over (Bare machine) breaks watches) command)
 
--- what is said of itself
+-- an execution is alike to itself
 alike-itself : (e : ℕ) (after : Executed) → IsBare after.state.target → Alike e after after
 alike-itself e after bare =
     let same = by_bare (λ (target : Target). TargetsEquivExcept e target target) (λ alone. refl) after.state.target bare in
@@ -390,7 +391,7 @@ targets-alike e (Bare one) (Bare other) breaks watches command kept kept' equiv 
 targets-alike e (Bare one) (Monitored other) breaks watches command kept kept' equiv blind by = absurd equiv
 targets-alike e (Monitored one) (Bare other) breaks watches command kept kept' equiv blind by = absurd equiv
 
--- ---- once the enclave is gone they are equal
+-- ---- the benches are equal once the enclave has ended
 
 again : (e : ℕ) (one other : Target) (breaks watches : List ℕ) → TargetInvariant one → TargetsEquivExcept e one other
     → RemainEquiv e (over one breaks watches) (over other breaks watches)

@@ -1,4 +1,4 @@
--- The laws of isolation, of what is done, of a command and of a list of commands.
+-- The isolation laws, for an effect, for a command and for a list of commands.
 use Rattle.std.proofs.Common.{◌≡◌, ◌≢◌, ℕ, ◌+◌, ◌<◌, ◌≤◌, ◌⊎◌, true, false, List, [], ◌∷◌, Option, Some, None, refl}
 use Rattle.std.proofs.Common.{sym, ◌∙◌, subst, inl, inr, arith, ap, IfSome}
 use Rattle.std.specs.Prelude.{IsSomeAnd}
@@ -13,7 +13,7 @@ use Rattle.rv_debug.proofs.Prelude.{harts_stepped, machine_in, memory_of, hart_v
 use Rattle.rv_debug.proofs.EffectsInvariant.{keeps_monitor, poke_of}
 use Rattle.rv_debug.proofs.ScheduledSteps.{schedule_is_sched}
 
--- ---- reach
+-- ---- access control
 
 pub tells_reach : (target : Target) (command : Command) → TargetInvariant target → selected_of target < harts_of target → ReportsAccess target command
 unfolding read
@@ -23,7 +23,7 @@ tells_reach (Monitored selected) (Access mode access address width) kept has = �
 }
 tells_reach _ _ kept has = tt
 
--- ---- what is spared
+-- ---- preservation
 
 itself : (k : ℕ) (selected : Selected) → IsPreservedIn k (Monitored selected) (Monitored selected)
 itself k selected = record { slot = refl; bytes = λ byte own. refl; context = refl }
@@ -58,7 +58,7 @@ pub integrity_resting : (bench : BenchState) (command : Command) → TargetInvar
 unfolding execute
 integrity_resting bench command kept = preserves bench.target (effect bench command) kept
 
--- ---- an enclave that runs on a hart which no step is of
+-- ---- an enclave that runs on a hart that does not step
 
 rests_by : (k own : ℕ) (machine : MonitoredMachine) (d : Effect) → Invariant machine → runs_on k own machine ≡ true
     → RunsOnNone k (harts_stepped d) machine → PokesNone k machine d → UndisturbedByEffect k machine d
@@ -75,9 +75,9 @@ running k own bench command = by (machine_in bench.target) where
   by None kept = tt
   by (Some machine) kept = rests_by k own machine (effect bench command) kept
 
--- ---- the bytes that are changed
+-- ---- the changed bytes
 
--- the byte is the same in two targets, or something else is so
+-- the byte is the same in two targets, or another condition holds
 abbrev ByteIsOr : ℕ → Target → Target → Type 0 → Type 0
 ByteIsOr byte before after other = byte_at (memory_of after) byte ≡ byte_at (memory_of before) byte ⊎ other
 

@@ -13,7 +13,7 @@ use Rattle.rv_debug.proofs.EffectsInvariant.{bare_done, keeps_monitor, poke_of}
 use Rattle.rv_debug.proofs.SchedAlike.{scheduled_steps_alike}
 use Rattle.rv_debug.proofs.ScheduledSteps.{by_bare}
 
--- ---- it is passed by
+-- ---- every command avoids its hart
 
 on_none : (e : ℕ) (harts : List ℕ) (machine : MonitoredMachine) → ((hart : ℕ) → runs_on e hart machine ≡ false) → RunsOnNone e harts machine
 on_none e [] machine not_running = tt
@@ -37,7 +37,7 @@ steps_rest e selected harts machine kept not_running none =
       selected_rests (Bare machine) not_running = tt
       selected_rests (Monitored machine) not_running = not_running
 
--- a debugger's write leaves the world of each hart
+-- a debugger's write keeps the world of each hart
 written_rests : (e : ℕ) (machine : Selected) (change : HartState → HartState) → ((hart_state : HartState) → (change hart_state).world ≡ hart_state.world) → RunsOnNoHart e (Monitored machine)
     → RunsOnNoHart e (selected_at machine.hart (changed machine.hart change machine.state))
 written_rests e machine change same not_running hart =
@@ -81,7 +81,7 @@ poked_rests e bench (Poke address byte) kept not_running pokes = written bench.t
   written (Monitored machine) kept not_running = poke_rests e machine (write machine.state.shared.memory address (byte ∷ [])) not_running
 poked_rests e bench _ kept not_running pokes = absurd pokes
 
--- as one that can be scrambled does
+-- an enclave that can be scrambled runs on no hart
 pub scramble_rests : (e : ℕ) (target : Target) → TargetInvariant target → can_scramble_in e target ≡ true → RunsOnNoHart e target
 scramble_rests e (Bare machine) kept can = tt
 scramble_rests e (Monitored selected) kept can = λ hart. elim (cases_Bool (runs_on e hart selected.state)) [

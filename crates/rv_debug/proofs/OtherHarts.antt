@@ -1,4 +1,4 @@
--- A hart to which a command does nothing keeps all but the entries and mie.
+-- A hart that a command avoids keeps everything except the PMP entries and mie.
 use Rattle.std.proofs.Common.{◌≡◌, ◌≢◌, ◌<◌, ℕ, ◌==◌, true, false, List, [], ◌∷◌, Option, Some, None, refl, sym, ◌∙◌, ap, subst, not}
 use Rattle.rv_monitor.proofs.PmpProgramming.{as_is}
 use Rattle.rv_debug.specs.Prelude.{Bare, Command, Invariant, MonitoredMachine, Monitored, HartState, Target, changed, count_of, reg_set, sched}
@@ -9,7 +9,7 @@ use Rattle.rv_debug.proofs.Prelude.{invariant_law, list_all, step_count, step_pr
 use Rattle.rv_debug.proofs.EffectsInvariant.{bare_done, poke_of}
 use Rattle.rv_debug.proofs.ScheduledSteps.{by_bare, schedule_is_sched}
 
--- ---- steps of the others
+-- ---- steps of the other harts
 
 same_as_is : (hart : ℕ) (machine : MonitoredMachine) → Invariant machine → hart < count_of machine
     → hart_state_of hart machine ≡ reprogrammed machine.shared.table (hart_state_of hart machine)
@@ -36,7 +36,7 @@ poke_leaves : (hart : ℕ) (machine : Selected) (after : Option (List ℕ)) → 
 poke_leaves hart machine None kept has = same_as_is hart machine.state kept has
 poke_leaves hart machine (Some memory) kept has = same_as_is hart machine.state kept has
 
--- a register or the line of another is set
+-- a register or the timer line of another hart is set
 write_leaves : (hart : ℕ) (machine : Selected) (change : HartState → HartState) → Invariant machine.state → hart < count_of machine.state → hart ≢ machine.hart
     → KeepsHart hart (Monitored machine) (selected_at machine.hart (changed machine.hart change machine.state))
 write_leaves hart machine change kept has other =

@@ -1,4 +1,4 @@
--- Bytes that are poked into the region of an enclave: two benches that agree but for it do so again, whatever the bytes are.
+-- Pokes into the region of an enclave: two benches that are equivalent except for it stay so, whatever the bytes are.
 use Rattle.std.proofs.Common.{◌≡◌, ℕ, ◌+◌, ◌-◌, ◌≤◌, Bool, true, false, List, [], ◌∷◌, length, Option, Some, None, IfSome, refl}
 use Rattle.std.proofs.Common.{sym, ◌∙◌, ap, subst, inl, inr, arith}
 use Rattle.std.specs.Prelude.{is_some, nat_le, nat_lt, ◌==◌, ◌%◌}
@@ -16,7 +16,7 @@ use Rattle.rv_debug.proofs.Prelude.{leb-true, length-write, ltb-true, region_in,
 
 -- ---- memory
 
--- a hidden byte of the first may be any
+-- a hidden byte of the first memory may change
 hidden_write : (hidden : ℕ → Bool) (m n : List ℕ) (address byte : ℕ) (m' : List ℕ) → EqualOutside hidden m n
     → write m address (byte ∷ []) ≡ Some m' → hidden address ≡ true → EqualOutside hidden m' n
 hidden_write hidden m n address byte m' equiv written secret =
@@ -36,7 +36,7 @@ hidden_write hidden m n address byte m' equiv written secret =
       ]);
     }
 
--- and a hidden byte of the second
+-- a hidden byte of each memory may change
 hidden_writes : (hidden : ℕ → Bool) (m n : List ℕ) (here there byte other : ℕ) (m' n' : List ℕ) → EqualOutside hidden m n
     → write m here (byte ∷ []) ≡ Some m' → write n there (other ∷ []) ≡ Some n' → hidden here ≡ true → hidden there ≡ true
     → EqualOutside hidden m' n'
@@ -47,7 +47,7 @@ hidden_writes hidden m n here there byte other m' n' equiv first second secret s
 
 -- ---- the region
 
--- it has a byte: its enclave is live, and the byte is in memory
+-- a region with a byte belongs to a live enclave, and the byte is in memory
 has_live : (o : Option SlotInfo) (address : ℕ) → has (region_of o) address ≡ true → is_some o ≡ true
 has_live None address is = let parts = and_parts (nat_le 0 address) (nat_lt address 0) is in let never = ltb-true address 0 parts.1 in
     absurd (omega (arith, never))
@@ -125,7 +125,7 @@ poke_law e first second (Poke here byte) (Poke there byte') kept kept' equiv sec
 poke_law e first second (Poke here byte) _ kept kept' equiv secret secret' = absurd secret'
 poke_law e first second _ there kept kept' equiv secret secret' = absurd secret
 
--- ---- a bench and itself
+-- ---- a bench is equivalent to itself
 
 targets_itself : (e : ℕ) (target : Target) → TargetsEquivExcept e target target
 targets_itself e (Bare machine) = refl

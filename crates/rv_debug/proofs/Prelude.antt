@@ -1,4 +1,4 @@
--- The names that the proofs cite beside those of specs/Prelude, passed on from one place. Declares nothing.
+-- Names that the proofs use in addition to those of specs/Prelude, re-exported from one place. Declares nothing.
 pub use Rattle.rv_debug.specs.Addresses.{HasPlace, IsSorted, IsSortedAbove, is_among, with_address, without_address}
 unfoldable pub use Rattle.rv_debug.specs.Addresses.{with_room_for}
 pub use Rattle.rv_debug.specs.Execute.{Executed, access_reply, execute_or_fault, csr_reply, dis_reply, hart_summary_text, harts_summary_text, ran_reply}

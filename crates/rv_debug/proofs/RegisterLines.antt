@@ -1,4 +1,4 @@
--- The lines that show registers: one more of them, and how long they are.
+-- The lines that show registers: one more line, and their length.
 use Rattle.std.proofs.Common.{◌≡◌, ℕ, zero, suc, ◌+◌, ◌-◌, ◌*◌, ◌<◌, ◌≤◌, List, [], ◌∷◌, ◌++◌, length, ap, sym}
 use Rattle.std.proofs.Common.{◌∙◌, arith, add-one, length-append}
 use Rattle.std.specs.Prelude.{decimal}
@@ -6,7 +6,7 @@ use Rattle.std.proofs.lemmas.Fmt.{length-decimal-le}
 use Rattle.rv_text.proofs.HexDigits.{length-hex_digits}
 use Rattle.rv_debug.proofs.Prelude.{flat_map, flat_map_more, range_with_len, register_text}
 
--- the last of some numbers
+-- the last number of a range
 range_with_len-suc : (a n last : ℕ) → a + n ≡ last → range_with_len a (suc n) ≡ range_with_len a n ++ last ∷ []
 range_with_len-suc a zero last is = ap (λ k. k ∷ []) (omega arith)
 range_with_len-suc a (suc n) last is = ap (λ t. a ∷ t) (range_with_len-suc (a + 1) n last (omega arith))
@@ -18,7 +18,7 @@ flat_map-range_more f old n =
     let more : range_with_len 0 (n + 1) ≡ range_with_len 0 n ++ n ∷ [] = rw add-one (range_with_len-suc 0 n n (omega arith)) in
     flat_map_more f old (range_with_len 0 n) n ∙ ap (λ ns. old ++ flat_map f ns) (sym more)
 
--- twelve bytes for a number of one digit, and thirteen for one of two
+-- the line is at most 12 bytes long for a register with one digit, and 13 for one with two
 pub length-register_text : (number value : ℕ) → number < 100
     → 12 * number + (number - 10) + length (register_text number value) ≤ 12 * (number + 1) + (number + 1 - 10)
 unfolding register_text

@@ -1,4 +1,4 @@
--- What some replies are.
+-- Examples of replies.
 use Rattle.std.proofs.Common.{◌≡◌, ℕ, ◌+◌, ◌/◌, ◌%◌, List, ◌∷◌, [], ◌++◌, Some, None, true, refl, ◌<◌, ◌≤◌, arith}
 use Rattle.std.specs.Prelude.{codes, decimal, replicate, nat_lt, if◌then◌else◌}
 use Rattle.std.specs.Fmt.{digits}
@@ -21,7 +21,7 @@ use Rattle.rv_debug.proofs.Prelude.{access_reply, csr_reply, csr_text, denied_ou
 use Rattle.rv_debug.proofs.Prelude.{memory_text, nat_tests, no_csr_text, ok_text, outside_text, pc_text, pmp_text, ran_text, register_text}
 use Rattle.rv_debug.proofs.Prelude.{registers_text, stop_text, trap_text, verdict_text}
 
--- a number of one digit or two, written so that it computes
+-- a number of one or two digits, in a form that computes
 abbrev shown : ℕ → List ℕ
 shown n = if nat_lt n 10 then (48 + n) ∷ [] else (if nat_lt n 100 then (48 + n / 10) ∷ (48 + n % 10) ∷ [] else decimal n)
 
@@ -73,7 +73,7 @@ pub dis_text-examples : dis_text 0x8000000e 0xfff08093 ++ dis_text 0x80000000 0x
 unfolding dis_text spelling instr_text line_text word_text decoded digits hex_digits by_bits
 dis_text-examples = refl
 
--- what `dis` answers over six bytes of memory: at any alignment, and outside where one of the four bytes is
+-- the reply of `dis` over six bytes of memory: at any alignment, and outside if one of the four bytes is
 pub dis_reply-examples :
     dis_reply (0 ∷ 0 ∷ 0x93 ∷ 0x80 ∷ 0xf0 ∷ 0xff ∷ []) 0x80000000 ++ dis_reply (0 ∷ 0 ∷ 0x93 ∷ 0x80 ∷ 0xf0 ∷ 0xff ∷ []) 0x80000002
     ++ dis_reply (0 ∷ 0 ∷ 0x93 ∷ 0x80 ∷ 0xf0 ∷ 0xff ∷ []) 0x80000003
@@ -101,11 +101,11 @@ pub ok_text-example : ok_text ++ full_text ≡ codes "ok\nerror full\n"
 unfolding ok_text full_text
 ok_text-example = refl
 
--- a machine alone with these registers
+-- a bare machine with these CSRs
 abbrev alone : CsrState → Target
 alone csrs = Bare (record { hart = record { regs = []; pc = 0; mode = M; csrs = csrs }; memory = [] })
 
--- what `csr` answers at reset: misa, mcycle, a number of no register, and mhartid; and mip where the timer line is raised
+-- the reply of `csr` at reset: misa, mcycle, a number without a register, and mhartid; and mip if the timer line is raised
 pub csr_reply-examples :
     csr_reply (alone at_reset) 0x301 ++ csr_reply (alone at_reset) 0xb00 ++ csr_reply (alone at_reset) 0x41 ++ csr_reply (alone at_reset) 0xf14
     ++ csr_reply (alone (record at_reset { timer = true })) 0x344 ≡
@@ -113,15 +113,15 @@ pub csr_reply-examples :
 unfolding csr_text no_csr_text hex_digits read_result csr_numbered csr_listing csr_of kept_bits
 csr_reply-examples = refl
 
--- four bytes from 80000100 on, for csr_of and executing
+-- an entry for four bytes from 80000100 on, with permission to read and to execute
 abbrev four_bytes : Entries
 four_bytes = record { cfgs = 0x15 ∷ replicate 15 0; addrs = 0x20000040 ∷ replicate 15 0 }
 
--- and the same, locked
+-- the same, locked
 abbrev four_locked : Entries
 four_locked = record { cfgs = 0x95 ∷ replicate 15 0; addrs = 0x20000040 ∷ replicate 15 0 }
 
--- what `access` answers over 264 bytes of memory: by the mode that is named, and outside first of all
+-- the reply of `access` over 264 bytes of memory: the mode decides, and an address outside RAM comes first
 pub access_reply-examples :
     access_reply (replicate 264 0) four_bytes M Read 0x800000fe Word ++ access_reply (replicate 264 0) four_bytes M Read 0x80000100 Word
     ++ access_reply (replicate 264 0) four_bytes U Fetch 0x80000102 Half ++ access_reply (replicate 264 0) four_bytes S Write 0x80000103 Byte

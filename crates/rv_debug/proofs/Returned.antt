@@ -1,4 +1,4 @@
--- What is kept of the host while an enclave runs on a hart is as it was, whatever commands are given.
+-- While an enclave runs on a hart, no command changes the host's saved context.
 use Rattle.std.proofs.Common.{◌≡◌, ℕ, false, List, [], ◌∷◌, ◌++◌, Option, Some, None, refl, sym, ◌∙◌, ap, subst}
 use Rattle.std.specs.Prelude.{IsSomeAnd}
 use Rattle.rv_monitor.specs.Switches.{saved}
@@ -15,18 +15,18 @@ use Rattle.rv_debug.proofs.Prelude.{selected_at, done, effect, harts_stepped, in
 use Rattle.rv_debug.proofs.EffectsInvariant.{keeps_monitor, poke_of}
 use Rattle.rv_debug.proofs.ScheduledSteps.{schedule_is_sched}
 
--- ---- steps of harts in their order
+-- ---- steps of the harts in order
 
 sched_on : (before rest : List ℕ) (machine : MonitoredMachine) → (sched (before ++ rest) machine).state ≡ (sched rest (sched before machine).state).state
 sched_on [] rest machine = refl
 sched_on (named ∷ before) rest machine = sched_on before rest (step_of named machine).state
 
--- ---- what is done
+-- ---- effects
 
 abbrev host_in : ℕ → Target → Option Context
 host_in hart target = option_case (machine_in target) None (host_on hart)
 
--- what the debugger writes is no part of what is kept
+-- a debugger's write is not part of the saved context
 write_host : (hart : ℕ) (machine : Selected) (change : HartState → HartState) → ((hart_state : HartState) → (change hart_state).host_context ≡ hart_state.host_context)
     → host_in hart (selected_at machine.hart (changed machine.hart change machine.state)) ≡ host_on hart machine.state
 write_host hart machine change same = changed_of (λ (hart_state : HartState). hart_state.host_context) change same machine.hart hart machine.state
@@ -35,7 +35,7 @@ poke_host : (hart : ℕ) (machine : Selected) (memory : Option (List ℕ)) → h
 poke_host hart machine None = refl
 poke_host hart machine (Some memory) = refl
 
--- what is kept behind it is what is kept behind its steps
+-- the saved context after an effect is the one after its steps
 host_after : (hart : ℕ) (machine : Selected) (d : Effect)
     → host_in hart (done (Monitored machine) d) ≡ host_on hart (sched (harts_stepped d) machine.state).state
 host_after hart machine Nothing = refl
@@ -44,7 +44,7 @@ host_after hart machine (Register number value) = write_host hart machine (reg_s
 host_after hart machine (TimerLine raised) = write_host hart machine (timer_line_set raised) (λ hart_state. refl)
 host_after hart machine (OneByte address byte) = poke_host hart machine (write machine.state.shared.memory address (byte ∷ []))
 
--- ---- the step that leaves
+-- ---- the step with which the enclave exits
 
 abbrev kept_at : HartView → Option Context
 kept_at entry = Some (saved entry.hart_state.hart (past_ecall entry.hart_state.hart) S)
@@ -76,7 +76,7 @@ leaves_later hart harts machine (Monitored selected) breaks watches (command ∷
     leaves_later hart (harts_stepped (effect bench command)) selected.state next.target next.breaks next.watches commands entry exit kept'
     (keeps_monitor bench command kept') (host_after hart selected (effect bench command)) (same ∙ steps_keep hart harts machine later.0 ∙ is) later.1
 
--- ---- the step that enters
+-- ---- the step that enters the enclave
 
 runs_at_first : (hart : ℕ) (harts : List ℕ) (machine : MonitoredMachine) (after : BenchState) (commands : List Command) (exit : HartView)
     → LeavesLater hart harts machine after commands exit → is_host (hart_state_of hart machine).world ≡ false

@@ -1,4 +1,4 @@
--- A run of the debugger is a schedule of the chosen hart alone.
+-- A run of the debugger is a schedule with only the selected hart.
 use Rattle.std.proofs.Common.{◌≡◌, ℕ, suc, ◌+◌, ◌==◌, List, replicate, refl, sym, ◌∙◌, ap, arith}
 use Rattle.rv_debug.specs.Prelude.{Bare, Monitored, Scheduled, Stop, Target}
 use Rattle.rv_debug.proofs.Prelude.{AfterRun, AfterSteps, AfterSchedule, selected_of, done, ended, entered_by, no_steps, schedule_start, pc_of, run}
@@ -6,7 +6,7 @@ use Rattle.rv_debug.proofs.Prelude.{run_effect, target_stepped, steps_of, schedu
 use Rattle.rv_debug.proofs.ScheduledSteps.{after_schedule}
 use Rattle.rv_debug.proofs.Stepping.{run_induction}
 
--- ---- the chosen hart
+-- ---- the selected hart
 
 own_scheduled_step : (target : Target) → with_selected (selected_of target) target ≡ target
 own_scheduled_step (Bare machine) = refl
@@ -21,7 +21,7 @@ step_scheduled_own hart target is = ap (λ (h : ℕ). with_selected h target) (s
 
 -- ---- its steps
 
--- from a target and the slots that were entered, so many steps lead where the run does, and enter the same
+-- from a target and its entered slots, a schedule of this many steps ends as the run does, and enters the same slots
 record IsScheduled (hart : ℕ) (target : Target) (slots earlier : ℕ) (after : AfterRun Target) : Type 0 where
   count : ℕ
   steps : after.ran.steps ≡ earlier + count
@@ -60,7 +60,7 @@ is-scheduled_steps breaks watches hart =
     (λ before end. selected_of before.state ≡ hart → IsScheduled hart before.state before.entered before.steps end)
     (ends hart) (λ before end more own. goes hart before end own (more (same_hart before.state ∙ own)))
 
--- where a run ends, and what it entered
+-- the target after a run, and the slots that it entered
 pub run_done : (target : Target) (breaks watches : List ℕ) (count : ℕ)
     → done target (run_effect target breaks watches count) ≡ (steps_of target breaks watches count).state
 run_done target breaks watches count =

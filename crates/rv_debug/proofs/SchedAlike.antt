@@ -1,5 +1,5 @@
--- Steps of named harts in two machines that agree but for an enclave that runs on none of them: they show and leave the same, up to one that
--- enters it.
+-- Steps of named harts in two machines that are equivalent except for an enclave that runs on none of them. They have the same outcomes and
+-- leave equivalent machines, up to a step that enters it.
 use Rattle.std.proofs.Common.{◌≡◌, ℕ, true, List, [], ◌∷◌, ◌⊎◌, Some, refl, sym, ◌∙◌, ap, subst, inl, inr}
 use Rattle.rv_monitor.proofs.SchedNoninterference.{entered_some, entry_law}
 use Rattle.rv_monitor.specs.declared.outcome.Outcome.{Outcome}
@@ -9,7 +9,7 @@ use Rattle.rv_debug.proofs.Prelude.{target_stepped, scheduled_steps, with_select
 use Rattle.rv_debug.proofs.StepsAlike.{enters-with, enters-now}
 use Rattle.rv_debug.proofs.ScheduledSteps.{after_schedule}
 
--- ---- a slot that was entered stays so
+-- ---- an entered slot stays entered
 
 stays_entered : (e : ℕ) (harts : List ℕ) (before : AfterSchedule) → is_entered e before.did.entered ≡ true
     → is_entered e (scheduled_steps harts before).did.entered ≡ true
@@ -26,7 +26,7 @@ pub record BothIn (e : ℕ) (one other : AfterSchedule) : Type 0 where
   pub here : is_entered e one.did.entered ≡ true
   pub there : is_entered e other.did.entered ≡ true
 
--- they did the same, and agree again, and the enclave runs on no hart
+-- both executed the same steps, are equivalent again, and the enclave runs on no hart
 pub record BothPast (e : ℕ) (one other : AfterSchedule) : Type 0 where
   pub here : Selected
   pub there : Selected
@@ -39,7 +39,7 @@ pub record BothPast (e : ℕ) (one other : AfterSchedule) : Type 0 where
 abbrev pub ScheduledStepsAlike : ℕ → AfterSchedule → AfterSchedule → Type 0
 ScheduledStepsAlike e one other = BothIn e one other ⊎ BothPast e one other
 
--- the machines and what was done after one step of a hart, by what it left and showed
+-- the machines and the summary after one step of a hart, from its state and outcome
 abbrev next : ℕ → Scheduled → MonitoredMachine → Outcome → AfterSchedule
 next hart did state outcome =
     let machine : Selected = record { hart = hart; state = state } in

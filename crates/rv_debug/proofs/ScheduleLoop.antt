@@ -12,7 +12,7 @@ use Rattle.rv_debug.proofs.Prelude.{with_scheduled_step, so_far_in}
 use Rattle.rv_debug.specs.ScheduledSteps.{schedule_summary}
 use Rattle.rv_debug.proofs.ScheduledSteps.{after_schedule, step_bare}
 
--- ---- how many harts there are
+-- ---- the number of harts
 
 stepped_harts : (target : Target) → harts_of (target_stepped target).state ≡ harts_of target
 stepped_harts (Bare machine) = refl
@@ -28,7 +28,7 @@ or_assoc : (a b c : ℕ) → bit_or (bit_or a b) c ≡ bit_or a (bit_or b c)
 or_assoc a b c = same_from_bits _ _ (λ i.
     rw (bit_at_or (bit_or a b) c i, bit_at_or a b i, bit_at_or a (bit_or b c) i, bit_at_or b c i) (grind arith))
 
--- a slot that one of two entered is one of those that both did
+-- a slot that one of two harts entered is one of those that both entered
 first_slot : (own others : ℕ) (slot : Option ℕ) → slots_with (bit_or own others) slot ≡ bit_or (slots_with own slot) others
 first_slot own others None = refl
 first_slot own others (Some k) =
@@ -38,7 +38,7 @@ second_slot : (others own : ℕ) (slot : Option ℕ) → slots_with (bit_or othe
 second_slot others own None = refl
 second_slot others own (Some k) = or_assoc others own (2 ^ k)
 
--- what a hart's step leads to, and what its run did then
+-- the step of a hart leads to this state and this run
 abbrev pub GoesOn : ℕ → Target → Ran → Target → Ran → Type 0
 GoesOn hart before ran after now =
     ended (with_step (so_far_in (with_selected hart before) ran) (target_stepped (with_selected hart before))) Done ≡ record { state = after; ran = now }
@@ -67,7 +67,7 @@ module _ (before after : Target) (first second now : Ran) where
 pub one_more : (hart : ℕ) (before after : Target) (ran now : Ran) → GoesOn hart before ran after now → now.steps ≡ ran.steps + 1
 one_more hart before after ran now is = sym (ap (λ (r : AfterRun Target). r.ran.steps) is)
 
--- the target after it has as many harts, and stays a machine alone, if it is one
+-- the number of harts is unchanged, and a bare machine stays bare
 pub harts_after : (hart : ℕ) (before after : AfterSchedule) → with_scheduled_step hart before (target_stepped (with_selected hart before.state)) ≡ after
     → harts_of after.state ≡ harts_of before.state
 harts_after hart before after is =
@@ -103,7 +103,7 @@ unfold_all : (count hart : ℕ) (harts : List ℕ) → has_all count (hart ∷ h
 unfolding has_all
 unfold_all count hart harts = refl
 
--- the next hart is there, and so are the others
+-- the next hart exists, and so do the others
 pub has_next : (count : ℕ) (digits : List ℕ) (n digit : ℕ) → n < length digits → digit ≡ get_or digits n 0
     → has_all count (rest n digits) ≡ true
     → (hart_of_digit digit < count) × (has_all count (rest (n + 1) digits) ≡ true)
@@ -112,7 +112,7 @@ has_next count digits n digit inside is has =
     (sym (unfold_all count (hart_of_digit digit) (rest (n + 1) digits)) ∙ ap (has_all count) (sym (next_digit digits n digit inside is)) ∙ has) in
     let here = both.0 in (grind (arith, nat_tests, here), both.1)
 
--- after the last
+-- after the last step
 pub no_more : (digits : List ℕ) (n : ℕ) (before : AfterSchedule) → length digits ≤ n → scheduled_steps (rest n digits) before ≡ before
 unfolding scheduled_steps
 no_more digits n before end = ap (λ (left : List ℕ). scheduled_steps (map hart_of_digit left) before) (drop_all n digits end)

@@ -1,4 +1,4 @@
--- Scheduled steps: those of the target's machine, in the order of the harts.
+-- Scheduled steps are those of the target's machine, in the order of the harts.
 use Rattle.std.proofs.Common.{◌≡◌, ℕ, List, [], ◌∷◌, refl}
 use Rattle.rv_debug.specs.Prelude.{Bare, Monitored, Scheduled, Machine, Target, sched, step_of}
 use Rattle.rv_debug.proofs.Prelude.{AfterSchedule, Selected, IsBare, selected_at, target_stepped, scheduled_steps, with_selected, with_scheduled_step}
@@ -6,7 +6,7 @@ use Rattle.rv_debug.proofs.Prelude.{AfterSchedule, Selected, IsBare, selected_at
 abbrev pub after_schedule : Target → Scheduled → AfterSchedule
 after_schedule state did = record { state = state; did = did }
 
--- whichever hart is chosen then
+-- whichever hart is selected afterwards
 pub schedule_is_sched : (harts : List ℕ) (machine : Selected) (did : Scheduled) (selected : ℕ)
     → with_selected selected (scheduled_steps harts (after_schedule (Monitored machine) did)).state ≡ selected_at selected (sched harts machine.state).state
 unfolding scheduled_steps
@@ -16,9 +16,9 @@ schedule_is_sched (hart ∷ harts) machine did selected =
     schedule_is_sched harts (record { hart = hart; state = (step_of hart machine.state).state })
     (with_scheduled_step hart before (target_stepped (with_selected hart before.state))).did selected
 
--- ---- of a machine alone, which stays one
+-- ---- a bare machine stays bare
 
--- what holds of every machine alone holds of each target that is one
+-- a property of every bare machine holds of each target that is one
 pub by_bare : (P : Target → Type 0) → ((machine : Machine) → P (Bare machine)) → (target : Target) → IsBare target → P target
 by_bare P alone (Bare machine) bare = alone machine
 by_bare P alone (Monitored machine) bare = absurd bare

@@ -1,18 +1,19 @@
--- Steps, one by one.
+-- The steps of a run, one by one.
 use Rattle.std.proofs.Common.{◌≡◌, ℕ, zero, suc, ◌+◌, ◌-◌, ◌<◌, ◌≤◌, ◌==◌, true, false, cond, List, [], Option, Some, None, refl, ◌∙◌, ap}
 use Rattle.std.proofs.Common.{arith, inl, inr, Bool}
 use Rattle.rv_debug.specs.Prelude.{Break, Done, Stop, Trap, Watch, option_case}
 use Rattle.rv_debug.proofs.Prelude.{AfterRun, AfterSteps, Stepped, cases_eq, ended, is_among, lowest_accessed, option_or, run, slots_with}
 use Rattle.rv_debug.proofs.Prelude.{with_step}
 
--- ---- the one walk over a run
+-- ---- case analysis of a run
 
--- where it ends or goes on behind a step, by what the step accessed, whether it was the last, and whether the next is at a break
+-- how a run ends or continues after a step, from the watched byte that it accessed, whether it was the last, and whether the next instruction is
+-- at a breakpoint
 abbrev pub next_of : {A : Type 0} → AfterSteps A → AfterRun A → Option ℕ → Bool → Bool → AfterRun A
 next_of after more hit last here =
     option_case hit (cond last (ended after Done) (cond here (ended after Break) more)) (λ address. ended after (Watch address))
 
--- what holds where it ends, and of what is more, holds; of two runs side by side that stop alike,
+-- a property that holds if the run ends, and of the rest of the run, holds of the run; for two runs side by side that stop alike
 pub next_cases : {A B : Type 0} (P : AfterRun A → AfterRun B → Type 0) (a : AfterSteps A) (b : AfterSteps B) (one : AfterRun A)
     (other : AfterRun B) (hit : Option ℕ) (last here : Bool) → ((stop : Stop) → P (ended a stop) (ended b stop)) → P one other
     → P (next_of a one hit last here) (next_of b other hit last here)
@@ -21,7 +22,7 @@ next_cases P a b one other None true here ends more = ends Done
 next_cases P a b one other None false true ends more = ends Break
 next_cases P a b one other None false false ends more = more
 
--- and of one; from its end back to its beginning
+-- induction over one run, from its end back to its beginning
 pub run_induction : {A : Type 0} (step : A → Stepped A) (pc : A → ℕ) (breaks watches : List ℕ) (P : AfterSteps A → AfterRun A → Type 0)
     → ((after : AfterSteps A) (stop : Stop) → P after (ended after stop))
     → ((before : AfterSteps A) (end : AfterRun A) → P (with_step before (step before.state)) end → P before end)
@@ -36,10 +37,10 @@ run_induction {A} step pc breaks watches P ends goes (suc left) before =
     goes before _ (next_cases Ends after after more more (lowest_accessed watches last.outcome.touched) (left == 0)
     (is_among (pc last.state) breaks) (ends after) (run_induction step pc breaks watches P ends goes left after))
 
--- ---- one step of it
+-- ---- one step of a run
 
 module _ {A : Type 0} (step : A → Stepped A) (pc : A → ℕ) (breaks watches : List ℕ) where
-  -- one step of a run, and where it ends or goes on
+  -- one step of a run, and how the run ends or continues
   abbrev next : ℕ → AfterSteps A → AfterRun A
   next left before =
       let last = step before.state in
@@ -61,7 +62,7 @@ module _ {A : Type 0} (step : A → Stepped A) (pc : A → ℕ) (breaks watches 
       → run step pc breaks watches count before ≡ ended (with_step before (step before.state)) (Watch address)
   run-watch count left before address is hit = run-next count left before is ∙ rw (← hit) refl
 
-  -- a break after a step that was not the last
+  -- a breakpoint after a step that was not the last
   run-break : (count left : ℕ) (before : AfterSteps A) → count ≡ left + 1 → 0 < left
       → None ≡ lowest_accessed watches (step before.state).outcome.touched → true ≡ is_among (pc (step before.state).state) breaks
       → run step pc breaks watches count before ≡ ended (with_step before (step before.state)) Break
@@ -76,7 +77,7 @@ module _ {A : Type 0} (step : A → Stepped A) (pc : A → ℕ) (breaks watches 
   unfolding run
   run-last count left before is last none = run-next count left before is ∙ rw (← none, last) refl
 
-  -- the steps go on, or all are done
+  -- the steps continue, or all are executed
   run-more : (count left : ℕ) (before : AfterSteps A) → count ≡ left + 1
       → None ≡ lowest_accessed watches (step before.state).outcome.touched
       → (0 < left → is_among (pc (step before.state).state) breaks ≡ false)
@@ -89,7 +90,7 @@ module _ {A : Type 0} (step : A → Stepped A) (pc : A → ℕ) (breaks watches 
         run-next count left before is ∙ rw (← none, no, elsewhere some) refl
   ]
 
-  -- steps and one more, with these as the last trap and the slots
+  -- steps and one more, with this last trap and these slots
   abbrev after_step : AfterSteps A → Stepped A → Option Trap → ℕ → AfterSteps A
   after_step before last trap entered = record { state = last.state; steps = before.steps + 1; trap = trap; entered = entered }
 
@@ -98,7 +99,7 @@ module _ {A : Type 0} (step : A → Stepped A) (pc : A → ℕ) (breaks watches 
       → with_step before last ≡ after_step before last trap entered
   adds before last trap entered told enters = rw (told, enters) refl
 
-  -- it ends at a watched byte
+  -- the run ends at a watched byte
   pub stops-watch : (count done : ℕ) (before : AfterSteps A) (last : Stepped A) (trap : Option Trap) (entered address : ℕ)
       → done < count → step before.state ≡ last → trap ≡ option_or last.outcome.trap before.trap → entered ≡ slots_with before.entered last.entered
       → Some address ≡ lowest_accessed watches last.outcome.touched
@@ -107,7 +108,7 @@ module _ {A : Type 0} (step : A → Stepped A) (pc : A → ℕ) (breaks watches 
       run-watch (count - done) (count - (done + 1)) before address (omega arith) (rw is hit)
       ∙ (ap (λ l. ended (with_step before l) (Watch address)) is ∙ ap (λ a. ended a (Watch address)) (adds before last trap entered told enters))
 
-  -- or at a break, where steps are left
+  -- the run ends at a breakpoint, if steps are left
   pub stops-break : (count done : ℕ) (before : AfterSteps A) (last : Stepped A) (trap : Option Trap) (entered : ℕ)
       → done + 1 < count → step before.state ≡ last → trap ≡ option_or last.outcome.trap before.trap
       → entered ≡ slots_with before.entered last.entered
@@ -117,7 +118,7 @@ module _ {A : Type 0} (step : A → Stepped A) (pc : A → ℕ) (breaks watches 
       run-break (count - done) (count - (done + 1)) before (omega arith) (omega arith) (rw is none) (rw is here)
       ∙ (ap (λ l. ended (with_step before l) Break) is ∙ ap (λ a. ended a Break) (adds before last trap entered told enters))
 
-  -- or goes on
+  -- the run continues
   pub goes-on : (count done : ℕ) (before : AfterSteps A) (last : Stepped A) (trap : Option Trap) (entered : ℕ)
       → done < count → step before.state ≡ last → trap ≡ option_or last.outcome.trap before.trap → entered ≡ slots_with before.entered last.entered
       → None ≡ lowest_accessed watches last.outcome.touched → (done + 1 < count → is_among (pc last.state) breaks ≡ false)
@@ -126,7 +127,7 @@ module _ {A : Type 0} (step : A → Stepped A) (pc : A → ℕ) (breaks watches 
       run-more (count - done) (count - (done + 1)) before (omega arith) (rw is none) (λ some. rw is (elsewhere (omega arith)))
       ∙ rw (is, adds before last trap entered told enters) refl
 
-  -- as it does where nothing is set
+  -- the run continues if there is no breakpoint or watchpoint
   pub goes-on-free : (count done : ℕ) (before : AfterSteps A) (last : Stepped A) (trap : Option Trap) (entered : ℕ)
       → breaks ≡ [] → watches ≡ [] → done < count → step before.state ≡ last
       → trap ≡ option_or last.outcome.trap before.trap → entered ≡ slots_with before.entered last.entered
@@ -135,7 +136,7 @@ module _ {A : Type 0} (step : A → Stepped A) (pc : A → ℕ) (breaks watches 
   goes-on-free count done before last trap entered no_breaks no_watches more is told enters =
       goes-on count done before last trap entered more is told enters (rw no_watches refl) (λ _. rw no_breaks refl)
 
-  -- all are done
+  -- all steps are executed
   pub stops-done : (count done : ℕ) (so_far : AfterSteps A) → count ≤ done → run step pc breaks watches (count - done) so_far ≡ ended so_far Done
   unfolding run
   stops-done count done so_far over = let none : count - done ≡ 0 = omega arith in rw none refl

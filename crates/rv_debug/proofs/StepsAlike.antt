@@ -1,5 +1,5 @@
--- Runs of two monitored machines that agree but for an enclave that is not the world of the chosen hart: they do the same, up to the step
--- that enters it.
+-- Runs of two monitored machines that are equivalent except for an enclave that is not the world of the selected hart. Both execute the same
+-- steps, up to a step that enters it.
 use Rattle.std.proofs.Common.{◌≡◌, ℕ, zero, suc, ◌⊎◌, ◌==◌, Bool, true, false, List, Option, Some, None, refl, sym, ◌∙◌, ap, subst, inl}
 use Rattle.std.proofs.Common.{inr, arith}
 use Rattle.std.specs.Prelude.{bit_or, ◌^◌}
@@ -13,7 +13,7 @@ use Rattle.rv_debug.proofs.Prelude.{lowest_accessed, run, slots_with, with_step}
 use Rattle.rv_debug.proofs.TargetRuns.{hart_pc, hart_stepped}
 use Rattle.rv_debug.proofs.Stepping.{next_cases, run_induction, next_of}
 
--- ---- slots that are entered
+-- ---- entered slots
 
 enters-or : (e one other : ℕ) → is_entered e one ≡ true → is_entered e (bit_or one other) ≡ true
 enters-or e one other is =
@@ -36,7 +36,7 @@ pub record BothIn (e : ℕ) (one other : AfterRun MonitoredMachine) : Type 0 whe
   pub here : is_entered e one.ran.entered ≡ true
   pub there : is_entered e other.ran.entered ≡ true
 
--- they did the same, and agree again, and the chosen hart does not run the enclave
+-- both executed the same steps, are equivalent again, and the selected hart does not run the enclave
 pub record BothPast (e hart : ℕ) (one other : AfterRun MonitoredMachine) : Type 0 where
   pub ran : one.ran ≡ other.ran
   pub state : EquivExcept e one.state other.state
@@ -61,7 +61,7 @@ module _ (e hart : ℕ) (breaks watches : List ℕ) where
       let after = after_step before outcome state in
       next_of after (on left after) (lowest_accessed watches outcome.step.touched) (left == 0) (is_among (hart_pc hart state) breaks)
 
-  -- a slot that was entered stays so
+  -- an entered slot stays entered
   abbrev Enters : AfterRun MonitoredMachine → AfterRun MonitoredMachine → Type 0
   Enters end _ = is_entered e end.ran.entered ≡ true
 
@@ -71,7 +71,7 @@ module _ (e hart : ℕ) (breaks watches : List ℕ) where
       run_induction (hart_stepped hart) (hart_pc hart) breaks watches (λ before end. is_entered e before.entered ≡ true → Enters end end)
       (λ after stop is. is) (λ before end more is. more (enters-with e before.entered (hart_stepped hart before.state).entered is))
 
-  -- and so does one that this step enters
+  -- and so does a slot that this step enters
   entered-next : (left : ℕ) (before : AfterSteps MonitoredMachine) (outcome : Outcome) (state : MonitoredMachine) → outcome.entered ≡ Some e
       → is_entered e (next_run left before outcome state).ran.entered ≡ true
   entered-next left before outcome state is =

@@ -1,4 +1,4 @@
--- Steps of a target are those of the machine that it is.
+-- Steps of a target are those of its machine.
 use Rattle.std.proofs.Common.{◌≡◌, ℕ, zero, suc, ◌==◌, List, refl, sym, ◌∙◌, ap}
 use Rattle.rv_debug.specs.Prelude.{Bare, MonitoredMachine, Monitored, Ran, Machine, Target, hart_state_of, step_of}
 use Rattle.rv_debug.proofs.Prelude.{AfterRun, AfterSteps, Selected, Stepped, selected_at, selected_hart_state, selected_stepped, is_among}
@@ -32,7 +32,7 @@ module _ {A : Type 0} (target : A → Target) (step : A → Stepped A) (pc : A �
       ∙ next_cases (λ (there : AfterRun Target) (here : AfterRun A). there ≡ target_of target here) (in_target target after) after _ _
       (lowest_accessed watches last.outcome.touched) (left == 0) (is_among (pc last.state) breaks) (λ stop. refl) (run-in left after))
 
-  -- what a run of the machine gives, said of the target
+  -- a run of the machine, stated for the target
   runs-in : (count : ℕ) (machine after : A) (ran : Ran)
       → run step pc breaks watches count (no_steps machine) ≡ record { state = after; ran = ran }
       → run target_stepped pc_of breaks watches count (no_steps (target machine)) ≡ record { state = target after; ran = ran }
@@ -41,7 +41,7 @@ module _ {A : Type 0} (target : A → Target) (step : A → Stepped A) (pc : A �
 abbrev pub machine_pc : Machine → ℕ
 machine_pc machine = machine.hart.pc
 
--- of a machine under the monitor, whose chosen hart stays so
+-- for a monitored machine, whose selected hart stays selected
 abbrev pub hart_stepped : ℕ → MonitoredMachine → Stepped MonitoredMachine
 hart_stepped hart machine =
     let after = step_of hart machine in
@@ -60,7 +60,7 @@ pub run_monitored : (hart : ℕ) (breaks watches : List ℕ) (count : ℕ) (befo
     (run (hart_stepped hart) (hart_pc hart) breaks watches count before)
 run_monitored hart breaks watches = run-in (selected_at hart) (hart_stepped hart) (hart_pc hart) (λ machine. refl) (λ machine. refl) breaks watches
 
--- ---- a machine alone enters no enclave
+-- ---- a bare machine enters no enclave
 
 entered-none : (breaks watches : List ℕ) (count : ℕ) (before : AfterSteps Machine)
     → (run machine_stepped machine_pc breaks watches count before).ran.entered ≡ before.entered
@@ -73,7 +73,7 @@ pub enters_none : (breaks watches : List ℕ) (count : ℕ) (machine after : Mac
 enters_none breaks watches count machine after ran is =
     ap (λ (a : AfterRun Machine). a.ran.entered) (sym is) ∙ entered-none breaks watches count (no_steps machine)
 
--- ---- of a chosen hart
+-- ---- the selected hart
 
 abbrev pub selected_pc : Selected → ℕ
 selected_pc selected = (selected_hart_state selected).hart.pc

@@ -1,17 +1,17 @@
--- The state of a bench: what its commands show and change. (This project's own debugger.)
+-- The state of a bench, which its commands show and change. (This project's own debugger.)
 use Rattle.std.specs.Prelude.{ℕ, List, []}
 use Rattle.rv_debug.specs.Prelude.{Bare, MonitoredMachine, Monitored, Machine, Target}
 
--- what it steps; the addresses at which a run breaks off; and those of the bytes that it watches, both in rising order
+-- the target, and the sorted addresses of the breakpoints and of the watched bytes
 pub record BenchState : Type 0 where
   pub target : Target
   pub breaks : List ℕ
   pub watches : List ℕ
 
--- a bench over a machine as it is, with no break and no watch
+-- a bench with the given machine, and no breakpoint or watchpoint
 abbrev pub bare : Machine → BenchState
 bare machine = record { target = Bare machine; breaks = []; watches = [] }
 
--- the same over a monitored machine, of which hart 0 is chosen
+-- the same with a monitored machine, with hart 0 selected
 abbrev pub monitored : MonitoredMachine → BenchState
 monitored machine = record { target = Monitored (record { hart = 0; state = machine }); breaks = []; watches = [] }

@@ -1,5 +1,5 @@
--- Two benches that are given the same commands: what they agree in, which commands are blind to an enclave, and what both answer.
--- (This project's own debugger over its own monitor.)
+-- Two benches that execute the same commands: their equivalence, the commands that are blind to an enclave, and the replies of both. (This
+-- project's own debugger and monitor.)
 use Rattle.std.specs.Prelude.{ℕ, ◌≡◌, suc, ◌==◌, Bool, true, false, not, ◌&&◌, ◌||◌, if◌then◌else◌, List, [], ◌∷◌, Result, Ok}
 use Rattle.std.specs.Prelude.{Err, IfSome}
 use Rattle.std.specs.Int.{bit_at}
@@ -17,10 +17,10 @@ use Rattle.rv_debug.specs.Targets.{selected_at, selected_of, harts_of, machine_i
 use Rattle.rv_debug.specs.declared.both.BothLine.{BothLine}
 use Rattle.rv_debug.specs.declared.both.BothLine.TheVariants.{Faulty, Given}
 
--- ---- what two benches agree in
+-- ---- equivalence of two benches
 
--- the chosen hart is the same, and the machines agree but for the enclave of slot e, wherever it runs: they are equal but for the bytes of
--- its region, its context, and the hart on which it runs, if it runs; a machine alone has no enclave
+-- The selected hart is the same, and the machines are equivalent except for the enclave of slot e, wherever it runs. They are equal except for
+-- the bytes of its region, its context, and the hart on which it runs, if it runs. A bare machine has no enclave.
 pub record SelectedEquivExcept (e : ℕ) (one other : Selected) : Type 0 where
   pub hart : one.hart ≡ other.hart
   pub state : EquivExcept e one.state other.state
@@ -37,7 +37,7 @@ pub record BenchesEquivExcept (e : ℕ) (one other : BenchState) : Type 0 where
 
 -- ---- what a command shows, and what it enters
 
--- the region of slot e, without bytes where its enclave is not live
+-- the region of slot e, empty if its enclave is not live
 abbrev pub region_in : ℕ → Target → Block
 region_in e target = option_case (machine_in target) no_block (λ machine. region machine.shared.table e)
 
@@ -45,7 +45,7 @@ region_in e target = option_case (machine_in target) no_block (λ machine. regio
 unfoldable pub is_blind : ℕ → BenchState → Command → Bool
 is_blind e bench command = not (meets (bytes_named command) (region_in e bench.target))
 
--- the harts that a command steps, or of which it shows registers, pc, mode or world; `sched` tells where each hart is
+-- the harts that a command steps, or whose registers, pc, mode or world it shows; `sched` shows the pc, mode and world of each hart
 abbrev pub harts_shown : Target → Command → List ℕ
 harts_shown target (Step count) = selected_of target ∷ []
 harts_shown target (Run count) = selected_of target ∷ []
@@ -59,21 +59,21 @@ harts_shown target _ = []
 abbrev pub RunsOnNoneIn : ℕ → List ℕ → Target → Type 0
 RunsOnNoneIn e harts target = IfSome (machine_in target) (RunsOnNone e harts)
 
--- it runs on none that there is
+-- the enclave of slot e runs on no hart
 abbrev pub RunsOnNoHart : ℕ → Target → Type 0
 RunsOnNoHart e target = IfSome (machine_in target) (λ machine. (hart : ℕ) → runs_on e hart machine ≡ false)
 
--- the command neither steps nor shows a hart on which it runs
+-- the command neither steps nor shows a hart on which the enclave runs
 abbrev pub AvoidsHart : ℕ → BenchState → Command → Type 0
 AvoidsHart e bench command = RunsOnNoneIn e (harts_shown bench.target command) bench.target
 
--- slot e is one of these, of which each has its bit set
+-- slot e is in a set of slots, given as bits
 abbrev pub is_entered : ℕ → ℕ → Bool
 is_entered e slots = bit_at slots e == 1
 
 -- ---- one command for both
 
--- both benches after a command, their replies, and whether there may be more
+-- both benches after a command, their replies, and whether commands end here
 pub record BothExecuted : Type 0 where
   pub first : BenchState
   pub second : BenchState
@@ -81,7 +81,7 @@ pub record BothExecuted : Type 0 where
   pub second_reply : List ℕ
   pub why : BothWhy
 
--- it is done by both; one that enters slot e in either is the last
+-- both execute the command; one that enters slot e in either bench is the last
 abbrev pub both_do : ℕ → Executed → Executed → BothExecuted
 both_do e first second = record {
   first = first.state;
@@ -91,7 +91,7 @@ both_do e first second = record {
   why = if is_entered e first.entered || is_entered e second.entered then Entered else All;
 }
 
--- one that is not blind in either is done by neither
+-- neither executes a command that is not blind in both
 unfoldable pub both_execute : ℕ → BenchState → BenchState → Command → BothExecuted
 both_execute e first second command =
     if is_blind e first command && is_blind e second command then both_do e (execute first command) (execute second command)
@@ -104,7 +104,7 @@ abbrev pub has_no_command : Command → Bool
 has_no_command Blank = true
 has_no_command _ = false
 
--- both benches after a line, what is told of it, and what it was
+-- both benches after a line, the replies, and the result of the line
 pub record BothLineExecuted : Type 0 where
   pub first : BenchState
   pub second : BenchState
@@ -112,7 +112,7 @@ pub record BothLineExecuted : Type 0 where
   pub second_reply : List ℕ
   pub line : BothLine
 
--- its command is given to both; a faulty line is told its fault once, and changes neither
+-- both execute its command; a line with an error has one reply, and changes neither bench
 abbrev pub both_line_executed : ℕ → BenchState → BenchState → Result Command CommandFault → BothLineExecuted
 both_line_executed e first second (Ok command) =
     let after = both_execute e first second command in
@@ -129,7 +129,7 @@ both_line_executed e first second (Err fault) =
 abbrev pub both_execute_line : ℕ → BenchState → BenchState → List ℕ → BothLineExecuted
 both_execute_line e first second line = both_line_executed e first second (parse_of line)
 
--- ---- a second bench that agrees
+-- ---- a second, equivalent bench
 
 -- an enclave is live in the slot, and does not run
 abbrev pub can_scramble_in : ℕ → Target → Bool
@@ -138,7 +138,7 @@ can_scramble_in e target = option_case (machine_in target) false (λ machine. ca
 abbrev pub can_scramble : ℕ → BenchState → Bool
 can_scramble e bench = can_scramble_in e bench.target
 
--- the bench with each byte of the region and each kept register of the slot complemented; a machine alone is as it was
+-- the bench with each byte of the region and each saved register of the slot complemented; a bare machine is unchanged
 abbrev pub scrambled_in : ℕ → Target → Target
 scrambled_in e (Bare machine) = Bare machine
 scrambled_in e (Monitored selected) = selected_at selected.hart (scrambled_of selected.state e)
@@ -148,7 +148,7 @@ scrambled e bench = record bench { target = scrambled_in e bench.target }
 
 -- ---- a list of commands for both
 
--- both benches after commands, how many were done, and why no more
+-- both benches after commands, how many were executed, and why they ended
 pub record BothRan : Type 0 where
   pub first : BenchState
   pub second : BenchState
@@ -158,7 +158,7 @@ pub record BothRan : Type 0 where
 abbrev pub one_more_ran : BothRan → BothRan
 one_more_ran rest = record { first = rest.first; second = rest.second; ran = suc rest.ran; why = rest.why }
 
--- the rest is done where the first command lets it
+-- the remaining commands are executed if the first one allows it
 abbrev pub go_on : BothWhy → BothExecuted → BothRan → BothRan
 go_on All after rest = one_more_ran rest
 go_on Entered after rest = record { first = after.first; second = after.second; ran = 1; why = Entered }

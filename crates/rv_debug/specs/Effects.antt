@@ -6,8 +6,12 @@ use Rattle.rv_debug.specs.ScheduledSteps.{schedule_start, scheduled_steps}
 use Rattle.rv_debug.specs.Steps.{AfterRun, no_steps, run}
 use Rattle.rv_debug.specs.Targets.{selected_of, harts_of, pc_of, target_stepped, register_set, timer_set, poked, with_selected}
 
--- no effect; steps of these harts in this order, after which the given hart is chosen; a write of a register of the chosen hart; a change
--- of its timer line; a write of a byte, if its address is in memory
+-- the effect of a command:
+-- - none;
+-- - steps of these harts in this order, after which the given hart is selected;
+-- - a write of a register of the selected hart;
+-- - a change of its timer line;
+-- - a write of a byte, if its address is in RAM
 pub data Effect : Type 0 where
   Nothing : Effect
   Steps : (harts : List ℕ) (selected : ℕ) → Effect
@@ -36,7 +40,7 @@ harts_stepped _ = []
 
 -- ---- the effect of a command
 
--- at most `count` steps of the chosen hart; a watchpoint or a breakpoint may end them
+-- at most `count` steps of the selected hart; a watchpoint or a breakpoint may end them
 abbrev pub steps_of : Target → List ℕ → List ℕ → ℕ → AfterRun Target
 steps_of target breaks watches count = run target_stepped pc_of breaks watches count (no_steps target)
 
@@ -44,11 +48,11 @@ abbrev pub run_effect : Target → List ℕ → List ℕ → ℕ → Effect
 run_effect target breaks watches count =
     Steps (replicate (steps_of target breaks watches count).ran.steps (selected_of target)) (selected_of target)
 
--- a hart is chosen, if there is one with this number
+-- a hart is selected, if there is one with this number
 abbrev pub hart_effect : Target → ℕ → Effect
 hart_effect target hart = if nat_lt hart (harts_of target) then Steps [] hart else Nothing
 
--- the steps of a schedule do not change the chosen hart; if the schedule names a hart that does not exist, no step is executed
+-- the steps of a schedule do not change the selected hart; if the schedule names a hart that does not exist, no step is executed
 abbrev pub sched_effect : Target → List ℕ → Effect
 sched_effect target harts = if has_all (harts_of target) harts then Steps harts (selected_of target) else Nothing
 

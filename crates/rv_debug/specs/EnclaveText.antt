@@ -1,4 +1,4 @@
--- The lines that show the live enclaves: ASCII, ISO/IEC 646, each ended by a line feed. (This project's own replies.)
+-- The reply lines that show the live enclaves: ASCII, ISO/IEC 646, each ended by a line feed. (This project's own replies.)
 use Rattle.std.specs.Prelude.{ℕ, List, [], ◌++◌, Option, Some, None, codes, decimal}
 use Rattle.std.specs.List.{flat_map, range_with_len}
 use Rattle.rv_enclaves.specs.SlotNumbers.{slot_count}
@@ -7,7 +7,7 @@ use Rattle.rv_enclaves.specs.declared.slot_info.EnclaveState.TheVariants.{Fresh,
 use Rattle.rv_enclaves.specs.declared.slot_info.SlotInfo.{SlotInfo}
 use Rattle.rv_debug.specs.Prelude.{Block, Slots, hex2, hex8, slot_at}
 
--- how far an enclave is
+-- the state of an enclave
 abbrev pub state_text : EnclaveState → List ℕ
 state_text Fresh = codes "Fresh"
 state_text Running = codes "Running"
@@ -30,6 +30,6 @@ abbrev pub slot_text : ℕ → Option SlotInfo → List ℕ
 slot_text slot None = []
 slot_text slot (Some info) = enclave_text slot info
 
--- the live slots, rising
+-- the live slots, in ascending order
 unfoldable pub table_text : Slots → List ℕ
 table_text slots = flat_map (λ slot. slot_text slot (slot_at slots slot)) (range_with_len 0 slot_count)

@@ -1,4 +1,4 @@
--- The answers to commands: the state of the bench that one leaves, and the text of its reply. (This project's own commands.)
+-- The execution of commands: the state of the bench after each command, and the text of its reply. (This project's own commands.)
 use Rattle.std.specs.Prelude.{ℕ, Bool, true, false, List, [], ◌++◌, ◌==◌, nat_lt, Option, Result, Ok, Err, if◌then◌else◌}
 use Rattle.rv_memory.specs.Accesses.{verdict_on}
 use Rattle.rv_pmp.specs.declared.access.Access.{Access as AccessKind}
@@ -15,9 +15,9 @@ use Rattle.rv_debug.specs.ScheduledSteps.{AfterSchedule, schedule_start, schedul
 use Rattle.rv_debug.specs.Steps.{AfterRun}
 use Rattle.rv_debug.specs.Targets.{selected_of, hart_of, harts_of, memory_of, world_text, enclaves_text, pc_of, poked, with_selected}
 
--- ---- breaks and watches
+-- ---- breakpoints and watchpoints
 
--- a set after an address was put into it, or there was no room for it
+-- a set after an address was inserted, or unchanged if the set is full
 abbrev pub set_after : List ℕ → Option (List ℕ) → List ℕ
 set_after old set = option_case set old (λ new. new)
 
@@ -33,34 +33,34 @@ watches_after bench _ = bench.watches
 
 -- ---- replies
 
--- an address is put into a set, or there is no room for it
+-- an address was inserted into a set, or the set is full
 abbrev pub set_reply : Option (List ℕ) → List ℕ
 set_reply set = option_case set full_text (λ new. ok_text)
 
--- so many steps, which these addresses may end, are told by what they did, and where, in which mode and world they ended
+-- the summary of a run: its steps, and the pc, the mode and the world after them
 abbrev pub ran_reply : AfterRun Target → List ℕ
 ran_reply after = ran_text (pc_of after.state) (hart_of after.state).mode (world_text after.state) after.ran
 
--- a byte is put into memory, where its address is in it
+-- a byte is written to memory, if its address is in RAM
 abbrev pub poke_reply : Target → ℕ → ℕ → List ℕ
 poke_reply target address byte = option_case (poked target address byte) outside_text (λ after. ok_text)
 
--- mhartid is shown as the number of the chosen hart, and every other control and status register as mode M reads it, where there is one
+-- mhartid shows the number of the selected hart, and every other CSR its value as mode M reads it, if there is one with the number
 abbrev pub csr_reply : Target → ℕ → List ℕ
 csr_reply target number =
     if number == 3860 then csr_text number (selected_of target)
     else result_case (read_result (hart_of target).csrs number M) (csr_text number) (λ _. no_csr_text)
 
--- a hart is chosen, where there is one of the number
+-- a hart is selected, if there is one with the number
 abbrev pub hart_reply : Target → ℕ → List ℕ
 hart_reply target hart = if nat_lt hart (harts_of target) then ok_text else no_hart_text
 
--- what the steps of a hart did, and where, in which mode and world it is then
+-- the summary of the steps of a hart, and its pc, mode and world after them
 abbrev pub hart_summary_text : Target → ℕ → HartRan → List ℕ
 hart_summary_text target hart ran =
     let seen = with_selected hart target in hart_text hart (pc_of seen) (hart_of seen).mode (world_text seen) ran
 
--- of each hart that there is
+-- the summary of each hart
 abbrev pub harts_summary_text : AfterSchedule → List ℕ
 harts_summary_text after =
     hart_summary_text after.state 0 after.did.first ++ (if nat_lt 1 (harts_of after.state) then hart_summary_text after.state 1 after.did.second else [])
@@ -69,15 +69,15 @@ abbrev pub sched_reply : Target → List ℕ → List ℕ
 sched_reply target harts =
     if has_all (harts_of target) harts then harts_summary_text (scheduled_steps harts (schedule_start target)) else no_hart_text
 
--- bytes of memory are shown where all of them are in it
+-- bytes of memory are shown if all of them are in RAM
 abbrev pub memory_reply : List ℕ → ℕ → ℕ → List ℕ
 memory_reply memory address count = option_case (read memory address count) outside_text (memory_text address)
 
--- the word at an address, the lowest byte first, is shown where all of its bytes are in memory
+-- the word at an address, lowest byte first, is shown if all of its bytes are in RAM
 abbrev pub dis_reply : List ℕ → ℕ → List ℕ
 dis_reply memory address = option_case (read memory address 4) outside_text (λ bytes. dis_text address (number_of_bytes bytes))
 
--- an access is told to be outside where a byte of it is; else what the entries say of it in the mode that is named
+-- an access is outside if one of its bytes is outside RAM; otherwise the reply is the verdict of the PMP entries in the given mode
 abbrev pub access_reply : List ℕ → Entries → Mode → AccessKind → ℕ → Width → List ℕ
 access_reply memory entries mode access address width =
     option_case (read memory address (bytes_in width)) denied_outside_text
@@ -106,7 +106,7 @@ reply_to bench (Timer raised) = ok_text
 reply_to bench (Hart hart) = hart_reply bench.target hart
 reply_to bench (Sched schedule) = sched_reply bench.target (harts_in schedule)
 
--- ---- an answer
+-- ---- execution
 
 -- whether a command only shows something
 abbrev pub only_shows : Command → Bool
@@ -126,7 +126,7 @@ pub record Executed : Type 0 where
   pub reply : List ℕ
   pub entered : ℕ
 
--- one command: what it does, what becomes of the breaks and the watches, and what it replies
+-- one command: its effect, the breakpoints and watchpoints after it, and its reply
 unfoldable pub execute : BenchState → Command → Executed
 execute bench command = record {
   state = record {
@@ -138,7 +138,7 @@ execute bench command = record {
   entered = entered_by bench.target (effect bench command);
 }
 
--- one line: a faulty one is told its fault, and changes nothing
+-- one line: the reply to a line with an error is that error, and nothing changes
 abbrev pub execute_or_fault : BenchState → Result Command CommandFault → Executed
 execute_or_fault bench (Ok command) = execute bench command
 execute_or_fault bench (Err fault) = record { state = bench; reply = command_fault_text fault; entered = 0 }

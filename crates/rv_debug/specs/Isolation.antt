@@ -1,5 +1,5 @@
--- What the commands of a monitored bench show and keep of isolation: the law of reach as `access` tells it, and the law of integrity
--- for a command and for a list of commands. (This project's own debugger over its own monitor.)
+-- Isolation laws for commands: access control as the replies of `access` report it, and integrity for a command and for a list of commands.
+-- (This project's own debugger and monitor.)
 use Rattle.std.specs.List.{list_all}
 use Rattle.std.specs.Prelude.{ℕ, ◌≡◌, ◌≢◌, ◌<◌, ◌⊎◌, ◌==◌, true, false, not, List, [], ◌∷◌, None, IfSome, IsSomeAnd, MatchOption}
 use Rattle.rv_pmp.specs.Verdicts.{bytes_from, permits}
@@ -15,16 +15,16 @@ use Rattle.rv_debug.specs.Effects.{Effect, Steps, Register, TimerLine, OneByte, 
 use Rattle.rv_debug.specs.ReplyText.{verdict_text}
 use Rattle.rv_debug.specs.Targets.{TargetInvariant, selected_of, harts_of, machine_in, memory_of}
 
--- ---- reach
+-- ---- access control
 
--- `access` is answered by a verdict that permits exactly what is in the reach of the world that runs
+-- `access` replies with a verdict that permits exactly the accesses that are accessible to the world that runs
 pub record ReportsVerdict (machine : HartView) (mode : Mode) (access : AccessKind) (address : ℕ) (width : Width) : Type 0 where
   pub told : access_reply machine.shared.memory machine.hart_state.hart.csrs.pmp mode access address width
       ≡ verdict_text (verdict_on machine.hart_state.hart.csrs.pmp mode access address width)
   pub exact : permits (verdict_on machine.hart_state.hart.csrs.pmp mode access address width)
       ≡ is_accessible machine.shared.memory machine.shared.table machine.hart_state.world access (bytes_from address (bytes_in width))
 
--- in S and U, of bytes that are in RAM
+-- in S and U, for bytes that are in RAM
 abbrev pub ReportsAccess : Target → Command → Type 0
 ReportsAccess (Monitored selected) (Access mode access address width) =
     mode ≢ M → is_inside selected.state.shared.memory address (bytes_in width) ≡ true → ReportsVerdict (hart_view selected.hart selected.state) mode access address width
@@ -32,8 +32,8 @@ ReportsAccess _ _ = Unit {0}
 
 -- ---- integrity
 
--- The enclave of slot k rests through an effect on a machine: it is live, the steps leave it alone, and no byte of its region is poked. It may
--- run on a hart that does not step.
+-- The enclave of slot k is undisturbed by an effect on a machine: it is live, the steps leave it undisturbed, and no byte of its region is
+-- poked. It may run on a hart that does not step.
 abbrev pub UndisturbedByEffect : ℕ → MonitoredMachine → Effect → Type 0
 UndisturbedByEffect k machine (Steps harts selected) = IsUndisturbed k harts machine
 UndisturbedByEffect k machine (OneByte address byte) =
@@ -43,7 +43,7 @@ UndisturbedByEffect k machine _ = is_live machine.shared.table k ≡ true
 abbrev pub UndisturbedBy : ℕ → BenchState → Command → Type 0
 UndisturbedBy k bench command = IsSomeAnd (machine_in bench.target) (λ machine. UndisturbedByEffect k machine (effect bench command))
 
--- its record, the bytes of its region and its kept context are as before
+-- the record, the bytes of the region and the saved context are as before
 abbrev pub IsPreservedIn : ℕ → Target → Target → Type 0
 IsPreservedIn k before after = IsSomeAnd (machine_in before) (λ one. IsSomeAnd (machine_in after) (λ other. IsPreserved k one.shared other.shared))
 
@@ -52,7 +52,7 @@ abbrev pub PokesNone : ℕ → MonitoredMachine → Effect → Type 0
 PokesNone k machine (OneByte address byte) = has (region machine.shared.table k) address ≡ false
 PokesNone k machine _ = Unit {0}
 
--- one that runs on a hart rests under every command that does not step that hart, and pokes no byte of its region
+-- an enclave that runs on a hart is undisturbed by every command that does not step that hart and pokes no byte of its region
 abbrev pub RunningLaw : Type 0
 RunningLaw =
     (k own : ℕ) (bench : BenchState) (command : Command) → TargetInvariant bench.target
@@ -60,17 +60,17 @@ RunningLaw =
     let does = effect bench command in
     runs_on k own machine ≡ true → RunsOnNone k (harts_stepped does) machine → PokesNone k machine does → UndisturbedByEffect k machine does)
 
--- a command spares each enclave that rests through it
+-- a command preserves each enclave that it leaves undisturbed
 abbrev pub PreservesUndisturbed : BenchState → Command → BenchState → Type 0
 PreservesUndisturbed before command after = (k : ℕ) → UndisturbedBy k before command → IsPreservedIn k before.target after.target
 
--- a byte that an effect may change: one that a step changes in reach, or that is poked
+-- a byte that an effect may change: one that a step changes, or one that is poked
 abbrev pub MayChange : MonitoredMachine → Effect → ℕ → Type 0
 MayChange machine (Steps harts selected) byte = IsChangedInOrder harts machine byte
 MayChange machine (OneByte address value) byte = byte ≡ address
 MayChange machine _ byte = ⊥
 
--- each byte of a monitored machine is as before, or is one of these
+-- each byte of a monitored machine is as before, or the effect may change it
 abbrev pub ChangesMemory : BenchState → Command → BenchState → Type 0
 ChangesMemory before command after =
     (byte : ℕ) → IfSome (machine_in before.target) (λ machine.
@@ -78,14 +78,15 @@ ChangesMemory before command after =
 
 -- ---- the other harts
 
--- nothing is done to this hart: it makes no step, and has no register and no timer line set
+-- the effect avoids this hart: it makes no step of it, and sets neither its registers nor its timer line
 abbrev pub LeavesHart : ℕ → Target → Effect → Type 0
 LeavesHart hart target (Steps harts selected) = list_all (λ named. not (named == hart)) harts ≡ true
 LeavesHart hart target (Register number value) = hart ≢ selected_of target
 LeavesHart hart target (TimerLine raised) = hart ≢ selected_of target
 LeavesHart hart target _ = Unit {0}
 
--- it is as before, its world, registers, pc and mode, but for the entries and mie, which are those of the table and its world
+-- the hart keeps its world, registers, pc and mode, and everything else except the PMP entries and mie, which are those of the table and its
+-- world
 abbrev pub KeepsHart : ℕ → Target → Target → Type 0
 KeepsHart hart before after =
     MatchOption (machine_in before) (machine_in after ≡ None)
@@ -97,18 +98,18 @@ PreservesHarts before command after =
 
 -- ---- lists of commands
 
--- it rests through commands, one after another
+-- the enclave is undisturbed by commands, one after another
 abbrev pub UndisturbedByAll : ℕ → BenchState → List Command → Type 0
 UndisturbedByAll k bench [] = IsSomeAnd (machine_in bench.target) (λ machine. is_live machine.shared.table k ≡ true)
 UndisturbedByAll k bench (command ∷ commands) =
     UndisturbedBy k bench command × UndisturbedByAll k (execute bench command).state commands
 
--- the bench after them
+-- the bench after the commands
 abbrev pub after_commands : BenchState → List Command → BenchState
 after_commands bench [] = bench
 after_commands bench (command ∷ commands) = after_commands (execute bench command).state commands
 
--- every list of commands spares each enclave that rests through it
+-- every list of commands preserves each enclave that it leaves undisturbed
 abbrev pub IntegrityLaw : Type 0
 IntegrityLaw =
     (k : ℕ) (bench : BenchState) (commands : List Command) → TargetInvariant bench.target → UndisturbedByAll k bench commands

@@ -1,5 +1,6 @@
--- What two benches that agree but for an enclave show and leave, given the same commands that pass by the hart on which it runs: nothing of
--- that enclave, up to the command that enters it. (Laws of this project's own debugger over its own monitor.)
+-- Noninterference of commands: two benches that are equivalent except for an enclave execute the same commands, which avoid the hart on which it
+-- runs. Until a command enters the enclave, the replies are equal and the benches stay equivalent. (Laws of this project's own debugger and
+-- monitor.)
 use Rattle.std.specs.Prelude.{ℕ, ◌≡◌, suc, true, false, List, [], ◌∷◌, take}
 use Rattle.rv_debug.specs.Prelude.{All, BothWhy, Command, Entered, NotBlind, Poke, has}
 use Rattle.rv_debug.specs.Execute.{Executed, execute}
@@ -8,20 +9,20 @@ use Rattle.rv_debug.specs.Isolation.{after_commands}
 use Rattle.rv_debug.specs.Targets.{TargetInvariant, is_live_in}
 use Rattle.rv_debug.specs.BothBenches.{BenchesEquivExcept, BothExecuted, AvoidsHart, RunsOnNoHart, is_blind, is_entered, region_in}
 
--- they agree again; and once the enclave is gone they are equal
+-- the benches are equivalent except for e, and equal once its enclave has ended
 pub record RemainEquiv (e : ℕ) (first second : BenchState) : Type 0 where
   pub but : BenchesEquivExcept e first second
   pub gone : is_live_in e first.target ≡ false → first ≡ second
 
 -- ---- one command
 
--- the replies and the slots that were entered are equal, and the benches agree again
+-- the replies and the entered slots are equal, and the benches are equivalent again
 pub record CommandAlike (e : ℕ) (first second : Executed) : Type 0 where
   pub reply : first.reply ≡ second.reply
   pub entered : first.entered ≡ second.entered
   pub state : RemainEquiv e first.state second.state
 
--- the command enters slot e in both or in neither; if in neither, nothing is shown or left of it
+-- the command enters slot e in both or in neither; if in neither, both executions are alike
 pub record ExecuteAlike (e : ℕ) (first second : Executed) : Type 0 where
   pub entered : is_entered e first.entered ≡ is_entered e second.entered
   pub passed : is_entered e first.entered ≡ false → CommandAlike e first second
@@ -32,12 +33,12 @@ NoninterferenceLaw =
     → BenchesEquivExcept e first second → is_blind e first command ≡ true → AvoidsHart e first command
     → ExecuteAlike e (execute first command) (execute second command)
 
--- a command passes over the enclave of slot e: it names no byte of its region, and does not enter it
+-- a command avoids the enclave of slot e: it accesses no byte of its region, and does not enter it
 pub record AvoidsEnclave (e : ℕ) (bench : BenchState) (command : Command) : Type 0 where
   pub blind : is_blind e bench command ≡ true
   pub past : is_entered e (execute bench command).entered ≡ false
 
--- every command passes by an enclave that runs on no hart; and behind one that does not enter it, it runs on none
+-- every command avoids the hart of an enclave that runs on no hart; after one that does not enter the enclave, it runs on none
 pub record StaysOnNoHart (e : ℕ) (bench : BenchState) (command : Command) : Type 0 where
   pub by : AvoidsHart e bench command
   pub not_running : is_entered e (execute bench command).entered ≡ false → RunsOnNoHart e (execute bench command).state.target
@@ -50,14 +51,15 @@ abbrev pub PokesInto : ℕ → BenchState → Command → Type 0
 PokesInto e bench (Poke address byte) = has (region_in e bench.target) address ≡ true
 PokesInto e bench _ = ⊥
 
--- two benches that agree but for an enclave do so too once each has a byte poked into its region, whichever and wherever, and reply the same
+-- after a poke into the region of slot e, of any byte at any of its addresses in each bench, two equivalent benches are equivalent again, and
+-- reply the same
 abbrev pub PokeLaw : Type 0
 PokeLaw =
     (e : ℕ) (first second : BenchState) (here there : Command) → TargetInvariant first.target → TargetInvariant second.target
     → BenchesEquivExcept e first second → PokesInto e first here → PokesInto e second there
     → CommandAlike e (execute first here) (execute second there)
 
--- the same as both_command tells it
+-- the same, for the result of both_command
 pub record BothRepliesAlike (e : ℕ) (after : BothExecuted) : Type 0 where
   pub reply : after.first_reply ≡ after.second_reply
   pub state : RemainEquiv e after.first after.second
@@ -86,19 +88,19 @@ abbrev pub replies_to : BenchState → List Command → List (List ℕ)
 replies_to bench [] = []
 replies_to bench (command ∷ commands) = (execute bench command).reply ∷ replies_to (execute bench command).state commands
 
--- each of these commands passes by the hart of slot e, up to the first that enters it
+-- each of these commands avoids the hart of slot e, up to the first that enters it
 abbrev pub CommandsAvoidHart : ℕ → BenchState → List Command → Type 0
 CommandsAvoidHart e bench [] = Unit {0}
 CommandsAvoidHart e bench (command ∷ commands) =
     AvoidsHart e bench command
     × (is_entered e (execute bench command).entered ≡ false → CommandsAvoidHart e (execute bench command).state commands)
 
--- the replies to all of them are equal, and the benches agree after them
+-- the replies to all commands are equal, and the benches are equivalent after them
 pub record AllAlike (e : ℕ) (first second : BenchState) (commands : List Command) : Type 0 where
   pub replies : replies_to first commands ≡ replies_to second commands
   pub state : RemainEquiv e (after_commands first commands) (after_commands second commands)
 
--- they pass all that were done, but for the last where that entered slot e
+-- all executed commands are alike, except the last if it entered slot e
 abbrev pub DoneAlike : ℕ → BenchState → BenchState → List Command → ℕ → BothWhy → Type 0
 DoneAlike e first second commands ran All = AllAlike e first second (take ran commands)
 DoneAlike e first second commands ran NotBlind = AllAlike e first second (take ran commands)

@@ -1,4 +1,4 @@
--- The names of other crates and of the Rust types that definitions and proofs here cite, passed on from one place. Declares nothing.
+-- Names of other crates and of Rust types that definitions and proofs here use, re-exported from one place. Declares nothing.
 pub use Rattle.rv_debug.specs.declared.both.BothWhy.{BothWhy}
 pub use Rattle.rv_debug.specs.declared.both.BothWhy.TheVariants.{All, Entered, NotBlind}
 pub use Rattle.rv_debug.specs.declared.scheduled.HartRan.{HartRan}

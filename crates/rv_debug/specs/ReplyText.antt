@@ -1,5 +1,5 @@
--- The lines that answer commands: ASCII, ISO/IEC 646, each ended by a line feed; hexadecimal in lower case, with leading
--- zeros. (This project's own replies.)
+-- The reply lines of commands: ASCII, ISO/IEC 646, each ended by a line feed. Hexadecimal numbers are in lower case, with leading zeros. (This
+-- project's own replies.)
 use Rattle.std.specs.Prelude.{ℕ, List, ◌++◌, Option, Some, None, codes, decimal}
 use Rattle.std.specs.List.{flat_map, range_with_len}
 use Rattle.rv_pmp.specs.declared.verdict.Verdict.{Verdict}
@@ -73,7 +73,7 @@ unfoldable pub pmp_text : Entries → List ℕ
 pmp_text entries =
     flat_map (λ number. entry_text number (cfg_of entries number) (addr_of entries number)) (range_with_len 0 16)
 
--- the verdict on an access, with the entry that decides, or `free` where none does
+-- the verdict on an access, with the entry that decides it, or `free` if none does
 unfoldable pub verdict_text : Verdict → List ℕ
 verdict_text (Allowed number) = codes "allowed entry " ++ decimal number ++ codes "\n"
 verdict_text AllowedFree = codes "allowed free\n"
@@ -85,28 +85,28 @@ verdict_text DeniedFree = codes "denied free\n"
 unfoldable pub denied_outside_text : List ℕ
 denied_outside_text = codes "denied outside\n"
 
--- it is done
+-- the command was executed
 unfoldable pub ok_text : List ℕ
 ok_text = codes "ok\n"
 
--- there is no room for one more address
+-- the set is full
 unfoldable pub full_text : List ℕ
 full_text = codes "error full\n"
 
--- the fault of a line
+-- the error of a line
 abbrev pub command_fault_text : CommandFault → List ℕ
 command_fault_text BadLine = codes "error line\n"
 command_fault_text UnknownCommand = codes "error command\n"
 command_fault_text BadOperand = codes "error operand\n"
 
--- there is no control and status register of the number
+-- there is no CSR with the number
 unfoldable pub no_csr_text : List ℕ
 no_csr_text = codes "error csr\n"
 
--- there is no hart of the number
+-- there is no hart with the number
 unfoldable pub no_hart_text : List ℕ
 no_hart_text = codes "error hart\n"
 
--- a byte that was asked for is outside RAM
+-- a byte that the command accesses is outside RAM
 unfoldable pub outside_text : List ℕ
 outside_text = codes "error outside\n"

@@ -1,6 +1,6 @@
--- From the step with which the host enters an enclave to the one with which the enclave leaves, within one command or with any commands
--- between them: the host goes on as it was before the first, past its ecall, but for a0 and a1. (A law of this project's own debugger over
--- its own monitor; Keystone, EuroSys 2020, in this project's profile.)
+-- The return to the host. Take the step with which the host enters an enclave and the one with which the enclave exits, in one command or with
+-- any commands in between. The host then continues after its ecall as it was before the first step, except for a0 and a1. (A law of this
+-- project's own debugger and monitor; Keystone, EuroSys 2020, in this project's profile.)
 use Rattle.std.specs.Prelude.{ℕ, ◌≡◌, true, List, [], ◌∷◌, ◌++◌, IsSomeAnd}
 use Rattle.rv_monitor.specs.Returns.{HostIsRestored, RunsThrough}
 use Rattle.rv_debug.specs.Prelude.{Command, HostContextIsLegal, MonitoredMachine, HartView, is_host, monitored_step, sched, hart_state_of, hart_view, step_of}
@@ -9,8 +9,8 @@ use Rattle.rv_debug.specs.BenchState.{BenchState}
 use Rattle.rv_debug.specs.Effects.{effect, harts_stepped}
 use Rattle.rv_debug.specs.Targets.{TargetInvariant, machine_in}
 
--- What is kept of the host is as a hart stores it. An enclave runs on the hart up to the exit state; from it one of these steps is of this
--- hart, and leads to the host.
+-- The host's saved context is as a hart stores it. An enclave runs on the hart up to the exit state. The next of these steps is a step of this
+-- hart, and the host runs after it.
 pub record LeavesWithin (hart : ℕ) (harts : List ℕ) (machine : MonitoredMachine) (exit : HartView) : Type 0 where
   pub stored : HostContextIsLegal (hart_state_of hart machine)
   pub before : List ℕ
@@ -20,16 +20,16 @@ pub record LeavesWithin (hart : ℕ) (harts : List ℕ) (machine : MonitoredMach
   pub at : exit ≡ hart_view hart (sched before machine).state
   pub host : is_host (monitored_step exit).state.hart_state.world ≡ true
 
--- In the middle of a command these steps are still to come, `after` is the bench at its end, and further commands follow. The enclave leaves
--- in the last of all these commands, and runs on the hart through those before.
+-- These steps of a command are not yet executed. `after` is the bench at the end of the command, and further commands follow. The enclave exits
+-- in the last of all these commands, and runs on the hart through the earlier ones.
 abbrev pub LeavesLater : ℕ → List ℕ → MonitoredMachine → BenchState → List Command → HartView → Type 0
 LeavesLater hart harts machine after [] exit = LeavesWithin hart harts machine exit
 LeavesLater hart harts machine after (command ∷ commands) exit =
     RunsThrough hart harts machine × IsSomeAnd (machine_in after.target) (λ next.
     LeavesLater hart (harts_stepped (effect after command)) next (execute after command).state commands exit)
 
--- A step of the first command is of this hart, and enters an enclave from the entry state, in which the host runs. It leaves in that command
--- or later.
+-- A step of the first command is a step of this hart, and enters an enclave from the entry state, in which the host runs. The enclave exits in
+-- that command or later.
 pub record EntersAndLeaves (hart : ℕ) (bench : BenchState) (first : Command) (later : List Command) (machine : MonitoredMachine)
     (entry exit : HartView) : Type 0 where
   pub before : List ℕ
@@ -39,7 +39,7 @@ pub record EntersAndLeaves (hart : ℕ) (bench : BenchState) (first : Command) (
   pub host : is_host entry.hart_state.world ≡ true
   pub leaves : LeavesLater hart rest (step_of hart (sched before machine).state).state (execute bench first).state later exit
 
--- The commands between may step either hart, set registers, raise and lower the line, and poke any byte.
+-- The commands in between may step either hart, set registers, raise and lower the timer line, and poke any byte.
 abbrev pub ReturnLaw : Type 0
 ReturnLaw =
     (hart : ℕ) (bench : BenchState) (first : Command) (later : List Command) (entry exit : HartView) → TargetInvariant bench.target

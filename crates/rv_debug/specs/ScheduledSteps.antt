@@ -41,7 +41,7 @@ with_scheduled_step hart before last = record {
   };
 }
 
--- one step of each of these harts, in this order; breakpoints and watchpoints do not matter, and the last hart is chosen then
+-- one step of each of these harts, in this order; breakpoints and watchpoints have no effect, and then the last hart is selected
 unfoldable pub scheduled_steps : List ℕ → AfterSchedule → AfterSchedule
 scheduled_steps [] before = before
 scheduled_steps (hart ∷ harts) before = scheduled_steps harts (with_scheduled_step hart before (target_stepped (with_selected hart before.state)))

@@ -1,4 +1,4 @@
--- A monitored machine, and the hart of it that commands work on. (This project's own debugger.)
+-- A monitored machine, and its selected hart, which commands work on. (This project's own debugger.)
 use Rattle.std.specs.Prelude.{ℕ}
 use Rattle.rv_monitor.specs.MonitoredMachine.{MonitoredMachine}
 

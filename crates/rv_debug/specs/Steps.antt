@@ -1,4 +1,4 @@
--- Steps one after another: RISC-V Unprivileged ISA 20191213, section 1.2; and what ends them. (This project's own debugger.)
+-- Runs of steps, and what ends them: RISC-V Unprivileged ISA 20191213, section 1.2. (This project's own debugger.)
 use Rattle.std.specs.Prelude.{ℕ, zero, suc, ◌+◌, ◌^◌, ◌==◌, bit_or, List, Option, Some, None, if◌then◌else◌}
 use Rattle.std.specs.Option.{option_or}
 use Rattle.rv_hart.specs.declared.trap.StepOutcome.{StepOutcome}
@@ -6,25 +6,25 @@ use Rattle.rv_debug.specs.Prelude.{Break, Done, Ran, Stop, Trap, Watch, option_c
 use Rattle.rv_debug.specs.Addresses.{is_among}
 use Rattle.rv_debug.specs.Stops.{lowest_accessed}
 
--- a state after one step, what the step shows, and the slot of the enclave that it entered, if it entered one
+-- a state after one step, the outcome of the step, and the slot of the enclave that it entered, if any
 pub record Stepped (A : Type 0) : Type 0 where
   pub state : A
   pub outcome : StepOutcome
   pub entered : Option ℕ
 
--- a state after steps, how many they were, the last trap in them, and the slots that they entered: bit k is set for slot k
+-- a state after steps, the number of steps, the last trap, and the slots that they entered: bit k is set for slot k
 pub record AfterSteps (A : Type 0) : Type 0 where
   pub state : A
   pub steps : ℕ
   pub trap : Option Trap
   pub entered : ℕ
 
--- a state after steps that ended, and what they did
+-- a state after a run, and the summary of the run
 pub record AfterRun (A : Type 0) : Type 0 where
   pub state : A
   pub ran : Ran
 
--- before the first
+-- before the first step
 abbrev pub no_steps : {A : Type 0} → A → AfterSteps A
 no_steps state = record { state = state; steps = 0; trap = None; entered = 0 }
 
@@ -48,8 +48,8 @@ ended after stop = record {
   ran = record { steps = after.steps; trap = after.trap; stop = stop; entered = after.entered };
 }
 
--- At most so many steps more. After each it is asked first whether a watched byte was accessed, then whether all are done,
--- then whether the next instruction is at a break.
+-- At most `count` more steps. After each step, an access to a watched byte ends the run. Otherwise the run ends if all steps are executed, and
+-- then if the next instruction is at a breakpoint.
 unfoldable pub run : {A : Type 0} → (A → Stepped A) → (A → ℕ) → List ℕ → List ℕ → ℕ → AfterSteps A → AfterRun A
 run step pc breaks watches zero before = ended before Done
 run step pc breaks watches (suc left) before =

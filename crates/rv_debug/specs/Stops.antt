@@ -1,24 +1,24 @@
--- What stops a run: the bytes that an instruction accesses. (This project's own debugger; what a step touches is said of the
--- instruction's accesses, RISC-V Unprivileged ISA 20191213, section 1.4.)
+-- Watchpoint hits: an access to a watched byte stops a run. (This project's own debugger; for the memory accesses of an instruction, see RISC-V
+-- Unprivileged ISA 20191213, section 1.4.)
 use Rattle.std.specs.Prelude.{ℕ, ◌+◌, Bool, false, ◌&&◌, ◌||◌, nat_le, nat_lt, min, List, [], ◌∷◌, filter, Option, Some, None}
 use Rattle.rv_memory.specs.declared.touched.Span.{Span}
 use Rattle.rv_memory.specs.declared.touched.Touched.{Touched}
 use Rattle.rv_debug.specs.Prelude.{bytes_in}
 
--- the address is one of so many from this one on
+-- the address is one of `count` from the first on
 abbrev pub is_between : ℕ → ℕ → ℕ → Bool
 is_between first count address = nat_le first address && nat_lt address (first + count)
 
--- the byte at the address is one of these
+-- the byte at the address is in the span
 abbrev pub is_in : Option Span → ℕ → Bool
 is_in None address = false
 is_in (Some span) address = is_between span.addr (bytes_in span.len) address
 
--- the instruction loaded or stored the byte at the address; what was fetched does not count
+-- the instruction loaded or stored the byte at the address; a fetch does not count
 abbrev pub is_accessed : Touched → ℕ → Bool
 is_accessed touched address = is_in touched.loaded address || is_in touched.stored address
 
--- the lower of two addresses, of which either may be missing
+-- the lower of two addresses, or the one that is present
 abbrev pub lower : Option ℕ → Option ℕ → Option ℕ
 lower None second = second
 lower (Some first) None = Some first

@@ -1,4 +1,4 @@
--- What commands work on, in the few words in which the answers speak of it. (This project's own debugger.)
+-- The target of commands, and the parts of it that commands use. (This project's own debugger.)
 use Rattle.std.specs.Prelude.{ℕ, Bool, false, List, [], ◌∷◌, ◌++◌, codes, decimal, Option, Some, None, IfSome}
 use Rattle.std.specs.Option.{option_map}
 use Rattle.rv_hart.specs.HartRecord.{Hart}
@@ -16,16 +16,16 @@ abbrev pub machine_in : Target → Option MonitoredMachine
 machine_in (Bare machine) = None
 machine_in (Monitored selected) = Some selected.state
 
--- the seat of the chosen hart
+-- the state of the selected hart
 abbrev pub selected_hart_state : Selected → HartState
 selected_hart_state selected = hart_state_of selected.hart selected.state
 
--- its hart; of two, the chosen one
+-- the hart of a target: of a monitored machine, the selected one
 abbrev pub hart_of : Target → Hart
 hart_of (Bare machine) = machine.hart
 hart_of (Monitored selected) = (selected_hart_state selected).hart
 
--- its memory
+-- the memory of a target
 abbrev pub memory_of : Target → List ℕ
 memory_of (Bare machine) = machine.memory
 memory_of (Monitored selected) = selected.state.shared.memory
@@ -35,12 +35,12 @@ abbrev pub world_name : World → List ℕ
 world_name Host = codes "host"
 world_name (Enclave slot) = codes "e" ++ decimal slot
 
--- the name of its world
+-- the name of the world of a target
 abbrev pub world_text : Target → List ℕ
 world_text (Bare machine) = codes "bare"
 world_text (Monitored selected) = world_name (selected_hart_state selected).world
 
--- a line for each of its live enclaves; a machine alone has none
+-- a line for each live enclave; a bare machine has none
 abbrev pub enclaves_text : Target → List ℕ
 enclaves_text target = option_case (machine_in target) [] (λ machine. table_text machine.shared.table)
 
@@ -48,49 +48,49 @@ enclaves_text target = option_case (machine_in target) [] (λ machine. table_tex
 abbrev pub is_live_in : ℕ → Target → Bool
 is_live_in e target = option_case (machine_in target) false (λ machine. is_live machine.shared.table e)
 
--- the address of its next instruction
+-- the address of the next instruction
 abbrev pub pc_of : Target → ℕ
 pc_of target = (hart_of target).pc
 
--- a machine alone after one step: it enters no enclave
+-- a bare machine after one step, which enters no enclave
 abbrev pub machine_stepped : Machine → Stepped Machine
 machine_stepped machine = let after = step machine in record { state = after.state; outcome = after.outcome; entered = None }
 
--- a monitored machine after one step of the chosen hart
+-- a monitored machine after one step of the selected hart
 abbrev pub selected_stepped : Selected → Stepped Selected
 selected_stepped selected =
     let after = step_of selected.hart selected.state in
     record { state = record { hart = selected.hart; state = after.state }; outcome = after.outcome.step; entered = after.outcome.entered }
 
--- the same of a target
+-- the same, for a target
 abbrev pub with_target : {A : Type 0} → (A → Target) → Stepped A → Stepped Target
 with_target target after = record { state = target after.state; outcome = after.outcome; entered = after.entered }
 
--- a machine under the monitor with a chosen hart
+-- a monitored machine with a selected hart
 abbrev pub selected_at : ℕ → MonitoredMachine → Target
 selected_at hart state = Monitored (record { hart = hart; state = state })
 
--- a target after one step, of the chosen hart
+-- a target after one step of the selected hart
 abbrev pub target_stepped : Target → Stepped Target
 target_stepped (Bare machine) = with_target Bare (machine_stepped machine)
 target_stepped (Monitored selected) = with_target Monitored (selected_stepped selected)
 
--- how many harts it has
+-- the number of harts
 abbrev pub harts_of : Target → ℕ
 harts_of (Bare machine) = 1
 harts_of (Monitored selected) = count_of selected.state
 
--- the number of the chosen hart
+-- the number of the selected hart
 abbrev pub selected_of : Target → ℕ
 selected_of (Bare machine) = 0
 selected_of (Monitored selected) = selected.hart
 
--- another hart chosen, which it has
+-- the target with another of its harts selected
 abbrev pub with_selected : ℕ → Target → Target
 with_selected hart (Bare machine) = Bare machine
 with_selected hart (Monitored selected) = selected_at hart selected.state
 
--- a word put into a register; x0 stays 0
+-- a word written to a register; x0 stays 0
 abbrev pub register_set : Target → ℕ → ℕ → Target
 register_set (Bare machine) number value =
     Bare (record machine { hart = record machine.hart { regs = with_register machine.hart.regs number value } })
@@ -102,25 +102,25 @@ timer_set (Bare machine) raised =
     Bare (record machine { hart = record machine.hart { csrs = record machine.hart.csrs { timer = raised } } })
 timer_set (Monitored selected) raised = selected_at selected.hart (with_timer selected.hart selected.state raised)
 
--- a memory in place of its own
+-- the target with another memory
 abbrev pub over_memory : Target → List ℕ → Target
 over_memory (Bare machine) memory = Bare (record machine { memory = memory })
 over_memory (Monitored selected) memory = selected_at selected.hart (with_memory selected.state memory)
 
--- a byte put into memory, where its address is in it
+-- a byte written to memory, if its address is in RAM
 abbrev pub poked : Target → ℕ → ℕ → Option Target
 poked target address byte = option_map (over_memory target) (write (memory_of target) address (byte ∷ []))
 
--- the target is a machine alone
+-- the target is a bare machine
 abbrev pub IsBare : Target → Type 0
 IsBare (Bare machine) = Unit {0}
 IsBare (Monitored selected) = ⊥
 
--- where the target is monitored: its table is valid, the entries and mie are those of the table and the world, the mode is S or U, and
--- MIE, MPRV, TVM, TW and TSR are 0
+-- The invariant of the machine, if the target is monitored. The table is valid, and the PMP entries and mie are those of the table and the
+-- world. The mode is S or U, and MIE, MPRV, TVM, TW and TSR are 0.
 abbrev pub TargetInvariant : Target → Type 0
 TargetInvariant target = IfSome (machine_in target) Invariant
 
--- what is kept of the host of each hart is as a hart stores it
+-- the host's saved context of each hart is as a hart stores it
 abbrev pub HostContextsAreLegalIn : Target → Type 0
 HostContextsAreLegalIn target = IfSome (machine_in target) HostContextsAreLegal

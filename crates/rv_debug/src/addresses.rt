@@ -99,7 +99,7 @@ impl Addresses {
         if self.is_empty() {
             return None;
         }
-        // makes it known that the addresses are sorted
+        // this read brings into scope that the addresses are sorted
         let _ = &self.sorted;
         lower(
             self.lowest_in(touched.loaded),
@@ -174,7 +174,7 @@ fn place_of(sorted: &[u32], address: u32) -> Result<usize, usize>
     sorted.binary_search(&address)
 }
 
-/// Returns the lower of two addresses, either of which may be missing.
+/// Returns the lower of two addresses, or the one that is present.
 #[inline(always)]
 fn lower(first: Option<u32>, second: Option<u32>) -> Option<u32>
     ensures { result ≡ lower first second }

@@ -16,7 +16,7 @@ use rv_text::Reply;
 use std::fmt;
 use std::marker::Model;
 
-/// A target under a debugger.
+/// A target under a debugger, with its breakpoints and watchpoints.
 #[derive(Drop)]
 pub struct Bench {
     target: Target,
@@ -41,21 +41,21 @@ impl Bench {
     ghost use Rattle.rv_debug.specs.Targets.{IsBare, HostContextsAreLegalIn, TargetInvariant};
     ghost use Rattle.rv_debug.specs.BothBenches.{BenchesEquivExcept, RunsOnNoHart, can_scramble, is_blind, scrambled};
 
-    /// A bench over a machine as it is, with no break and no watch.
+    /// Returns a bench with the given machine, and no breakpoint or watchpoint.
     pub fn bare(machine: Machine) -> Self
         ensures { result ≡ bare machine }
     {
         Bench::over(Target::Bare(machine))
     }
 
-    /// A bench over a monitored machine as it is, with hart 0 chosen, no break and no watch.
+    /// Returns a bench with the given monitored machine, hart 0 selected, and no breakpoint or watchpoint.
     pub fn monitored(machine: MonitoredMachine) -> Self
         ensures { result ≡ monitored machine }
     {
         Bench::over(Target::Monitored(SelectedHart { machine, hart: 0 }))
     }
 
-    /// A bench over a target, with no break and no watch.
+    /// Returns a bench with the given target, and no breakpoint or watchpoint.
     fn over(target: Target) -> Self
         ensures { result ≡ record { target = target; breaks = []; watches = [] } }
     {
@@ -66,10 +66,10 @@ impl Bench {
         }
     }
 
-    /// The invariant of a bench, as facts to cite. It does nothing. Of a bare bench it says nothing; of a monitored one:
-    /// - `monitor`: the table of enclaves is valid, and of each hart the PMP entries and mie are those of the table and its world, the mode is
-    ///   S or U, and MIE, MPRV, TVM, TW and TSR are 0;
-    /// - `stored`: what is kept of the host of each hart is as a hart stores it, which `laws::host_is_restored` needs.
+    /// Establishes the invariant of a bench. Has no effect. It states nothing about a bare bench. For a monitored bench:
+    /// - `monitor`: the table of enclaves is valid. For each hart, the PMP entries and mie are those of the table and its world. Its mode is S
+    ///   or U, and MIE, MPRV, TVM, TW and TSR are 0.
+    /// - `legal`: the host's saved context of each hart is as a hart stores it. `laws::host_is_restored` needs this.
     pub fn invariant(&self)
         ensures monitor { TargetInvariant self.now.target }
         ensures legal { HostContextsAreLegalIn self.now.target }
@@ -77,7 +77,7 @@ impl Bench {
         self.target.invariant();
     }
 
-    /// Whether a command is blind to the enclave of a slot: it is not a mem, dis or poke with a byte in its region.
+    /// Returns whether a command is blind to the enclave of a slot: it is not a mem, dis or poke with a byte in its region.
     #[tactic(auto, unfolding(crate::specs::BothBenches::is_blind))]
     pub(crate) fn is_blind(&self, slot: Slot, command: &Command) -> bool
         ensures { result ≡ is_blind slot self.now command.now }
@@ -88,18 +88,19 @@ impl Bench {
         }
     }
 
-    /// Does one command, and puts its reply in place of what the buffer holds. A refused command changes nothing of the bench.
+    /// Executes one command, and replaces the contents of the buffer by its reply. A refused command changes nothing of the bench.
     ///
-    /// Returns a number with bit k set where the enclave of slot k was entered: 0 where the bench is bare.
+    /// Returns a number with bit k set if the enclave of slot k was entered. It is 0 if the bench is bare.
     ///
-    /// `execute` is all of it. The other clauses follow from it and the invariant:
-    /// - `accessible`: in S and U, `access` is told to be permitted exactly where it is in the reach of the world that runs on the chosen hart;
-    /// - `changes`: a byte of memory changes only where it is poked, or where a step changes it in its world's reach, by a destroy or by a
-    ///   measure;
-    /// - `integrity`: the command changes neither record nor region nor context of a live enclave that is not the world of a hart that steps,
-    ///   that it does not enter or end, and of whose region it pokes no byte; the enclave may run on the other hart;
-    /// - `beside`: a hart of which the command makes no step, and sets no register and no timer line, keeps its world, registers, pc and mode,
-    ///   and all but the entries and mie.
+    /// `execute` specifies the command completely. The other clauses follow from it and the invariant:
+    /// - `accessible`: for S and U and bytes in RAM, `access` replies that an access is permitted if and only if it is accessible to the world
+    ///   of the selected hart.
+    /// - `changes`: a byte of memory changes only if it is poked, or if a step changes it. A step changes bytes accessible to its world, the
+    ///   region that a destroy clears, or the bytes that a measure writes.
+    /// - `integrity`: take a live enclave that is not the world of a hart that steps. If the command neither enters nor ends it, and pokes no
+    ///   byte of its region, its record, region and saved context stay unchanged. The enclave may run on the other hart.
+    /// - `beside`: take a hart that the command does not step, and whose registers and timer line it does not set. It keeps its world,
+    ///   registers, pc and mode, and everything else except the PMP entries and mie.
     pub fn command(&mut self, command: &Command, out: &mut Reply) -> u16
         ensures execute { execute self.old command.now ≡ record { state = self.new; reply = out.new.items; entered = result } }
         ensures bare { IsBare self.old.target → result ≡ 0 }
@@ -113,7 +114,7 @@ impl Bench {
         self.execute(command, out)
     }
 
-    /// Does one command, and replies.
+    /// Executes one command, and replies.
     #[tactic(auto, unfolding(crate::specs::Execute::execute))]
     fn execute(&mut self, command: &Command, out: &mut Reply) -> u16
         ensures execute { execute self.old command.now ≡ record { state = self.new; reply = out.new.items; entered = result } }
@@ -172,12 +173,12 @@ impl Bench {
         }
     }
 
-    /// Complements each byte of the region of a slot (b becomes 255 - b), and x1 to x31 of the context that is kept of its enclave (w
-    /// becomes FFFFFFFF - w), of one that has ended too: a bench that agrees with the one before in all else. It answers false, and nothing
-    /// changes, only where the slot is free, its enclave runs, or the bench is bare.
+    /// Complements the private state of the enclave of a slot. Each byte b of its region becomes 255 - b. Each of x1 to x31 in its saved
+    /// context, w, becomes FFFFFFFF - w, even if the enclave has exited. Returns `false`, and changes nothing, if and only if the slot is free,
+    /// its enclave runs, or the bench is bare.
     ///
-    /// `asked`, `meaning` and `same` are all of it. Of what follows, `equivalent` is that the two benches differ in nothing but what is private
-    /// to the slot's enclave, and `not_running` that this runs on no hart.
+    /// `asked`, `meaning` and `same` specify the call completely. `equivalent` states that the bench is equivalent to the one before except for
+    /// the slot's enclave. `not_running` states that this enclave runs on no hart.
     pub fn scramble(&mut self, slot: Slot) -> bool
         ensures asked { result ≡ can_scramble slot self.old }
         ensures meaning { result ≡ true → self.new ≡ scrambled slot self.old }
@@ -189,9 +190,9 @@ impl Bench {
         self.target.scramble(slot)
     }
 
-    /// Does what a line says, given without its ending, or replies with its first fault, and then nothing changes. The reply
-    /// is put in place of what the buffer holds. Returns what `command` returns, and 0 at a fault. Every line that begins
-    /// with the same 121 bytes has the same answer.
+    /// Executes the command of a line, given without its line ending, or replies with its first error and changes nothing. Replaces the contents
+    /// of the buffer by the reply. Returns what `command` returns, and 0 for an error. Every line that begins with the same 121 bytes has the
+    /// same effect and reply.
     #[tactic(auto, using(crate::proofs::Execution::execute_line_prefix), unfolding(crate::specs::Execute::execute_line))]
     pub fn execute_line(&mut self, line: &[u8], out: &mut Reply) -> u16
         ensures execute { execute_line self.old line.now ≡ record { state = self.new; reply = out.new.items; entered = result } }
@@ -210,7 +211,7 @@ impl Bench {
 }
 
 impl fmt::Debug for Bench {
-    /// That it is one: what it has is told by its replies.
+    /// Writes only the name. The replies to commands show the state.
     fn fmt<W: fmt::Write>(&self, f: &mut fmt::Formatter<W>) -> fmt::Result {
         f.debug_struct("Bench").finish_non_exhaustive()
     }

@@ -1,4 +1,4 @@
-//! One list of commands or of lines for two benches, which shows whether they can be told apart without entering an enclave.
+//! One list of commands or of lines for two benches. It shows whether they can be distinguished without entering an enclave.
 
 ghost use Rattle.std.specs.Prelude.{◌≡◌, ◌<◌, ◌^◌, ℕ, List, take};
 ghost use Rattle.rv_debug.specs.Noninterference.{CommandsAvoidHart, DoneAlike, StayAlike};
@@ -14,52 +14,52 @@ use rv_text::Reply;
 /// Why commands for two benches ended.
 #[derive(Clone, Copy, Debug, PartialEq, Eq)]
 pub enum BothWhy {
-    /// All of them are done.
+    /// All commands were executed.
     All,
-    /// The last that was done entered the slot, in one of them or in both.
+    /// The last command that was executed entered the slot, in one bench or in both.
     Entered,
-    /// The next is a mem, dis or poke with a byte in the region of the slot, in one of them or in both. It was not done.
+    /// The next command is a mem, dis or poke with a byte in the region of the slot, in one bench or in both. It was not executed.
     NotBlind,
 }
 
-/// What a line was that was given to two benches.
+/// The result of a line for two benches.
 #[derive(Clone, Copy, Debug, PartialEq, Eq)]
 pub enum BothLine {
-    /// It is faulty, and nothing was done.
+    /// The line has an error, and nothing was executed.
     Faulty,
-    /// Its command was given to both.
+    /// The line has a command, for both benches.
     Given {
-        /// Whether there may be more.
+        /// Whether the commands end here, and why.
         why: BothWhy,
-        /// Whether the line has no command, so that nothing was done.
+        /// Whether the line is blank, so that nothing was executed.
         is_blank: bool,
     },
 }
 
-/// How many commands two benches did, and why no more.
+/// How many commands two benches executed, and why they ended.
 #[derive(Clone, Copy, Debug, PartialEq, Eq)]
 pub struct Both {
-    /// How many were done.
+    /// The number of commands that were executed.
     pub ran: usize,
-    /// Why no more.
+    /// Why the commands ended.
     pub why: BothWhy,
 }
 
-/// Whether a slot is one of these, of which each has its bit set.
+/// Returns whether a slot is in a set of slots, given as bits.
 fn is_entered(slots: u16, slot: Slot) -> bool
     ensures { result ≡ is_entered_in slot slots }
 {
     slots >> slot.number() & 1 == 1
 }
 
-/// Gives one command to two benches, and puts their replies in place of what the buffers hold. One that is not blind, a mem, dis or poke
-/// with a byte of the slot's region in one of them or in both, is done by neither, and both replies are empty. A slot that is free
-/// has no region. It answers `Entered` exactly where the command entered the slot in one of them or in both; it was then done by both.
+/// Executes one command on two benches, and replaces the contents of the buffers by their replies. A command that is not blind is a mem, dis or
+/// poke with a byte of the slot's region in one bench or in both. Neither bench executes it, and both replies are empty. A free slot has no
+/// region. Returns `Entered` if and only if the command entered the slot in one bench or in both; both have then executed it.
 ///
-/// `meaning` is all of it. `alike` is confidentiality: where the benches agreed in all but the region, the context and the hart of the
-/// slot's enclave, and the command neither steps nor shows a hart on which that runs, the command is blind in both or in neither, and it
-/// enters the slot in both or in neither; and if in neither, the replies are equal and the benches agree again, and are equal once the
-/// enclave is gone.
+/// `meaning` specifies the call completely. `alike` is noninterference. Its premises are that the benches were equivalent except for the slot's
+/// enclave, and that the command neither steps nor shows a hart on which the enclave runs. The command is then blind in both benches or in
+/// neither, and enters the slot in both or in neither. If it does not enter the slot, the replies are equal and the benches are equivalent
+/// again, and equal once the enclave has ended.
 pub fn both_command(
     a: &mut Bench,
     b: &mut Bench,
@@ -78,7 +78,7 @@ pub fn both_command(
     give_both(a, b, slot, command, out_a, out_b)
 }
 
-/// Gives the command to both, or to neither.
+/// Executes the command on both benches, or on neither.
 #[tactic(auto, unfolding(crate::specs::BothBenches::both_execute))]
 fn give_both(
     a: &mut Bench,
@@ -105,9 +105,9 @@ fn give_both(
     }
 }
 
-/// Gives a line to two benches, given without its ending, as `both_command` does its command. A faulty line is told its first fault once:
-/// in the first buffer, and nothing in the second; then neither bench changes. Every line that begins with the same 121 bytes has the same
-/// answer.
+/// Executes a line, given without its line ending, on two benches as `both_command` executes its command. If the line has an error, the reply
+/// with the first error is in the first buffer, the second buffer is empty, and neither bench changes. Every line that begins with the same 121
+/// bytes has the same effect and replies.
 pub fn both_line(
     a: &mut Bench,
     b: &mut Bench,
@@ -134,14 +134,14 @@ pub fn both_line(
     }
 }
 
-/// Gives one list of commands to two benches, up to one that is not blind, which is neither done nor counted, or to one that enters the
-/// slot, which is the last and counted. It takes no memory.
+/// Executes a list of commands on two benches. It stops before a command that is not blind, which is not counted. It stops after a command that
+/// enters the slot, which is counted. It allocates no memory.
 ///
-/// `meaning` is all of it. `first` and `second` say that each bench is where it would be by itself after these commands; with
-/// `laws::integrity` they give integrity of each. `alike` is confidentiality: where the benches agreed in all but the region, the context
-/// and the hart of the slot's enclave, and each command that was done neither steps nor shows a hart on which that runs, all replies are
-/// equal and the benches agree at the end, and are equal once the enclave is gone; where the last command entered the slot, this is so
-/// before it. Of an enclave that runs on no hart at first, all commands are so.
+/// `meaning` specifies the call completely. `first` and `second` state that each bench ends as if it alone had executed these commands. With
+/// `laws::integrity` they give integrity of each. `alike` is noninterference. Its premises are that the benches were equivalent except for the
+/// slot's enclave, and that no executed command steps or shows a hart on which the enclave runs. All replies are then equal, and the benches are
+/// equivalent at the end, and equal once the enclave has ended. If the last command entered the slot, this holds before that command. If the
+/// enclave runs on no hart at first, every command satisfies the premise.
 pub fn run_both(a: &mut Bench, b: &mut Bench, slot: Slot, commands: &[Command]) -> Both
     ensures meaning { both_run slot a.old b.old commands.now ≡ record { first = a.new; second = b.new; ran = result.ran; why = result.why } }
     ensures first { a.new ≡ after_commands a.old (take result.ran commands.now) }
@@ -154,7 +154,7 @@ pub fn run_both(a: &mut Bench, b: &mut Bench, slot: Slot, commands: &[Command]) 
     run_commands(a, b, slot, commands)
 }
 
-/// The commands one after another.
+/// Executes the commands one after another.
 fn run_commands(a: &mut Bench, b: &mut Bench, slot: Slot, commands: &[Command]) -> Both
     ensures { both_run slot a.old b.old commands.now ≡ record { first = a.new; second = b.new; ran = result.ran; why = result.why } }
 {

@@ -12,7 +12,7 @@ use crate::target::Target;
 use rv_monitor::{Block, EnclaveState, Slot, SlotInfo, Table};
 use rv_text::{Reply, push_decimal, push_hex, push_text};
 
-/// Writes how far an enclave is.
+/// Writes the state of an enclave.
 fn push_state(out: &mut Reply, state: EnclaveState)
     requires room { array_vec_len out.old + 7 ≤ 2048 }
     ensures items { out.new.items ≡ out.old.items ++ state_text state }
@@ -87,7 +87,7 @@ fn push_slot(out: &mut Reply, table: &Table, slot: Slot)
     }
 }
 
-/// Writes the records of the enclaves of these slots, of each that is live.
+/// Writes the records of the live enclaves of these slots.
 fn push_slots(out: &mut Reply, table: &Table, slots: &[Slot])
     requires room { array_vec_len out.old + 137 * length slots.now ≤ 2048 }
     ensures items { out.new.items ≡ out.old.items ++ flat_map (λ slot. slot_text slot (slot_at table.now slot)) slots.now }
@@ -108,7 +108,7 @@ fn push_table(out: &mut Reply, table: &Table)
     push_slots(out, table, &Slot::ALL);
 }
 
-/// Writes the records of a target's live enclaves; a machine alone has none.
+/// Writes the records of a target's live enclaves. A bare machine has none.
 pub(crate) fn push_enclaves(out: &mut Reply, target: &Target)
     requires room { array_vec_len out.old + 1781 ≤ 2048 }
     ensures items { out.new.items ≡ out.old.items ++ enclaves_text target.now }

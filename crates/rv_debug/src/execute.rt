@@ -1,4 +1,4 @@
-//! What commands that show or change the target do and reply.
+//! Execution of the commands that show or change the target, and their replies.
 
 ghost use Rattle.std.specs.Prelude.{◌≡◌};
 ghost use Rattle.arrayvec.specs.ArrayVec.{array_vec_len};
@@ -22,7 +22,7 @@ use rv_script::{ByteCount, Schedule, StepCount};
 use rv_text::Reply;
 use rv_word::{Reg, Width, le_word};
 
-/// Does so many steps, or fewer, where a watch or a break ends them, and tells what they did. Returns the slots of the enclaves
+/// Executes at most `count` steps, which a watchpoint or a breakpoint may end, and replies with a summary. Returns the slots of the enclaves
 /// that they entered.
 #[tactic(auto, using(crate::proofs::RunSchedules::run_done, crate::proofs::RunSchedules::run_entered))]
 pub(crate) fn execute_run(
@@ -43,7 +43,7 @@ pub(crate) fn execute_run(
     ran.entered
 }
 
-/// Takes an address out of a set, where it is in it.
+/// Removes an address from a set, if the set has it.
 pub(crate) fn execute_removal(addresses: &mut Addresses, address: u32, reply: &mut Reply)
     requires { array_vec_len reply.old ≡ 0 }
     ensures set { addresses.new ≡ without_address address addresses.old }
@@ -53,7 +53,7 @@ pub(crate) fn execute_removal(addresses: &mut Addresses, address: u32, reply: &m
     push_ok(reply);
 }
 
-/// Puts a word into a register.
+/// Writes a word to a register.
 pub(crate) fn execute_setreg(target: &mut Target, reg: Reg, value: u32, reply: &mut Reply)
     requires { array_vec_len reply.old ≡ 0 }
     ensures target { target.new ≡ register_set target.old reg value }
@@ -63,7 +63,7 @@ pub(crate) fn execute_setreg(target: &mut Target, reg: Reg, value: u32, reply: &
     push_ok(reply);
 }
 
-/// Raises the timer line, or lowers it.
+/// Raises or lowers the timer line.
 pub(crate) fn execute_timer(target: &mut Target, raised: bool, reply: &mut Reply)
     requires { array_vec_len reply.old ≡ 0 }
     ensures target { target.new ≡ timer_set target.old raised }
@@ -73,7 +73,7 @@ pub(crate) fn execute_timer(target: &mut Target, raised: bool, reply: &mut Reply
     push_ok(reply);
 }
 
-/// Puts a byte into memory, where its address is in it.
+/// Writes a byte to memory, if its address is in RAM.
 pub(crate) fn execute_poke(target: &mut Target, address: u32, byte: u8, reply: &mut Reply)
     requires { array_vec_len reply.old ≡ 0 }
     ensures target { done target.old (OneByte address byte) ≡ target.new }
@@ -86,11 +86,11 @@ pub(crate) fn execute_poke(target: &mut Target, address: u32, byte: u8, reply: &
     }
 }
 
-/// The number of mhartid, the control and status register that tells the hart.
+/// The number of mhartid, the CSR with the number of the hart.
 const MHARTID: u16 = 0xf14;
 
-/// Shows the number of the chosen hart as mhartid, and any other control and status register as mode M reads it, where there is one of
-/// the number.
+/// Shows a CSR. For mhartid it shows the number of the selected hart. It shows any other CSR as mode M reads it, if there is one with the
+/// number.
 pub(crate) fn execute_csr(target: &Target, csr: CsrNumber, reply: &mut Reply)
     requires { array_vec_len reply.old ≡ 0 }
     ensures { reply.new.items ≡ csr_reply target.now csr }
@@ -104,7 +104,7 @@ pub(crate) fn execute_csr(target: &Target, csr: CsrNumber, reply: &mut Reply)
     }
 }
 
-/// Chooses a hart, where there is one of the number.
+/// Selects a hart, if there is one with the number.
 #[tactic(auto, unfolding(crate::specs::ScheduledSteps::scheduled_steps))]
 pub(crate) fn execute_hart(target: &mut Target, hart: u8, reply: &mut Reply)
     requires { array_vec_len reply.old ≡ 0 }
@@ -120,7 +120,7 @@ pub(crate) fn execute_hart(target: &mut Target, hart: u8, reply: &mut Reply)
     }
 }
 
-/// Tells what the steps of each hart did.
+/// Writes a summary of the steps of each hart.
 fn push_harts(reply: &mut Reply, target: &Target, did: &Scheduled)
     requires { array_vec_len reply.old ≡ 0 }
     ensures { reply.new.items ≡ harts_summary_text (record { state = target.now; did = did.now }) }
@@ -132,8 +132,9 @@ fn push_harts(reply: &mut Reply, target: &Target, did: &Scheduled)
     }
 }
 
-/// Does a step of the named hart for each of a schedule, and tells what the steps of each hart did; where there is no hart that it
-/// names, does nothing and tells that. The chosen hart stays. Returns the slots of the enclaves that the steps entered.
+/// Executes one step of the named hart for each digit of a schedule, and replies with a summary for each hart. If the schedule names a hart that
+/// does not exist, replies with an error and executes nothing. The selected hart does not change. Returns the slots of the enclaves that the
+/// steps entered.
 pub(crate) fn execute_sched(target: &mut Target, schedule: &Schedule, reply: &mut Reply) -> u16
     requires { array_vec_len reply.old ≡ 0 }
     ensures target { done target.old (sched_effect target.old (harts_in schedule.now)) ≡ target.new }
@@ -152,7 +153,7 @@ pub(crate) fn execute_sched(target: &mut Target, schedule: &Schedule, reply: &mu
     did.entered
 }
 
-/// Shows so many bytes of memory, where all of them are in it.
+/// Shows `count` bytes of memory, if all of them are in RAM.
 pub(crate) fn execute_mem(target: &Target, address: u32, count: ByteCount, reply: &mut Reply)
     requires { array_vec_len reply.old ≡ 0 }
     ensures { reply.new.items ≡ memory_reply (memory_of target.now) address count }
@@ -164,7 +165,7 @@ pub(crate) fn execute_mem(target: &Target, address: u32, count: ByteCount, reply
     push_memory(reply, address, ram.part(address, count.get()));
 }
 
-/// Shows the word at an address and its instruction, where all of its bytes are in memory.
+/// Shows the word at an address and its disassembly, if all of its bytes are in RAM.
 pub(crate) fn execute_dis(target: &Target, address: u32, reply: &mut Reply)
     requires { array_vec_len reply.old ≡ 0 }
     ensures { reply.new.items ≡ dis_reply (memory_of target.now) address }
@@ -178,7 +179,8 @@ pub(crate) fn execute_dis(target: &Target, address: u32, reply: &mut Reply)
     push_dis(reply, address, le_word(&bytes));
 }
 
-/// Tells that an access is outside where a byte of it is, and else what the entries say of it in the mode that is named.
+/// Replies that an access is outside if one of its bytes is outside RAM. Otherwise replies with the verdict of the PMP entries on it in the
+/// given mode.
 #[tactic(auto, unfolding(rv_memory::specs::Memory::read))]
 pub(crate) fn execute_access(
     target: &Target,

@@ -1,42 +1,44 @@
-//! Laws of the commands over every bench, for any crate above to cite. Each is proved of the definitions in `specs/`; that of one command
-//! is a clause of `Bench::command` too.
+//! Laws of the commands for every bench that satisfies the invariant, for the crates above to cite. Each is proved about the definitions in
+//! `specs/`. The law of one command is also a clause of `Bench::command`.
 
 ghost use Rattle.rv_debug.specs.Noninterference.{NoninterferenceLaw, PokeLaw, RunsOnNoHartLaw};
 ghost use Rattle.rv_debug.specs.Isolation.{IntegrityLaw, RunningLaw};
 ghost use Rattle.rv_debug.specs.Returns.{ReturnLaw};
 
-/// Integrity: every list of commands leaves the record, the region and the context of each live enclave that no hart runs in a step of
-/// its own, that it neither enters nor ends, and of whose region it pokes no byte. The enclave may run on the hart that does not step.
+/// States integrity. A list of commands preserves the record, the region and the saved context of a live enclave under three conditions. No step
+/// is a step of that enclave, none enters or ends it, and no poke writes to its region. The enclave may run on a hart that does not step.
 #[tactic(auto, using(crate::proofs::Isolation::integrity))]
 pub const fn integrity()
     ensures { IntegrityLaw }
 {}
 
-/// An enclave that runs on a hart is spared so by every command that does not step that hart and pokes no byte of the region.
+/// States that a command leaves an enclave that runs on a hart undisturbed, if it does not step that hart and pokes no byte of the region.
 pub const fn running_is_undisturbed()
     ensures { RunningLaw }
 {}
 
-/// Confidentiality: a command that is blind to an enclave, and neither steps nor shows the hart on which that runs, enters it in both of two
-/// benches that agree but for it, or in neither; if in neither, the replies are equal and the benches agree again, and are equal once the
-/// enclave is gone.
+/// States noninterference. Take two benches that are equivalent except for an enclave, and a command that is blind to it and neither steps nor
+/// shows a hart on which it runs. The command enters the enclave in both benches or in neither. If in neither, the replies are equal and the
+/// benches are equivalent again, and equal once the enclave has ended.
 pub const fn noninterference()
     ensures { NoninterferenceLaw }
 {}
 
-/// Of an enclave that runs on no hart every command is so; and behind one that does not enter it, it runs on none.
+/// States that every command avoids the hart of an enclave that runs on no hart. After a command that does not enter the enclave, it still runs
+/// on no hart.
 pub const fn stays_not_running()
     ensures { RunsOnNoHartLaw }
 {}
 
-/// Two benches that agree but for an enclave do so too once each has a byte poked into its region, whichever and wherever; the replies
-/// are equal.
+/// States that pokes into the region of an enclave preserve the equivalence of two benches except for it. The two bytes and their addresses may
+/// differ. The replies are equal.
 pub const fn poking()
     ensures { PokeLaw }
 {}
 
-/// Leaving: from the step with which the host enters an enclave to the one with which the enclave leaves, within one command or with any
-/// commands between them, the host of that hart goes on as it was before the first, past its ecall, but for a0 and a1.
+/// States that the host is restored when an enclave exits. Take the step with which the host of a hart enters an enclave and the one with which
+/// the enclave exits, in one command or with any commands in between. The host then continues after its ecall as it was before the first step,
+/// except for a0 and a1.
 #[tactic(auto, using(crate::proofs::Returned::return_law))]
 pub const fn host_is_restored()
     ensures { ReturnLaw }

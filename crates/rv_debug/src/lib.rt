@@ -1,13 +1,13 @@
-//! What the commands of the bench do: what each changes, and the text of its reply. How a line is read as one is the business of the crate
-//! `rv_script`.
+//! The debugger commands of the bench: the effect of each, and the text of its reply. The crate `rv_script` parses lines to commands.
 //!
-//! In the specs `Answer` is what each command leaves and replies, `ReplyText` and `EnclaveText` the texts, `Steps` what steps do one after
-//! another, `Targets` what the answers say of a target, and `BenchState` the state that commands show and change.
+//! The specs are named after what they define. `Execute` defines the effect of each command and its reply, and `ReplyText` and `EnclaveText` the
+//! texts. `Steps` defines runs of steps. `Targets` defines the parts of a target that commands use, and `BenchState` the state that commands
+//! show and change.
 //!
 //! ```text
 //! let mut bench = Bench::bare(machine);
 //! let mut reply = Reply::new();
-//! bench.answer_line(b"step 1", &mut reply);
+//! bench.execute_line(b"step 1", &mut reply);
 //! // ran 1 pc=80000004 mode=M world=bare why=done trap=-
 //! ```
 #![tactic(auto)]

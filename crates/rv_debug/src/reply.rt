@@ -1,4 +1,4 @@
-//! The lines that answer commands.
+//! The text of the replies to commands.
 
 ghost use Rattle.std.specs.Prelude.{◌≡◌, ℕ, ◌+◌, ◌*◌, ◌<◌, ◌≤◌, ◌++◌, length, codes, decimal, if◌then◌else◌};
 ghost use Rattle.arrayvec.specs.ArrayVec.{array_vec_len};
@@ -20,7 +20,7 @@ use rv_state::Regs;
 use rv_text::{Reply, push_decimal, push_hex, push_text};
 use rv_word::Reg;
 
-/// Writes the trap of a run: its cause and value, or `-` where there was none.
+/// Writes the trap of a run: its cause and value, or `-` if there was none.
 #[tactic(auto, unfolding(crate::specs::ReplyText::trap_text))]
 fn push_trap(out: &mut Reply, trap: Option<Trap>)
     requires room { array_vec_len out.old + 17 ≤ 2048 }
@@ -95,7 +95,7 @@ fn push_world_at(out: &mut Reply, target: &Target, hart: u8)
     }
 }
 
-/// Writes what the steps of a hart that a target has did, and the pc, the mode and the world of the hart.
+/// Writes a summary of the steps of a hart of the target, and the pc, the mode and the world of the hart.
 #[tactic(auto, unfolding(crate::specs::ReplyText::hart_text))]
 pub(crate) fn push_hart(out: &mut Reply, target: &Target, hart: u8, ran: HartRan)
     requires has { hart < harts_of target.now }
@@ -118,8 +118,7 @@ pub(crate) fn push_hart(out: &mut Reply, target: &Target, hart: u8, ran: HartRan
     push_text(out, "\n");
 }
 
-/// Writes what steps did: how many they were, the pc, the mode and the world of the target after them, why they ended, and the
-/// last trap in them.
+/// Writes a summary of a run: the number of steps; the pc, the mode and the world of the target after them; why they ended; and the last trap.
 #[tactic(auto, unfolding(crate::specs::ReplyText::ran_text))]
 pub(crate) fn push_ran(out: &mut Reply, target: &Target, ran: Ran)
     requires room { array_vec_len out.old + 97 ≤ 2048 }
@@ -142,7 +141,7 @@ pub(crate) fn push_ran(out: &mut Reply, target: &Target, ran: Ran)
     push_text(out, "\n");
 }
 
-/// Writes what a register has.
+/// Writes the value of a register.
 #[tactic(auto, unfolding(crate::specs::ReplyText::register_text))]
 pub(crate) fn push_register(out: &mut Reply, register: Reg, value: u32)
     requires room { array_vec_len out.old + 21 ≤ 2048 }
@@ -168,7 +167,7 @@ fn push_pc(out: &mut Reply, pc: u32)
     push_text(out, "\n");
 }
 
-/// Writes what each register has, from x0 on, and then pc.
+/// Writes the value of each register, from x0 on, and then pc.
 #[tactic(auto, unfolding(crate::specs::ReplyText::registers_text))]
 pub(crate) fn push_registers(out: &mut Reply, regs: &Regs, pc: u32)
     requires room { array_vec_len out.old + 418 ≤ 2048 }
@@ -182,7 +181,7 @@ pub(crate) fn push_registers(out: &mut Reply, regs: &Regs, pc: u32)
     push_pc(out, pc);
 }
 
-/// Writes that a command is done.
+/// Writes that a command was executed.
 #[tactic(auto, unfolding(crate::specs::ReplyText::ok_text))]
 pub(crate) fn push_ok(out: &mut Reply)
     requires room { array_vec_len out.old + 3 ≤ 2048 }
@@ -192,7 +191,7 @@ pub(crate) fn push_ok(out: &mut Reply)
     push_text(out, "ok\n");
 }
 
-/// Writes that an address was put into a set, or that there is no room for it.
+/// Writes that an address was inserted into a set, or that the set is full.
 #[tactic(auto, unfolding(crate::specs::ReplyText::full_text, crate::specs::ReplyText::ok_text))]
 pub(crate) fn push_set(out: &mut Reply, set: bool)
     requires room { array_vec_len out.old + 11 ≤ 2048 }
@@ -206,7 +205,7 @@ pub(crate) fn push_set(out: &mut Reply, set: bool)
     }
 }
 
-/// Writes what a control and status register reads.
+/// Writes the value of a CSR.
 #[tactic(auto, unfolding(crate::specs::ReplyText::csr_text))]
 pub(crate) fn push_csr(out: &mut Reply, csr: CsrNumber, word: u32)
     requires room { array_vec_len out.old + 17 ≤ 2048 }
@@ -220,7 +219,7 @@ pub(crate) fn push_csr(out: &mut Reply, csr: CsrNumber, word: u32)
     push_text(out, "\n");
 }
 
-/// Writes bytes of memory, of which the first is at the address.
+/// Writes bytes of memory, from the byte at the address on.
 #[tactic(auto, unfolding(crate::specs::ReplyText::memory_text))]
 pub(crate) fn push_memory(out: &mut Reply, address: u32, bytes: &[u8])
     requires room { array_vec_len out.old + (10 + 3 * length bytes.now) ≤ 2048 }
@@ -236,7 +235,7 @@ pub(crate) fn push_memory(out: &mut Reply, address: u32, bytes: &[u8])
     push_text(out, "\n");
 }
 
-/// Writes a word and its instruction in assembly language.
+/// Writes a word and its disassembly.
 #[tactic(auto, unfolding(crate::specs::ReplyText::dis_text))]
 pub(crate) fn push_dis(out: &mut Reply, address: u32, word: u32)
     requires room { array_vec_len out.old + 68 ≤ 2048 }
@@ -253,7 +252,7 @@ pub(crate) fn push_dis(out: &mut Reply, address: u32, word: u32)
     push_text(out, "\n");
 }
 
-/// Writes an entry of physical memory protection: its number, cfg byte and pmpaddr value.
+/// Writes a PMP entry: its number, cfg byte and pmpaddr value.
 #[tactic(auto, unfolding(crate::specs::ReplyText::entry_text))]
 fn push_entry(out: &mut Reply, index: PmpIndex, cfg: u8, addr: u32)
     requires room { array_vec_len out.old + 36 ≤ 2048 }
@@ -269,7 +268,7 @@ fn push_entry(out: &mut Reply, index: PmpIndex, cfg: u8, addr: u32)
     push_text(out, "\n");
 }
 
-/// Writes the entries of physical memory protection, from entry 0 on.
+/// Writes the PMP entries, from entry 0 on.
 #[tactic(auto, unfolding(crate::specs::ReplyText::pmp_text))]
 pub(crate) fn push_pmp(out: &mut Reply, pmp: &Pmp)
     requires room { array_vec_len out.old + 576 ≤ 2048 }
@@ -282,7 +281,7 @@ pub(crate) fn push_pmp(out: &mut Reply, pmp: &Pmp)
     }
 }
 
-/// Writes a word or two and the number of the entry that decides.
+/// Writes a word or two and the number of the entry that decides the access.
 fn push_decider(out: &mut Reply, words: &str, index: PmpIndex)
     requires room { array_vec_len out.old + (length words.now + 11) ≤ 2048 }
     ensures items { out.new.items ≡ out.old.items ++ (words.now ++ decimal index ++ codes "\n") }
@@ -319,7 +318,7 @@ pub(crate) fn push_denied_outside(out: &mut Reply)
     push_text(out, "denied outside\n");
 }
 
-/// Writes the reply to a line that has a fault, at the end of one that has room for it.
+/// Writes the reply to a line with an error.
 pub(crate) fn push_fault(out: &mut Reply, fault: CommandFault)
     requires room { array_vec_len out.old + 14 ≤ 2048 }
     ensures items { out.new.items ≡ out.old.items ++ command_fault_text fault }
@@ -332,7 +331,7 @@ pub(crate) fn push_fault(out: &mut Reply, fault: CommandFault)
     }
 }
 
-/// Writes that there is no control and status register of the number that was asked for.
+/// Writes that no CSR has the number of the command.
 #[tactic(auto, unfolding(crate::specs::ReplyText::no_csr_text))]
 pub(crate) fn push_no_csr(out: &mut Reply)
     requires room { array_vec_len out.old + 10 ≤ 2048 }
@@ -342,7 +341,7 @@ pub(crate) fn push_no_csr(out: &mut Reply)
     push_text(out, "error csr\n");
 }
 
-/// Writes that there is no hart of the number that was asked for.
+/// Writes that no hart has the number of the command.
 #[tactic(auto, unfolding(crate::specs::ReplyText::no_hart_text))]
 pub(crate) fn push_no_hart(out: &mut Reply)
     requires room { array_vec_len out.old + 11 ≤ 2048 }
@@ -352,7 +351,7 @@ pub(crate) fn push_no_hart(out: &mut Reply)
     push_text(out, "error hart\n");
 }
 
-/// Writes that a byte that was asked for is outside RAM.
+/// Writes that a byte that the command accesses is outside RAM.
 #[tactic(auto, unfolding(crate::specs::ReplyText::outside_text))]
 pub(crate) fn push_outside(out: &mut Reply)
     requires room { array_vec_len out.old + 14 ≤ 2048 }

@@ -49,7 +49,7 @@ const fn told(first: &Ran, second: &Ran) -> Scheduled
     }
 }
 
-/// Executes one step of a hart, and adds it to the run of that hart. There are no breakpoints and no watchpoints. The hart is chosen then.
+/// Executes one step of a hart, and adds it to the run of that hart. There are no breakpoints and no watchpoints. Then the hart is selected.
 #[inline(always)]
 fn scheduled_step(
     target: &mut Target,
@@ -77,8 +77,8 @@ fn scheduled_step(
     }
 }
 
-/// Executes one step of each hart of a schedule, in its order. Breakpoints and watchpoints do not matter. The hart of the last step is
-/// chosen then.
+/// Executes one step of each hart of a schedule, in its order. Breakpoints and watchpoints have no effect. Then the hart of the last step is
+/// selected.
 pub(crate) fn run_schedule(target: &mut Target, schedule: &Schedule) -> Scheduled
     requires { has_all (harts_of target.old) (harts_in schedule.now) ≡ true }
     ensures scheduled_steps { scheduled_steps (harts_in schedule.now) (schedule_start target.old) ≡ record { state = target.new; did = result } }

@@ -1,13 +1,13 @@
-//! A monitored machine and its chosen hart.
+//! A monitored machine and its selected hart.
 
 use rv_monitor::MonitoredMachine;
 use std::marker::Model;
 
-/// A machine under the monitor, and the hart of it that commands work on.
+/// A monitored machine, and the hart of it that commands work on.
 #[derive(Drop, Debug)]
 pub struct SelectedHart {
     pub(crate) machine: MonitoredMachine,
-    /// One that the machine has.
+    /// The selected hart. It is a hart of the machine.
     pub(crate) hart: u8,
 }
 

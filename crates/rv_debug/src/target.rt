@@ -1,4 +1,4 @@
-//! What commands work on.
+//! The target of commands.
 
 ghost use Rattle.std.specs.Prelude.{◌≡◌, ◌<◌, ◌^◌, [], Some, None};
 ghost use Rattle.std.specs.Bool.{OnTrue, OnFalse};
@@ -19,17 +19,17 @@ use rv_pmp::Mode;
 use rv_state::{Csrs, Regs};
 use rv_word::Reg;
 
-/// What a bench steps, shows and changes.
+/// The machine that a bench steps, shows and changes.
 #[derive(Drop, Debug)]
 pub enum Target {
-    /// A machine alone.
+    /// A bare machine.
     Bare(Machine),
-    /// A machine under the monitor, of which commands work on one hart.
+    /// A monitored machine with a selected hart, which commands work on.
     Monitored(SelectedHart),
 }
 
 impl Target {
-    /// The invariant of a monitored machine, and that what is kept of the host of each hart is as a hart stores it. It does nothing.
+    /// Establishes the invariant of a monitored machine, and that the host's saved context of each hart is as a hart stores it. Has no effect.
     pub(crate) fn invariant(&self)
         ensures monitor { TargetInvariant self.now }
         ensures legal { HostContextsAreLegalIn self.now }
@@ -39,7 +39,7 @@ impl Target {
         }
     }
 
-    /// The registers of its hart.
+    /// Returns the integer registers of the selected hart.
     pub(crate) fn regs(&self) -> &Regs
         ensures { result.now ≡ (hart_of self.now).regs }
     {
@@ -49,7 +49,7 @@ impl Target {
         }
     }
 
-    /// The control and status registers of its hart.
+    /// Returns the CSRs of the selected hart.
     pub(crate) fn csrs(&self) -> &Csrs
         ensures { result.now ≡ (hart_of self.now).csrs }
     {
@@ -59,7 +59,7 @@ impl Target {
         }
     }
 
-    /// Its memory.
+    /// Returns the memory.
     pub(crate) fn ram(&self) -> &Ram
         ensures { result.now ≡ memory_of self.now }
     {
@@ -69,7 +69,7 @@ impl Target {
         }
     }
 
-    /// The region of a slot, where its enclave is live.
+    /// Returns the region of a slot, if its enclave is live.
     pub(crate) fn region(&self, slot: Slot) -> Option<Block>
         ensures { option_case result no_block (λ block. block) ≡ region_in slot self.now }
     {
@@ -83,7 +83,7 @@ impl Target {
         }
     }
 
-    /// How many harts it has: 1 or 2.
+    /// Returns the number of harts: 1 or 2.
     pub(crate) fn harts(&self) -> u8
         ensures count { result ≡ harts_of self.now }
         ensures some { 0 < result }
@@ -94,7 +94,7 @@ impl Target {
         }
     }
 
-    /// The number of the chosen hart, which it has.
+    /// Returns the number of the selected hart. The target has a hart with this number.
     pub(crate) fn selected(&self) -> u8
         ensures selected { result ≡ selected_of self.now }
         ensures has { result < harts_of self.now }
@@ -106,7 +106,7 @@ impl Target {
         }
     }
 
-    /// Chooses a hart.
+    /// Selects a hart.
     pub(crate) fn select(&mut self, hart: u8)
         requires { hart < harts_of self.old }
         ensures step_scheduled { self.new ≡ with_selected hart self.old }
@@ -118,7 +118,7 @@ impl Target {
         }
     }
 
-    /// The address of the next instruction of a hart.
+    /// Returns the address of the next instruction of a hart.
     pub(crate) fn pc_at(&self, hart: u8) -> u32
         requires { hart < harts_of self.now }
         ensures { result ≡ pc_of (with_selected hart self.now) }
@@ -129,7 +129,7 @@ impl Target {
         }
     }
 
-    /// The mode of a hart.
+    /// Returns the mode of a hart.
     pub(crate) fn mode_at(&self, hart: u8) -> Mode
         requires { hart < harts_of self.now }
         ensures { result ≡ (hart_of (with_selected hart self.now)).mode }
@@ -140,7 +140,7 @@ impl Target {
         }
     }
 
-    /// Puts a word into a register.
+    /// Writes a word to a register.
     pub(crate) fn set_reg(&mut self, reg: Reg, value: u32)
         ensures { self.new ≡ register_set self.old reg value }
     {
@@ -150,7 +150,7 @@ impl Target {
         }
     }
 
-    /// Raises the timer line, or lowers it.
+    /// Raises or lowers the timer line.
     pub(crate) fn set_timer(&mut self, raised: bool)
         ensures { self.new ≡ timer_set self.old raised }
     {
@@ -160,7 +160,7 @@ impl Target {
         }
     }
 
-    /// Puts a byte into memory, where its address is in it, and tells whether it is.
+    /// Writes a byte to memory, and returns whether its address is in RAM. If it is not, nothing changes.
     pub(crate) fn poke(&mut self, address: u32, byte: u8) -> bool
         ensures done { OnTrue result (poked self.old address byte ≡ Some self.new) }
         ensures outside { OnFalse result (poked self.old address byte ≡ None) }
@@ -172,8 +172,8 @@ impl Target {
         }
     }
 
-    /// Complements each byte of the region of a slot and x1 to x31 of its kept context, and answers whether its enclave is live and does not
-    /// run; else nothing changes.
+    /// Complements each byte of the region of a slot and x1 to x31 of its saved context. Returns whether the slot's enclave is live and does not
+    /// run; if not, nothing changes.
     pub(crate) fn scramble(&mut self, slot: Slot) -> bool
         ensures asked { result ≡ can_scramble_in slot self.old }
         ensures meaning { OnTrue result (self.new ≡ scrambled_in slot self.old) }
@@ -186,8 +186,8 @@ impl Target {
         }
     }
 
-    /// Does one step of a hart, which is chosen then, and adds it to what a run did, of which no step is at a break or accesses a watched
-    /// byte: none is in the set.
+    /// Executes one step of a hart, and adds it to a run. Then the hart is selected. The set is empty, so no breakpoint or watchpoint ends the
+    /// run.
     #[inline(always)]
     pub(crate) fn step_on(&mut self, hart: u8, ran: &mut Ran, none: &Addresses, limits: &mut Limits)
         requires has { hart < harts_of self.old }
@@ -206,7 +206,7 @@ impl Target {
         }
     }
 
-    /// Does steps until one accesses a watched byte, or else so many are done, or else the next instruction is at a break.
+    /// Executes steps until one accesses a watched byte, all are executed, or the next instruction is at a breakpoint.
     #[inline(always)]
     pub(crate) fn run(&mut self, count: u32, breaks: &Addresses, watches: &Addresses) -> Ran
         ensures run { run target_stepped pc_of breaks.now watches.now count (no_steps self.old) ≡ record { state = self.new; ran = result } }
@@ -219,7 +219,7 @@ impl Target {
     }
 }
 
-/// One step more of a machine alone, which enters no enclave.
+/// Executes one more step of a bare machine, which enters no enclave.
 #[inline(always)]
 fn step_bare(machine: &mut Machine, ran: &mut Ran, none: &Addresses, limits: &mut Limits)
     requires few { ran.old.steps < 2 ^ 31 }
@@ -231,7 +231,7 @@ fn step_bare(machine: &mut Machine, ran: &mut Ran, none: &Addresses, limits: &mu
     one_more(machine, ran, none, limits);
 }
 
-/// One step more of the chosen hart of a machine under the monitor.
+/// Executes one more step of the selected hart of a monitored machine.
 #[inline(always)]
 fn step_monitored(selected: &mut SelectedHart, ran: &mut Ran, none: &Addresses, limits: &mut Limits)
     requires few { ran.old.steps < 2 ^ 31 }
@@ -242,7 +242,7 @@ fn step_monitored(selected: &mut SelectedHart, ran: &mut Ran, none: &Addresses, 
     one_more(selected, ran, none, limits);
 }
 
-/// The steps of a machine alone, which enter no enclave.
+/// Executes the steps of a bare machine, which enter no enclave.
 fn run_bare(machine: &mut Machine, count: u32, breaks: &Addresses, watches: &Addresses) -> Ran
     ensures run { run target_stepped pc_of breaks.now watches.now count (no_steps (Target.Bare machine.old)) ≡ record { state = Target.Bare machine.new; ran = result } }
     ensures none { result.entered ≡ 0 }
@@ -250,7 +250,7 @@ fn run_bare(machine: &mut Machine, count: u32, breaks: &Addresses, watches: &Add
     run_steps(machine, count, breaks, watches)
 }
 
-/// The steps of the chosen hart of a machine under the monitor.
+/// Executes the steps of the selected hart of a monitored machine.
 fn run_monitored(
     selected: &mut SelectedHart,
     count: u32,

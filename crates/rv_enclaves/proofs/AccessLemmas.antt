@@ -1,4 +1,4 @@
--- S and U do an access exactly where it is in reach.
+-- S and U are permitted an access if and only if it is accessible.
 use Rattle.std.proofs.Common.{◌≡◌, ◌≢◌, ℕ, ◌+◌, ◌-◌, ◌<◌, ◌≤◌, ◌⊎◌, ◌==◌, Bool, true, false, not, ◌&&◌, List, Option, Some, None, refl, sym, ◌∙◌, ap, inl}
 use Rattle.std.proofs.Common.{inr, arith, lit<, length}
 use Rattle.std.specs.Prelude.{nat_le, ◌%◌}
@@ -35,7 +35,7 @@ grants-below_M U access cfg below = refl
 grants-below_M S access cfg below = refl
 grants-below_M M access cfg below = absurd (below refl)
 
--- the verdict of a matching entry permits what is covered and granted, and only that
+-- a matching entry permits an access if and only if it covers all of it and grants it
 permits-match_verdict : (e : Entries) (mode : Mode) (access : Access) (i : ℕ) (covers_all : Bool)
     → permits (match_verdict e mode access i covers_all) ≡ (covers_all && grants mode access (cfg_of e i))
 permits-match_verdict e mode access i false = refl
@@ -44,7 +44,7 @@ permits-match_verdict e mode access i true = elim (cases_Bool (grants mode acces
   | inr refused ↦ rw refused refl
 ]
 
--- ---- what each entry's cfg byte gives
+-- ---- the permissions of each entry's cfg byte
 
 nothing_given : (access : Access) → has_permission access nothing_cfg ≡ false
 nothing_given Fetch = refl
@@ -61,7 +61,7 @@ all_given Fetch = refl
 all_given Read = refl
 all_given Write = refl
 
--- a slot's entry gives something only to its own enclave
+-- a slot's entry gives a permission only to its own enclave
 slot_gives : (w : World) (k : ℕ) (o : Option SlotInfo) (access : Access) → has_permission access (region_entry w k o).cfg ≡ true
     → is_world_of k w ≡ true
 slot_gives w k None access given = absurd (both_ways _ (unused_gives access) given)
@@ -70,7 +70,7 @@ slot_gives w k (Some s) access given = elim (cases_Bool (is_world_of k w)) [
   | inr other ↦ let given' = rw other at given in absurd (both_ways _ (nothing_given access) given')
 ]
 
--- and all to it
+-- it gives every permission to its own enclave
 slot_gives_all : (w : World) (k : ℕ) (o : Option SlotInfo) (access : Access) (b : ℕ) → is_world_of k w ≡ true → has (region_of o) b ≡ true
     → has_permission access (region_entry w k o).cfg ≡ true
 slot_gives_all w k None access b own held = absurd (both_ways _ (has_nothing b) held)
@@ -89,12 +89,12 @@ host_gives_to_host : (w : World) (access : Access) → has_permission access (ho
 host_gives_to_host Host access given = refl
 host_gives_to_host (Enclave k) access given = absurd (both_ways _ (unused_gives access) given)
 
--- a window's entry never gives a fetch
+-- a window's entry never permits a fetch
 window_gives_no_fetch : (o : Option SlotInfo) → has_permission Fetch (window_entry_of o).cfg ≡ false
 window_gives_no_fetch None = refl
 window_gives_no_fetch (Some s) = elim (cases_Bool (s.window.size == 0)) [ inl none ↦ rw none refl | inr some ↦ rw some refl ]
 
--- and the rest where the window has a byte
+-- it permits loads and stores if the window has a byte
 window_gives : (o : Option SlotInfo) (access : Access) (b : ℕ) → access ≢ Fetch → has (window_of o) b ≡ true
     → has_permission access (window_entry_of o).cfg ≡ true
 window_gives None access b other held = absurd (both_ways _ (has_nothing b) held)
@@ -105,7 +105,7 @@ window_gives (Some s) access b other held =
     let some = ne_eqb s.window.size 0 (λ none. omega arith) in
     rw some (read_or_write access other)
 
--- ---- what is in reach, by world
+-- ---- accessible memory, by world
 
 world_is : (k : ℕ) (w : World) → is_world_of k w ≡ true → w ≡ Enclave k
 world_is k Host own = absurd (false≢true own)
@@ -131,7 +131,7 @@ unfolding is_accessible
 host_reaches memory t Host access bytes host all = or_left _ _ all
 host_reaches memory t (Enclave k) access bytes host all = absurd (false≢true host)
 
--- the ways to be in reach
+-- the cases in which bytes are accessible
 reach_cases : (memory : List ℕ) (t : Slots) (w : World) (access : Access) (bytes : List ℕ) → is_accessible memory t w access bytes ≡ true →
     ((is_host w ≡ true) × (list_all (host_has memory t) bytes ≡ true))
     ⊎ ((k : ℕ) × (w ≡ Enclave k)
@@ -152,7 +152,7 @@ reach_cases memory t (Enclave k) Write bytes accessible = elim (or_cases _ _ acc
 inside_from : (memory : List ℕ) (b : ℕ) → ram_base ≤ b → b < ram_base + length memory → is_inside memory b 1 ≡ true
 inside_from memory b low high = and_from _ _ (le-leb ram_base b low) (le-leb (b + 1) (ram_base + length memory) (omega arith))
 
--- the entries by what they are for
+-- the entries, by their purpose
 pub place_cases : (i : ℕ) → i < 16 → (i ≡ 0) ⊎ (((k : ℕ) × (k < 13) × (i ≡ k + 1)) ⊎ ((i ≡ 14) ⊎ (i ≡ 15)))
 place_cases i in_range = elim (cases_eq i 0) [
   | inl first ↦ inl first
@@ -175,7 +175,7 @@ slot_in_range memory t w k b valid held = elim (cases_lt k 13) [
       absurd (both_ways _ (has_nothing b) (sym (ap (λ o. has (region_of o) b) nothing) ∙ held))
 ]
 
--- what is in reach lies in no region of another enclave
+-- accessible bytes are in no region of another enclave
 pub accessible_apart : (memory : List ℕ) (t : Slots) (w : World) (access : Access) (a n k : ℕ) → IsValid memory t → is_world_of k w ≡ false
     → is_accessible memory t w access (bytes_from a n) ≡ true → (b : ℕ) → a ≤ b → b < a + n → has (region t k) b ≡ false
 accessible_apart memory t w access a n k valid other accessible b low high =
@@ -198,7 +198,7 @@ accessible_apart memory t w access a n k valid other accessible b low high =
           ]
     ]
 
--- ---- what the entries permit is in reach
+-- ---- permitted accesses are accessible
 
 module _ (memory : List ℕ) (t : Slots) (w : World) (mode : Mode) (access : Access) (a n : ℕ) (ram_size : length memory ≤ 0x1000000)
     (valid : IsValid memory t) (below : mode ≢ M) (some : 0 < n) (inside : (ram_base ≤ a) × (a + n ≤ ram_base + length memory)) where
@@ -211,7 +211,7 @@ module _ (memory : List ℕ) (t : Slots) (w : World) (mode : Mode) (access : Acc
   abbrev bytes : List ℕ
   bytes = bytes_from a n
 
-  -- what an entry covers of the access, by its owner
+  -- the bytes of the access that an entry covers, by the purpose of the entry
   all_slot : (k : ℕ) → k < 13 → list_all (covers entries (k + 1)) bytes ≡ list_all (has (region t k)) bytes
   all_slot k in_range = same_all _ _ a n (λ b low high. covers_slot memory t w ram_size valid b k in_range)
 
@@ -242,7 +242,7 @@ module _ (memory : List ℕ) (t : Slots) (w : World) (mode : Mode) (access : Acc
   cfg_of-host : cfg_of entries 15 ≡ (host_entry w).cfg
   cfg_of-host = cfg_of-layout t w 15 (lit< tt) ∙ ap (λ (x : Entry). x.cfg) (entry_at-host t w)
 
-  -- what the host reaches is what no entry before the last covers
+  -- the host can access the bytes that no entry before the last covers
   host_set : ((j : ℕ) → j < 15 → list_any (covers entries j) bytes ≡ false) → list_all (host_has memory t) bytes ≡ true
   host_set none = all_each (host_has memory t) a n (λ b low high.
       let no_monitor = none_from_any (has monitor_block) a n (sym any_monitor ∙ none 0 (lit< tt)) b low high in
@@ -292,7 +292,7 @@ module _ (memory : List ℕ) (t : Slots) (w : World) (mode : Mode) (access : Acc
     | inr nothing ↦ absurd (both_ways _ (no_match_refuses mode below) (ap permits (sym nothing) ∙ permitted))
   ]
 
-  -- an entry that covers all bytes, and none before it any, decides
+  -- an entry decides if it covers all bytes and no entry before it covers any
   done_by : (i : ℕ) → i < 16 → list_all (covers entries i) bytes ≡ true → grants mode access (cfg_of entries i) ≡ true
       → ((j : ℕ) → j < i → list_any (covers entries j) bytes ≡ false) → permits (verdict entries mode access bytes) ≡ true
   done_by i in_range covered given first =
@@ -373,7 +373,7 @@ module _ (memory : List ℕ) (t : Slots) (w : World) (mode : Mode) (access : Acc
   pub reach_from : permits (verdict entries mode access bytes) ≡ is_accessible memory t w access bytes
   reach_from = same_test _ _ there back
 
-  -- so no permitted access has a byte there
+  -- therefore no permitted access has a byte in another enclave's region
   pub permitted_apart : (k : ℕ) → is_world_of k w ≡ false → permits (verdict entries mode access bytes) ≡ true → (b : ℕ) → a ≤ b
       → b < a + n → has (region t k) b ≡ false
   permitted_apart k other permitted = accessible_apart memory t w access a n k valid other (there permitted)

@@ -1,4 +1,4 @@
--- The monitor's work over two shared parts that agree but for what is private to an enclave.
+-- The trap handler's calls over two shared states that are equivalent except for what is private to an enclave.
 use Rattle.std.proofs.Common.{◌≡◌, ◌≢◌, ℕ, ◌+◌, ◌<◌, ◌≤◌, Bool, true, false, List, length, replicate, Option, Some, None, IfSome, refl, sym, ◌∙◌, ap, subst}
 use Rattle.std.proofs.Common.{inl, inr, arith}
 use Rattle.std.specs.Prelude.{nat_le, nat_lt, is_some}
@@ -21,9 +21,9 @@ use Rattle.rv_enclaves.proofs.Refusals.{MayCreate, IsTaken}
 use Rattle.rv_enclaves.proofs.Slots.{at_other, at_same, free_from}
 use Rattle.rv_enclaves.proofs.SharedInvariantLemmas.{free_slot_from, live_in_range}
 
--- ---- what agrees
+-- ---- equivalence
 
--- what is shared agrees with itself
+-- a shared state is equivalent to itself
 pub itself : (e : ℕ) (shared : Shared) → SharedEquivExcept e shared shared
 itself e shared = record {
   table = refl;
@@ -35,7 +35,7 @@ itself e shared = record {
 pub equal_agree : (e : ℕ) (one other : Shared) → one ≡ other → SharedEquivExcept e one other
 equal_agree e one other same = subst (SharedEquivExcept e one) same (itself e one)
 
--- contexts that agree but for e, and there too, are equal
+-- contexts that are equal except for e, and also for e, are equal
 same_contexts : (e : ℕ) (cs ds : Contexts) → SameContexts e cs ds → context_at cs e ≡ context_at ds e → cs ≡ ds
 same_contexts e cs ds saved own = same_lists cs ds saved.size (λ k d inside.
     let inside' : k < length ds = omega (arith, saved.size) in
@@ -50,7 +50,7 @@ contexts_with e cs ds k c saved = record {
   others = λ j other. same_after_set cs ds k j c None saved.size (saved.others j other);
 }
 
--- a block that does not meet another has none of its bytes
+-- a block that does not overlap another has none of its bytes
 pub seen_block : (p q : Block) → meets p q ≡ false → IsSeen (has q) p.base p.size
 seen_block p q apart b low high = elim (cases_Bool (has q b)) [
   | inr shown ↦ shown
@@ -127,7 +127,7 @@ module _ (e : ℕ) (table : Slots) (m n : List ℕ) (cs ds : Contexts) (equiv : 
 
   -- ---- destroy
 
-  -- e is gone in both, and with it all that differed
+  -- e has ended in both, and with it every difference
   gone_alike : (block : Block) → region table e ≡ block → is_inside m block.base block.size ≡ true → without here e block ≡ without there e block
   gone_alike block is inside =
       let at = inside-is m block.base block.size inside in
@@ -171,7 +171,7 @@ module _ (e : ℕ) (table : Slots) (m n : List ℕ) (cs ds : Contexts) (equiv : 
 
   -- ---- a switch
 
-  -- slot e is live after it too, and its region is as before
+  -- slot e is live after the switch too, and its region is as before
   state_keeps : length table ≡ 13 → (k : ℕ) (state : EnclaveState)
       → (region (with_state table k state) e ≡ region table e) × (is_live (with_state table k state) e ≡ true)
   state_keeps count k state = of_slot (slot_at table k) refl

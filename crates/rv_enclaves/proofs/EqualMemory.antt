@@ -1,4 +1,4 @@
--- Reads and writes of two memories that agree where nothing is hidden.
+-- Reads and writes of two memories that are equal outside the hidden bytes.
 use Rattle.std.proofs.Common.{◌≡◌, ℕ, ◌+◌, ◌-◌, ◌<◌, ◌≤◌, Bool, true, false, List, length, take, drop, get_or, Option, Some, None, replicate, refl, sym, ◌∙◌}
 use Rattle.std.proofs.Common.{inl, inr, arith}
 use Rattle.std.proofs.lemmas.List.{get_or-take, get_or-drop, length-replicate}
@@ -8,7 +8,7 @@ use Rattle.rv_memory.specs.Memory.{read, write_bytes}
 use Rattle.rv_memory.proofs.MemoryLaws.{index-below, index-above, write-is}
 use Rattle.rv_enclaves.proofs.Prelude.{EqualOutside, is_inside, length-write, option_case, ram_base, write}
 
--- the memory after a write, or as it was
+-- the memory after a write, or unchanged
 abbrev pub or_same : List ℕ → Option (List ℕ) → List ℕ
 or_same memory after = option_case after memory (λ bytes. bytes)
 
@@ -34,7 +34,7 @@ same_part hidden m n index count equiv seen within =
     ∙ equiv.bytes (index + k) (seen (ram_base + (index + k)) (omega arith) (omega arith))
     ∙ sym (get_or-drop index n k 0) ∙ sym (get_or-take count (drop index n) k 0 short))
 
--- what is read where nothing is hidden is the same
+-- reads without a hidden byte give the same bytes
 pub same_read : (hidden : ℕ → Bool) (m n : List ℕ) (address count : ℕ) → EqualOutside hidden m n → is_inside m address count ≡ true
     → IsSeen hidden address count → read m address count ≡ read n address count
 unfolding read
@@ -50,7 +50,7 @@ index-within : (memory : List ℕ) (index : ℕ) (bytes : List ℕ) (k : ℕ) �
     → get_or (write_bytes memory index bytes) k 0 ≡ get_or bytes (k - index) 0
 index-within memory index bytes k within low high = grind (arith, common_steps)
 
--- the same bytes are put in both, hidden or not
+-- the same bytes are written to both, hidden or not
 pub same_write : (hidden : ℕ → Bool) (m n : List ℕ) (address : ℕ) (bytes m' n' : List ℕ) → EqualOutside hidden m n
     → write m address bytes ≡ Some m' → write n address bytes ≡ Some n' → EqualOutside hidden m' n'
 same_write hidden m n address bytes m' n' equiv here there =
@@ -83,7 +83,7 @@ pub write-some : (m : List ℕ) (address : ℕ) (bytes : List ℕ) → is_inside
 unfolding write
 write-some m address bytes inside = rw inside refl
 
--- the same bytes are put in both, or in neither
+-- the same bytes are written to both, or to neither
 pub write-alike : (hidden : ℕ → Bool) (m n : List ℕ) (address : ℕ) (bytes : List ℕ) → EqualOutside hidden m n
     → EqualOutside hidden (or_same m (write m address bytes)) (or_same n (write n address bytes))
 write-alike hidden m n address bytes equiv =
@@ -99,7 +99,7 @@ write-alike hidden m n address bytes equiv =
           rw (one, other) equiv
     ]
 
--- what was hidden is made 0 in both
+-- the hidden bytes are set to 0 in both
 pub zeros-alike : (hidden hidden' : ℕ → Bool) (m n : List ℕ) (base count : ℕ) → EqualOutside hidden m n
     → (ram_base ≤ base) × (base + count ≤ ram_base + length m) → ((b : ℕ) → hidden b ≡ true → (base ≤ b) × (b < base + count))
     → EqualOutside hidden' (or_same m (write m base (replicate count 0))) (or_same n (write n base (replicate count 0)))

@@ -1,4 +1,4 @@
--- The entries that are set are those of the layout.
+-- The entries that the code sets are those of the layout.
 use Rattle.std.proofs.Common.{◌≡◌, ℕ, ◌-◌, ◌<◌, ◌==◌, Bool, true, false, List, Option, Some, None, refl, ◌∙◌, ap, ap₂, inl, inr, arith, length, map}
 use Rattle.std.proofs.Common.{slice_index}
 use Rattle.std.specs.Prelude.{if◌then◌else◌, nat_lt}
@@ -13,7 +13,7 @@ use Rattle.rv_state.specs.CsrTable.{enabled_of}
 use Rattle.rv_enclaves.proofs.Prelude.{Enclave, Entries, Host, SlotInfo, Slots, World, entry_at, host_entry, is_world_of, layout, monitor_block, region_entry}
 use Rattle.rv_enclaves.proofs.Prelude.{slot_at, window_entry, window_entry_of}
 
--- a cfg byte that the monitor uses is stored as it is, and locks nothing
+-- a cfg byte that the monitor uses is stored unchanged, and does not lock its entry
 pub record IsPlain (cfg : ℕ) : Type 0 where
   pub stored : stored_cfg cfg ≡ cfg
   pub unlocked : is_locked cfg ≡ false
@@ -62,7 +62,7 @@ entries_are e d cfgs addrs =
     let at : List ℕ → List ℕ → Entries = λ xs ys. record { cfgs = xs; addrs = ys } in
     ap₂ at cfgs addrs
 
--- the entries set to what each is in the layout are the layout
+-- entries that are each set to their value in the layout are the layout
 pub layout_from_each : (t : Slots) (w : World) (cfgs addrs : List ℕ) → length cfgs ≡ 16 → length addrs ≡ 16
     → ((j : ℕ) → j < 16 → slice_index cfgs j ≡ (entry_at t w j).cfg)
     → ((j : ℕ) → j < 16 → slice_index addrs j ≡ (entry_at t w j).addr) → with_entries cfgs addrs ≡ layout t w
@@ -73,7 +73,7 @@ layout_from_each t w cfgs addrs cfgs_long addrs_long each_cfg each_addr =
     (λ j below. get_or-map stored_cfg cfgs j 0 0 (omega (arith, below, cfgs_long)) ∙ ap stored_cfg (each_cfg j below) ∙ (entry_is_plain t w j).stored))
     (fill_by_all (λ i. (entry_at t w i).addr) addrs 16 0 addrs_long each_addr)
 
--- the monitor's value of mie is stored as it is
+-- the monitor's value of mie is stored unchanged
 pub mie_stored : (w : World) → enabled_of (mie_of w) ≡ mie_of w
 unfolding kept_bits
 mie_stored Host = refl

@@ -17,7 +17,7 @@ napot_addr base size = base / 4 + (size / 8 - 1)
 abbrev pub is_within : ℕ → ℕ → ℕ → Bool
 is_within base size b = nat_le base b && nat_lt b (base + size)
 
--- two tests that imply one another are one
+-- two tests that imply each other are equal
 pub same_test : (x y : Bool) → (x ≡ true → y ≡ true) → (y ≡ true → x ≡ true) → x ≡ y
 same_test true true there back = refl
 same_test true false there back = sym (there refl)

@@ -1,4 +1,4 @@
--- Which bytes each of the monitor's entries covers, and which blocks of a valid table share none.
+-- The bytes that each of the monitor's entries covers, and the blocks of a valid table that share none.
 use Rattle.std.proofs.Common.{◌≡◌, ◌≢◌, ℕ, ◌+◌, ◌-◌, ◌^◌, ◌<◌, ◌≤◌, Bool, true, false, List, length, Option, Some, None, IfSome, refl, sym, ◌∙◌, ap, ap₂, inl}
 use Rattle.std.proofs.Common.{inr, arith, lit<, lit≤}
 use Rattle.std.specs.Prelude.{◌%◌, ◌==◌, ◌&&◌, nat_le, nat_lt}
@@ -27,7 +27,7 @@ empty_has base size b empty = grind (arith, nat_tests, empty)
 pub has_nothing : (b : ℕ) → has no_block b ≡ false
 has_nothing b = empty_has 0 0 b refl
 
--- what a valid table keeps apart, byte by byte
+-- the blocks that share no byte in a valid table, byte by byte
 pub record IsApart (slots : Slots) : Type 0 where
   pub regions_apart : (j k b : ℕ) → j ≢ k → has (region slots j) b ≡ true → has (region slots k) b ≡ false
   pub windows_apart : (j k b : ℕ) → has (region slots j) b ≡ true → has (window slots k) b ≡ false
@@ -42,9 +42,9 @@ apart memory slots valid = record {
   windows_free = λ k b. apart_from monitor_block (window slots k) b (valid.windows_free k);
 }
 
--- ---- what an entry for a block covers
+-- ---- the bytes that an entry for a block covers
 
--- what a valid block is
+-- the properties of a valid block
 pub record IsBlock (memory : List ℕ) (base size : ℕ) : Type 0 where
   pub power : (m : ℕ) × (12 ≤ m) × (m < 32) × (size ≡ 2 ^ m)
   pub aligned : base % size ≡ 0
@@ -103,7 +103,7 @@ window_covers memory (Some info) before b ram_size well_formed = elim (cases_eq 
   | inr some ↦ rw (ne_eqb _ _ some) (block_covers memory info.window before b ram_size (some_window memory info.window well_formed.window some))
 ]
 
--- ---- what the layout holds at an entry
+-- ---- the entries of the layout
 
 pub cfg_of-layout : (t : Slots) (w : World) (i : ℕ) → i < 16 → cfg_of (layout t w) i ≡ (entry_at t w i).cfg
 unfolding layout
@@ -139,7 +139,7 @@ pub entry_at-host : (t : Slots) (w : World) → entry_at t w 15 ≡ host_entry w
 unfolding entry_at
 entry_at-host t w = refl
 
--- the window that the world has
+-- the window of the world
 abbrev pub world_window : Slots → World → Block
 world_window t Host = no_block
 world_window t (Enclave k) = window t k
@@ -153,7 +153,7 @@ all_ones_size : napot_size 0xffffffff ≡ 2 ^ 35
 unfolding ones_at_end
 all_ones_size = refl
 
--- all ones cover 2 ^ 35 bytes from 0
+-- the pmpaddr value of all ones covers 2 ^ 35 bytes from 0
 host_owned : (w : World) (before b : ℕ) → b < 2 ^ 35 → matches (matching_of (host_entry w).cfg) before (host_entry w).addr b ≡ is_host w
 host_owned (Enclave k) before b below = refl
 host_owned Host before b below =

@@ -1,4 +1,4 @@
--- The names that most proofs of this crate cite, passed on from one place. Declares nothing.
+-- Names that most proofs of this crate use, re-exported from one place. Declares nothing.
 pub use Rattle.rv_platform.specs.Blocks.{has, meets, monitor_block}
 pub use Rattle.rv_enclaves.specs.ValidBlocks.{is_block_size}
 unfoldable pub use Rattle.rv_enclaves.specs.ValidBlocks.{is_valid_block}

@@ -1,4 +1,4 @@
--- What holds where no row of a call's table does.
+-- The facts that hold if no row of a call's table does.
 use Rattle.std.proofs.Common.{◌≡◌, ℕ, Bool, true, false, List, ◌∷◌, length, Option, Some, None, refl}
 use Rattle.std.specs.Prelude.{not}
 use Rattle.std.specs.Option.{is_none}
@@ -13,7 +13,7 @@ use Rattle.rv_enclaves.proofs.Prelude.{Call, Contexts, EnclaveState, Entries, Cr
 use Rattle.rv_enclaves.proofs.Prelude.{first_refusal, is_valid_block, is_live, is_running, is_window, new_slot, option_case, overlaps, slot_at}
 use Rattle.rv_enclaves.proofs.Valid.{well_formed_by_size, window_by_size}
 
--- where no row holds, the first does not, nor one of the rest
+-- if no row holds, neither the first nor one of the rest does
 pub no_row : (condition : Bool) (refusal : Refusal) (rows : List (Bool × Refusal)) → first_refusal ((condition, refusal) ∷ rows) ≡ None
     → (condition ≡ false) × (first_refusal rows ≡ None)
 no_row true refusal rows none = cc
@@ -54,7 +54,7 @@ may_create shared new none =
 
 -- ---- destroy, run and resume
 
--- a slot whose enclave a call takes
+-- a slot whose enclave a call accepts
 pub record IsTaken (slots : Slots) (call : Call) (k : ℕ) : Type 0 where
   pub info : SlotInfo
   pub is : slot_at slots k ≡ Some info
@@ -72,7 +72,7 @@ may_take slots call k none =
     let taken = no_row (not (has_state_for slots call k)) _ _ live.1 in
     taken_at slots call k (slot_at slots k) refl (not_false (has_state_for slots call k) taken.0)
 
--- no call takes an enclave that runs
+-- no call accepts an enclave that runs
 pub takes_rests : (call : Call) (state : EnclaveState) → takes call state ≡ true → is_running state ≡ false
 takes_rests call states.Fresh is = refl
 takes_rests call states.Stopped is = refl
@@ -93,7 +93,7 @@ may_measure shared entries k address none =
     let stores = no_row (not (may_store_all shared.memory entries address)) _ _ live.1 in
     record { live = not_false (is_live shared.table k) live.0; stores = not_false (may_store_all shared.memory entries address) stores.0 }
 
--- ---- what the rows ask of memory is its size
+-- ---- the rows depend on memory only by its size
 
 module _ (table : Slots) (m n : List ℕ) (cs ds : Contexts) where
   abbrev here : Shared

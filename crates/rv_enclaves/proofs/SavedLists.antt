@@ -3,7 +3,7 @@ use Rattle.std.proofs.Common.{◌≡◌, ℕ, ◌<◌, List, length, get_or, set
 use Rattle.std.proofs.lemmas.List.{get_or_past}
 use Rattle.std.proofs.lemmas.Bool.{cases_lt, cases_eq}
 
--- one write, in range or not, at the place itself
+-- one write, in range or not, read at its own index
 pub same_at_set : {X : Type 0} (xs ys : List X) (i : ℕ) (v d : X) → length xs ≡ length ys → get_or (set xs i v) i d ≡ get_or (set ys i v) i d
 same_at_set xs ys i v d size = elim (cases_lt i (length xs)) [
   | inl inside ↦
@@ -14,7 +14,7 @@ same_at_set xs ys i v d size = elim (cases_lt i (length xs)) [
       ∙ sym (get_or_past (set ys i v) i d (omega (arith, length-set ys i v)))
 ]
 
--- one write, at any place where the lists agreed
+-- one write, read at any index where the lists were equal
 pub same_after_set : {X : Type 0} (xs ys : List X) (i j : ℕ) (v d : X) → length xs ≡ length ys → get_or xs j d ≡ get_or ys j d
     → get_or (set xs i v) j d ≡ get_or (set ys i v) j d
 same_after_set xs ys i j v d size same = elim (cases_eq j i) [

@@ -1,4 +1,4 @@
--- Tests that agree, and the verdict by its matching entry. (What rv_pmp's VerdictLemmas lacks.)
+-- Equal tests, and the verdict by its matching entry. (rv_pmp's VerdictLemmas does not have these lemmas.)
 use Rattle.std.proofs.Common.{◌≡◌, ℕ, zero, suc, ◌+◌, ◌-◌, ◌<◌, ◌≤◌, ◌⊎◌, Bool, ◌||◌, ◌&&◌, List, refl, ap, ap₂, inl, inr, arith}
 use Rattle.std.specs.List.{range_with_len, list_any, list_all}
 use Rattle.rv_pmp.specs.Verdicts.{matching_entry, verdict_by, match_verdict, no_match_verdict}
@@ -28,7 +28,7 @@ verdict_cases e mode access bytes = elim (find_cases (λ j. list_any (covers e j
   | inr nothing ↦ inr (ap (verdict_by e mode access bytes) nothing.0)
 ]
 
--- 32 numbers from one on, however it is written
+-- 32 numbers from `start` on, with either form of the bounds
 pub all_of_32 : (p : ℕ → Bool) (first start : ℕ) → first ≡ start
     → list_all p (range_with_len first (first + 32 - first)) ≡ list_all p (range_with_len start 32)
 all_of_32 p first start same =

@@ -1,4 +1,4 @@
--- What is shared, scrambled, agrees with what was before but for its slot, and stays sound.
+-- A scrambled shared state is equivalent to the one before except for its slot, and satisfies the invariant.
 use Rattle.std.proofs.Common.{◌≡◌, ℕ, ◌+◌, ◌-◌, ◌<◌, Bool, true, false, List, length, Option, Some, None, IfSome, refl, sym, ap, ◌∙◌, inl, inr, arith, subst}
 use Rattle.std.proofs.Common.{length-set}
 use Rattle.std.specs.Prelude.{is_some, nat_le, nat_lt, not}

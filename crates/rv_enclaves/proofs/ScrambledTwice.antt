@@ -1,4 +1,4 @@
--- What is scrambled twice is as it was.
+-- Scrambling twice restores the state.
 use Rattle.std.proofs.Common.{◌≡◌, ℕ, zero, suc, ◌-◌, ◌^◌, ◌<◌, true, List, [], ◌∷◌, map, get_or, Option, Some, None, IfSome, refl, ap, ap₂, inl, inr, arith}
 use Rattle.std.specs.Prelude.{slice_index, slice_index_or, slice_set}
 use Rattle.std.specs.Option.{option_map}
@@ -26,7 +26,7 @@ context_twice : (o : Option Context) → IfSome o (λ context. (n : ℕ) → sli
 context_twice None small = refl
 context_twice (Some context) small = ap (λ regs. Some (record context { regs = regs })) (registers_twice context.regs small)
 
--- a place changed and changed back
+-- an entry of a list, changed and changed back
 place_twice : {X : Type 0} (f : Option X → Option X) (xs : List (Option X)) (k : ℕ) → f (f (slice_index_or xs k None)) ≡ slice_index_or xs k None
     → (let once = slice_set xs k (f (slice_index_or xs k None)) in slice_set once k (f (slice_index_or once k None))) ≡ xs
 place_twice f [] k back = refl

@@ -1,4 +1,4 @@
--- What the harts share stays sound over each call.
+-- Each call preserves the invariant of the shared state.
 use Rattle.std.proofs.Common.{◌≡◌, ◌≢◌, ℕ, zero, suc, ◌+◌, ◌<◌, Bool, true, false, List, ◌∷◌, Option, Some, None, IfSome, length, refl, sym, ap, ◌∙◌, subst}
 use Rattle.std.proofs.Common.{inl, inr, arith, length-set, replicate}
 use Rattle.std.specs.Prelude.{◌==◌, ◌%◌, is_some}
@@ -216,7 +216,7 @@ with_state_is : (slots : Slots) (k : ℕ) (info : SlotInfo) (state : EnclaveStat
     → with_state slots k state ≡ with_slot slots k (Some (record info { state = state }))
 with_state_is slots k info state is = ap (λ o. option_case o slots (λ i. with_slot slots k (Some (record i { state = state })))) is
 
--- worlds beside a world that changes from the host to slot k, or back
+-- the other worlds, beside a world that changes from the host to slot k, or back
 module _ (beside : List World) where
   alone : (j k : ℕ) → j ≢ k → list_any (is_world_of j) (Host ∷ beside) ≡ list_any (is_world_of j) (Enclave k ∷ beside)
   alone j k other = let apart : (k == j) ≡ false = ne_eqb k j (λ same. other (sym same)) in rw apart refl
@@ -241,7 +241,7 @@ module _ (beside : List World) where
   running_live None is = cc
   running_live (Some info) is = (info, refl)
 
-  -- the enclave that runs leaves; where the host does, nothing changes
+  -- the running enclave exits; for the host, nothing changes
   pub left_sound : (shared : Shared) (world : World) (state : EnclaveState) (kept : Context) → SharedInvariant shared (world ∷ beside)
       → is_running state ≡ false → can_go_on kept ≡ true
       → (let k = running_slot world in

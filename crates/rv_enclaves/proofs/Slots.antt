@@ -1,4 +1,4 @@
--- A table after a change of one slot, and what create checks of the blocks of its arguments.
+-- A table after a change of one slot, and create's checks of the blocks in its arguments.
 use Rattle.std.proofs.Common.{◌≡◌, ◌≢◌, ℕ, zero, suc, ◌<◌, Bool, true, false, List, [], ◌∷◌, Option, Some, None, length, refl, inl, inr, arith}
 use Rattle.std.proofs.Common.{get_or-set_same, get_or-set_other}
 use Rattle.std.proofs.lemmas.Bool.{cases_lt, lt-ltb}
@@ -20,7 +20,7 @@ pub at_other : {A : Type 0} (xs : List (Option A)) (k j : ℕ) (x : Option A) �
     → slice_index_or (slice_set xs k x) j None ≡ slice_index_or xs j None
 at_other {A} xs k j x other = get_or-set_other {A = Option A} xs k j x None other
 
--- no slot has the number past the last, so nothing is set there
+-- no slot has the number after the last, so a write there changes nothing
 pub state_past : (slots : Slots) (state : EnclaveState) → length slots ≡ slot_count → with_state slots slot_count state ≡ slots
 state_past slots state count =
     let none : slot_at slots slot_count ≡ None = get_or_past {X = Option SlotInfo} slots slot_count None (omega (arith, count)) in rw none refl
@@ -28,7 +28,7 @@ state_past slots state count =
 pub context_past : (contexts : Contexts) (c : Option Context) → length contexts ≡ slot_count → with_context contexts slot_count c ≡ contexts
 context_past contexts c count = set_past {X = Option Context} contexts slot_count c (omega (arith, count))
 
--- no slot has a number past the last
+-- no slot has a number after the last
 pub none_past : (slots : Slots) (number : ℕ) → length slots ≡ slot_count → slot_numbered number ≡ None → slot_at slots number ≡ None
 none_past slots number count none = elim (cases_lt number slot_count) [
   | inl inside ↦ let is = rw (lt-ltb number slot_count inside) at none in cc
@@ -43,14 +43,14 @@ pub or-second : (a b : Bool) → (a || b) ≡ false → b ≡ false
 or-second true b is = cc
 or-second false b is = is
 
--- what holds of no element holds of none at a place
+-- a test that holds of no element does not hold of the one at an index
 pub none_at : {A : Type 0} (p : Option A → Bool) (xs : List (Option A)) (k : ℕ) → p None ≡ false → list_any p xs ≡ false
     → p (slice_index_or xs k None) ≡ false
 none_at p [] k nothing none = nothing
 none_at p (x ∷ xs) zero nothing none = or-first (p x) (list_any p xs) none
 none_at p (x ∷ xs) (suc k) nothing none = none_at p xs k nothing (or-second (p x) (list_any p xs) none)
 
--- ---- what create asks
+-- ---- the checks of create
 
 pub record AreApart (new : CreateArgs) (o : Option SlotInfo) : Type 0 where
   pub regions : meets new.region (region_of o) ≡ false

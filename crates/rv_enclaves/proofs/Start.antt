@@ -1,4 +1,4 @@
--- What is shared at reset is sound: no enclave is live.
+-- The shared state at reset satisfies the invariant: no enclave is live.
 use Rattle.std.proofs.Common.{◌≡◌, ℕ, get_or, replicate, true, false, List, length, Option, None, IfSome, refl, sym, ◌∙◌, ap, subst, inl, inr}
 use Rattle.std.specs.Prelude.{is_some}
 use Rattle.std.specs.List.{list_any}

@@ -1,4 +1,4 @@
--- A table stays valid where one slot changes, and where memory keeps its size.
+-- A table stays valid if one slot changes, or if memory keeps its size.
 use Rattle.std.proofs.Common.{◌≡◌, ◌≢◌, ℕ, ◌+◌, ◌<◌, false, List, Option, Some, None, IfSome, length, refl, sym, ap, ◌∙◌, subst, inl, inr, arith, length-set}
 use Rattle.std.specs.Prelude.{◌&&◌, nat_le, ◌==◌, ◌%◌, ◌||◌}
 use Rattle.std.proofs.lemmas.Bool.{cases_eq}
@@ -7,7 +7,7 @@ use Rattle.rv_enclaves.proofs.Prelude.{monitor_block, ram_base, region, region_o
 use Rattle.rv_platform.proofs.BlockLaws.{meets_symmetric, meets_nothing, nothing_meets}
 use Rattle.rv_enclaves.proofs.Slots.{at_same, at_other}
 
--- what may stand in slot k
+-- the conditions on a record for slot k
 pub record Fits (memory : List ℕ) (slots : Slots) (k : ℕ) (o : Option SlotInfo) : Type 0 where
   pub well_formed : IfSome o (IsValidSlot memory)
   pub regions : (j : ℕ) → j ≢ k → meets (region_of o) (region slots j) ≡ false
@@ -101,7 +101,7 @@ module _ (memory : List ℕ) (slots : Slots) (k : ℕ) (o : Option SlotInfo) (va
     windows_free = window_free_after;
   }
 
--- nothing fits everywhere
+-- a free slot satisfies them
 pub nothing_fits : (memory : List ℕ) (slots : Slots) (k : ℕ) → Fits memory slots k None
 nothing_fits memory slots k = record {
   well_formed = tt;
@@ -113,7 +113,7 @@ nothing_fits memory slots k = record {
   window_free = meets_nothing monitor_block;
 }
 
--- a live enclave fits its own slot in every state
+-- a live enclave satisfies them in its own slot, with any state
 pub own_fits : (memory : List ℕ) (slots : Slots) (k : ℕ) (info : SlotInfo) (state : EnclaveState) → IsValid memory slots → slot_at slots k ≡ Some info
     → Fits memory slots k (Some (record info { state = state }))
 own_fits memory slots k info state valid is =

@@ -1,4 +1,5 @@
--- What the monitor's work asks of two shared parts that agree but for what is private to an enclave: that what it leaves agrees so too.
+-- The premises of the trap handler's noninterference on two shared states: if these are equivalent except for an enclave, so are the results of
+-- each call and switch.
 use Rattle.std.proofs.Common.{◌≡◌, ◌≢◌, ℕ, true, List, Option, refl, sym, subst, inl, inr}
 use Rattle.std.proofs.lemmas.Bool.{cases_Bool}
 use Rattle.rv_enclaves.specs.CallLaws.{CallsAlikeLaw}
@@ -22,7 +23,7 @@ pub record WorksAlike (e : ℕ) (one other : Shared) : Type 0 where
   pub contexts : (k : ℕ) → k ≢ e → saved_context one.contexts k ≡ saved_context other.contexts k
   pub switches : (k : ℕ) (state : EnclaveState) (c : Option Context) → SharedEquivExcept e (switched one k state c) (switched other k state c)
 
--- what is equal works alike
+-- equal shared states
 equal_work : (e : ℕ) (shared : Shared) → WorksAlike e shared shared
 equal_work e shared = record {
   before = itself e shared;
@@ -33,7 +34,7 @@ equal_work e shared = record {
   switches = λ k state c. itself e _;
 }
 
--- where e is live
+-- e is live
 module _ (e : ℕ) (table : Slots) (m n : List ℕ) (cs ds : Contexts) (equiv : EqualOutside (is_private table e) m n) (saved : SameContexts e cs ds)
     (live : is_live table e ≡ true) where
   live_work : (worlds : List World) → SharedInvariant (over table m cs) worlds → SharedInvariant (over table n ds) worlds

@@ -1,5 +1,5 @@
--- What each world reaches, as sets of bytes, and the law that the entries of its layout permit exactly that. (Keystone, EuroSys
--- 2020, in this project's profile. No entry is named here but by the law.)
+-- The memory that each world can access, as sets of bytes, and the law that the PMP entries of its layout permit exactly these accesses.
+-- (Keystone, EuroSys 2020, in this project's profile. Only the law refers to PMP entries.)
 use Rattle.std.specs.Prelude.{ℕ, ◌+◌, ◌≡◌, ◌≢◌, ◌≤◌, ◌<◌, ◌&&◌, Bool, true, false, not, List, [], ◌∷◌}
 use Rattle.std.specs.List.{list_any, list_all}
 use Rattle.rv_word.specs.Widths.{bytes_in}
@@ -16,27 +16,27 @@ use Rattle.rv_enclaves.specs.Table.{Slots, IsValid, region, window, is_in_region
 use Rattle.rv_enclaves.specs.declared.world.World.{World}
 use Rattle.rv_enclaves.specs.declared.world.World.TheVariants.{Host, Enclave}
 
--- RAM without the monitor's range and the live regions
+-- the host accesses RAM without the monitor's range and the live regions
 abbrev pub host_has : List ℕ → Slots → ℕ → Bool
 host_has memory slots byte =
     is_inside memory byte 1 && (not (has monitor_block byte) && not (is_in_region slots byte))
 
--- an enclave's window, for loads and stores
+-- an enclave accesses its window by loads and stores
 abbrev pub windows_accessible : Slots → ℕ → Access → List (ℕ → Bool)
 windows_accessible slots k Fetch = []
 windows_accessible slots k Read = has (window slots k) ∷ []
 windows_accessible slots k Write = has (window slots k) ∷ []
 
--- the sets of bytes that a world reaches
+-- the sets of bytes that a world can access
 abbrev pub sets_accessible : List ℕ → Slots → World → Access → List (ℕ → Bool)
 sets_accessible memory slots Host access = host_has memory slots ∷ []
 sets_accessible memory slots (Enclave k) access = has (region slots k) ∷ windows_accessible slots k access
 
--- an access is in reach where all its bytes lie in one of the sets
+-- an access is accessible if all its bytes are in one of the sets
 unfoldable pub is_accessible : List ℕ → Slots → World → Access → List ℕ → Bool
 is_accessible memory slots world access bytes = list_any (λ set. list_all set bytes) (sets_accessible memory slots world access)
 
--- S and U do an access to bytes in RAM exactly where it is in reach
+-- S and U are permitted an access to bytes in RAM if and only if it is accessible
 abbrev pub LayoutAccessLaw : Type 0
 LayoutAccessLaw =
     (memory : List ℕ) (slots : Slots) (world : World) (mode : Mode) (access : Access) (address : ℕ) (width : Width)
@@ -44,7 +44,7 @@ LayoutAccessLaw =
     → permits (verdict (layout slots world) mode access (bytes_from address (bytes_in width)))
     ≡ is_accessible memory slots world access (bytes_from address (bytes_in width))
 
--- no access that S or U does has a byte in the region of another enclave than the one that runs
+-- no permitted access of S or U has a byte in the region of an enclave other than the one that runs
 abbrev pub ApartLaw : Type 0
 ApartLaw =
     (memory : List ℕ) (slots : Slots) (world : World) (mode : Mode) (access : Access) (address : ℕ) (width : Width) (k byte : ℕ)

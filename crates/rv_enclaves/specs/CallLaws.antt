@@ -1,5 +1,5 @@
--- Laws of the calls that make, end and measure an enclave, and of what is scrambled, over all that the harts share. (Laws of the
--- definitions, no rule of a standard.)
+-- Laws of the calls that create, destroy and measure an enclave, and of scrambling, about the state that the harts share. (Laws about the
+-- definitions, not rules of a standard.)
 use Rattle.std.specs.Prelude.{◌≡◌, ℕ, ◌<◌, ◌^◌, true, false, List, None, IfSome, slice_index}
 use Rattle.rv_enclaves.specs.Contexts.{context_at}
 use Rattle.rv_enclaves.specs.Create.{create_refusals, created}
@@ -15,7 +15,7 @@ use Rattle.rv_enclaves.specs.declared.create_args.CreateArgs.{CreateArgs}
 use Rattle.rv_enclaves.specs.declared.shared.Shared.{Shared}
 use Rattle.rv_enclaves.specs.declared.world.World.{World}
 
--- what is true in every state stays so after a call that is not refused
+-- a call that is not refused preserves the invariant
 pub record CallsKeep (shared : Shared) (worlds : List World) : Type 0 where
   pub creates : (new : CreateArgs) → first_refusal (create_refusals shared new) ≡ None → SharedInvariant (created shared new) worlds
   pub destroys : (k : ℕ) → first_refusal (state_refusals shared.table Destroy k) ≡ None → SharedInvariant (destroyed shared k) worlds
@@ -24,7 +24,7 @@ pub record CallsKeep (shared : Shared) (worlds : List World) : Type 0 where
 abbrev pub CallsKeepLaw : Type 0
 CallsKeepLaw = (shared : Shared) (worlds : List World) → SharedInvariant shared worlds → CallsKeep shared worlds
 
--- nothing that a call leaves depends on what is private to slot e
+-- the effect of a call does not depend on what is private to slot e
 pub record CallsAlike (e : ℕ) (one other : Shared) : Type 0 where
   pub creates : (new : CreateArgs) → first_refusal (create_refusals one new) ≡ None → SharedEquivExcept e (created one new) (created other new)
   pub destroys : (k : ℕ) → first_refusal (state_refusals one.table Destroy k) ≡ None → SharedEquivExcept e (destroyed one k) (destroyed other k)
@@ -35,7 +35,7 @@ CallsAlikeLaw =
     (e : ℕ) (one other : Shared) (worlds : List World) → SharedInvariant one worlds → SharedInvariant other worlds → SharedEquivExcept e one other
     → CallsAlike e one other
 
--- only an enclave that does not run is scrambled, and nothing but what is private to it
+-- only an enclave that does not run is scrambled, and only what is private to it changes
 pub record IsScrambled (shared : Shared) (worlds : List World) (k : ℕ) : Type 0 where
   pub not_running : runs shared.table k ≡ false
   pub sound : SharedInvariant (scrambled_shared shared k) worlds
@@ -46,7 +46,7 @@ ScrambledLaw =
     (shared : Shared) (worlds : List World) (k : ℕ) → SharedInvariant shared worlds → can_scramble shared.table k ≡ true
     → IsScrambled shared worlds k
 
--- what is scrambled twice is as it was, over bytes and words
+-- scrambling twice restores the state, if memory holds bytes and the context's registers hold 32-bit words
 abbrev pub ScrambledTwiceLaw : Type 0
 ScrambledTwiceLaw =
     (shared : Shared) (k : ℕ) → ((i : ℕ) → slice_index shared.memory i < 2 ^ 8)

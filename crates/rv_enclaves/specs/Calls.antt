@@ -1,5 +1,5 @@
--- The monitor's calls: their numbers, which world each belongs to, the states that it takes an enclave in, and the statuses of
--- refusals, in the order of checking. (Keystone, EuroSys 2020, in this project's profile.)
+-- The monitor's calls: their numbers, the world that each belongs to, the states that each accepts, and the statuses of refusals, in the order
+-- of the checks. (Keystone, EuroSys 2020, in this project's profile.)
 use Rattle.std.specs.Prelude.{ℕ, ◌==◌, Bool, true, false, ◌&&◌, List, [], ◌∷◌, Option, None, if◌then◌else◌}
 use Rattle.std.specs.List.{find}
 use Rattle.rv_state.specs.Registers.{register}
@@ -13,11 +13,11 @@ use Rattle.rv_enclaves.specs.declared.slot_info.EnclaveState.TheVariants.{Fresh,
 use Rattle.rv_enclaves.specs.declared.world.World.{World}
 use Rattle.rv_enclaves.specs.declared.world.World.TheVariants.{Host, Enclave}
 
--- what a7 holds
+-- the value of a7
 abbrev pub call_key : ℕ
 call_key = 0x0A454E43
 
--- what a6 holds
+-- the value of a6
 abbrev pub call_number : Call → ℕ
 call_number Create = 1
 call_number Destroy = 2
@@ -30,7 +30,7 @@ call_number Exit = 7
 abbrev pub calls : List Call
 calls = Create ∷ Destroy ∷ Run ∷ Resume ∷ Measure ∷ Stop ∷ Exit ∷ []
 
--- which world a call belongs to
+-- whether a call belongs to a world
 abbrev pub is_offered : World → Call → Bool
 is_offered Host Stop = false
 is_offered Host Exit = false
@@ -40,16 +40,16 @@ is_offered (Enclave k) Stop = true
 is_offered (Enclave k) Exit = true
 is_offered (Enclave k) _ = false
 
--- the call that a world asks for by a7 and a6, if there is one
+-- the call that a world requests with a7 and a6, if there is one
 unfoldable pub call_requested : World → ℕ → ℕ → Option Call
 call_requested world a7 a6 =
     if a7 == call_key then find (λ call. call_number call == a6 && is_offered world call) calls else None
 
--- the call that its registers ask for
+-- the call that its registers request
 abbrev pub requested_call : World → List ℕ → Option Call
 requested_call world regs = call_requested world (register regs 17) (register regs 16)
 
--- the states that a call takes an enclave in; none takes one that runs
+-- the states that a call accepts; none accepts an enclave that runs
 abbrev pub takes : Call → EnclaveState → Bool
 takes _ Running = false
 takes Destroy Fresh = true

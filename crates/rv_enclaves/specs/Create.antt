@@ -68,7 +68,7 @@ recorded memory new = record {
   state = Fresh;
 }
 
--- a record and its first context in a slot
+-- a slot with a record and its first context
 abbrev pub with_enclave : Shared → ℕ → SlotInfo → Shared
 with_enclave shared k info = record shared {
   table = with_slot shared.table k (Some info);

@@ -1,5 +1,5 @@
--- destroy: the host gives a slot whose enclave does not run; the region is zeroed, the record and the context go. (Keystone,
--- EuroSys 2020, in this project's profile.)
+-- The call destroy: the host passes a slot whose enclave does not run. The region is zeroed, and the record and the saved context are removed.
+-- (Keystone, EuroSys 2020, in this project's profile.)
 use Rattle.std.specs.Prelude.{ℕ, List, replicate, None}
 use Rattle.rv_word.specs.Cases.{option_case}
 use Rattle.rv_memory.specs.Memory.{write}
@@ -8,11 +8,11 @@ use Rattle.rv_enclaves.specs.Table.{region, with_slot}
 use Rattle.rv_platform.specs.declared.block.Block.{Block}
 use Rattle.rv_enclaves.specs.declared.shared.Shared.{Shared}
 
--- a memory with the bytes of a block 0; as it is where the block is not inside, which no live region is
+-- a memory with the bytes of a block set to 0; unchanged if the block is not inside it, which no live region is
 abbrev pub zeroed : List ℕ → Block → List ℕ
 zeroed memory block = option_case (write memory block.base (replicate block.size 0)) memory (λ after. after)
 
--- what is shared when the enclave of a slot with this region is gone
+-- the shared state without the enclave of a slot with this region
 abbrev pub without : Shared → ℕ → Block → Shared
 without shared k block = record {
   memory = zeroed shared.memory block;
@@ -20,6 +20,6 @@ without shared k block = record {
   contexts = with_context shared.contexts k None;
 }
 
--- what is shared after a destroy that is not refused
+-- the shared state after a destroy that is not refused
 unfoldable pub destroyed : Shared → ℕ → Shared
 destroyed shared k = without shared k (region shared.table k)

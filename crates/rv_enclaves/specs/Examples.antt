@@ -1,5 +1,5 @@
--- Worked examples, by computation: the entries after a create and after a run, and what is private to an ended enclave, scrambled.
--- (This project's profile; the values of pmpcfg and pmpaddr by RISC-V Privileged Architecture 20211203, section 3.7.1.)
+-- Examples, by computation: the PMP entries after a create and after a run, and the scrambled private state of an ended enclave. (This project's
+-- profile; the values of pmpcfg and pmpaddr: RISC-V Privileged Architecture 20211203, section 3.7.1.)
 use Rattle.std.specs.Prelude.{◌≡◌, ℕ, List, [], ◌∷◌, ◌++◌, replicate, refl, Some}
 use Rattle.rv_pmp.specs.Locks.{cfg_word}
 use Rattle.rv_memory.specs.Memory.{read, write}
@@ -33,7 +33,7 @@ pub entries_within : layout (with_slot no_slots 0 (Some example)) (Enclave 0)
 unfolding layout entry_at
 entries_within = refl
 
--- as the registers read
+-- as read from the registers
 pub words_at_rest : cfg_word (layout (with_slot no_slots 0 (Some example)) Host) 0 ≡ 0x00001818
 unfolding layout entry_at
 words_at_rest = refl
@@ -42,7 +42,7 @@ pub last_word_within : cfg_word (layout (with_slot no_slots 0 (Some example)) (E
 unfolding layout entry_at
 last_word_within = refl
 
--- bytes 1 and 2 of a memory of four are its region, and all that is kept of it is 0
+-- its region is bytes 1 and 2 of a memory of four, and x1 to x31 of its saved context are `word`
 abbrev ended : List ℕ → ℕ → Shared
 ended memory word = record {
   memory = memory;

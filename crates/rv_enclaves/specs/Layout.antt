@@ -1,5 +1,5 @@
--- The sixteen entries that the monitor keeps for a table and a world, with their cfg and pmpaddr values, and the value of mie.
--- RISC-V Privileged Architecture 20211203, sections 3.7.1 and 3.1.9, in this project's profile.
+-- The sixteen PMP entries for a table and a world, with their cfg and pmpaddr values, and the value of mie: RISC-V Privileged Architecture
+-- 20211203, sections 3.7.1 and 3.1.9, in this project's profile.
 use Rattle.std.specs.Prelude.{ℕ, ◌+◌, ◌-◌, ◌/◌, ◌==◌, nat_lt, if◌then◌else◌, map, Option, Some, None}
 use Rattle.std.specs.List.{range_with_len}
 use Rattle.rv_pmp.specs.Entries.{Entries}
@@ -22,7 +22,7 @@ unused = record { cfg = 0x00; addr = 0x00000000 }
 abbrev pub napot : ℕ → Block → Entry
 napot cfg block = record { cfg = cfg; addr = block.base / 4 + (block.size / 8 - 1) }
 
--- NAPOT without a permission, with those to read and write, and with all
+-- cfg bytes: NAPOT without permissions, with R and W, and with R, W and X
 abbrev pub no_permission : ℕ
 no_permission = 0x18
 

@@ -1,5 +1,5 @@
--- measure: the 32 bytes of a recorded measurement are put where the caller may store each of them. (Keystone, EuroSys 2020, in this
--- project's profile; may store: RISC-V Privileged Architecture 20211203, section 3.7.1.)
+-- The call measure: it writes the 32 bytes of a recorded measurement, if the caller may store each of them. (Keystone, EuroSys 2020, in this
+-- project's profile; permission to store: RISC-V Privileged Architecture 20211203, section 3.7.1.)
 use Rattle.std.specs.Prelude.{ℕ, Bool, not, ◌&&◌, List, [], ◌∷◌}
 use Rattle.std.specs.List.{range_with_len, list_all}
 use Rattle.rv_word.specs.Cases.{option_case}
@@ -20,20 +20,20 @@ abbrev pub measured_slot : World → ℕ → ℕ
 measured_slot Host named = named
 measured_slot (Enclave k) named = k
 
--- whether a store of one byte by mode S is done
+-- whether mode S may store one byte
 abbrev pub may_store : List ℕ → Entries → ℕ → Bool
 may_store memory entries address =
     is_inside memory address 1 && permits (verdict entries S Write (bytes_from address 1))
 
--- each of the bytes is asked for by itself, and all before any is written
+-- each byte is checked separately, and all are checked before any is written
 unfoldable pub may_store_all : List ℕ → Entries → ℕ → Bool
 may_store_all memory entries address = list_all (may_store memory entries) (range_with_len address 32)
 
--- the memory with the bytes at an address, where they are inside
+-- the memory with the bytes at an address, if they are inside it
 abbrev pub with_bytes_at : List ℕ → ℕ → List ℕ → List ℕ
 with_bytes_at memory address bytes = option_case (write memory address bytes) memory (λ after. after)
 
--- the recorded measurement of the enclave of a slot; [] where none is live, which NoEnclave refuses
+-- the recorded measurement of the enclave of a slot; [] if none is live, which NoEnclave refuses
 abbrev pub measurement_at : Slots → ℕ → List ℕ
 measurement_at slots k = option_case (slot_at slots k) [] (λ info. info.measurement)
 
@@ -43,6 +43,6 @@ measure_refusals shared entries k address =
     ∷ (not (may_store_all shared.memory entries address), BadAddress)
     ∷ []
 
--- what is shared after a measure that is not refused
+-- the shared state after a measure that is not refused
 unfoldable pub measured : Shared → ℕ → ℕ → Shared
 measured shared k address = record shared { memory = with_bytes_at shared.memory address (measurement_at shared.table k) }

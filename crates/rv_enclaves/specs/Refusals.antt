@@ -1,5 +1,5 @@
--- Why a call is refused. Each call that can be refused has a table: rows of a condition and the refusal that it means, in the order of
--- asking. The first row whose condition holds decides. (Keystone, EuroSys 2020, in this project's profile.)
+-- Refusals of calls. Each call that can be refused has a table, whose rows are a condition and the refusal that it means, in the order of the
+-- checks. The first row whose condition holds decides. (Keystone, EuroSys 2020, in this project's profile.)
 use Rattle.std.specs.Prelude.{ℕ, Bool, true, false, not, List, [], ◌∷◌, Option, Some, None}
 use Rattle.rv_word.specs.Cases.{option_case}
 use Rattle.rv_enclaves.specs.Calls.{takes}
@@ -14,11 +14,11 @@ first_refusal [] = None
 first_refusal ((true, refusal) ∷ rows) = Some refusal
 first_refusal ((false, refusal) ∷ rows) = first_refusal rows
 
--- the enclave of a slot is in a state that a call takes
+-- the enclave of a slot is in a state that a call accepts
 abbrev pub has_state_for : Slots → Call → ℕ → Bool
 has_state_for slots call k = option_case (slot_at slots k) false (λ info. takes call info.state)
 
--- destroy, run and resume, of the enclave of slot k
+-- destroy, run and resume, for the enclave of slot k
 unfoldable pub state_refusals : Slots → Call → ℕ → List (Bool × Refusal)
 state_refusals slots call k =
     (not (is_live slots k), NoEnclave)

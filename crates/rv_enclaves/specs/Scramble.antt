@@ -1,5 +1,5 @@
--- What the harts share with every byte and register that is private to an enclave complemented, and all else as before. (No rule of a
--- standard: what the second of two benches is made with.)
+-- Scrambling: the shared state with every byte and register that is private to an enclave complemented, and everything else as before. (Not a
+-- rule of a standard; the second bench of a twin run is built with it.)
 use Rattle.std.specs.Prelude.{ℕ, ◌-◌, ◌^◌, Bool, List, [], ◌∷◌, map}
 use Rattle.std.specs.Option.{option_map}
 use Rattle.rv_word.specs.Cases.{option_case}
@@ -11,7 +11,7 @@ use Rattle.rv_platform.specs.declared.block.Block.{Block}
 use Rattle.rv_enclaves.specs.declared.context.Context.{Context}
 use Rattle.rv_enclaves.specs.declared.shared.Shared.{Shared}
 
--- the slots of which a context is kept: the enclave is live and does not run
+-- the slots with a saved context: the enclave is live and does not run
 abbrev pub can_scramble : Slots → ℕ → Bool
 can_scramble slots k = is_held (slot_at slots k)
 

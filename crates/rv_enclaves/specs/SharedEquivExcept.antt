@@ -1,5 +1,5 @@
--- What the harts share, twice, the same but for what is private to one enclave: the bytes of its region and its context. (No rule of a
--- standard: what the laws of confidentiality speak of.)
+-- Equivalence of two shared states except for what is private to one enclave: the bytes of its region and its context. (Not a rule of a
+-- standard; the noninterference laws are about it.)
 use Rattle.std.specs.Prelude.{◌≡◌, ◌≢◌, ℕ, ◌+◌, Bool, false, List, length, slice_index}
 use Rattle.rv_memory.specs.Memory.{ram_base}
 use Rattle.rv_platform.specs.Blocks.{has}
@@ -16,12 +16,12 @@ pub record EqualOutside (hidden : ℕ → Bool) (m n : List ℕ) : Type 0 where
   pub size : length m ≡ length n
   pub bytes : (i : ℕ) → hidden (ram_base + i) ≡ false → slice_index m i ≡ slice_index n i
 
--- the contexts are the same, but for that of slot e
+-- the contexts are the same, except for that of slot e
 pub record SameContexts (e : ℕ) (one other : Contexts) : Type 0 where
   pub size : length one ≡ length other
   pub others : (k : ℕ) → k ≢ e → context_at one k ≡ context_at other k
 
--- what the harts share is the same but for what is private to slot e; where its enclave is not live, it is the same
+-- the shared states are equal except for what is private to slot e; if its enclave is not live, they are equal
 pub record SharedEquivExcept (e : ℕ) (one other : Shared) : Type 0 where
   pub table : one.table ≡ other.table
   pub memory : EqualOutside (is_private one.table e) one.memory other.memory

@@ -1,5 +1,5 @@
--- What is true in every state of what the harts share, by who runs on them: the table is valid, a context is kept of each live enclave
--- that does not run, and a slot runs exactly where it is the world of one hart. (Keystone, EuroSys 2020, in this project's profile.)
+-- The invariant of the shared state, given the worlds that run on the harts. The table is valid, each live enclave that does not run has a saved
+-- context, and a slot runs if and only if it is the world of one hart. (Keystone, EuroSys 2020, in this project's profile.)
 use Rattle.std.specs.Prelude.{◌≡◌, ℕ, Bool, true, false, not, List, [], ◌∷◌, length, Option, Some, None, IfSome, is_some}
 use Rattle.std.specs.List.{list_any}
 use Rattle.rv_enclaves.specs.Contexts.{context_at, can_go_on, no_contexts}
@@ -9,11 +9,11 @@ use Rattle.rv_enclaves.specs.declared.shared.Shared.{Shared}
 use Rattle.rv_enclaves.specs.declared.slot_info.SlotInfo.{SlotInfo}
 use Rattle.rv_enclaves.specs.declared.world.World.{World}
 
--- at reset nothing is live
+-- at reset no enclave is live
 abbrev pub shared_at_start : List ℕ → Shared
 shared_at_start memory = record { memory = memory; table = no_slots; contexts = no_contexts }
 
--- Fresh, Stopped and Exited records hold a context, a Running one none
+-- a Fresh, Stopped or Exited enclave has a saved context, and a Running one has none
 abbrev pub is_held : Option SlotInfo → Bool
 is_held None = false
 is_held (Some info) = not (is_running info.state)
@@ -23,17 +23,17 @@ pub record SavedContextsInvariant (shared : Shared) : Type 0 where
   pub kept : (k : ℕ) → is_some (context_at shared.contexts k) ≡ is_held (slot_at shared.table k)
   pub held : (k : ℕ) → IfSome (context_at shared.contexts k) (λ context. can_go_on context ≡ true)
 
--- a slot runs exactly where it is the world of some hart
+-- a slot runs if and only if it is the world of some hart
 abbrev pub RunningMatchesWorlds : Slots → List World → Type 0
 RunningMatchesWorlds slots worlds = (k : ℕ) → runs slots k ≡ list_any (is_world_of k) worlds
 
--- and of no second one
+-- no slot is the world of two harts
 abbrev pub AreApart : List World → Type 0
 AreApart [] = Unit {0}
 AreApart (world ∷ worlds) =
     ((k : ℕ) → is_world_of k world ≡ true → list_any (is_world_of k) worlds ≡ false) × AreApart worlds
 
--- what is true of what the harts share, by the list of their worlds
+-- the invariant, given the list of the worlds
 pub record SharedInvariant (shared : Shared) (worlds : List World) : Type 0 where
   pub valid : IsValid shared.memory shared.table
   pub contexts : SavedContextsInvariant shared

@@ -1,5 +1,5 @@
--- The table of enclaves: thirteen slots, each free or with the record of a live enclave; and what is true of it in every state.
--- (Keystone, EuroSys 2020, in this project's profile.)
+-- The table of enclaves: thirteen slots, each free or with the record of a live enclave; and its invariant. (Keystone, EuroSys 2020, in this
+-- project's profile.)
 use Rattle.std.specs.Prelude.{◌≡◌, ◌≢◌, ℕ, ◌%◌, ◌==◌, Bool, true, false, ◌&&◌, ◌||◌, List, length, replicate, Option, Some, None, IfSome, slice_set}
 use Rattle.std.specs.Prelude.{slice_index_or, is_some}
 use Rattle.std.specs.Option.{is_none}
@@ -23,7 +23,7 @@ Slots = List (Option SlotInfo)
 abbrev pub no_slots : Slots
 no_slots = replicate slot_count None
 
--- the record in a slot, if its enclave is live; past the last slot there is none
+-- the record in a slot, if its enclave is live; there is none past the last slot
 abbrev pub slot_at : Slots → ℕ → Option SlotInfo
 slot_at slots k = slice_index_or slots k None
 
@@ -34,7 +34,7 @@ with_slot slots k info = slice_set slots k info
 unfoldable pub free_slot : Slots → Option ℕ
 free_slot slots = find (λ k. is_none (slot_at slots k)) (range_with_len 0 slot_count)
 
--- the region and the window of a slot, without bytes where there is none
+-- the region and the window of a slot, or the empty block if there is none
 abbrev pub region_of : Option SlotInfo → Block
 region_of None = no_block
 region_of (Some info) = info.region
@@ -57,7 +57,7 @@ is_live slots k = is_some (slot_at slots k)
 abbrev pub is_in_region : Slots → ℕ → Bool
 is_in_region slots byte = list_any (λ k. has (region slots k) byte) (range_with_len 0 slot_count)
 
--- ---- how far an enclave is
+-- ---- the state of an enclave
 
 abbrev pub is_running : EnclaveState → Bool
 is_running Running = true
@@ -70,7 +70,7 @@ abbrev pub with_state : Slots → ℕ → EnclaveState → Slots
 with_state slots k state =
     option_case (slot_at slots k) slots (λ info. with_slot slots k (Some (record info { state = state })))
 
--- who runs: the host, or the enclave of slot k
+-- the world: the host, or the enclave of slot k
 abbrev pub is_host : World → Bool
 is_host Host = true
 is_host (Enclave k) = false
@@ -79,19 +79,18 @@ abbrev pub is_world_of : ℕ → World → Bool
 is_world_of k Host = false
 is_world_of k (Enclave j) = j == k
 
--- the slot whose enclave runs; while the host does, the number of none
+-- the slot of the enclave that runs; for the host, a number that is not the number of a slot
 abbrev pub running_slot : World → ℕ
 running_slot Host = slot_count
 running_slot (Enclave k) = k
 
--- ---- what is true in every state
+-- ---- the invariant
 
 -- a window is a valid block, or there is none
 unfoldable pub is_window : List ℕ → Block → Bool
 is_window memory block = block.base == 0 && block.size == 0 || is_valid_block memory block
 
--- a live enclave has a valid region, a window or none, an entry in its region that is a multiple of 4, and the 32 bytes of a SHA-256
--- digest
+-- a live enclave has a valid region, a window or none, an entry point in its region that is a multiple of 4, and a measurement of 32 bytes
 pub record IsValidSlot (memory : List ℕ) (info : SlotInfo) : Type 0 where
   pub region : is_valid_block memory info.region ≡ true
   pub window : is_window memory info.window ≡ true
@@ -99,7 +98,7 @@ pub record IsValidSlot (memory : List ℕ) (info : SlotInfo) : Type 0 where
   pub entry : has info.region info.entry ≡ true
   pub measured : length info.measurement ≡ 32
 
--- regions share no byte with each other, with any window or with the monitor's range, and windows none with the monitor's range
+-- regions share no byte with each other, with any window or with the monitor's range, and windows share none with the monitor's range
 pub record IsValid (memory : List ℕ) (slots : Slots) : Type 0 where
   pub ram : is_ram_size (length memory) ≡ true
   pub count : length slots ≡ slot_count

@@ -1,5 +1,5 @@
--- Valid blocks of memory: those in RAM that one NAPOT entry can cover (Privileged 3.7.1). The least size of 4096 bytes is this project's
--- profile of Keystone, EuroSys 2020.
+-- Valid blocks of memory: those in RAM that one NAPOT entry can cover (RISC-V Privileged Architecture 20211203, section 3.7.1). The minimum size
+-- of 4096 bytes is this project's profile of Keystone, EuroSys 2020.
 use Rattle.std.specs.Prelude.{ℕ, ◌%◌, ◌^◌, ◌==◌, Bool, ◌&&◌, List}
 use Rattle.std.specs.List.{range_with_len, list_any}
 use Rattle.rv_platform.specs.declared.block.Block.{Block}

@@ -6,27 +6,27 @@ ghost use Rattle.rv_enclaves.specs.Calls.{call_requested as call_requested_of, t
 use crate::slot_info::EnclaveState;
 use crate::world::World;
 
-/// A call of the monitor, which an ecall from mode S asks for by its number in a6.
+/// A call of the monitor, which an ecall from mode S requests by its number in a6.
 #[derive(Clone, Copy)]
 pub enum Call {
-    /// 1: the host makes an enclave.
+    /// 1: the host creates an enclave.
     Create,
-    /// 2: the host ends one that does not run.
+    /// 2: the host destroys an enclave that does not run.
     Destroy,
-    /// 3: the host enters one for the first time.
+    /// 3: the host enters an enclave for the first time.
     Run,
-    /// 4: the host goes on with one that stopped.
+    /// 4: the host resumes an enclave that stopped.
     Resume,
-    /// 5: the host or an enclave asks for a measurement.
+    /// 5: the host or an enclave requests a measurement.
     Measure,
-    /// 6: an enclave goes back to the host, to be resumed.
+    /// 6: an enclave stops and returns to the host, to be resumed.
     Stop,
-    /// 7: an enclave goes back to the host for good.
+    /// 7: an enclave exits and returns to the host for good.
     Exit,
 }
 
 impl Call {
-    /// Whether the call takes an enclave in this state. (Only destroy, run and resume ask.)
+    /// Returns whether the call accepts an enclave in this state. Only destroy, run and resume depend on it.
     pub(crate) fn takes(self, state: EnclaveState) -> bool
         ensures { result ≡ takes self state }
     {
@@ -39,10 +39,10 @@ impl Call {
     }
 }
 
-/// What a7 holds at a call.
+/// The value of a7 at a call.
 const CALL_KEY: u32 = 0x0A45_4E43;
 
-/// The call that a world asks for by a7, which holds 0A454E43, and a6, which holds its number, if there is one.
+/// Returns the call that a world requests, if there is one: a7 is 0A454E43, and a6 is the number of a call that the world may make.
 #[tactic(auto, unfolding(crate::specs::Calls::call_requested))]
 pub fn call_requested(world: &World, a7: u32, a6: u32) -> Option<Call>
     ensures { result ≡ call_requested_of world.now a7 a6 }
@@ -60,7 +60,7 @@ ghost use Rattle.std.specs.List.{find};
 ghost use Rattle.std.specs.Prelude.{◌==◌, ◌&&◌};
 ghost use Rattle.rv_enclaves.specs.Calls.{call_number, is_offered, calls};
 
-/// The call of the host that a6 names.
+/// Returns the host's call with the number in a6.
 fn host_call(a6: u32) -> Option<Call>
     ensures { result ≡ find (λ call. call_number call == a6 && is_offered World.Host call) calls }
 {
@@ -74,7 +74,7 @@ fn host_call(a6: u32) -> Option<Call>
     }
 }
 
-/// The call of an enclave that a6 names.
+/// Returns an enclave's call with the number in a6.
 fn enclave_call(a6: u32) -> Option<Call>
     ensures { result ≡ find (λ call. call_number call == a6 && is_offered (World.Enclave 0) call) calls }
 {

@@ -1,4 +1,4 @@
-//! What a world keeps while it does not run.
+//! Saved contexts: the state of a world while it does not run.
 
 ghost use Rattle.std.specs.Prelude.{◌≡◌, Some};
 ghost use Rattle.rv_enclaves.specs.Table.{running_slot};
@@ -11,23 +11,23 @@ use rv_pmp::Mode;
 use rv_state::{Regs, SContext};
 use rv_word::Reg;
 
-/// What is kept of a world while it does not run.
+/// The saved context of a world while it does not run.
 #[derive(Clone, Copy, Debug)]
 pub struct Context {
-    /// Its registers x0 to x31.
+    /// The registers x0 to x31.
     pub regs: Regs,
     /// The address of its next instruction.
     pub pc: u32,
-    /// The mode that it goes on in, S or U.
+    /// The mode in which it continues, S or U.
     pub mode: Mode,
-    /// Its registers of mode S.
+    /// The S-mode registers.
     pub supervisor: SContext,
 }
 
-/// What is kept of each slot's enclave while it does not run.
+/// The saved context of each slot's enclave while it does not run.
 pub type Contexts = [Option<Context>; SLOT_COUNT];
 
-/// The registers of mode S, all 0.
+/// Returns S-mode registers that are all 0.
 const fn no_supervisor() -> SContext
     ensures { result ≡ no_supervisor_of }
 {
@@ -44,7 +44,7 @@ const fn no_supervisor() -> SContext
     }
 }
 
-/// Puts two words into a0 and a1.
+/// Writes two words to a0 and a1.
 pub fn set_return_values(regs: &mut Regs, a0: u32, a1: u32)
     ensures { regs.new ≡ with_return_values regs.old a0 a1 }
 {
@@ -52,7 +52,7 @@ pub fn set_return_values(regs: &mut Regs, a0: u32, a1: u32)
     regs.set(Reg::new(11), a1);
 }
 
-/// The first entry: a0 to a3 tell the enclave its region and its window.
+/// Returns the context of the first entry. a0 to a3 have the base and size of the enclave's region and window.
 #[tactic(auto, unfolding(crate::specs::Contexts::first_context))]
 pub(crate) fn first_context(info: &SlotInfo) -> Context
     ensures { result ≡ first_context_of info.now }
@@ -69,7 +69,7 @@ pub(crate) fn first_context(info: &SlotInfo) -> Context
     }
 }
 
-/// After exit: all 0.
+/// Returns the empty context after exit: every register and pc are 0, and the mode is U.
 pub fn exited_context() -> Context
     ensures { result ≡ exited_context_of }
 {
@@ -81,21 +81,21 @@ pub fn exited_context() -> Context
     }
 }
 
-/// What is kept for a slot.
+/// Returns the saved context of a slot.
 pub(crate) fn context_at(contexts: &Contexts, slot: Slot) -> Option<Context>
     ensures { result ≡ context_at_of contexts.now slot }
 {
     contexts[usize::from(slot.number())]
 }
 
-/// The context that is kept for a slot; all 0 where none is.
+/// Returns the saved context of a slot, or the empty one of `exited_context` if there is none.
 pub fn saved_context(contexts: &Contexts, slot: Slot) -> Context
     ensures { result ≡ saved_context_of contexts.now slot }
 {
     context_at(contexts, slot).unwrap_or(exited_context())
 }
 
-/// Keeps the context of the enclave that runs in a world; where the host does, there is none.
+/// Saves the context of the enclave that is the given world. If the world is the host, nothing changes.
 #[tactic(auto, using(crate::proofs::Slots::context_past))]
 pub fn save_running(contexts: &mut Contexts, world: &World, context: Context)
     ensures { contexts.new ≡ with_context contexts.old (running_slot world.now) (Some context) }
@@ -105,7 +105,7 @@ pub fn save_running(contexts: &mut Contexts, world: &World, context: Context)
     }
 }
 
-/// Sets what is kept for a slot.
+/// Sets the saved context of a slot.
 pub fn set_context(contexts: &mut Contexts, slot: Slot, context: Option<Context>)
     ensures { contexts.new ≡ with_context contexts.old slot context }
 {

@@ -70,7 +70,7 @@ fn record(memory: &Ram, new: &CreateArgs) -> SlotInfo
     }
 }
 
-/// Puts a record and its first context into a slot.
+/// Writes a record and its first context to a slot.
 fn put_enclave(shared: &mut Shared, slot: Slot, info: &SlotInfo)
     ensures { shared.new ≡ with_enclave shared.old slot info.now }
 {

@@ -1,4 +1,4 @@
-//! destroy.
+//! The call `destroy`.
 
 ghost use Rattle.std.specs.Prelude.{◌≡◌, None, Some, MatchResult};
 ghost use Rattle.rv_enclaves.specs.Destroy.{destroyed, without, zeroed};
@@ -13,8 +13,13 @@ use rv_memory::Ram;
 use rv_platform::Block;
 
 impl Shared {
-    /// Ends the enclave of the slot of a number, which does not run: zeroes its region, and forgets its record and its context. It is refused as
-    /// `NoEnclave` or `BadState`, with nothing changed.
+    /// Destroys the enclave of the slot with a number. Zeroes its region, and removes its record and its saved context.
+    ///
+    /// # Errors
+    ///
+    /// Nothing changes then:
+    /// - `NoEnclave`, if the number is above 12 or the slot is free;
+    /// - `BadState`, if the enclave runs.
     #[tactic(auto, unfolding(crate::specs::Destroy::destroyed))]
     pub fn destroy(&mut self, named: u32) -> Result<u32, Refusal>
         ensures { MatchResult result
@@ -27,7 +32,7 @@ impl Shared {
     }
 }
 
-/// Zeroes a region, and forgets the record and the context of its slot.
+/// Zeroes a region, and removes the record and the saved context of its slot.
 fn forget(shared: &mut Shared, slot: Slot, region: Block)
     ensures { shared.new ≡ without shared.old slot region }
 {
@@ -36,7 +41,7 @@ fn forget(shared: &mut Shared, slot: Slot, region: Block)
     set_context(&mut shared.contexts, slot, None);
 }
 
-/// Makes the bytes of a block 0.
+/// Sets the bytes of a block to 0.
 #[tactic(auto, unfolding(crate::specs::ValidBlocks::is_valid_block, rv_memory::specs::Memory::write))]
 fn zero(memory: &mut Ram, block: Block)
     ensures { memory.new ≡ zeroed memory.old block }

@@ -1,34 +1,35 @@
-//! Laws of the table of enclaves and of its entries, for any crate above to cite. Each is proved of the definitions in `specs/`.
+//! Laws of the table of enclaves and of its PMP entries, for the crates above to cite. Each is proved about the definitions in `specs/`.
 
 ghost use Rattle.rv_enclaves.specs.CallLaws.{CallsAlikeLaw, CallsKeepLaw, ScrambledLaw, ScrambledTwiceLaw};
 ghost use Rattle.rv_enclaves.specs.AccessibleMemory.{ApartLaw, LayoutAccessLaw};
 
-/// Reach: under the entries of a valid table and a world, S and U do an access to bytes in RAM exactly where it is in reach.
+/// States access control. With the PMP entries of a valid table and a world, S and U are permitted an access to bytes in RAM if and only if it
+/// is accessible.
 pub const fn accessible()
     ensures { LayoutAccessLaw }
 {}
 
-/// No access that S or U does has a byte in the region of another enclave than the one that runs.
+/// States that no permitted access of S or U has a byte in the region of an enclave other than the one that runs.
 pub const fn apart()
     ensures { ApartLaw }
 {}
 
-/// What is true in every state stays so after a create, a destroy or a measure that is not refused.
+/// States that a create, a destroy or a measure that is not refused preserves the invariant.
 pub const fn calls_keep()
     ensures { CallsKeepLaw }
 {}
 
-/// Nothing that a create, a destroy or a measure leaves depends on what is private to an enclave.
+/// States noninterference of create, destroy and measure: their effect does not depend on what is private to an enclave.
 pub const fn calls_noninterference()
     ensures { CallsAlikeLaw }
 {}
 
-/// What is scrambled is private to an enclave that does not run; nothing else changes, and what is true in every state stays so.
+/// States that scrambling changes only what is private to an enclave that does not run, and preserves the invariant.
 pub const fn scrambled()
     ensures { ScrambledLaw }
 {}
 
-/// What is private to an enclave, scrambled twice, is as it was.
+/// States that scrambling the private state of an enclave twice restores it.
 pub const fn scrambled_twice()
     ensures { ScrambledTwiceLaw }
 {}

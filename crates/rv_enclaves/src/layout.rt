@@ -1,4 +1,4 @@
-//! The entries that the monitor keeps for a table and a world.
+//! The PMP entries of a table and a world.
 
 ghost use Rattle.std.specs.Prelude.{◌≡◌, Some, MatchOption};
 ghost use Rattle.rv_enclaves.specs.Layout.{Entry as EntryOf, napot as napot_of, entry_at as entry_at_of, region_entry as region_entry_of, window_entry_of, unused as unused_of, layout, mie_of};
@@ -11,7 +11,7 @@ use crate::world::World;
 use rv_platform::{Block, monitor_block};
 use rv_pmp::Pmp;
 
-/// NAPOT without a permission, with those to read and write, and with all.
+/// cfg bytes: NAPOT without permissions, with R and W, and with R, W and X.
 const NOTHING: u8 = 0x18;
 
 const READ_WRITE: u8 = 0x1B;
@@ -36,7 +36,7 @@ fn napot(cfg: u8, block: Block) -> Entry
     }
 }
 
-/// The entry of the region of a slot whose enclave is live.
+/// Returns the entry for the region of a slot whose enclave is live.
 #[inline(never)]
 fn region_entry(world: &World, slot: Slot, info: &SlotInfo) -> Entry
     ensures cfg { result.cfg ≡ (region_entry_of world.now slot (Some info.now)).cfg }
@@ -46,7 +46,7 @@ fn region_entry(world: &World, slot: Slot, info: &SlotInfo) -> Entry
     napot(cfg, info.region)
 }
 
-/// The entry of the window of the enclave that runs, if it has one.
+/// Returns the entry for the window of the enclave that runs, if it has one.
 fn window_entry(info: &SlotInfo) -> Option<Entry>
     ensures { MatchOption result (window_entry_of (Some info.now) ≡ unused_of)
         (λ entry. (entry.cfg ≡ (window_entry_of (Some info.now)).cfg) × (entry.addr ≡ (window_entry_of (Some info.now)).addr)) }
@@ -58,7 +58,7 @@ fn window_entry(info: &SlotInfo) -> Option<Entry>
     }
 }
 
-/// Entry `i` of the layout, if it is used.
+/// Returns entry `i` of the layout, if it is used.
 #[inline(always)]
 #[tactic(auto, unfolding(crate::specs::Layout::entry_at))]
 fn used_entry_at(table: &Table, world: &World, i: u8) -> Option<Entry>
@@ -82,8 +82,11 @@ fn used_entry_at(table: &Table, world: &World, i: u8) -> Option<Entry>
     }
 }
 
-/// Sets the sixteen entries to those of a table and a world, at once: the monitor's range, the region of each slot, the window of the
-/// enclave that runs, and the rest of the addresses while the host does. (RISC-V Privileged Architecture 20211203, section 3.7.1.)
+/// Sets all sixteen PMP entries to those of a table and a world (RISC-V Privileged Architecture 20211203, section 3.7.1):
+/// - the monitor's range;
+/// - the region of each slot;
+/// - the window of the enclave, while one runs;
+/// - all other addresses, while the host runs.
 pub fn write_layout(pmp: &mut Pmp, table: &Table, world: &World)
     requires { IsUnlocked pmp.old }
     ensures { pmp.new ≡ layout table.now world.now }

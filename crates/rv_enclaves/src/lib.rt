@@ -1,8 +1,8 @@
-//! What a security monitor in the manner of Keystone (EuroSys 2020) keeps of its enclaves, and does to it: the table of thirteen slots,
-//! the contexts of the enclaves that do not run, the sixteen PMP entries that a table and a world give, and the calls that make, end and
-//! measure an enclave. Nothing here knows a hart: the monitored machine, which does, is another crate.
+//! The enclave state of a security monitor in the style of Keystone (EuroSys 2020). The crate has the table of thirteen slots, and the saved
+//! contexts of the enclaves that do not run. It has the sixteen PMP entries for a table and a world, and the calls that create, destroy and
+//! measure an enclave. Nothing here depends on a hart: the monitored machine is in the crate `rv_monitor`.
 //!
-//! The definitions in `specs/` say all of it; docs/MONITOR.md says it for those who write hosts and enclaves.
+//! The definitions in `specs/` specify the crate completely. docs/MONITOR.md describes the monitor for authors of hosts and enclaves.
 #![tactic(auto)]
 
 mod call;

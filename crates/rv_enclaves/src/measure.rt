@@ -1,4 +1,4 @@
-//! measure.
+//! The call `measure`.
 
 ghost use Rattle.std.specs.Prelude.{◌≡◌, ◌-◌, ◌≤◌, ◌+◌, ◌<◌, ◌^◌, length, None, Some, MatchResult};
 ghost use Rattle.std.specs.List.{list_all, range_with_len};
@@ -15,7 +15,7 @@ use rv_memory::{RAM_BASE, Ram};
 use rv_pmp::{Access, Mode, Pmp};
 use rv_word::Width;
 
-/// The record of the enclave that is measured, if it is live: the one that the host names by its slot, or the caller.
+/// Returns the record of the enclave to measure, if it is live: the one in the slot that the host names, or the caller.
 fn measured_info(table: &Table, world: &World, named: u32) -> Option<SlotInfo>
     ensures { result ≡ slot_at table.now (measured_slot world.now named) }
 {
@@ -26,8 +26,13 @@ fn measured_info(table: &Table, world: &World, named: u32) -> Option<SlotInfo>
 }
 
 impl Shared {
-    /// Puts the measurement of an enclave, 32 bytes, at an address. It is refused as `NoEnclave`, or as `BadAddress` where mode S may
-    /// not store one of the bytes under the present entries, with nothing changed.
+    /// Writes the measurement of an enclave, 32 bytes, to memory at an address.
+    ///
+    /// # Errors
+    ///
+    /// Nothing changes then:
+    /// - `NoEnclave`, if there is no live enclave to measure;
+    /// - `BadAddress`, if the current PMP entries do not permit mode S to store one of the bytes.
     #[tactic(auto, unfolding(crate::specs::Measure::measured))]
     pub fn measure(
         &mut self,
@@ -47,7 +52,7 @@ impl Shared {
     }
 }
 
-/// The record of the enclave that may be measured at an address, or the first refusal that applies.
+/// Returns the record of the enclave to measure, or the first refusal that applies.
 #[tactic(auto, unfolding(crate::specs::Measure::measure_refusals))]
 fn check_measure(
     shared: &Shared,
@@ -68,7 +73,7 @@ fn check_measure(
     }
 }
 
-/// Puts 32 bytes at an address, where they are inside the memory.
+/// Writes 32 bytes at an address, if they are inside the memory.
 #[tactic(auto, unfolding(rv_memory::specs::Memory::write))]
 fn put_bytes(memory: &mut Ram, address: u32, bytes: &[u8; 32])
     ensures { memory.new ≡ with_bytes_at memory.old address bytes.now }
@@ -78,7 +83,7 @@ fn put_bytes(memory: &mut Ram, address: u32, bytes: &[u8; 32])
     }
 }
 
-/// Whether each of 32 bytes may be stored by mode S.
+/// Returns whether mode S may store each of 32 bytes.
 #[tactic(auto, using(crate::proofs::Scans::all_of_32), unfolding(crate::specs::Measure::may_store_all))]
 fn may_store_all(memory: &Ram, pmp: &Pmp, address: u32) -> bool
     ensures { result ≡ may_store_all_of memory.now pmp.now address }
@@ -87,14 +92,14 @@ fn may_store_all(memory: &Ram, pmp: &Pmp, address: u32) -> bool
     may_store_between(memory, pmp, first, first + 32)
 }
 
-/// Whether each byte from the first address up to the second may be stored by mode S.
+/// Returns whether mode S may store each byte from the first address up to, and without, the second.
 fn may_store_between(memory: &Ram, pmp: &Pmp, first: u64, end: u64) -> bool
     ensures { result ≡ list_all (may_store_of memory.now pmp.now) (range_with_len first (end - first)) }
 {
     (first..end).all(|address| may_store(memory, pmp, address))
 }
 
-/// Whether a byte may be stored by mode S.
+/// Returns whether mode S may store a byte.
 fn may_store(memory: &Ram, pmp: &Pmp, address: u64) -> bool
     ensures { result ≡ may_store_of memory.now pmp.now address }
 {

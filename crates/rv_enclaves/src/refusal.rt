@@ -1,34 +1,34 @@
-//! Why a call is refused.
+//! The refusals of calls.
 
 ghost use Rattle.std.specs.Prelude.{◌≡◌};
 ghost use Rattle.rv_enclaves.specs.Calls.{status_of};
 
-/// Why a call is refused, in the order in which it is asked.
+/// Why a call is refused, in the order of the checks.
 #[derive(Clone, Copy)]
 pub enum Refusal {
     /// a7 or a6 names no call, or the call belongs to the other world.
     NotSupported,
-    /// The region is not a valid block: its size is no power of two from 4096 up, its base is no multiple of the size, or it is not inside
-    /// RAM.
+    /// The region is not a valid block. A valid block is inside RAM, its size is a power of two from 4096 up, and its base is a multiple of the
+    /// size.
     BadRegion,
-    /// There is to be a window, and it is not a valid block.
+    /// A window is requested, and it is not a valid block.
     BadWindow,
-    /// The region or the window meets what it must not meet.
+    /// The region or the window overlaps a block that it must not overlap.
     Overlap,
-    /// The entry is no multiple of 4, or not in the region.
+    /// The entry point is not a multiple of 4, or not in the region.
     BadEntry,
     /// All thirteen slots are live.
     NoSlot,
-    /// The slot is over 12 or not live.
+    /// The slot is above 12 or not live.
     NoEnclave,
-    /// The enclave is not in a state that the call takes.
+    /// The enclave is not in a state that the call accepts.
     BadState,
-    /// One of the 32 bytes is not one that the caller may store.
+    /// The caller may not store one of the 32 bytes.
     BadAddress,
 }
 
 impl Refusal {
-    /// The status that a0 tells: minus 1 for the first refusal, minus 2 for the next, to minus 9, as words.
+    /// Returns the status in a0: -1 for the first refusal, -2 for the next, down to -9, as 32-bit words.
     pub const fn status(self) -> u32
         ensures { result ≡ status_of self }
     {

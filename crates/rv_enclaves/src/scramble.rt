@@ -1,4 +1,4 @@
-//! What is private to an enclave, complemented.
+//! Scrambling: the complement of what is private to an enclave.
 
 ghost use Rattle.std.specs.Prelude.{◌≡◌, if◌then◌else◌};
 ghost use Rattle.std.specs.Option.{option_map};
@@ -14,8 +14,8 @@ use rv_state::Regs;
 use rv_word::Reg;
 
 impl Shared {
-    /// Complements the region of a slot and the registers that are kept for it. It answers false, and changes nothing, where the slot's
-    /// enclave is not live or runs.
+    /// Complements the region of a slot and its saved registers. Returns `false`, and changes nothing, if and only if the slot's enclave is not
+    /// live or runs.
     #[tactic(auto, unfolding(crate::specs::Scramble::scrambled_shared))]
     pub fn scramble(&mut self, slot: Slot) -> bool
         ensures asked { result ≡ can_scramble self.old.table slot }
@@ -43,7 +43,7 @@ fn complement(memory: &mut Ram, block: Block)
     }
 }
 
-/// What is kept, with its registers complemented; where nothing is, nothing.
+/// Returns a saved context with its registers complemented, or `None` if there is none.
 fn complement_saved(context: Option<Context>) -> Option<Context>
     ensures { result ≡ option_map complemented_context context }
 {

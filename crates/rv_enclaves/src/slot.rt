@@ -1,11 +1,11 @@
-//! The number of a slot of the table of enclaves.
+//! The numbers of the slots of the enclave table.
 
 ghost use Rattle.std.specs.Prelude.{◌≡◌, ℕ, ◌<◌};
 ghost use Rattle.rv_enclaves.specs.SlotNumbers.{slot_count, slot_numbered};
 
 use std::marker::Model;
 
-/// How many slots there are.
+/// The number of slots.
 pub const SLOT_COUNT: usize = 13;
 
 /// The number of a slot, 0 to 12.
@@ -25,7 +25,7 @@ impl Model for Slot {
 }
 
 impl Slot {
-    /// All slots, by rising numbers.
+    /// All slots, in ascending order.
     pub const ALL: [Slot; SLOT_COUNT] = [
         Slot { number: 0 },
         Slot { number: 1 },
@@ -42,7 +42,7 @@ impl Slot {
         Slot { number: 12 },
     ];
 
-    /// The slot of a number; over 12 there is none.
+    /// Returns the slot with a number, or `None` if the number is above 12.
     pub const fn new(number: u32) -> Option<Self>
         ensures { result ≡ slot_numbered number }
     {
@@ -55,7 +55,7 @@ impl Slot {
         }
     }
 
-    /// The slot's number, 0 to 12.
+    /// Returns the number of the slot, 0 to 12.
     pub const fn number(self) -> u8
         ensures value { result ≡ self }
         ensures in_range { result < slot_count }

@@ -33,7 +33,7 @@ impl Model for Table {
 impl Table {
     ghost use Rattle.rv_enclaves.specs.Table.{no_slots};
 
-    /// A table without enclaves.
+    /// Returns a table without enclaves.
     pub const fn new() -> Self
         ensures { result ≡ no_slots }
     {
@@ -42,21 +42,21 @@ impl Table {
         }
     }
 
-    /// The record in a slot: None where the slot is free.
+    /// Returns the record in a slot, or `None` if the slot is free.
     pub fn get(&self, slot: Slot) -> Option<&SlotInfo>
         ensures { MatchOption result (slot_at_of self.now slot ≡ None) (λ info. slot_at_of self.now slot ≡ Some info.now) }
     {
         self.slots[usize::from(slot.number())].as_ref()
     }
 
-    /// The record in a slot, if its enclave is live.
+    /// Returns the record in a slot, if its enclave is live.
     pub(crate) fn slot_at(&self, slot: Slot) -> Option<SlotInfo>
         ensures { result ≡ slot_at_of self.now slot }
     {
         self.slots[usize::from(slot.number())]
     }
 
-    /// The slot of a number and its record, if its enclave is live; over 12 there is none.
+    /// Returns the slot with a number and its record, if its enclave is live. There is no slot with a number above 12.
     pub(crate) fn named(&self, number: u32) -> Option<(Slot, SlotInfo)>
         ensures { MatchOption result
             (slot_at_of self.now number ≡ None)
@@ -65,8 +65,12 @@ impl Table {
         named_in(&self.slots, number)
     }
 
-    /// The slot of a number and its record, whose enclave a call takes in its state. It is refused as `NoEnclave` where the slot is free or
-    /// the number over 12, and as `BadState` where the enclave is in another state.
+    /// Returns the slot with a number and its record, for a call that accepts the state of its enclave.
+    ///
+    /// # Errors
+    ///
+    /// - `NoEnclave`, if the slot is free or the number is above 12;
+    /// - `BadState`, if the call does not accept the state of the enclave.
     #[tactic(auto, unfolding(crate::specs::Refusals::state_refusals))]
     pub fn check_state(&self, call: Call, number: u32) -> Result<(Slot, SlotInfo), Refusal>
         ensures { MatchResult result
@@ -80,14 +84,14 @@ impl Table {
         }
     }
 
-    /// Sets what a slot holds.
+    /// Sets the record of a slot.
     pub(crate) fn set_slot(&mut self, slot: Slot, info: Option<SlotInfo>)
         ensures { self.new ≡ with_slot self.old slot info }
     {
         self.slots[usize::from(slot.number())] = info;
     }
 
-    /// Sets how far the enclave is that runs in a world; where the host does, there is none.
+    /// Sets the state of the enclave that is the given world. If the world is the host, nothing changes.
     #[tactic(auto, using(crate::proofs::Slots::state_past))]
     pub fn set_running_state(&mut self, world: &World, state: EnclaveState)
         ensures { self.new ≡ with_state self.old (running_slot world.now) state }
@@ -98,7 +102,7 @@ impl Table {
         }
     }
 
-    /// Sets how far the enclave of a slot is, if it is live.
+    /// Sets the state of the enclave of a slot, if it is live.
     pub fn set_state(&mut self, slot: Slot, state: EnclaveState)
         ensures { self.new ≡ with_state self.old slot state }
     {
@@ -107,7 +111,7 @@ impl Table {
         }
     }
 
-    /// The lowest free slot.
+    /// Returns the lowest free slot.
     #[tactic(auto, unfolding(crate::specs::Table::free_slot))]
     pub(crate) fn free_slot(&self) -> Option<Slot>
         ensures { result ≡ free_slot_of self.now }
@@ -118,7 +122,7 @@ impl Table {
             .find(|slot| self.slot_at(*slot).is_none())
     }
 
-    /// Whether the new enclave would share bytes that it may not share.
+    /// Returns whether the new enclave would overlap the monitor's range or a live enclave in bytes that it may not share.
     #[tactic(auto, unfolding(crate::specs::Create::overlaps))]
     pub(crate) fn overlaps(&self, new: &CreateArgs) -> bool
         ensures { result ≡ overlaps_of self.now new.now }
@@ -129,7 +133,7 @@ impl Table {
             || self.collides(new)
     }
 
-    /// Whether the new enclave would share bytes that it may not share with some live one.
+    /// Returns whether the new enclave would overlap a live enclave in bytes that the two may not share.
     fn collides(&self, new: &CreateArgs) -> bool
         ensures { result ≡ list_any (collides new.now) self.now }
     {
@@ -137,12 +141,12 @@ impl Table {
     }
 }
 
-/// That there are thirteen slots. It does nothing.
+/// Establishes that there are thirteen slots. Has no effect.
 const fn counts(slots: &[Option<SlotInfo>; SLOT_COUNT])
     ensures { length slots.now ≡ slot_count }
 {}
 
-/// The slot of a number and its record, if its enclave is live; over 12 there is none.
+/// Returns the slot with a number and its record, if its enclave is live. There is no slot with a number above 12.
 #[tactic(auto, using(crate::proofs::Slots::none_past))]
 fn named_in(slots: &[Option<SlotInfo>; SLOT_COUNT], number: u32) -> Option<(Slot, SlotInfo)>
     ensures { MatchOption result

@@ -1,4 +1,4 @@
-//! Who runs.
+//! The world that runs on a hart.
 
 ghost use Rattle.std.specs.Prelude.{◌≡◌, MatchOption};
 ghost use Rattle.rv_enclaves.specs.Table.{is_world_of};
@@ -7,7 +7,7 @@ ghost use Rattle.rv_state.specs.CsrTable.{enabled_of};
 
 use crate::slot::Slot;
 
-/// Who runs on the hart.
+/// The world that runs on a hart.
 #[derive(Clone, Copy, Debug, PartialEq, Eq)]
 pub enum World {
     /// The host.
@@ -17,7 +17,7 @@ pub enum World {
 }
 
 impl World {
-    /// The slot whose enclave the world is, if it is one.
+    /// Returns the slot of the enclave, or `None` for the host.
     pub const fn slot(&self) -> Option<Slot>
         ensures { MatchOption result (self.now ≡ World.Host) (λ slot. self.now ≡ World.Enclave slot) }
     {
@@ -27,7 +27,7 @@ impl World {
         }
     }
 
-    /// Whether the world is the enclave of a slot.
+    /// Returns whether the world is the enclave of a slot.
     pub(crate) fn is_enclave(&self, slot: Slot) -> bool
         ensures { result ≡ is_world_of slot self.now }
     {
@@ -37,7 +37,7 @@ impl World {
         }
     }
 
-    /// The value of mie while the world runs: the timer's interrupt, MTIE, is on while an enclave does.
+    /// Returns the value of mie while the world runs. MTIE, the enable bit of the timer interrupt, is set for an enclave only.
     #[tactic(auto, using(crate::proofs::InvariantLemmas::mie_stored))]
     pub const fn mie(&self) -> u32
         ensures value { result ≡ mie_of self.now }

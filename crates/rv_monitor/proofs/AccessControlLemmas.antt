@@ -1,4 +1,4 @@
--- In every kept state the entries permit S and U exactly what is in reach.
+-- In every state that satisfies the invariant, the PMP entries permit S and U exactly the accessible bytes.
 use Rattle.std.proofs.Common.{◌≡◌, ◌≢◌, true, false, refl, sym, ◌∙◌, subst}
 use Rattle.rv_monitor.specs.Prelude.{M, Mode, bytes_from, bytes_in, data_mode, is_accessible, is_machine, permits, verdict}
 use Rattle.rv_monitor.specs.AccessControl.{AccessControlLaw}
@@ -14,6 +14,6 @@ access_control_law state mode access address width kept below inside =
 pub below_M : (mode : Mode) → is_machine mode ≡ false → mode ≢ M
 below_M mode below same = let machine : is_machine mode ≡ true = rw same refl in let never : true ≡ false = sym machine ∙ below in cc
 
--- where MPRV is 0, loads and stores go in the hart's own mode
+-- if MPRV is 0, the hart's own mode decides loads and stores
 pub data_below : (state : HartView) → HartViewInvariant state → is_machine (data_mode state.hart_state.hart) ≡ false
 data_below state kept = let clear = kept.hart.layout.mprv in rw clear kept.hart.layout.mode

@@ -1,4 +1,4 @@
--- A bare step of a kept state neither depends on a region that is not the world's nor changes it.
+-- In a state that satisfies the invariant, a bare step neither depends on a region that is not the world's nor changes it.
 use Rattle.std.proofs.Common.{◌≡◌, ℕ, Bool, false, List, Option, Some, None}
 use Rattle.rv_enclaves.proofs.EqualMemory.{IsSeen, same_read, same_write}
 use Rattle.rv_memory.specs.declared.touched.Touched.{Touched}
@@ -15,7 +15,7 @@ module _ (e : ℕ) (state : HartView) (kept : HartViewInvariant state) (other : 
   abbrev hidden : ℕ → Bool
   hidden = is_private state.shared.table e
 
-  -- what is touched is not hidden
+  -- no accessed byte is hidden
   seen : (mode : Mode) (access : Access) (span : Span) → is_machine mode ≡ false → MayTouch before mode access (Some span)
       → IsSeen hidden span.addr (bytes_in span.len)
   seen mode access span below may byte low high =

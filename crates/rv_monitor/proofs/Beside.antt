@@ -1,4 +1,4 @@
--- An enclave that runs on a hart: it is live, and a step of another hart goes on beside it.
+-- An enclave that runs on a hart: it is live, and continues during a step of another hart.
 use Rattle.std.proofs.Common.{◌≡◌, ◌≢◌, ◌<◌, ℕ, Bool, true, false, Option, Some, None, refl, sym, ◌∙◌, ap, inl, inr}
 use Rattle.std.specs.Prelude.{◌||◌, is_some}
 use Rattle.std.proofs.lemmas.List.Folds.{list_any_at}
@@ -9,7 +9,7 @@ use Rattle.rv_monitor.proofs.Others.{any_prefix}
 use Rattle.rv_monitor.proofs.InvariantLemmas.{beside, has_world, world_at, worlds_are}
 use Rattle.rv_monitor.proofs.HartCases.{past_hart_state, step_programmed}
 
--- on a hart that there is
+-- its hart is a hart of the machine
 pub runs_inside : (k j : ℕ) (machine : MonitoredMachine) → runs_on k j machine ≡ true → j < count_of machine
 runs_inside k j machine runs = elim (cases_lt j (count_of machine)) [
   | inl inside ↦ inside
@@ -31,12 +31,12 @@ live_by (Some info) runs = refl
 pub running_is_live : (k j : ℕ) (machine : MonitoredMachine) → Invariant machine → runs_on k j machine ≡ true → is_live machine.shared.table k ≡ true
 running_is_live k j machine kept runs = live_by (slot_at machine.shared.table k) (kept.shared.running k ∙ runs_among k j machine runs)
 
--- ---- the others
+-- ---- the other harts
 
 right_of : (a b : Bool) → a ≡ false → (a || b) ≡ true → b ≡ true
 right_of a b none is = rw none at is
 
--- it runs on one of the others, where it does not run on this hart
+-- it runs on one of the other harts, if it does not run on this one
 pub running_is_undisturbed : (k hart own : ℕ) (machine : MonitoredMachine) → hart < count_of machine → runs_on k own machine ≡ true
     → runs_on k hart machine ≡ false → list_any (is_world_of k) (beside hart machine) ≡ true
 running_is_undisturbed k hart own machine has runs not_running =
@@ -47,7 +47,7 @@ running_is_undisturbed k hart own machine has runs not_running =
 pub not_same : (k hart j : ℕ) (machine : MonitoredMachine) → runs_on k hart machine ≡ false → runs_on k j machine ≡ true → j ≢ hart
 not_same k hart j machine not_running runs same = both_ways _ not_running (ap (λ (i : ℕ). runs_on k i machine) (sym same) ∙ runs)
 
--- a step of this hart leaves that one as it was, but for the entries and mie
+-- a step of this hart leaves the other hart as it was, except for the PMP entries and mie
 pub hart_state_preserved : (k hart : ℕ) (machine : MonitoredMachine) → Invariant machine → runs_on k hart machine ≡ false → (j : ℕ) → runs_on k j machine ≡ true
     → hart_state_of j (step_of hart machine).state ≡ reprogrammed (step_of hart machine).state.shared.table (hart_state_of j machine)
 hart_state_preserved k hart machine kept not_running j runs =

@@ -1,4 +1,4 @@
--- A step changes the bytes that its instruction stored, the region that a destroy clears, or those that a measure puts.
+-- A step changes only the bytes that its instruction stored, the region that a destroy clears, or the bytes that a measure writes.
 use Rattle.std.proofs.Common.{◌≡◌, ℕ, ◌+◌, ◌<◌, ◌≤◌, ◌⊎◌, true, false, List, [], length, replicate, Option, Some, None, IfSome, refl, sym}
 use Rattle.std.proofs.Common.{◌∙◌, ap, subst, inl, inr, arith}
 use Rattle.std.specs.Prelude.{is_some}
@@ -18,7 +18,7 @@ use Rattle.rv_monitor.proofs.StepInvariant.{equiv_itself}
 use Rattle.rv_monitor.proofs.TrapSteps.{step_cases, hart_state_after}
 use Rattle.rv_monitor.proofs.HandlerCases.{Requests, handler_cases}
 
--- ---- bytes that are put elsewhere
+-- ---- bytes written elsewhere
 
 put_by : (memory : List ℕ) (address : ℕ) (bytes : List ℕ) (byte : ℕ) (o : Option (List ℕ)) → write memory address bytes ≡ o
     → byte < address ⊎ address + length bytes ≤ byte → byte_at (option_case o memory (λ after. after)) byte ≡ byte_at memory byte
@@ -39,9 +39,9 @@ zeroed_integrity memory block byte none =
     let long : length (replicate block.size 0) ≡ block.size = length-replicate {A = ℕ} block.size 0 in
     put_by memory block.base (replicate block.size 0) byte (write memory block.base (replicate block.size 0)) refl (rw long (outside block byte none))
 
--- ---- the monitor's work
+-- ---- the trap handler
 
--- the byte is as before, or the monitor changed it
+-- the byte is as before, or the trap handler changed it
 abbrev Changes : World → List ℕ → Shared → ℕ → Shared → Type 0
 Changes world regs before byte after =
     byte_at after.memory byte ≡ byte_at before.memory byte ⊎ ByMonitor world regs before after byte
@@ -73,7 +73,7 @@ module _ (hart_state : HartState) (shared : Shared) (valid : IsValid shared.memo
     unfolding measure_refusals
     not_refused = rw (live, may) refl
 
-    -- one of the 32 bytes is in reach, since a store of it is done
+    -- each of the 32 bytes is accessible, since a store to it is permitted
     in_reach_of : a1 hart_state ≤ byte → byte < a1 hart_state + 32 → IsMeasured hart_state.world hart_state.hart.regs shared byte
     unfolding may_store_all
     in_reach_of low high =

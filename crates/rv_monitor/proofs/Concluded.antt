@@ -1,9 +1,10 @@
--- What a call that switches no world tells its caller.
+-- The return values of a call that switches no world.
 use Rattle.std.proofs.Common.{◌≡◌, ℕ, Option, Some, None, Result, Ok, Err, MatchResult, refl}
 use Rattle.rv_monitor.specs.Prelude.{Refusal, HartState, Shared, option_case, result_case}
 use Rattle.rv_monitor.proofs.Prelude.{returned_to_caller, refused}
 
--- the first row that holds, or what is done where none does, by the result and by what is shared after it
+-- the caller receives the first refusal that holds, or the result of the call if none does; in each case the shared state is the one after the
+-- call
 pub concluded : (hart_state : HartState) (rows : Option Refusal) (r : Result ℕ Refusal) (before after done : Shared) (value : ℕ)
     → MatchResult r (λ v. (rows ≡ None) × (v ≡ value) × (after ≡ done)) (λ refusal. (rows ≡ Some refusal) × (after ≡ before))
     → option_case rows (returned_to_caller hart_state done 0 value) (refused hart_state before) ≡ result_case r (returned_to_caller hart_state after 0) (refused hart_state after)

@@ -1,4 +1,4 @@
--- Two machines that agree but for an enclave, once one part of each is changed.
+-- Two machines that are equivalent except for an enclave stay so if one part of each is changed.
 use Rattle.std.proofs.Common.{◌≡◌, ◌<◌, ℕ, refl, sym, ◌∙◌, ap, subst, inl, inr, arith}
 use Rattle.rv_monitor.specs.Prelude.{HartState, Shared, SharedEquivExcept, is_world_of}
 use Rattle.rv_monitor.proofs.Prelude.{EquivExcept, MonitoredMachine, HartStatesEquivExcept, cases_lt, changed, count_of, length-set, hart_state_of}
@@ -20,7 +20,7 @@ pub equiv_itself : (e : ℕ) (machine : MonitoredMachine) → SharedEquivExcept 
 equiv_itself e machine shared =
     record { harts = refl; hart_states = λ hart. record { world = refl; same = λ not_running. refl }; shared = shared }
 
--- the seat of a hart, changed in the same way, but for its world
+-- the state of a hart, changed in the same way in both, if the change keeps its world
 changed_in : (e hart : ℕ) (change : HartState → HartState) (one other : MonitoredMachine) → ((hart_state : HartState) → (change hart_state).world ≡ hart_state.world)
     → hart < count_of one → EquivExcept e one other → EquivExcept e (changed hart change one) (changed hart change other)
 changed_in e hart change one other keeps has equiv =

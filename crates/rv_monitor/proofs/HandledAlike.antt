@@ -1,5 +1,5 @@
--- The monitor's work after a trap of one hart, over two shared parts that agree but for what is private to an enclave: where it enters that
--- enclave they agree too, but for the hart on which it runs then.
+-- The trap handler on one hart, over two shared states that are equivalent except for an enclave. If it enters that enclave, the results are
+-- still equivalent, except for the hart on which the enclave then runs.
 use Rattle.std.proofs.Common.{◌≡◌, ℕ, List, length, Some, None, refl, sym, ap, subst, inl, inr}
 use Rattle.rv_enclaves.specs.declared.slot_info.EnclaveState.TheVariants as states
 use Rattle.rv_enclaves.proofs.WorksAlike.{WorksAlike, works_alike}
@@ -9,7 +9,7 @@ use Rattle.rv_monitor.proofs.Prelude.{HandledAlike, HandlerLaw, a0, a1, returned
 use Rattle.rv_monitor.proofs.Prelude.{eq-eqb, continuing_from, handled, left, with_reprogrammed_hart}
 use Rattle.rv_monitor.proofs.HandlerCases.{handler_cases_of_both, entering, saved_by, leaving, over}
 
--- ---- the work
+-- ---- the trap handler
 
 module _ (e : ℕ) (table : Slots) (m n : List ℕ) (cs ds : Contexts) (cases : WorksAlike e (over table m cs) (over table n ds))
     (hart_state : HartState) (trap : Trap) where

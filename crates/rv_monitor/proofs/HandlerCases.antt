@@ -1,5 +1,5 @@
--- The one walk over the monitor's work after a trap: what holds of each piece of work holds of all; of one shared part, or of two side by
--- side, over one table and one size of memory, which have the same call, the same refusals and the same slot.
+-- Case analysis of the trap handler: a property that holds in each case holds of the handler. It is about one shared state, or about two side by
+-- side with the same table and memory size. Two such states have the same call, the same refusals and the same slot.
 use Rattle.std.proofs.Common.{◌≡◌, ℕ, Bool, true, false, List, [], ◌∷◌, length, Option, Some, None, refl, sym, ◌∙◌, subst, inl, inr, arith}
 use Rattle.std.specs.Prelude.{◌&&◌, ◌==◌, if◌then◌else◌}
 use Rattle.rv_state.specs.declared.cause.Cause.TheVariants as causes
@@ -14,7 +14,7 @@ use Rattle.rv_monitor.proofs.Prelude.{handled_exception, is_entering, left, line
 use Rattle.rv_monitor.proofs.Prelude.{nat_tests, past_call, performed, reason, refused, same_create_refusals, same_measure_refusals, saved}
 use Rattle.rv_monitor.proofs.Prelude.{enclave_state_after, stopped_context, timer_stopped, trapped_mode, trapped_pc, value, with_reprogrammed_hart}
 
--- ---- the call that is asked for
+-- ---- the requested call
 
 find-passes : {X : Type 0} (p : X → Bool) (xs : List X) (x : X) → find p xs ≡ Some x → p x ≡ true
 find-passes p [] x is = cc
@@ -35,7 +35,7 @@ found-call world a7 a6 true call is =
     and_parts (call_number call == a6) (is_offered world call) (find-passes (λ c. call_number c == a6 && is_offered world c) calls call is)
 found-call world a7 a6 false call is = cc
 
--- it has the number in a6, and belongs to the world
+-- it has the number in a6, and is offered to the world
 asked-is : (world : World) (regs : List ℕ) (call : Call) → requested_call world regs ≡ Some call
     → ((call_number call == register regs 16) ≡ true) × (is_offered world call ≡ true)
 unfolding call_requested
@@ -53,27 +53,27 @@ not_exit a6 is = grind (arith, nat_tests)
 exit : (a6 : ℕ) → (call_number Exit == a6) ≡ true → (a6 == call_number Exit) ≡ true
 exit a6 is = grind (arith, nat_tests)
 
--- ---- the pieces
+-- ---- the cases
 
 abbrev pub over : Slots → List ℕ → Contexts → Shared
 over table memory contexts = record { memory = memory; table = table; contexts = contexts }
 
--- the trap asks for this call
+-- the trap requests this call
 pub record Requests (hart_state : HartState) (cause : Cause) (call : Call) : Type 0 where
   pub is_call : cause ≡ causes.Exception EnvironmentCallFromS
   pub asked : requested_call hart_state.world hart_state.hart.regs ≡ Some call
 
--- what is kept of an enclave that the trap makes leave, whose seat this is
+-- the saved context of an enclave that exits by the trap, from the state of its hart
 abbrev pub saved_by : Cause → HartState → Context
 saved_by (causes.Interrupt interrupt) hart_state = saved hart_state.hart (trapped_pc hart_state) (trapped_mode hart_state)
 saved_by (causes.Exception exception) hart_state = if register hart_state.hart.regs 16 == call_number Exit then exited_context else stopped_context hart_state
 
--- its seat, with the line lowered by the timer's stop
+-- the state of its hart, with the line lowered if the timer stops it
 abbrev pub lowered_by : Cause → HartState → HartState
 lowered_by cause hart_state =
     record hart_state { hart = record hart_state.hart { csrs = record hart_state.hart.csrs { timer = line_after cause hart_state.hart.csrs.timer } } }
 
--- how it leaves
+-- the exit
 abbrev pub enclave_exit_of : Cause → HartState → EnclaveExit
 enclave_exit_of cause hart_state = record {
   state = enclave_state_after cause hart_state.hart.regs;
@@ -95,12 +95,12 @@ module _ (hart_state : HartState) (trap : Trap) (table : Slots) (m n : List ℕ)
   abbrev there : Shared
   there = over table n ds
 
-  -- one piece of work of both
+  -- one case, for both shared states
   abbrev Both : (Shared → Handled) → Type 0
   Both work = P (work here) (work there)
 
   pub record Pieces : Type 0 where
-    -- a refusal, or a call that changes nothing that is shared
+    -- a refusal, or a call that changes nothing in the shared state
     pub answers : (status result : ℕ) → Both (λ shared. returned_to_caller hart_state shared status result)
     pub creates : Requests hart_state trap.cause Create → MayCreate here (create_args_of hart_state.hart.regs)
         → Both (λ shared. returned_to_caller hart_state (created shared (create_args_of hart_state.hart.regs)) 0 (new_slot shared.table))
@@ -170,9 +170,9 @@ module _ (hart_state : HartState) (trap : Trap) (table : Slots) (m n : List ℕ)
     pub by_pieces : P (handled_cause hart_state here trap trap.cause) (handled_cause hart_state there trap trap.cause)
     by_pieces = by-cause trap.cause refl
 
--- ---- the principles: the entries and mie are set last
+-- ---- the case principles: the PMP entries and mie are programmed last
 
--- two side by side
+-- two shared states side by side
 abbrev pub HandlerCasesOfBoth : HartState → Trap → Slots → List ℕ → List ℕ → Contexts → Contexts → (Handled → Handled → Type 0) → Type 0
 HandlerCasesOfBoth hart_state trap table m n cs ds P = Pieces hart_state trap table m n cs ds (λ one other. P (with_reprogrammed_hart one) (with_reprogrammed_hart other))
 
@@ -182,7 +182,7 @@ unfolding handled
 handler_cases_of_both hart_state trap table m n cs ds P pieces size =
     by_pieces hart_state trap table m n cs ds (λ one other. P (with_reprogrammed_hart one) (with_reprogrammed_hart other)) pieces size
 
--- one
+-- one shared state
 abbrev pub OneHandlerCases : HartState → Trap → Shared → (Handled → Type 0) → Type 0
 OneHandlerCases hart_state trap shared P = HandlerCasesOfBoth hart_state trap shared.table shared.memory shared.memory shared.contexts shared.contexts (λ one _. P one)
 

@@ -1,4 +1,4 @@
--- What the monitor's work after a trap asks of memory and of the kept contexts.
+-- The reads of the trap handler from memory and from the saved contexts.
 use Rattle.std.proofs.Common.{◌≡◌, ℕ, ◌+◌, ◌==◌, Bool, true, false, List, length, replicate, Option, Some, None, refl, sym, ◌∙◌, ap, ap₂}
 use Rattle.std.proofs.Common.{subst, inl, inr, arith}
 use Rattle.std.specs.Prelude.{map, not, slice_index, slice_index_or, slice_set}
@@ -19,7 +19,7 @@ use Rattle.rv_monitor.proofs.HartCases.{is_trapping}
 use Rattle.rv_monitor.proofs.TrapSteps.{hart_state_after, trapped_step}
 use Rattle.rv_monitor.proofs.HandlerCases.{Requests, handler_cases_of_both, entering, saved_by, over}
 
--- one write, at any index where the memories agreed
+-- the same write to two memories, at any index where they were equal
 same_byte : (m n : List ℕ) (address : ℕ) (bytes : List ℕ) (i : ℕ) → length m ≡ length n → slice_index m i ≡ slice_index n i
     → slice_index (or_same m (write m address bytes)) i ≡ slice_index (or_same n (write n address bytes)) i
 same_byte m n address bytes i size same =
@@ -128,7 +128,7 @@ handler_reads_law hart_state trap one other same =
 
 -- ---- the step
 
--- a trap changes nothing of what is asked
+-- a trap changes nothing that the trap handler reads
 asked_after : (cause : Cause) (hart_state : HartState) (trap : Trap) (one other : Shared) → SameRead hart_state cause one other
     → SameRead (hart_state_after hart_state trap) cause one other
 asked_after cause hart_state trap one other same = record {

@@ -1,4 +1,4 @@
--- Where each seat is behind a step: that of the hart that steps, and those beside it.
+-- The state of each hart after a step: that of the hart that steps, and those of the others.
 use Rattle.std.proofs.Common.{◌≡◌, ◌≢◌, ◌<◌, ◌≤◌, ℕ, false, List, length, slice_set, Option, Some, None, refl, sym, ◌∙◌, ap, subst, inl, inr, arith}
 use Rattle.std.specs.Prelude.{map, nat_lt, slice_index_or}
 use Rattle.rv_monitor.specs.Prelude.{HartState, Slots, Trap}
@@ -15,7 +15,7 @@ hart_state_in hart_states hart = slice_index_or hart_states hart (hart_state_at_
 pub past_hart_state : (hart_states : List HartState) (j : ℕ) → length hart_states ≤ j → hart_state_in hart_states j ≡ hart_state_at_start 0
 past_hart_state hart_states j past = get_or_past {X = HartState} hart_states j (hart_state_at_start 0) past
 
--- one seat put in: what holds of it, and of those beside it, holds of each; in two lists side by side,
+-- case analysis of two lists in which the state of one hart is replaced: a property that holds of it and of the others holds of each
 pub hart_cases_of_both : (xs ys : List HartState) (hart : ℕ) (x y : HartState) (P : ℕ → HartState → HartState → Type 0) → length xs ≡ length ys → hart < length xs
     → P hart x y → ((j : ℕ) → j ≢ hart → P j (hart_state_in xs j) (hart_state_in ys j))
     → (j : ℕ) → P j (hart_state_in (slice_set xs hart x) j) (hart_state_in (slice_set ys hart y) j)
@@ -31,12 +31,12 @@ hart_cases_of_both xs ys hart x y P size has own others j =
           (subst (P j (hart_state_in xs j)) (sym (get_or-set_other ys hart j y (hart_state_at_start 0) apart)) (others j apart))
     ]
 
--- and in one
+-- the same for one list
 pub hart_cases : (hart_states : List HartState) (hart : ℕ) (hart_state : HartState) (P : ℕ → HartState → Type 0) → hart < length hart_states → P hart hart_state
     → ((j : ℕ) → j ≢ hart → P j (hart_state_in hart_states j)) → (j : ℕ) → P j (hart_state_in (slice_set hart_states hart hart_state) j)
 hart_cases hart_states hart hart_state P has own others = hart_cases_of_both hart_states hart_states hart hart_state hart_state (λ j s _. P j s) refl has own others
 
--- ---- the seats behind the monitor's work, before that of the hart is put in
+-- ---- the hart states after the trap handler, before that of the stepping hart is replaced
 
 abbrev pub hart_state_reprogrammed : Option Trap → Slots → HartState → HartState
 hart_state_reprogrammed None slots hart_state = hart_state
@@ -51,7 +51,7 @@ behind_at : (o : Option Trap) (slots : Slots) (hart_states : List HartState) (j 
 behind_at None slots hart_states j has = refl
 behind_at (Some trap) slots hart_states j has = get_or-map (reprogrammed slots) hart_states j (hart_state_at_start 0) (hart_state_at_start 0) has
 
--- ---- the step of a hart that there is
+-- ---- a step of a hart of the machine
 
 module _ (hart : ℕ) (machine : MonitoredMachine) (after : HartViewStepped) where
   abbrev o : Option Trap
@@ -103,7 +103,7 @@ step_seen hart machine has =
     λ hart_state. record { state = record { hart_state = hart_state; shared = after.state.shared }; outcome = after.outcome } in
     ap (hart_view_after hart) (inside hart machine has) ∙ ap seen (own_hart_state hart machine after hart refl has)
 
--- what a step leaves of the seats beside, in what knows nothing of the entries and mie
+-- a step preserves every property of the other harts' states that does not depend on the PMP entries and mie
 pub step_beside : {X : Type 0} (of : HartState → X) → ((slots : Slots) (hart_state : HartState) → of (reprogrammed slots hart_state) ≡ of hart_state) → (hart j : ℕ) (machine : MonitoredMachine)
     → j ≢ hart → of (hart_state_of j (step_of hart machine).state) ≡ of (hart_state_of j machine)
 step_beside of same hart j machine apart = by_hart hart machine (λ after. of (hart_state_of j after.state) ≡ of (hart_state_of j machine)) refl
@@ -118,7 +118,7 @@ step_beside of same hart j machine apart = by_hart hart machine (λ after. of (h
       by_trap None slots = refl
       by_trap (Some trap) slots = same slots (hart_state_of j machine)
 
--- without a trap the table is as it was
+-- without a trap the table is unchanged
 pub quiet_table : (state : HartView) → (monitored_step state).outcome.step.trap ≡ None
     → (monitored_step state).state.shared.table ≡ state.shared.table
 quiet_table state = step_cases state (λ after. after.outcome.step.trap ≡ None → after.state.shared.table ≡ state.shared.table) (λ none is. refl)
@@ -129,7 +129,7 @@ behind_is : (o : Option Trap) (before after : Slots) (hart_state : HartState) �
 behind_is None before after hart_state same is = sym (ap (λ (slots : Slots). reprogrammed slots hart_state) (same refl) ∙ as_is before hart_state is)
 behind_is (Some trap) before after hart_state same is = refl
 
--- so they are laid out
+-- after a step the other harts' states have the PMP entries and mie of the table
 pub behind_seated : (hart j : ℕ) (machine : MonitoredMachine) → Invariant machine → j < count_of machine
     → (let after = monitored_step (hart_view hart machine) in
     hart_state_reprogrammed after.outcome.step.trap after.state.shared.table (hart_state_of j machine) ≡ reprogrammed after.state.shared.table (hart_state_of j machine))
@@ -150,7 +150,7 @@ step_programmed hart j machine kept apart here =
 abbrev pub programmed_by : ℕ → MonitoredMachine → HartView → MonitoredMachine
 programmed_by hart machine after = record { hart_states = slice_set (map (reprogrammed after.shared.table) machine.hart_states) hart after.hart_state; shared = after.shared }
 
--- it is of a hart that there is, and the monitor has worked
+-- the hart is a hart of the machine, and its step trapped
 pub record IsTrapping (hart : ℕ) (machine : MonitoredMachine) (trap : Trap) : Type 0 where
   pub has : hart < count_of machine
   pub trapped : (monitored_step (hart_view hart machine)).outcome.step.trap ≡ Some trap

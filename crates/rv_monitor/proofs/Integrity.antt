@@ -1,4 +1,4 @@
--- A step leaves what is private to an enclave that is not the world of its hart, where it neither enters nor ends it.
+-- A step preserves everything private to an enclave that is not the world of its hart, unless it enters or ends it.
 use Rattle.std.proofs.Common.{◌≡◌, ◌≢◌, ◌<◌, ℕ, ◌==◌, true, false, Option, Some, None, refl, sym, ap, inl, inr, arith}
 use Rattle.std.specs.Prelude.{is_some}
 use Rattle.rv_platform.proofs.BlockLaws.{apart_at}
@@ -35,12 +35,12 @@ other_state k j shared state c apart =
     let other : k ≢ j = λ same. both_ways _ apart (eq-eqb j k (sym same)) in
     record { slot = state_by shared.table k j (slot_at shared.table j) state other; context = at_other shared.contexts j k c other }
 
--- the slot that runs is no other than the world's
+-- the running slot is that of the world, so it is not slot k
 runs_other : (k : ℕ) (world : World) → k < 13 → is_world_of k world ≡ false → (running_slot world == k) ≡ false
 runs_other k Host inside not_running = ne_eqb 13 k (λ same. omega (arith, inside, same))
 runs_other k (Enclave j) inside not_running = not_running
 
--- where the monitor does not enter it, and it is live after it
+-- the slot is unchanged, if the trap handler does not enter it, and it is live afterwards
 abbrev Keeps : ℕ → Shared → Handled → Type 0
 Keeps k before h = enters k h.next.entered ≡ false → is_live h.shared.table k ≡ true → KeepsSlot k before h.shared
 
@@ -87,7 +87,7 @@ module _ (k : ℕ) (hart_state : HartState) (shared : Shared) (valid : IsValid s
 
 -- ---- the bytes of its region
 
--- what a step changes is in the reach of the world that runs, or in the region of an enclave that it ends
+-- a byte that a step changes is accessible to the world that runs, or is in the region of an enclave that the step ends
 not_changed : (state : HartView) (k byte : ℕ) → HartViewInvariant state → is_world_of k state.hart_state.world ≡ false
     → is_live (monitored_step state).state.shared.table k ≡ true
     → has (region state.shared.table k) byte ≡ true → byte_at (monitored_step state).state.shared.memory byte ≡ byte_at state.shared.memory byte
@@ -114,7 +114,7 @@ not_changed state k byte kept not_running stays own =
 
 -- ---- the step
 
--- of one hart
+-- for the view of one hart
 pub integrity_in : (state : HartView) → HartViewInvariant state → (k : ℕ) → is_world_of k state.hart_state.world ≡ false → is_live state.shared.table k ≡ true
     → enters k (monitored_step state).outcome.entered ≡ false → is_live (monitored_step state).state.shared.table k ≡ true
     → IsPreserved k state.shared (monitored_step state).state.shared

@@ -1,4 +1,4 @@
--- Every step of a hart keeps what is true in every state.
+-- Every step of a hart preserves the invariant.
 use Rattle.std.proofs.Common.{◌≡◌, ◌<◌, ◌≤◌, ℕ, Bool, List, [], ◌∷◌, length, slice_set, Option, Some, None, refl, sym, ◌∙◌, ap, subst, inl, inr, arith}
 use Rattle.std.specs.Prelude.{map, slice_index_or}
 use Rattle.std.proofs.lemmas.Simd.{map-map}
@@ -11,7 +11,7 @@ use Rattle.rv_monitor.proofs.Others.{sound_back, sound_prefix, without}
 use Rattle.rv_monitor.proofs.HartCases.{behind_seated, by_hart, hart_cases, count_behind, other_hart_state, own_hart_state}
 use Rattle.rv_monitor.proofs.StepInvariant.{KeptBeside, laid_seated, hart_view_of, reprogrammed_by, step_invariant}
 
--- ---- who runs on a hart, and beside it
+-- ---- the world on a hart, and those on the other harts
 
 abbrev world_of : HartState → World
 world_of hart_state = hart_state.world
@@ -83,7 +83,7 @@ sched_invariant (hart ∷ harts) machine kept = sched_invariant harts (step_of h
 
 -- ---- a debugger's changes
 
--- of a hart's registers and its timer line
+-- to a hart's registers and its timer line
 abbrev pub written : List ℕ → Bool → HartState → HartState
 written regs raised hart_state = record hart_state { hart = record hart_state.hart { regs = regs; csrs = record hart_state.hart.csrs { timer = raised } } }
 
@@ -105,7 +105,7 @@ written_in hart regs raised machine kept has =
           (omega (arith, size, inside));
     }
 
--- of a hart that there is not nothing is written
+-- a write to a number that is not the number of a hart has no effect
 pub past_as_is : (hart : ℕ) (hart_state : HartState) (machine : MonitoredMachine) → count_of machine ≤ hart → with_hart_state hart hart_state machine ≡ machine
 past_as_is hart hart_state machine past =
     ap (λ (hart_states : List HartState). let after : MonitoredMachine = record { hart_states = hart_states; shared = machine.shared } in after) (set_past machine.hart_states hart hart_state past)
@@ -122,7 +122,7 @@ pub hart_state_stored : (hart : ℕ) (hart_state : HartState) (machine : Monitor
 hart_state_stored hart hart_state machine stored has own =
     hart_cases machine.hart_states hart hart_state (λ j s. HostContextIsLegal s) has own (λ j other. stored j)
 
--- what a write of a hart leaves of each seat
+-- a property that a write to a hart preserves, for the state of each hart
 pub changed_of : {X : Type 0} (of : HartState → X) (change : HartState → HartState) → ((hart_state : HartState) → of (change hart_state) ≡ of hart_state) → (hart j : ℕ) (machine : MonitoredMachine)
     → of (hart_state_of j (changed hart change machine)) ≡ of (hart_state_of j machine)
 changed_of of change same hart j machine = elim (cases_lt hart (count_of machine)) [
@@ -132,7 +132,7 @@ changed_of of change same hart j machine = elim (cases_lt hart (count_of machine
       (λ i other. refl) j
 ]
 
--- of memory
+-- to memory
 pub invariant_by_size : (machine : MonitoredMachine) (memory : List ℕ) → Invariant machine → length machine.shared.memory ≡ length memory
     → Invariant (record machine { shared = record machine.shared { memory = memory } })
 invariant_by_size machine memory kept size =

@@ -1,4 +1,4 @@
--- What an enclave leaves behind when it leaves: either it goes on, or the state is the one that leaving leaves.
+-- After a trap, an enclave either continues, or exits and leaves the specified state.
 use Rattle.std.proofs.Common.{◌≡◌, ℕ, ◌⊎◌, true, Option, Some, None, IfSome, refl, sym, ◌∙◌, ap, subst, inl, inr}
 use Rattle.std.proofs.Math.Bool.{or-false}
 use Rattle.rv_state.specs.declared.cause.Cause.TheVariants as causes
@@ -12,9 +12,9 @@ use Rattle.rv_monitor.proofs.Switched.{aligned_again}
 use Rattle.rv_monitor.proofs.TrapSteps.{hart_state_after, trapped_step}
 use Rattle.rv_monitor.proofs.HandlerCases.{handler_cases, saved_by, enclave_exit_of, lowered_by}
 
--- ---- the monitor's work
+-- ---- the trap handler
 
--- of the seat after a trap of the enclave of slot k
+-- after a trap of the enclave of slot k
 module _ (before : HartView) (k : ℕ) (host : Context) (runs : before.hart_state.world ≡ Enclave k) (kept : before.hart_state.host_context ≡ Some host)
     (trap : Trap) where
   abbrev hart_state : HartState
@@ -26,12 +26,12 @@ module _ (before : HartView) (k : ℕ) (host : Context) (runs : before.hart_stat
   abbrev leaving_now : Handled
   leaving_now = leaving_with (saved_after trap.cause before.hart_state.hart)
 
-  -- what is kept of the enclave, by its hart before the trap
+  -- the saved context of the enclave, from its hart before the trap
   kept_is : (cause : Cause) → saved_by cause hart_state ≡ saved_after cause before.hart_state.hart
   kept_is (causes.Interrupt interrupt) = refl
   kept_is (causes.Exception exception) = refl
 
-  -- the enclave goes on, or leaves so
+  -- the enclave continues, or exits and leaves this state
   abbrev Goes : Handled → Type 0
   Goes h = (h.hart_state.world ≡ Enclave k) ⊎ (h ≡ with_reprogrammed_hart leaving_now)
 

@@ -1,4 +1,4 @@
--- A step of the same hart of two monitored machines that agree but for what is private to an enclave that is not its world.
+-- A step of the same hart of two monitored machines that are equivalent except for an enclave that is not its world.
 use Rattle.std.proofs.Common.{◌≡◌, ◌<◌, ℕ, false, List, Option, Some, None, refl, sym, ◌∙◌, ap, ap₂, subst, inl, inr, arith}
 use Rattle.rv_monitor.specs.Prelude.{Hart, SharedInvariant, Outcome, HartState, Shared, SharedEquivExcept, Slots, Machine, StepOutcome, Stepped, Trap, World}
 use Rattle.rv_monitor.specs.Prelude.{is_live, is_world_of, option_case, step}
@@ -15,7 +15,7 @@ use Rattle.rv_monitor.proofs.InvariantLemmas.{hart_view_invariant}
 use Rattle.rv_monitor.proofs.HartCases.{count_behind, inside, other_hart_state, outside, own_hart_state, past_hart_state, hart_state_reprogrammed}
 use Rattle.rv_monitor.proofs.StepInvariant.{step_size}
 
--- ---- a step of one seat over what agrees
+-- ---- a step of one hart over equivalent shared states
 
 abbrev on : HartState → Shared → HartView
 on hart_state shared = record { hart_state = hart_state; shared = shared }
@@ -75,7 +75,7 @@ step_equiv e hart_state ws one other kept sound_here sound_there not_running equ
     (after_bare outcome (record hart_state { hart = hart }) (stored hart_state other)) in
     subst (λ hart. P hart b.outcome) (sym alike.hart) (subst (λ outcome. P a.state.hart outcome) (sym alike.outcome) base)
 
--- ---- of a hart
+-- ---- a step of a hart of the machine
 
 same_worlds : (e : ℕ) (one other : MonitoredMachine) → EquivExcept e one other → worlds one ≡ worlds other
 same_worlds e one other equiv =
@@ -142,9 +142,9 @@ noninterference hart one here e other there equiv not_running =
           })
     ]
 
--- ---- once the enclave is gone
+-- ---- an enclave that has ended
 
--- the two are one
+-- the two machines are equal
 pub gone_equal : (e : ℕ) (one other : MonitoredMachine) → Invariant one → EquivExcept e one other → is_live one.shared.table e ≡ false → one ≡ other
 gone_equal e one other kept equiv dead =
     let size = equiv.harts in

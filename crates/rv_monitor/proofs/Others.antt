@@ -1,4 +1,4 @@
--- Who runs on one hart, and on the others: a list of worlds with one of them put first.
+-- The world on one hart, and those on the others: a list of worlds with one of them moved to the front.
 use Rattle.std.proofs.Common.{◌≡◌, ℕ, zero, suc, ◌<◌, Bool, true, false, List, [], ◌∷◌, length, slice_set, refl, sym, ◌∙◌, ap, inl, inr, arith}
 use Rattle.std.specs.Prelude.{◌||◌}
 use Rattle.std.proofs.lemmas.Bool.{or_from}
@@ -10,7 +10,7 @@ or_swap true true c = refl
 or_swap true false c = refl
 or_swap false b c = refl
 
--- the others
+-- the other worlds
 abbrev pub without : List World → ℕ → List World
 without [] i = []
 without (w ∷ ws) zero = ws

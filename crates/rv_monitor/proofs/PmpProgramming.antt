@@ -1,4 +1,5 @@
--- The last act after a trap, which sets the entries and mie: where it changes nothing, and that nothing before it writes an entry.
+-- The last action after a trap, which programs the PMP entries and mie. It changes nothing if they are already programmed, and nothing before it
+-- writes an entry.
 use Rattle.std.proofs.Common.{◌≡◌, ◌<◌, ℕ, suc, List, [], ◌∷◌, length, refl, ◌∙◌, ap, arith, sym, subst}
 use Rattle.std.specs.Prelude.{map, slice_index_or}
 use Rattle.rv_monitor.specs.Prelude.{Cause, HartState, Shared, Slots, Trap}
@@ -6,7 +7,7 @@ use Rattle.rv_monitor.proofs.Prelude.{Entries, Handled, IsUnlocked, HartInvarian
 use Rattle.rv_monitor.proofs.Prelude.{left, hart_state_at_start, reprogrammed, with_reprogrammed_hart}
 use Rattle.rv_monitor.proofs.HandlerCases.{by_pieces}
 
--- ---- where they are set already
+-- ---- they are already programmed
 
 pub as_is : (slots : Slots) (hart_state : HartState) → HartInvariant slots hart_state → reprogrammed slots hart_state ≡ hart_state
 as_is slots hart_state is =
@@ -47,7 +48,7 @@ work_entries hart_state shared trap =
       forwards = refl;
     }) refl
 
--- so where no entry was locked none is, whatever caused the trap
+-- if no entry was locked before the trap handler, none is locked after it, whatever caused the trap
 pub work_unlocked : (hart_state : HartState) (shared : Shared) (cause : Cause) (left : Handled)
     → (let trap : Trap = record { cause = cause; tval = 0 } in handled_cause hart_state shared trap cause ≡ left)
     → IsUnlocked hart_state.hart.csrs.pmp → IsUnlocked left.hart_state.hart.csrs.pmp

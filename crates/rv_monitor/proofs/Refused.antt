@@ -1,4 +1,4 @@
--- A call that is refused changes nothing but a0, a1, pc, and what every trap and return change.
+-- A refused call changes only a0, a1, pc, and what every trap and return change.
 use Rattle.std.proofs.Common.{◌≡◌, ℕ, List, slice_set, Option, Some, None, refl, sym, ◌∙◌, ap, subst, arith}
 use Rattle.std.proofs.Math.Bool.{or-false}
 use Rattle.rv_state.specs.declared.cause.Cause.TheVariants as causes

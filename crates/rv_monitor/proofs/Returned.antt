@@ -1,5 +1,5 @@
--- From the step with which the host of a hart enters an enclave to the one with which the enclave leaves, whatever steps of the harts lie
--- between.
+-- The return to the host, from the step with which the host of a hart enters an enclave to the one with which the enclave exits. Any steps of
+-- the harts may lie in between.
 use Rattle.std.proofs.Common.{◌≡◌, ◌<◌, ℕ, true, false, List, [], ◌∷◌, Option, Some, None, refl, sym, ap, ◌∙◌, subst, inl, inr}
 use Rattle.std.specs.Prelude.{not, is_some}
 use Rattle.rv_monitor.specs.Prelude.{Context, S, HartState, is_host, with_return_values}
@@ -12,7 +12,7 @@ use Rattle.rv_monitor.proofs.InvariantLemmas.{invariant_law, sched_invariant}
 use Rattle.rv_monitor.proofs.HartCases.{past_hart_state, step_beside, step_count, step_seen}
 use Rattle.rv_monitor.proofs.Switched.{KeptStored, kept_between, switch_law}
 
--- while the host runs nothing is kept of it
+-- while the host runs it has no saved context
 nothing_kept : (o : Option Context) → is_some o ≡ false → KeptStored o
 nothing_kept None is = tt
 nothing_kept (Some context) is = cc
@@ -20,7 +20,7 @@ nothing_kept (Some context) is = cc
 pub host_stored : (hart_state : HartState) → HostContextInvariant hart_state → is_host hart_state.world ≡ true → HostContextIsLegal hart_state
 host_stored hart_state keeps host = nothing_kept hart_state.host_context (keeps.kept ∙ ap not host)
 
--- the step that enters keeps the host as it was
+-- the step that enters an enclave saves the host as it was
 pub entered_from : (state : HartView) (after : HartViewStepped) → StaysOrSwitches state after → is_host state.hart_state.world ≡ true
     → is_host after.state.hart_state.world ≡ false
     → after.state.hart_state.host_context ≡ Some (saved state.hart_state.hart (past_ecall state.hart_state.hart) S)
@@ -28,7 +28,7 @@ entered_from state after (inl stays) host other = absurd (both_ways _ other (ap 
 entered_from state after (inr (inl enters)) host other = enters.host
 entered_from state after (inr (inr leaves)) host other = absurd (both_ways _ other (ap is_host leaves.world))
 
--- the step that leaves puts it back
+-- the step with which the enclave exits restores it
 pub back_from : (before state : HartView) (after : HartViewStepped) → StaysOrSwitches state after
     → state.hart_state.host_context ≡ Some (saved before.hart_state.hart (past_ecall before.hart_state.hart) S)
     → is_host state.hart_state.world ≡ false → is_host after.state.hart_state.world ≡ true → HostIsRestored before state after
@@ -45,11 +45,11 @@ back_from before state after (inr (inr leaves)) kept other host =
       again = leaves.again ∙ ap (λ (host : Context). record host { regs = with_return_values host.regs x y }) same;
     }
 
--- what is kept of the host of a hart
+-- the saved context of the host of a hart
 abbrev pub host_on : ℕ → MonitoredMachine → Option Context
 host_on hart machine = (hart_state_of hart machine).host_context
 
--- a hart on which an enclave runs is one that there is
+-- a hart on which an enclave runs is a hart of the machine
 pub runs_there : (hart : ℕ) (machine : MonitoredMachine) → is_host (hart_state_of hart machine).world ≡ false → hart < count_of machine
 runs_there hart machine runs = elim (cases_lt hart (count_of machine)) [
   | inl inside ↦ inside
@@ -76,7 +76,7 @@ step_keeps hart named machine runs still = elim (cases_eq hart named) [
   | inr other ↦ step_beside (λ (hart_state : HartState). hart_state.host_context) (λ slots hart_state. refl) named hart machine other
 ]
 
--- ---- steps of harts in their order
+-- ---- steps of the harts in order
 
 pub first_runs : (hart : ℕ) (harts : List ℕ) (machine : MonitoredMachine) → RunsThrough hart harts machine → is_host (hart_state_of hart machine).world ≡ false
 first_runs hart [] machine runs = runs
@@ -94,16 +94,16 @@ pub last_runs : (hart : ℕ) (harts : List ℕ) (machine : MonitoredMachine) →
 last_runs hart [] machine runs = runs
 last_runs hart (named ∷ harts) machine runs = last_runs hart harts (step_of named machine).state runs.1
 
--- ---- from the step that enters to the one that leaves
+-- ---- from entry to exit
 
--- a hart that runs the host and then an enclave is one that there is
+-- a hart that runs the host and then an enclave is a hart of the machine
 enters_there : (hart : ℕ) (machine : MonitoredMachine) → is_host (hart_state_of hart (step_of hart machine).state).world ≡ false → hart < count_of machine
 enters_there hart machine runs =
     let after = (step_of hart machine).state in
     let has = runs_there hart after runs in
     subst (λ (n : ℕ). hart < n) (step_count hart machine) has
 
--- the host is kept as it was
+-- the entry saves the host as it was
 pub entered_is : (hart : ℕ) (machine : MonitoredMachine) → Invariant machine → is_host (hart_state_of hart machine).world ≡ true
     → is_host (hart_state_of hart (step_of hart machine).state).world ≡ false
     → host_on hart (step_of hart machine).state ≡ Some (saved (hart_state_of hart machine).hart (past_ecall (hart_state_of hart machine).hart) S)
@@ -116,7 +116,7 @@ entered_is hart machine kept host other =
     ∙ entered_from own (monitored_step own) (switch_law own keeps (host_stored own.hart_state keeps host)) host
     (sym (ap (λ (after : HartViewStepped). is_host after.state.hart_state.world) seen) ∙ other)
 
--- and comes back
+-- the exit restores it
 pub comes_back : (hart : ℕ) (before : HartView) (machine : MonitoredMachine) → Invariant machine → HostContextIsLegal (hart_state_of hart machine)
     → host_on hart machine ≡ Some (saved before.hart_state.hart (past_ecall before.hart_state.hart) S) → is_host (hart_state_of hart machine).world ≡ false
     → is_host (monitored_step (hart_view hart machine)).state.hart_state.world ≡ true

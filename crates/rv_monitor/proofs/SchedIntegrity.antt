@@ -1,4 +1,4 @@
--- An enclave that steps of the harts do not step: what it keeps of each, and of steps in any order.
+-- Integrity for steps in any order: an enclave that they leave undisturbed.
 use Rattle.std.proofs.Common.{◌≡◌, ◌⊎◌, ℕ, true, List, [], ◌∷◌, refl, sym, ◌∙◌, ap, subst, inl, inr}
 use Rattle.std.proofs.lemmas.Bool.{or_right}
 use Rattle.rv_monitor.specs.Prelude.{HartState, Shared, byte_at, has, is_live, is_world_of, region_of, slot_at}
@@ -14,7 +14,7 @@ use Rattle.rv_monitor.proofs.InvariantLemmas.{invariant_of_others, invariant_law
 use Rattle.rv_monitor.proofs.PmpProgramming.{as_is}
 use Rattle.rv_monitor.proofs.HartCases.{by_hart, outside, step_seen}
 
--- ---- it is spared by a step
+-- ---- a step preserves it
 
 pub preserved_twice : (k : ℕ) (before between after : Shared) → IsPreserved k before between → IsPreserved k between after → IsPreserved k before after
 preserved_twice k before between after first last = record {
@@ -32,7 +32,7 @@ untouched_twice k before between after first last = record {
       last.hart_state hart (ap (λ (s : HartState). is_world_of k s.world) one ∙ runs) ∙ ap (reprogrammed after.shared.table) one;
 }
 
--- no step changes nothing
+-- the empty list of steps changes nothing
 untouched_itself : (k : ℕ) (machine : MonitoredMachine) → Invariant machine → IsUntouched k machine machine
 untouched_itself k machine kept = record {
   preserved = record { slot = refl; bytes = λ byte own. refl; context = refl };
@@ -53,7 +53,7 @@ sched_integrity k (hart ∷ harts) machine kept alone =
     (integrity hart machine kept k alone.1 alone.0 alone.2 (first_live k harts after alone.3))
     (sched_integrity k harts after (invariant_law hart machine kept) alone.3)
 
--- ---- one that runs is neither entered nor ended by another hart
+-- ---- a running enclave is neither entered nor ended by another hart
 
 pub go_on_law : (hart : ℕ) (machine : MonitoredMachine) → Invariant machine → KeepsOthersRunning hart machine (step_of hart machine)
 go_on_law hart machine kept k own runs not_running = by_hart hart machine (KeepsRunning k)
@@ -82,7 +82,7 @@ running_law k own (hart ∷ harts) machine kept runs none =
       running_law k own harts after (invariant_law hart machine kept) still (none_again k hart harts machine none.1 goes.passes),
     )
 
--- ---- which bytes they change
+-- ---- which bytes the steps change
 
 step_changes : (hart : ℕ) (machine : MonitoredMachine) (byte : ℕ) → Invariant machine
     → byte_at (step_of hart machine).state.shared.memory byte ≡ byte_at machine.shared.memory byte

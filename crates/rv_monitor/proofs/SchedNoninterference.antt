@@ -1,4 +1,4 @@
--- The harts, whose steps take turns in any order, by the laws of one step.
+-- Steps of the harts in any order, by the laws of one step.
 use Rattle.std.proofs.Common.{◌≡◌, ℕ, ◌==◌, true, false, List, [], ◌∷◌, Option, Some, None, refl, sym, ◌∙◌, ap, ap₂, subst, inl, inr}
 use Rattle.rv_monitor.specs.Prelude.{Outcome, HartState, Trap, is_world_of}
 use Rattle.rv_monitor.proofs.Prelude.{EntryLaw, Handled, MonitoredMachine, MonitoredStepped, HartView, HartViewStepped, LowStepsLaw, RunsOnNone}
@@ -10,7 +10,7 @@ use Rattle.rv_monitor.proofs.HartCases.{outside, step_beside, step_seen}
 use Rattle.rv_monitor.proofs.Switched.{Turns, handled_turns}
 use Rattle.rv_monitor.proofs.TrapSteps.{step_cases, hart_state_after}
 
--- ---- steps in any order of two machines that agree
+-- ---- steps in any order of two equivalent machines
 
 pub sched_law : SchedLaw
 sched_law e [] one other here there equiv low_steps = record { outcomes = refl; state = equiv; low_steps = tt }
@@ -26,7 +26,7 @@ sched_law e (hart ∷ harts) one other here there equiv low_steps =
       low_steps = (sym (ap (is_world_of e) hart_states.world) ∙ low_steps.0, rest.low_steps);
     }
 
--- ---- where the enclave runs behind a step
+-- ---- the hart on which the enclave runs after a step
 
 entered_world : (e : ℕ) (hart_state : HartState) (trap : Trap) (h : Handled) → Turns hart_state trap h
     → h.next.entered ≡ Some e → is_world_of e h.hart_state.world ≡ true
@@ -71,7 +71,7 @@ own_apart e state not_running = step_cases state (λ after. enters e after.outco
     let hart_state = hart_state_after state.hart_state trap in
     other_world e hart_state trap (handled hart_state state.shared trap) (handled_turns hart_state state.shared trap) not_running passes)
 
--- the hart that steps, and each beside it
+-- the hart that steps, and each of the others
 own_still : (e hart : ℕ) (machine : MonitoredMachine) → runs_on e hart machine ≡ false → enters e (step_of hart machine).outcome.entered ≡ false
     → runs_on e hart (step_of hart machine).state ≡ false
 own_still e hart machine not_running passes = elim (cases_lt hart (count_of machine)) [

@@ -1,4 +1,4 @@
--- A scrambled state agrees with the one before but for its slot, and keeps what is true in every state.
+-- A scrambled state is equivalent to the one before except for its slot, and satisfies the invariant.
 use Rattle.std.proofs.Common.{◌≡◌, ℕ, Bool, true, false, sym, ap}
 use Rattle.std.specs.Prelude.{if◌then◌else◌}
 use Rattle.rv_enclaves.specs.Scramble.{can_scramble, scrambled_shared}
@@ -25,7 +25,7 @@ scramble_equiv machine k kept may =
     shared_equiv k machine machine machine.shared (scrambled_shared machine.shared k) (equiv_itself k machine (itself k machine.shared))
     (scrambled_agrees machine.shared (worlds machine) k kept.shared may)
 
--- ---- the call: done where it may be, and else nothing
+-- ---- the call: it scrambles if it can, and otherwise changes nothing
 
 abbrev seated_with : MonitoredMachine → Shared → MonitoredMachine
 seated_with machine shared = record machine { shared = shared }

@@ -1,4 +1,4 @@
--- A step of one hart keeps what is true in every state, of it and of what it shares.
+-- A step of one hart preserves the invariant of its own state and of the shared state.
 use Rattle.std.proofs.Common.{◌≡◌, ℕ, false, List, ◌∷◌, Option, Some, None, IfSome, length, refl, sym, ap, ◌∙◌, subst, inl, inr, arith}
 use Rattle.std.specs.Prelude.{◌%◌, IfNone}
 use Rattle.std.proofs.lemmas.List.FromFn.{get_or-map-range_with_len}
@@ -35,7 +35,7 @@ layout_unlocked slots world i = elim (cases_lt i 16) [
 pub hart_state_unlocked : (slots : Slots) (hart_state : HartState) → HartInvariant slots hart_state → IsUnlocked hart_state.hart.csrs.pmp
 hart_state_unlocked slots hart_state is = let layout = is.layout in subst IsUnlocked (sym layout.entries) (layout_unlocked slots hart_state.world)
 
--- nor is one of a hart that is laid out, also behind a trap
+-- no entry of a programmed hart is locked, before or after a trap
 unlocked_if : (slots : Slots) (hart_state : HartState) (o : Option Trap) (hart : Hart) (memory left : List ℕ) (trap : Trap) → o ≡ Some trap → HartInvariant slots hart_state
     → IfSome o (λ t. (hart ≡ hart_after hart_state.hart t) × (left ≡ memory)) → IsUnlocked hart.csrs.pmp
 unlocked_if slots hart_state None hart memory left trap is reprogrammed keeps = cc
@@ -85,14 +85,14 @@ stays_if : (o : Option Trap) (P : Type 0) → o ≡ None → IfNone o P → P
 stays_if None P is p = p
 stays_if (Some t) P is p = cc
 
--- ---- a seat
+-- ---- the state of a hart
 
--- with another hart, of which the entries, mie, the mode and mstatus are so
+-- with another hart whose PMP entries, mie, mode and mstatus satisfy the invariant
 hart_seated : (slots : Slots) (hart_state : HartState) (hart : Hart) → HostContextInvariant hart_state → HasPmpLayout slots (record hart_state { hart = hart })
     → HartInvariant slots (record hart_state { hart = hart })
 hart_seated slots hart_state hart host layout = record { host = record { kept = host.kept; held = host.held }; layout = layout }
 
--- with one that keeps the mode and mstatus, and has the entries and mie of a table, which may be another
+-- with a hart that keeps the mode and mstatus, and has the PMP entries and mie of a table, possibly another one
 pub reprogrammed_by : (before after : Slots) (hart_state : HartState) (hart : Hart) → HartInvariant before hart_state → hart.csrs.pmp ≡ layout after hart_state.world
     → hart.csrs.mie ≡ mie_of hart_state.world → hart.mode ≡ hart_state.hart.mode → hart.csrs.mstatus ≡ hart_state.hart.csrs.mstatus
     → HartInvariant after (record hart_state { hart = hart })
@@ -109,11 +109,11 @@ reprogrammed_by before after hart_state hart is entries mie mode status =
       tsr = ap (λ (s : Mstatus). s.tsr) status ∙ own.tsr;
     })
 
--- laid out by another table
+-- with the PMP entries and mie of another table
 pub laid_seated : (before after : Slots) (hart_state : HartState) → HartInvariant before hart_state → HartInvariant after (reprogrammed after hart_state)
 laid_seated before after hart_state is = reprogrammed_by before after hart_state (pmp_programmed after hart_state.world hart_state.hart) is refl refl refl refl
 
--- ---- a step of one hart, by who runs on the others
+-- ---- a step of one hart, given the worlds on the others
 
 pub hart_view_of : (hart_state : HartState) (shared : Shared) (worlds : List World) → SharedInvariant shared worlds → HartInvariant shared.table hart_state
     → HartViewInvariant (record { hart_state = hart_state; shared = shared })
@@ -162,7 +162,7 @@ module _ (beside : List World) (hart_state : HartState) (shared : Shared) (sound
         }),
       )
 
-  -- with one, and the monitor's work behind it
+  -- with a trap, followed by the trap handler
   worked_kept : (outcome : StepOutcome) (h : Handled) → IsDone beside h → IsLaidOut h.shared.table h.hart_state → KeptBeside beside (returned outcome h)
   worked_kept outcome h done laid =
       let ready = done.ready in (

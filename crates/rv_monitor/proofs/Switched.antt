@@ -1,4 +1,4 @@
--- What a step does to the world and to what is kept of the host.
+-- The effect of a step on the world and on the host's saved context.
 use Rattle.std.proofs.Common.{◌≡◌, ℕ, ◌==◌, ◌⊎◌, true, false, List, Option, Some, None, IfSome, refl, sym, ap, ◌∙◌, subst, inl, inr, arith}
 use Rattle.std.specs.Prelude.{◌%◌, ◌&&◌, is_some, not}
 use Rattle.rv_state.specs.declared.s_context.SContext.{SContext}
@@ -10,7 +10,7 @@ use Rattle.rv_monitor.proofs.Prelude.{saved, value}
 use Rattle.rv_monitor.proofs.TrapSteps.{step_cases, hart_state_after}
 use Rattle.rv_monitor.proofs.HandlerCases.{handler_cases}
 
--- ---- what the monitor's work does to a seat
+-- ---- the effect of the trap handler on the state of a hart
 
 pub record StaysIn (hart_state : HartState) (h : Handled) : Type 0 where
   pub world : h.hart_state.world ≡ hart_state.world
@@ -24,7 +24,7 @@ pub record EntersFrom (hart_state : HartState) (h : Handled) : Type 0 where
   pub host : h.hart_state.host_context ≡ Some (saved hart_state.hart (past_call hart_state) S)
   pub entered : h.next.entered ≡ Some slot
 
--- the host is told two words
+-- the host receives two return values
 pub record LeavesFor (hart_state : HartState) (trap : Trap) (h : Handled) : Type 0 where
   pub world : h.hart_state.world ≡ Host
   pub regs : h.hart_state.hart.regs ≡ with_return_values (saved_host hart_state).regs (reason trap.cause hart_state.hart.regs) (value trap.cause hart_state.hart.regs)
@@ -49,7 +49,7 @@ handled_turns hart_state shared trap = handler_cases hart_state trap shared (Tur
   forwards = inl (record { world = refl; host = refl; entered = refl });
 })
 
--- ---- what is kept of the host is as a hart holds it
+-- ---- the S-mode registers of the host's saved context are as a hart stores them
 
 pub own_stored : (c : CsrState) → KeepsOwn c → IsLegal (s_context c)
 own_stored c own = record { stvec = ap (λ (x : CsrState). x.stvec) own; sepc = ap (λ (x : CsrState). x.sepc) own }
@@ -68,7 +68,7 @@ pub handled_stored : (hart_state : HartState) (shared : Shared) (trap : Trap) �
 handled_stored hart_state shared trap stored own =
     stored_by hart_state trap (handled hart_state shared trap) (handled_turns hart_state shared trap) stored own
 
--- ---- an enclave that runs before and after leaves it
+-- ---- if an enclave runs before and after, the host's saved context is unchanged
 
 runs_on : (hart_state : HartState) (trap : Trap) (h : Handled) → Turns hart_state trap h → is_host hart_state.world ≡ false → is_host h.hart_state.world ≡ false
     → h.hart_state.host_context ≡ hart_state.host_context
@@ -102,7 +102,7 @@ same_context : (host : Context) (regs : List ℕ) (pc : ℕ) (mode : Mode) (supe
 same_context host regs pc mode supervisor told_regs regs_is pc_is mode_is supervisor_is = rw (regs_is, pc_is, mode_is, supervisor_is) refl
 
 module _ (state : HartView) (kept : HostContextInvariant state.hart_state) (stored : HostContextIsLegal state.hart_state) (trap : Trap) where
-  -- the host's context is kept just where an enclave leaves
+  -- an enclave runs, so the host has a saved context
   returned_leaves : (outcome : StepOutcome) (h : Handled) → outcome.trap ≡ Some trap → LeavesFor (hart_state_after state.hart_state trap) trap h
       → (world : World) (o : Option Context) → state.hart_state.world ≡ world → state.hart_state.host_context ≡ o → is_some o ≡ not (is_host world)
       → StaysOrSwitches state (returned outcome h)

@@ -1,4 +1,4 @@
--- What a step's instruction touches is in the reach of the world that runs.
+-- The bytes that a step's instruction accesses are accessible to the world that runs.
 use Rattle.std.proofs.Common.{◌≡◌, ◌⊎◌, ℕ, false, Option, Some, None, Result, Ok, Err, refl, sym, ◌∙◌, subst, inl, inr}
 use Rattle.rv_hart.proofs.StepCases.{step_ways}
 use Rattle.rv_memory.specs.declared.touched.Touched.{Touched}
@@ -9,7 +9,7 @@ use Rattle.rv_monitor.proofs.Prelude.{HartViewInvariant, MayTouch, HartView, bar
 use Rattle.rv_monitor.proofs.AccessControlLemmas.{below_M, data_below, access_control_law}
 use Rattle.rv_monitor.proofs.TrapSteps.{same_outcome}
 
--- ---- what is fetched
+-- ---- the fetch
 
 -- an instruction that retires, or ends in its exception, was fetched
 fetched_still : (hart : Hart) (touched : Touched) (written : Option ℕ) (o : Option Span) (finish : Result Hart Trap) → touched.fetched ≡ o
@@ -34,7 +34,7 @@ fetches_at_pc state = step_ways state (FetchesAtPc state.hart.pc) (record {
   store_refused = λ word instr address width value fault here is. inl refl;
 })
 
--- ---- what is touched
+-- ---- the accesses
 
 module _ (state : HartView) (kept : HartViewInvariant state) where
   accessible : (mode : Mode) (access : Access) (o : Option Span) → is_machine mode ≡ false → MayTouch (bare_machine state) mode access o

@@ -1,4 +1,4 @@
--- A step that traps: the hart's own step is the trap alone, and the monitor's work follows it.
+-- A step that traps: the hart's own step is only the trap, and the trap handler follows it.
 use Rattle.std.proofs.Common.{◌≡◌, ℕ, false, List, Option, Some, None, IfSome, refl, sym, ap, ◌∙◌}
 use Rattle.rv_hart.specs.Hart.{step_counted}
 use Rattle.rv_hart.specs.Hart.{trapped}
@@ -12,7 +12,7 @@ hart_after hart trap = step_counted (trapped hart trap) false hart.csrs.mcountin
 abbrev pub hart_state_after : HartState → Trap → HartState
 hart_state_after hart_state trap = record hart_state { hart = hart_after hart_state.hart trap }
 
--- ---- the two ways of a step
+-- ---- the two cases of a step
 
 -- without a trap
 abbrev pub untrapped : HartView → HartViewStepped
@@ -20,7 +20,7 @@ untrapped state =
     let after = step (bare_machine state) in
     unhandled after.outcome (record state.hart_state { hart = after.state.hart }) (record state.shared { memory = after.state.memory })
 
--- with one, which the monitor handles
+-- with a trap, which the monitor handles
 abbrev pub trapped_to : HartView → Trap → HartViewStepped
 trapped_to state trap = returned (step (bare_machine state)).outcome (handled (hart_state_after state.hart_state trap) state.shared trap)
 
@@ -37,7 +37,7 @@ by-end state P (Some trap) outcome hart memory keeps quiet traps =
     let memory_is = keeps.1 in
     rw (hart_is, memory_is) (traps trap refl)
 
--- what holds of each holds of the step
+-- a property that holds in each case holds of the step
 pub step_cases : (state : HartView) (P : HartViewStepped → Type 0) → ((step (bare_machine state)).outcome.trap ≡ None → P (untrapped state))
     → ((trap : Trap) → (step (bare_machine state)).outcome.trap ≡ Some trap → P (trapped_to state trap)) → P (monitored_step state)
 unfolding monitored_step
@@ -45,7 +45,7 @@ step_cases state P quiet traps =
     let after = step (bare_machine state) in
     by-end state P after.outcome.trap after.outcome after.state.hart after.state.memory (trap_keeps (bare_machine state)) quiet traps
 
--- what the step shows of the hart's own
+-- the outcome of the step contains that of the hart's own step
 pub same_outcome : (state : HartView) → (monitored_step state).outcome.step ≡ (step (bare_machine state)).outcome
 same_outcome state =
     step_cases state (λ after. after.outcome.step ≡ (step (bare_machine state)).outcome) (λ none. refl) (λ trap is. refl)

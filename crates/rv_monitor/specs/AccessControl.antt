@@ -1,11 +1,11 @@
--- What the entries of a hart permit in every state of the machine, and that it lies in no region but the world's own: the law of Reach with
--- the entries as they stand. (A law of the monitor's definitions; Keystone, EuroSys 2020, in this project's profile.)
+-- Access control: in every state of the machine, the PMP entries of a hart permit exactly the accessible bytes, and no byte of a region other
+-- than the world's own. (A law about the monitor's definitions; Keystone, EuroSys 2020, in this project's profile.)
 use Rattle.std.specs.Prelude.{ℕ, ◌≡◌, ◌≢◌, true}
 use Rattle.rv_word.specs.declared.width.Width.{Width}
 use Rattle.rv_monitor.specs.Prelude.{Access, M, Mode, bytes_from, bytes_in, is_accessible, is_inside, permits, verdict}
 use Rattle.rv_monitor.specs.MonitoredMachine.{HartView, HartViewInvariant}
 
--- in every such state the entries permit S and U exactly what is in reach
+-- in every such state the entries permit S and U exactly the accessible bytes in RAM
 abbrev pub AccessControlLaw : Type 0
 AccessControlLaw =
     (state : HartView) (mode : Mode) (access : Access) (address : ℕ) (width : Width)

@@ -1,4 +1,4 @@
--- Why a call is refused, call by call, and the words that its arguments stand in. (Keystone, EuroSys 2020, in this project's profile.)
+-- The reasons for which each call is refused, and the registers of its arguments. (Keystone, EuroSys 2020, in this project's profile.)
 use Rattle.std.specs.Prelude.{ℕ, Bool, List, []}
 use Rattle.rv_monitor.specs.Prelude.{Call, Create, Destroy, Exit, Measure, Refusal, Resume, Run, HartState, Shared, Stop, create_refusals}
 use Rattle.rv_monitor.specs.Prelude.{measure_refusals, measured_slot, create_args_of, register, state_refusals}
@@ -9,7 +9,7 @@ a0 hart_state = register hart_state.hart.regs 10
 abbrev pub a1 : HartState → ℕ
 a1 hart_state = register hart_state.hart.regs 11
 
--- the table of each call; stop and exit are never refused
+-- the refusal table of each call; stop and exit are never refused
 abbrev pub call_refusals : HartState → Shared → Call → List (Bool × Refusal)
 call_refusals hart_state shared Create = create_refusals shared (create_args_of hart_state.hart.regs)
 call_refusals hart_state shared Destroy = state_refusals shared.table Destroy (a0 hart_state)

@@ -1,6 +1,7 @@
--- Which bytes of memory a step changes: those that its instruction stored, in the reach of the world that runs; the region of the enclave
--- that a destroy ends; and 32 bytes that a measure puts, each in the caller's reach. (A law of the monitor's definitions, no rule of a
--- standard.)
+-- The bytes of memory that a step changes. (A law about the monitor's definitions, not a rule of a standard.)
+-- - The bytes that its instruction stored, each accessible to the world that runs.
+-- - The region of an enclave that a destroy ends.
+-- - The 32 bytes that a measure writes, each accessible to the caller.
 use Rattle.std.specs.Prelude.{◌≡◌, ◌⊎◌, ℕ, ◌+◌, ◌<◌, ◌≤◌, true, false, List, Option, Some, None}
 use Rattle.rv_monitor.specs.Prelude.{Destroy, Measure, Shared, Slots, Span, Trap, World, Write, requested_call, byte_at, bytes_from, bytes_in}
 use Rattle.rv_monitor.specs.Prelude.{first_refusal, has, is_accessible, is_live, layout, measure_refusals, measured_slot, region, register}
@@ -8,7 +9,7 @@ use Rattle.rv_monitor.specs.HandlerReads.{is_call}
 use Rattle.rv_monitor.specs.MonitoredMachine.{HartView}
 use Rattle.rv_monitor.specs.Step.{HartViewStepped}
 
--- the instruction stored the byte, and the store was in its world's reach
+-- the instruction stored the byte, and the store was accessible to its world
 pub record IsStoredAccessible (world : World) (shared : Shared) (stored : Option Span) (byte : ℕ) : Type 0 where
   pub span : Span
   pub is : stored ≡ Some span
@@ -16,14 +17,14 @@ pub record IsStoredAccessible (world : World) (shared : Shared) (stored : Option
   pub high : byte < span.addr + bytes_in span.len
   pub accessible : is_accessible shared.memory shared.table world Write (bytes_from span.addr (bytes_in span.len)) ≡ true
 
--- a destroy ended an enclave, of whose region the byte is one
+-- a destroy ended an enclave, and the byte is in its region
 pub record IsCleared (world : World) (regs : List ℕ) (before after : Slots) (byte : ℕ) : Type 0 where
   pub asked : requested_call world regs ≡ Some Destroy
   pub live : is_live before (register regs 10) ≡ true
   pub gone : is_live after (register regs 10) ≡ false
   pub own : has (region before (register regs 10)) byte ≡ true
 
--- a measure that is not refused put it: it is one of 32 bytes from a1 on, and a store of it is in the caller's reach
+-- a measure that is not refused wrote the byte: it is one of the 32 bytes from a1 on, and a store to it is accessible to the caller
 pub record IsMeasured (world : World) (regs : List ℕ) (shared : Shared) (byte : ℕ) : Type 0 where
   pub asked : requested_call world regs ≡ Some Measure
   pub done : first_refusal (measure_refusals shared (layout shared.table world) (measured_slot world (register regs 10)) (register regs 11)) ≡ None
@@ -31,11 +32,11 @@ pub record IsMeasured (world : World) (regs : List ℕ) (shared : Shared) (byte 
   pub high : byte < register regs 11 + 32
   pub accessible : is_accessible shared.memory shared.table world Write (bytes_from byte 1) ≡ true
 
--- a byte that the monitor changed
+-- a byte that the trap handler changed
 abbrev pub ByMonitor : World → List ℕ → Shared → Shared → ℕ → Type 0
 ByMonitor world regs before after byte = IsCleared world regs before.table after.table byte ⊎ IsMeasured world regs before byte
 
--- the step trapped by an ecall from S, and the byte is one that the monitor changed
+-- the step trapped by an ecall from S, and the trap handler changed the byte
 pub record ByCall (before : HartView) (after : HartViewStepped) (byte : ℕ) : Type 0 where
   pub trap : Trap
   pub trapped : after.outcome.step.trap ≡ Some trap
@@ -47,7 +48,7 @@ abbrev pub IsChanged : HartView → HartViewStepped → ℕ → Type 0
 IsChanged before after byte =
     IsStoredAccessible before.hart_state.world before.shared after.outcome.step.touched.stored byte ⊎ ByCall before after byte
 
--- each byte is as before, or it is one of these
+-- each byte is as before, or the step changed it
 abbrev pub ChangesAccessible : HartView → HartViewStepped → Type 0
 ChangesAccessible before after =
     (byte : ℕ) → byte_at after.state.shared.memory byte ≡ byte_at before.shared.memory byte ⊎ IsChanged before after byte

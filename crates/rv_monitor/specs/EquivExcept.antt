@@ -1,5 +1,6 @@
--- Two monitored machines that agree but for what is private to one enclave: the bytes of its region, its context, and the hart
--- on which it runs, if it runs. (No rule of a standard: what the laws of confidentiality speak of.)
+-- Equivalence except for one enclave: two monitored machines that differ at most in what is private to it. That is the bytes of its region, its
+-- context, and the hart on which it runs, if it runs. The specification calls this relation AgreeBut. (Not a rule of a standard; the
+-- noninterference laws are about it.)
 use Rattle.std.specs.Prelude.{◌≡◌, ℕ, Bool, false}
 use Rattle.rv_monitor.specs.Prelude.{HartState, SharedEquivExcept, is_world_of}
 use Rattle.rv_monitor.specs.MonitoredMachine.{MonitoredMachine, count_of, hart_state_of}
@@ -8,12 +9,12 @@ use Rattle.rv_monitor.specs.MonitoredMachine.{MonitoredMachine, count_of, hart_s
 abbrev pub runs_on : ℕ → ℕ → MonitoredMachine → Bool
 runs_on e hart machine = is_world_of e (hart_state_of hart machine).world
 
--- two seats of one world; and where that is not the enclave of slot e, they are equal
+-- two hart states with the same world; they are equal unless that world is the enclave of slot e
 pub record HartStatesEquivExcept (e : ℕ) (one other : HartState) : Type 0 where
   pub world : one.world ≡ other.world
   pub same : is_world_of e one.world ≡ false → one ≡ other
 
--- as many harts, whose seats agree, and what they share
+-- the number of harts is the same, their states are equivalent, and so is the shared state
 pub record EquivExcept (e : ℕ) (one other : MonitoredMachine) : Type 0 where
   pub harts : count_of one ≡ count_of other
   pub hart_states : (hart : ℕ) → HartStatesEquivExcept e (hart_state_of hart one) (hart_state_of hart other)

@@ -1,6 +1,5 @@
--- What the monitor's work after a trap asks of memory and of the kept contexts: of create the bytes of the region, of run and resume the
--- context of the slot; of measure no byte, since its addresses alone decide. (A law of the monitor's definitions, no rule of a
--- standard.)
+-- The reads of the trap handler from memory and from the saved contexts. Create reads the bytes of the region, and run and resume read the
+-- context of the slot. Measure depends on no byte, only on its addresses. (A law about the monitor's definitions, not a rule of a standard.)
 use Rattle.std.specs.Prelude.{◌≡◌, ℕ, Bool, true, false, length, slice_index, Option, Some, None, if◌then◌else◌}
 use Rattle.rv_state.specs.declared.cause.Cause.TheVariants as causes
 use Rattle.rv_monitor.specs.Prelude.{Call, Cause, Create, EnvironmentCallFromS, Resume, Run, HartState, Shared, Trap, requested_call, bytes_of_block}
@@ -10,7 +9,7 @@ use Rattle.rv_monitor.specs.MonitoredMachine.{MonitoredMachine, hart_state_of}
 use Rattle.rv_monitor.specs.Step.{MonitoredStepped, handled, step_of}
 use Rattle.rv_monitor.specs.Switches.{Handled}
 
--- the call that a trap asks for, if it is an ecall from S
+-- the call that a trap requests, if it is an ecall from S
 abbrev pub is_call : Cause → Bool
 is_call (causes.Exception EnvironmentCallFromS) = true
 is_call _ = false
@@ -25,7 +24,7 @@ is_entering (Some Run) = true
 is_entering (Some Resume) = true
 is_entering _ = false
 
--- two shared parts of one table and one size are the same in all else that the work asks
+-- two shared states with the same table and memory size, and the same in everything else that the trap handler reads
 pub record SameRead (hart_state : HartState) (cause : Cause) (one other : Shared) : Type 0 where
   pub table : one.table ≡ other.table
   pub size : length one.memory ≡ length other.memory
@@ -34,7 +33,7 @@ pub record SameRead (hart_state : HartState) (cause : Cause) (one other : Shared
       → bytes_of_block one.memory (create_args_of hart_state.hart.regs).region ≡ bytes_of_block other.memory (create_args_of hart_state.hart.regs).region
   pub entered : is_entering (requested_by cause hart_state) ≡ true → context_at one.contexts (a0 hart_state) ≡ context_at other.contexts (a0 hart_state)
 
--- the table is the same after it, and each byte and each context is where it was the same before
+-- the tables are equal after the trap, and each byte and each context that was equal before is equal after
 pub record SameWhereSame (one other one_after other_after : Shared) : Type 0 where
   pub table : one_after.table ≡ other_after.table
   pub bytes : (i : ℕ) → slice_index one.memory i ≡ slice_index other.memory i → slice_index one_after.memory i ≡ slice_index other_after.memory i
@@ -58,7 +57,8 @@ pub record SameStep (one other : MonitoredMachine) (one_after other_after : Moni
   pub entered : one_after.outcome.entered ≡ other_after.outcome.entered
   pub shared : SameWhereSame one.shared other.shared one_after.state.shared other_after.state.shared
 
--- every machine with the same seats whose hart traps alike, and that is the same in what the work asks, steps alike
+-- the step has the same effect on every machine that traps in the same way, and has the same hart states and the same values in everything that
+-- the trap handler reads
 abbrev pub ReadsOnly : ℕ → MonitoredMachine → MonitoredStepped → Type 0
 ReadsOnly hart before after =
     (other : MonitoredMachine) (trap : Trap) → before.hart_states ≡ other.hart_states → after.outcome.step.trap ≡ Some trap

@@ -1,4 +1,4 @@
--- The harts, whose steps take turns in any order: what is true of every order. (Laws of the monitor's definitions, no rule of a standard.)
+-- Laws for steps of the harts in any order. (Laws about the monitor's definitions, not rules of a standard.)
 use Rattle.std.specs.Prelude.{◌≡◌, ◌⊎◌, ℕ, false, true, List, [], ◌∷◌}
 use Rattle.rv_monitor.specs.Prelude.{Outcome, byte_at, is_live}
 use Rattle.rv_monitor.specs.EquivExcept.{EquivExcept, runs_on}
@@ -7,7 +7,7 @@ use Rattle.rv_monitor.specs.Integrity.{enters, IsUntouched}
 use Rattle.rv_monitor.specs.MonitoredMachine.{MonitoredMachine, Invariant, hart_view}
 use Rattle.rv_monitor.specs.Step.{hart_view_after, step_of}
 
--- the state after one step of each of these harts in turn, and what each showed
+-- the state after one step of each hart in the list, in turn, and the outcome of each step
 pub record Scheduled : Type 0 where
   pub state : MonitoredMachine
   pub outcomes : List Outcome
@@ -19,48 +19,48 @@ abbrev pub sched : List ℕ → MonitoredMachine → Scheduled
 sched [] machine = record { state = machine; outcomes = [] }
 sched (hart ∷ harts) machine = first_then (step_of hart machine).outcome (sched harts (step_of hart machine).state)
 
--- every order of steps keeps the invariant
+-- every order of steps preserves the invariant
 abbrev pub SchedInvariantLaw : Type 0
 SchedInvariantLaw = (harts : List ℕ) (machine : MonitoredMachine) → Invariant machine → Invariant (sched harts machine).state
 
--- ---- whose steps they are
+-- ---- low steps
 
--- no step is the enclave's own: before each it does not run on the hart that steps
+-- all steps are low steps of e: before each, the enclave does not run on the hart that steps
 abbrev pub AreLowSteps : ℕ → List ℕ → MonitoredMachine → Type 0
 AreLowSteps e [] machine = Unit {0}
 AreLowSteps e (hart ∷ harts) machine = (runs_on e hart machine ≡ false) × AreLowSteps e harts (step_of hart machine).state
 
--- it runs on none of these harts
+-- the enclave runs on none of these harts
 abbrev pub RunsOnNone : ℕ → List ℕ → MonitoredMachine → Type 0
 RunsOnNone e [] machine = Unit {0}
 RunsOnNone e (hart ∷ harts) machine = (runs_on e hart machine ≡ false) × RunsOnNone e harts machine
 
--- no step but the last enters it
+-- no step except the last enters the enclave
 abbrev pub IsNotEnteredBefore : ℕ → List ℕ → MonitoredMachine → Type 0
 IsNotEnteredBefore e [] machine = Unit {0}
 IsNotEnteredBefore e (hart ∷ []) machine = Unit {0}
 IsNotEnteredBefore e (hart ∷ next ∷ harts) machine =
     (enters e (step_of hart machine).outcome.entered ≡ false) × IsNotEnteredBefore e (next ∷ harts) (step_of hart machine).state
 
--- a hart runs the enclave behind a step only where it did before, or where the step entered it
+-- a hart runs the enclave after a step only if it did so before, or the step entered it
 abbrev pub EntryLaw : Type 0
 EntryLaw =
     (e hart own : ℕ) (machine : MonitoredMachine) → runs_on e own machine ≡ false → enters e (step_of hart machine).outcome.entered ≡ false
     → runs_on e own (step_of hart machine).state ≡ false
 
--- so steps of harts on which it did not run at first are not its own, up to and with the one that enters it
+-- steps of harts on which the enclave did not run at first are low steps, up to and including the one that enters it
 abbrev pub LowStepsLaw : Type 0
 LowStepsLaw = (e : ℕ) (harts : List ℕ) (machine : MonitoredMachine) → RunsOnNone e harts machine → IsNotEnteredBefore e harts machine → AreLowSteps e harts machine
 
--- ---- confidentiality
+-- ---- noninterference
 
--- they show the same, and end in states that agree again; nor are they its own in the other
+-- the outcomes are the same, and the final states are equivalent except for e; the steps are low steps in the other machine too
 pub record SchedAlike (e : ℕ) (harts : List ℕ) (one other : MonitoredMachine) : Type 0 where
   pub outcomes : (sched harts one).outcomes ≡ (sched harts other).outcomes
   pub state : EquivExcept e (sched harts one).state (sched harts other).state
   pub low_steps : AreLowSteps e harts other
 
--- two machines that agree but for slot e show and leave nothing of it in any order of steps that are not its own
+-- if two machines are equivalent except for slot e, low steps in any order have the same outcomes on both and leave them equivalent except for e
 abbrev pub SchedLaw : Type 0
 SchedLaw =
     (e : ℕ) (harts : List ℕ) (one other : MonitoredMachine) → Invariant one → Invariant other → EquivExcept e one other → AreLowSteps e harts one
@@ -68,19 +68,19 @@ SchedLaw =
 
 -- ---- integrity
 
--- an enclave is left alone in an order of steps: it is live before, between and after them, and none is its own or enters it
+-- an enclave is undisturbed by an order of steps: it is live before, between and after them, and each is a low step that does not enter it
 abbrev pub IsUndisturbed : ℕ → List ℕ → MonitoredMachine → Type 0
 IsUndisturbed k [] machine = is_live machine.shared.table k ≡ true
 IsUndisturbed k (hart ∷ harts) machine =
     (is_live machine.shared.table k ≡ true) × (runs_on k hart machine ≡ false) × (enters k (step_of hart machine).outcome.entered ≡ false)
     × IsUndisturbed k harts (step_of hart machine).state
 
--- every order of steps spares what it leaves alone
+-- every order of steps preserves each enclave that it leaves undisturbed
 abbrev pub SchedIntegrityLaw : Type 0
 SchedIntegrityLaw =
     (k : ℕ) (harts : List ℕ) (machine : MonitoredMachine) → Invariant machine → IsUndisturbed k harts machine → IsUntouched k machine (sched harts machine).state
 
--- and one that runs on a hart is left alone by every order of steps of the others
+-- an enclave that runs on a hart is undisturbed by every order of steps of the other harts
 abbrev pub RunningLaw : Type 0
 RunningLaw =
     (k own : ℕ) (harts : List ℕ) (machine : MonitoredMachine) → Invariant machine → runs_on k own machine ≡ true → RunsOnNone k harts machine
@@ -88,7 +88,7 @@ RunningLaw =
 
 -- ---- which bytes change
 
--- one of so many steps changed the byte, as a step of its hart may
+-- one of the steps changed the byte, as a step of its hart may
 abbrev pub IsChangedInOrder : List ℕ → MonitoredMachine → ℕ → Type 0
 IsChangedInOrder [] machine byte = ⊥
 IsChangedInOrder (hart ∷ harts) machine byte =

@@ -1,6 +1,6 @@
--- What an enclave leaves behind when it leaves, by exit, by stop or by the timer: its registers go into its kept context, the host's come
--- back, and of all else only its record's state, the timer's line after the timer, and what every trap and its return change are
--- different. (A law of the monitor's definitions; Keystone, EuroSys 2020, in this project's profile.)
+-- The machine after an enclave exits, by exit, by stop or by the timer. Its registers go into its saved context, and the host's are restored.
+-- Everything else is as before, except the state in its record, the timer line after a timer interrupt, and what every trap and its return
+-- change. (A law about the monitor's definitions; Keystone, EuroSys 2020, in this project's profile.)
 use Rattle.std.specs.Prelude.{◌≡◌, ℕ, ◌==◌, Bool, false, List, map, slice_set, Some, None, if◌then◌else◌}
 use Rattle.rv_state.specs.declared.cause.Cause.TheVariants as causes
 use Rattle.rv_monitor.specs.Prelude.{Cause, Context, CsrState, Enclave, EnclaveState, Exit, Exited, Hart, Host, S, Shared, Slots, Stopped}
@@ -12,18 +12,18 @@ use Rattle.rv_monitor.specs.MonitoredMachine.{MonitoredMachine, hart_state_of, r
 use Rattle.rv_monitor.specs.Step.{MonitoredStepped}
 use Rattle.rv_monitor.specs.SwitchLaws.{reason, value}
 
--- ---- what is kept of the enclave
+-- ---- the saved context of the enclave
 
--- how far it is then, which a6 tells of a call
+-- the state of the enclave after the exit; for a call, a6 has the number that decides it
 abbrev pub enclave_state_after : Cause → List ℕ → EnclaveState
 enclave_state_after (causes.Interrupt interrupt) regs = Stopped
 enclave_state_after (causes.Exception exception) regs = if register regs 16 == call_number Exit then Exited else Stopped
 
--- after stop it goes on past its ecall with a0 and a1 0
+-- after stop it continues after its ecall, with 0 in a0 and a1
 abbrev pub stopped_at : Hart → Context
 stopped_at hart = record (saved hart (past_ecall hart) S) { regs = with_return_values hart.regs 0 0 }
 
--- after the timer it goes on where it was, and after exit nothing is kept
+-- after a timer interrupt it continues where it was interrupted; after exit the saved context is the empty one
 abbrev pub saved_after : Cause → Hart → Context
 saved_after (causes.Interrupt interrupt) hart = saved hart (aligned_to_4 hart.pc) hart.mode
 saved_after (causes.Exception exception) hart = if register hart.regs 16 == call_number Exit then exited_context else stopped_at hart
@@ -36,13 +36,12 @@ left_shared shared k cause hart = record shared {
 
 -- ---- the host's hart
 
--- the timer's stop lowers the line
+-- a stop by the timer lowers the line
 abbrev pub line_after : Cause → Bool → Bool
 line_after (causes.Interrupt interrupt) raised = false
 line_after (causes.Exception exception) raised = raised
 
--- the registers of mode S are the host's, the entries and mie those of the table and the host, and the rest is as after a trap and its
--- return
+-- the S-mode CSRs are the host's, the PMP entries and mie are those of the table and the host, and the rest is as after a trap and its return
 abbrev pub left_csrs : CsrState → Slots → Trap → Context → CsrState
 left_csrs csrs slots trap host = record (with_s_context (passed_csrs csrs trap host.pc) host.supervisor) {
   timer = line_after trap.cause csrs.timer;
@@ -60,7 +59,7 @@ left_hart hart slots trap host = record {
 
 -- ---- the machine
 
--- no byte changes, and of every other hart the entries and mie alone
+-- no byte changes, and on every other hart only the PMP entries and mie change
 abbrev pub left_machine : ℕ → MonitoredMachine → ℕ → Trap → Context → MonitoredMachine
 left_machine own before k trap host =
     let hart = (hart_state_of own before).hart in
@@ -71,7 +70,8 @@ left_machine own before k trap host =
       shared = shared;
     }
 
--- where an enclave runs and the host is kept, and the step traps and leads to the host
+-- if an enclave runs, the host has a saved context, the step traps, and the host runs after it, then the step leaves this state and enters no
+-- slot
 abbrev pub LeavesOnly : ℕ → MonitoredMachine → MonitoredStepped → Type 0
 LeavesOnly hart before after =
     (k : ℕ) (host : Context) (trap : Trap) → (hart_state_of hart before).world ≡ Enclave k → (hart_state_of hart before).host_context ≡ Some host

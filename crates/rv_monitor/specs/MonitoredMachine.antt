@@ -1,5 +1,5 @@
--- The state of the monitored machine: what belongs to a hart (its seat), and what the harts share; and what is true in every
--- state. (Keystone, EuroSys 2020, in this project's profile.)
+-- The state of the monitored machine: the state of each hart, the state that the harts share, and the invariant. (Keystone, EuroSys 2020, in
+-- this project's profile.)
 use Rattle.std.specs.Prelude.{◌≡◌, ℕ, ◌<◌, true, false, not, List, [], ◌∷◌, length, map, slice_index_or, slice_set, take, None, IfSome, is_some}
 use Rattle.rv_hart.specs.Hart.{at_reset}
 use Rattle.rv_monitor.specs.Prelude.{Hart, Host, SharedInvariant, IsLegal, IsValid, S, HartState, Shared, Slots, World, can_go_on, is_host, is_machine}
@@ -7,33 +7,33 @@ use Rattle.rv_monitor.specs.Prelude.{layout, mie_of, no_slots, shared_at_start, 
 use Rattle.rv_platform.specs.declared.harts.Harts.{Harts}
 use Rattle.rv_platform.specs.declared.harts.Harts.TheVariants.{One, Two}
 
--- the seat of each hart, and what they share
+-- the state of each hart, and the shared state
 pub record MonitoredMachine : Type 0 where
   pub hart_states : List HartState
   pub shared : Shared
 
--- one hart: its own seat, and what it shares with the others
+-- the view of one hart: its own state, and what it shares with the others
 pub record HartView : Type 0 where
   pub hart_state : HartState
   pub shared : Shared
 
 -- ---- the hart of a world
 
--- a hart with the entries and mie of a table and a world
+-- a hart with the PMP entries and mie of a table and a world
 abbrev pub pmp_programmed : Slots → World → Hart → Hart
 pmp_programmed slots world hart =
     record hart { csrs = record hart.csrs { pmp = layout slots world; mie = mie_of world } }
 
--- a seat with the entries and mie of a table and its own world
+-- the state of a hart with the PMP entries and mie of a table and its own world
 abbrev pub reprogrammed : Slots → HartState → HartState
 reprogrammed slots hart_state = record hart_state { hart = pmp_programmed slots hart_state.world hart_state.hart }
 
--- at reset: the host in mode S, and nothing live
+-- a hart at reset: the host in mode S, and no live enclave
 abbrev pub hart_state_at_start : ℕ → HartState
 hart_state_at_start entry =
     record { hart = pmp_programmed no_slots Host (at_reset entry S); host_context = None; world = Host }
 
--- hart 1 begins as hart 0 does, but with x10 = 1
+-- hart 1 starts as hart 0 does, except that x10 = 1
 abbrev pub second_hart_state_at_start : ℕ → HartState
 second_hart_state_at_start entry =
     let hart_state = hart_state_at_start entry in
@@ -48,29 +48,29 @@ at_start memory entry harts = record { hart_states = hart_states_at_start harts 
 
 -- ---- the harts
 
--- how many there are
+-- the number of harts
 abbrev pub count_of : MonitoredMachine → ℕ
 count_of machine = length machine.hart_states
 
--- the seat of one; a hart that there is not is told as a host at reset
+-- the state of one hart; for a number that is not the number of a hart, the state of the host at reset
 abbrev pub hart_state_of : ℕ → MonitoredMachine → HartState
 hart_state_of hart machine = slice_index_or machine.hart_states hart (hart_state_at_start 0)
 
--- and what it shares
+-- the view of one hart
 abbrev pub hart_view : ℕ → MonitoredMachine → HartView
 hart_view hart machine = record { hart_state = hart_state_of hart machine; shared = machine.shared }
 
--- who runs, on each
+-- the world on each hart
 abbrev pub worlds : MonitoredMachine → List World
 worlds machine = map (λ hart_state. hart_state.world) machine.hart_states
 
--- another seat for one of them
+-- the machine with another state for one hart
 abbrev pub with_hart_state : ℕ → HartState → MonitoredMachine → MonitoredMachine
 with_hart_state hart hart_state machine = record machine { hart_states = slice_set machine.hart_states hart hart_state }
 
--- ---- what is true in every state
+-- ---- the invariant
 
--- the entries and mie are those of the table and the world; the mode is S or U, and MIE, MPRV, TVM, TW, TSR are 0
+-- the PMP entries and mie are those of the table and the world; the mode is S or U, and MIE, MPRV, TVM, TW, TSR are 0
 pub record HasPmpLayout (slots : Slots) (hart_state : HartState) : Type 0 where
   pub entries : hart_state.hart.csrs.pmp ≡ layout slots hart_state.world
   pub mie : hart_state.hart.csrs.mie ≡ mie_of hart_state.world
@@ -81,25 +81,25 @@ pub record HasPmpLayout (slots : Slots) (hart_state : HartState) : Type 0 where
   pub tw : hart_state.hart.csrs.mstatus.tw ≡ false
   pub tsr : hart_state.hart.csrs.mstatus.tsr ≡ false
 
--- the host's context is kept exactly while an enclave runs
+-- the host has a saved context if and only if an enclave runs, and a hart can continue with it
 pub record HostContextInvariant (hart_state : HartState) : Type 0 where
   pub kept : is_some hart_state.host_context ≡ not (is_host hart_state.world)
   pub held : IfSome hart_state.host_context (λ context. can_go_on context ≡ true)
 
--- and its registers of mode S as a hart holds them
+-- the S-mode registers of the host's saved context are as a hart stores them
 abbrev pub HostContextIsLegal : HartState → Type 0
 HostContextIsLegal hart_state = IfSome hart_state.host_context (λ context. IsLegal context.supervisor)
 
--- the same of each hart
+-- the same for each hart
 abbrev pub HostContextsAreLegal : MonitoredMachine → Type 0
 HostContextsAreLegal machine = (hart : ℕ) → HostContextIsLegal (hart_state_of hart machine)
 
--- what is true of the seat of a hart
+-- the invariant of the state of a hart
 pub record HartInvariant (slots : Slots) (hart_state : HartState) : Type 0 where
   pub host : HostContextInvariant hart_state
   pub layout : HasPmpLayout slots hart_state
 
--- and of one hart and what it shares, whoever runs on the others
+-- the invariant of the view of one hart, whatever runs on the others
 pub record HartViewInvariant (state : HartView) : Type 0 where
   pub valid : IsValid state.shared.memory state.shared.table
   pub hart : HartInvariant state.shared.table state.hart_state
@@ -108,8 +108,8 @@ pub record Invariant (machine : MonitoredMachine) : Type 0 where
   pub shared : SharedInvariant machine.shared (worlds machine)
   pub hart_states : (hart : ℕ) → hart < count_of machine → HartInvariant machine.shared.table (hart_state_of hart machine)
 
--- ---- how it is held
+-- ---- representation in the code
 
--- so many of two seats
+-- the first `harts` of two hart states
 abbrev pub machine_of_parts : List HartState → ℕ → Shared → MonitoredMachine
 machine_of_parts by_hart harts shared = record { hart_states = take harts by_hart; shared = shared }

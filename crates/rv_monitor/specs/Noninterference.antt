@@ -1,5 +1,5 @@
--- A step of a hart depends on nothing that is private to an enclave that is not its world, wherever that enclave runs. (A law of the
--- monitor's definitions, no rule of a standard.)
+-- Noninterference of a step: it depends on nothing that is private to an enclave that is not the world of its hart, wherever that enclave runs.
+-- (A law about the monitor's definitions, not a rule of a standard.)
 use Rattle.std.specs.Prelude.{◌≡◌, ℕ, Bool, false, List}
 use Rattle.rv_monitor.specs.Prelude.{EqualOutside, SharedInvariant, HartState, Shared, SharedEquivExcept, Machine, Stepped, Trap, World, is_private}
 use Rattle.rv_monitor.specs.Prelude.{is_world_of, step}
@@ -8,13 +8,13 @@ use Rattle.rv_monitor.specs.MonitoredMachine.{MonitoredMachine, HartView, Invari
 use Rattle.rv_monitor.specs.Step.{MonitoredStepped, handled, returned_to, step_of}
 use Rattle.rv_monitor.specs.Switches.{Handled}
 
--- ---- the monitor's work after a trap
+-- ---- the trap handler
 
--- the seat as its hart goes on after the work
+-- the state of the hart as it continues after the trap handler
 abbrev pub continuing_from : Handled → HartState
 continuing_from h = record h.hart_state { hart = returned_to h.hart_state.hart h.next.pc h.next.mode }
 
--- it enters the same slot, and leaves what agrees: a seat that slot e was entered on too, which need not be equal then
+-- both enter the same slot, and the results are equivalent; if that slot is e, the hart states need not be equal
 pub record HandledAlike (e : ℕ) (one other : Handled) : Type 0 where
   pub entered : one.next.entered ≡ other.next.entered
   pub hart_state : HartStatesEquivExcept e (continuing_from one) (continuing_from other)
@@ -31,7 +31,7 @@ HandlerLaw =
 abbrev pub bare_machine : HartView → Machine
 bare_machine state = record { hart = state.hart_state.hart; memory = state.shared.memory }
 
--- two bare steps end in the same hart, show the same, and leave memories that agree where nothing is hidden
+-- two bare steps end in the same hart, have the same outcome, and leave memories that are equal outside the hidden bytes
 pub record StepAlike (hidden : ℕ → Bool) (one other : Stepped) : Type 0 where
   pub hart : other.state.hart ≡ one.state.hart
   pub outcome : other.outcome ≡ one.outcome
@@ -46,13 +46,13 @@ BareLaw =
 
 -- ---- the monitored step
 
--- they show the same, and agree again
+-- both have the same outcome, and end in states that are equivalent except for e
 pub record SteppedAlike (e : ℕ) (one other : MonitoredStepped) : Type 0 where
   pub outcome : one.outcome ≡ other.outcome
   pub state : EquivExcept e one.state other.state
 
--- What a step of a hart shows and leaves tells nothing of an enclave that is not its world: every machine that agrees but for that enclave
--- steps alike. It may be the step that enters it.
+-- The outcome and the new state of a step depend on no enclave that is not its world. On every machine that is equivalent except for that
+-- enclave, the step has the same effect. The step may be the one that enters the enclave.
 abbrev pub StepNoninterference : ℕ → MonitoredMachine → MonitoredStepped → Type 0
 StepNoninterference hart before after =
     (e : ℕ) (other : MonitoredMachine) → Invariant other → EquivExcept e before other → runs_on e hart before ≡ false → SteppedAlike e after (step_of hart other)

@@ -1,4 +1,4 @@
--- The names of other crates and of the Rust types that definitions and proofs here cite, passed on from one place. Declares nothing.
+-- Names of other crates and of Rust types that definitions and proofs here use, re-exported from one place. Declares nothing.
 pub use Rattle.rv_platform.specs.Blocks.{has}
 pub use Rattle.rv_enclaves.specs.Calls.{requested_call, call_key, call_number, calls, is_offered, status_of}
 unfoldable pub use Rattle.rv_enclaves.specs.Calls.{call_requested}

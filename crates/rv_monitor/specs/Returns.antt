@@ -1,6 +1,6 @@
--- From the step with which the host of a hart enters an enclave to the one with which the enclave leaves, whatever steps of the harts lie
--- between: the host goes on as it was before the first, past its ecall, but for a0 and a1. (A law of the monitor's definitions; Keystone,
--- EuroSys 2020, in this project's profile.)
+-- The return to the host. Take the step with which the host of a hart enters an enclave and the one with which the enclave exits, with any steps
+-- of the harts in between. The host then continues after its ecall as it was before the first step, except for a0 and a1. (A law about the
+-- monitor's definitions; Keystone, EuroSys 2020, in this project's profile.)
 use Rattle.std.specs.Prelude.{◌≡◌, ℕ, true, false, List, [], ◌∷◌, Some}
 use Rattle.rv_monitor.specs.Prelude.{S, Trap, is_host, with_return_values}
 use Rattle.rv_monitor.specs.HartLaws.{sched}
@@ -10,12 +10,12 @@ use Rattle.rv_monitor.specs.MonitoredMachine.{MonitoredMachine, HartView, Invari
 use Rattle.rv_monitor.specs.Step.{HartViewStepped, monitored_step, step_of}
 use Rattle.rv_monitor.specs.SwitchLaws.{continuation, reason, value}
 
--- on a hart an enclave runs, before, between and after these steps
+-- an enclave runs on the hart before, between and after these steps
 abbrev pub RunsThrough : ℕ → List ℕ → MonitoredMachine → Type 0
 RunsThrough hart [] machine = is_host (hart_state_of hart machine).world ≡ false
 RunsThrough hart (named ∷ harts) machine = (is_host (hart_state_of hart machine).world ≡ false) × RunsThrough hart harts (step_of named machine).state
 
--- the last step ends in a trap, and the host goes on as it was before the first, past its ecall, but for a0 and a1
+-- the last step ends in a trap, and the host continues after its ecall as it was before the first step, except for a0 and a1
 pub record HostIsRestored (before last : HartView) (after : HartViewStepped) : Type 0 where
   pub trap : Trap
   pub trapped : after.outcome.step.trap ≡ Some trap
@@ -23,8 +23,8 @@ pub record HostIsRestored (before last : HartView) (after : HartViewStepped) : T
     regs = with_return_values before.hart_state.hart.regs (reason trap.cause last.hart_state.hart.regs) (value trap.cause last.hart_state.hart.regs);
   }
 
--- The host runs on a hart, whose step enters an enclave, which runs there through steps of the harts in any order, and the next step of
--- the hart leaves it. What the first kept of the host is as a hart stores it.
+-- The host runs on a hart whose step enters an enclave. An enclave runs there through steps of the harts in any order. After the next step of
+-- the hart the host runs. The S-mode registers of the context that the first step saved are as a hart stores them.
 abbrev pub ReturnLaw : Type 0
 ReturnLaw =
     (hart : ℕ) (harts : List ℕ) (machine : MonitoredMachine) → Invariant machine → HostContextIsLegal (hart_state_of hart (step_of hart machine).state)

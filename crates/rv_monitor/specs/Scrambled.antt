@@ -1,5 +1,5 @@
--- The machine with every byte and register that is private to an enclave complemented: a state that agrees with the one before
--- in all else. (No rule of a standard: what the second of two benches is made with.)
+-- The machine with every byte and register that is private to an enclave complemented. The state is equivalent to the one before except for that
+-- enclave. (Not a rule of a standard; the second bench of a twin run is built with it.)
 use Rattle.std.specs.Prelude.{◌≡◌, ℕ, ◌<◌, ◌^◌, slice_index, IfSome}
 use Rattle.rv_enclaves.specs.Scramble.{scrambled_shared}
 use Rattle.rv_monitor.specs.Prelude.{context_at}
@@ -8,7 +8,7 @@ use Rattle.rv_monitor.specs.MonitoredMachine.{MonitoredMachine}
 abbrev pub scrambled : MonitoredMachine → ℕ → MonitoredMachine
 scrambled machine k = record machine { shared = scrambled_shared machine.shared k }
 
--- what is scrambled twice is as it was, over bytes and words
+-- scrambling twice restores the state, if memory holds bytes and the context's registers hold 32-bit words
 abbrev pub ScrambleLaw : Type 0
 ScrambleLaw =
     (machine : MonitoredMachine) (k : ℕ) → ((i : ℕ) → slice_index machine.shared.memory i < 2 ^ 8)

@@ -1,5 +1,5 @@
--- What a step does to the world and to what is kept of the host: the world goes on, or the host enters an enclave, or an enclave leaves
--- and the host goes on as it was. (A law of the monitor's definitions; Keystone, EuroSys 2020, in this project's profile.)
+-- The effect of a step on the world and on the host's saved context. The world continues, the host enters an enclave, or an enclave exits and
+-- the host is restored. (A law about the monitor's definitions; Keystone, EuroSys 2020, in this project's profile.)
 use Rattle.std.specs.Prelude.{◌≡◌, ℕ, ◌==◌, ◌⊎◌, List, Some, None, if◌then◌else◌}
 use Rattle.rv_state.specs.declared.cause.Cause.TheVariants as causes
 use Rattle.rv_monitor.specs.Prelude.{Cause, Context, Enclave, Exit, Hart, Host, S, Trap, call_number, register, with_return_values}
@@ -8,13 +8,13 @@ use Rattle.rv_monitor.specs.Refused.{past_ecall}
 use Rattle.rv_monitor.specs.MonitoredMachine.{HartView}
 use Rattle.rv_monitor.specs.Step.{HartViewStepped}
 
--- the world goes on: it is the same, and what is kept of the host is as it was
+-- the world continues: it is the same, and the host's saved context is unchanged
 pub record Stays (before : HartView) (after : HartViewStepped) : Type 0 where
   pub world : after.state.hart_state.world ≡ before.hart_state.world
   pub host : after.state.hart_state.host_context ≡ before.hart_state.host_context
   pub entered : after.outcome.entered ≡ None
 
--- the host enters an enclave: what is kept of it are its registers as they were, mode S, and its pc past its ecall
+-- the host enters an enclave: its saved context has its registers as they were, mode S, and the address after its ecall
 pub record Enters (before : HartView) (after : HartViewStepped) : Type 0 where
   pub slot : ℕ
   pub from_host : before.hart_state.world ≡ Host
@@ -22,7 +22,7 @@ pub record Enters (before : HartView) (after : HartViewStepped) : Type 0 where
   pub host : after.state.hart_state.host_context ≡ Some (saved before.hart_state.hart (past_ecall before.hart_state.hart) S)
   pub entered : after.outcome.entered ≡ Some slot
 
--- what a0 and a1 tell the host: 0 after exit and 1 after stop, with the a0 of the enclave; 2 and 0 after the timer's interrupt
+-- the values that the host receives in a0 and a1: 0 after exit and 1 after stop, with the a0 of the enclave; 2 and 0 after a timer interrupt
 abbrev pub reason : Cause → List ℕ → ℕ
 reason (causes.Interrupt interrupt) regs = 2
 reason (causes.Exception exception) regs = if register regs 16 == call_number Exit then 0 else 1
@@ -31,11 +31,11 @@ abbrev pub value : Cause → List ℕ → ℕ
 value (causes.Interrupt interrupt) regs = 0
 value (causes.Exception exception) regs = register regs 10
 
--- what would be kept of a hart as it goes on
+-- the context that would be saved of a hart as it continues
 abbrev pub continuation : Hart → Context
 continuation hart = saved hart hart.pc hart.mode
 
--- an enclave leaves: the host goes on as it was kept, but for a0 and a1
+-- an enclave exits: the host is restored, except for a0 and a1
 pub record Leaves (before : HartView) (after : HartViewStepped) : Type 0 where
   pub slot : ℕ
   pub host : Context

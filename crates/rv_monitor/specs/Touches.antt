@@ -1,5 +1,5 @@
--- What a step's instruction touches: the word at pc that is fetched, and what it loads or stores, each in the reach of the world that
--- runs. (A law of the monitor's definitions, no rule of a standard.)
+-- The accesses of a step's instruction: the word at pc that is fetched, and the bytes that it loads or stores, each accessible to the world that
+-- runs. (A law about the monitor's definitions, not a rule of a standard.)
 use Rattle.std.specs.Prelude.{◌≡◌, ◌⊎◌, Bool, true, false, Option, Some, None}
 use Rattle.rv_state.specs.declared.cause.Cause.TheVariants as causes
 use Rattle.rv_monitor.specs.Prelude.{Access, Cause, Exception, Fetch, InstructionAccessFault, Read, Span, StepOutcome, Trap, Word, Write}
@@ -7,7 +7,7 @@ use Rattle.rv_monitor.specs.Prelude.{bytes_from, bytes_in, is_accessible, span}
 use Rattle.rv_monitor.specs.MonitoredMachine.{HartView}
 use Rattle.rv_monitor.specs.Step.{HartViewStepped}
 
--- whether a step came to an instruction: it took no interrupt, and its fetch was not refused
+-- whether a step reached an instruction: it took no interrupt, and its fetch raised no access fault
 abbrev pub is_after_fetch : Exception → Bool
 is_after_fetch InstructionAccessFault = false
 is_after_fetch _ = true
@@ -20,13 +20,13 @@ abbrev pub executes : Option Trap → Bool
 executes None = true
 executes (Some trap) = is_of_instruction trap.cause
 
--- the bytes of a span, if there is one, are in the reach of the world that runs
+-- the bytes of a span, if there is one, are accessible to the world that runs
 abbrev pub SpanIsAccessible : HartView → Access → Option Span → Type 0
 SpanIsAccessible state access None = Unit {0}
 SpanIsAccessible state access (Some span) =
     is_accessible state.shared.memory state.shared.table state.hart_state.world access (bytes_from span.addr (bytes_in span.len)) ≡ true
 
--- the word at pc is fetched, or there was no instruction; and all that is touched is in reach
+-- the word at pc is fetched, or no instruction was executed; and every accessed byte is accessible
 pub record IsTouchedAccessible (before : HartView) (outcome : StepOutcome) : Type 0 where
   pub at_pc : (outcome.touched.fetched ≡ span before.hart_state.hart.pc Word) ⊎ ((outcome.touched.fetched ≡ None) × (executes outcome.trap ≡ false))
   pub fetched : SpanIsAccessible before Fetch outcome.touched.fetched

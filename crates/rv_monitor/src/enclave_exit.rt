@@ -1,16 +1,16 @@
-//! How an enclave leaves.
+//! The exit of an enclave.
 
 use rv_enclaves::{Context, EnclaveState};
 
-/// How an enclave leaves.
+/// The exit of an enclave: its new state, its saved context, and the values that the host receives.
 #[derive(Clone, Copy)]
 pub(crate) struct EnclaveExit {
-    /// How far it is then.
+    /// The state of the enclave after the exit.
     pub(crate) state: EnclaveState,
-    /// What is kept of it.
+    /// The saved context of the enclave.
     pub(crate) kept: Context,
-    /// Why it left, as a0 tells the host.
+    /// The reason for the exit, which the host receives in a0.
     pub(crate) reason: u32,
-    /// What a1 tells the host with that.
+    /// The value that the host receives in a1.
     pub(crate) value: u32,
 }

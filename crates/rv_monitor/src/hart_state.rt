@@ -1,13 +1,13 @@
-//! What belongs to one hart.
+//! The state of one hart.
 
 use rv_enclaves::{Context, World};
 use rv_hart::Hart;
 
-/// What belongs to one hart: its state, and who runs on it.
+/// The state of one hart: its registers, the world that runs on it, and the saved context of the host.
 #[derive(Drop)]
 pub(crate) struct HartState {
     pub(crate) hart: Hart,
-    /// The host's, while an enclave runs; else there is none.
+    /// The saved context of the host while an enclave runs, otherwise `None`.
     pub(crate) host_context: Option<Context>,
     pub(crate) world: World,
 }

@@ -1,5 +1,6 @@
-//! Laws of the monitored machine over every state, for any crate above to cite. Each is proved of the definitions in `specs/`. The laws of
-//! one step are clauses of `MonitoredMachine::step`; here are those of its parts and of steps in any order.
+//! Laws of the monitored machine in every state that satisfies the invariant, for the crates above to cite. Each is proved about the definitions
+//! in `specs/`. The laws of one step are clauses of `MonitoredMachine::step`. The laws here are about the parts of a step, and about steps of
+//! the harts in any order.
 
 ghost use Rattle.rv_monitor.specs.AccessControl.{AccessControlLaw};
 ghost use Rattle.rv_monitor.specs.HandlerReads.{HandlerReadsLaw};
@@ -8,76 +9,77 @@ ghost use Rattle.rv_monitor.specs.HartLaws.{EntryLaw, LowStepsLaw, RunningLaw, S
 ghost use Rattle.rv_monitor.specs.Returns.{ReturnLaw};
 ghost use Rattle.rv_monitor.specs.Scrambled.{ScrambleLaw};
 
-/// Reach: in every state of the machine, S and U do an access to bytes in RAM exactly where it is in reach.
+/// States access control: in every state, the PMP permits S and U an access to bytes in RAM if and only if it is accessible.
 #[tactic(auto, using(crate::proofs::AccessControlLemmas::access_control_law))]
 pub const fn access_control()
     ensures { AccessControlLaw }
 {}
 
-/// The hart's own step depends on no byte of the region of an enclave that is not its world.
+/// States that a step of the hart, without the trap handler, depends on no byte of the region of an enclave that is not its world.
 #[tactic(auto, using(crate::proofs::BareStepNoninterference::bare_law))]
 pub const fn bare_step_noninterference()
     ensures { BareLaw }
 {}
 
-/// Nor does the monitor's work after a trap depend on anything that is private to it, also where it enters it.
+/// States that the trap handler depends on nothing private to an enclave that is not the world of its hart, even if it enters that enclave.
 pub const fn handler_noninterference()
     ensures { HandlerLaw }
 {}
 
-/// From the step with which the host of a hart enters an enclave to the one with which the enclave leaves, whatever steps of the harts lie
-/// between: the host goes on as it was before the first, past its ecall, but for a0 and a1.
+/// States that the host is restored when an enclave exits. Take the step that enters the enclave and the step with which it exits, with any
+/// steps of the harts in between. The host then continues after its ecall as it was before the first step, except for a0 and a1.
 #[tactic(auto, using(crate::proofs::Returned::return_law))]
 pub const fn host_is_restored()
     ensures { ReturnLaw }
 {}
 
-/// The monitor's work after a trap asks of memory the bytes of the region that create measures, and of the kept contexts the one that
-/// run or resume enters; of measure's addresses it asks only whether they may be stored to.
+/// States what the trap handler reads. It reads from memory only the bytes of the region that create measures. It reads only one saved context,
+/// the one that run or resume enters. For measure, only the permission to store to the addresses matters.
 #[tactic(auto, using(crate::proofs::HandlerReads::handler_reads_law))]
 pub const fn handler_reads()
     ensures { HandlerReadsLaw }
 {}
 
-/// What is private to an enclave, scrambled twice, is as it was.
+/// States that scrambling the private state of an enclave twice restores it.
 #[tactic(auto, using(crate::proofs::Scrambled::scramble_law))]
 pub const fn scrambled_twice()
     ensures { ScrambleLaw }
 {}
 
-/// What is true in every state is true after steps of two harts in any order.
+/// States that steps of the harts in any order preserve the invariant.
 pub const fn any_order_keeps()
     ensures { SchedInvariantLaw }
 {}
 
-/// Integrity in any order: steps of two harts spare each enclave that they leave alone, also while it runs on the hart that does not
+/// States integrity for steps in any order: they preserve each enclave that they leave undisturbed, even while it runs on a hart that does not
 /// step.
 pub const fn any_order_integrity()
     ensures { SchedIntegrityLaw }
 {}
 
-/// An enclave that runs on one hart is left alone by steps of the others in any order.
+/// States that steps of other harts, in any order, leave an enclave that runs on a hart undisturbed.
 pub const fn running_is_undisturbed()
     ensures { RunningLaw }
 {}
 
-/// Confidentiality in any order: two machines that agree but for an enclave show and leave the same in steps of which none is its own.
+/// States noninterference for steps in any order. If two machines are equivalent except for an enclave, low steps have the same outcomes on
+/// both, and leave both equivalent except for that enclave.
 pub const fn any_order_noninterference()
     ensures { SchedLaw }
 {}
 
-/// A hart runs an enclave behind a step only where it did before, or where the step entered it.
+/// States that a hart runs an enclave after a step only if it did so before, or the step entered the enclave.
 pub const fn only_entry_runs()
     ensures { EntryLaw }
 {}
 
-/// So steps of harts on which an enclave does not run are not its own, up to and with the one that enters it.
+/// States that steps of harts on which an enclave does not run are low steps, up to and including the one that enters it.
 #[tactic(auto, using(crate::proofs::SchedNoninterference::low_steps))]
 pub const fn low_steps_up_to_entry()
     ensures { LowStepsLaw }
 {}
 
-/// Steps of two harts in any order change no byte but those that one of them changes, as a step of its hart may.
+/// States that steps in any order change no byte, except those that one of the steps changes as a step of its hart may.
 #[tactic(auto, using(crate::proofs::SchedIntegrity::sched_changes))]
 pub const fn any_order_changes()
     ensures { SchedChangeLaw }

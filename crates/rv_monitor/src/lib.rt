@@ -1,10 +1,10 @@
-//! A security monitor in the manner of Keystone (EuroSys 2020) over one hart or two: enclaves that the host, in mode S, creates, enters
-//! and ends by calls, and that the sixteen PMP entries of each hart keep apart from it and from one another.
+//! A security monitor in the style of Keystone (EuroSys 2020) for one hart or two. The host, in mode S, creates, enters and destroys enclaves by
+//! calls. The sixteen PMP entries of each hart isolate the enclaves from the host and from one another.
 //!
-//! [`MonitoredMachine`] is the machine with its monitor. Its step is the hart's own, and after each trap the monitor's work: a call, the
-//! stop of an enclave by the timer, or the trap passed on to mode S. What the monitor keeps of the enclaves, and the calls that make, end
-//! and measure one, are the crate `rv_enclaves`. The definitions in `specs/` of both say all of it; docs/MONITOR.md says it for those who
-//! write hosts and enclaves.
+//! [`MonitoredMachine`] is the machine with its monitor. Its step is the step of a hart, followed after each trap by the trap handler. The
+//! handler performs a call, stops an enclave on a timer interrupt, or forwards the trap to mode S. The crate `rv_enclaves` has the state of the
+//! enclaves, and the calls that create, destroy and measure one. The definitions in `specs/` of both crates specify the monitor completely.
+//! docs/MONITOR.md describes it for authors of hosts and enclaves.
 #![tactic(auto)]
 
 mod context;

@@ -22,7 +22,7 @@ use rv_word::Reg;
 use std::fmt;
 use std::marker::Model;
 
-/// That a hart's registers of mode S are as they would be stored, so that what is kept of the host is too. It does nothing.
+/// Establishes that the S-mode CSRs of a hart are as a hart stores them, and that a context saved from them is too. Has no effect.
 #[inline(always)]
 const fn keeps_own(csrs: &Csrs)
     ensures { KeepsOwn csrs.now }
@@ -30,7 +30,7 @@ const fn keeps_own(csrs: &Csrs)
     let _ = csrs.s_context();
 }
 
-/// Does one step of the hart of a seat over what is shared.
+/// Executes one step of the hart of a `HartState` over the shared state.
 #[inline(always)]
 #[tactic(auto, unfolding(crate::specs::Step::monitored_step))]
 fn step_hart(hart_state: &mut HartState, shared: &mut Shared) -> Outcome
@@ -58,7 +58,8 @@ fn step_hart(hart_state: &mut HartState, shared: &mut Shared) -> Outcome
     }
 }
 
-/// Sets the entries and mie of the hart beside one, if there are two, to those of a table and its own world. Those of the one are set.
+/// Programs the PMP entries and mie of the other hart, if there are two, for a table and that hart's own world. Those of `hart` are already
+/// programmed.
 fn program_other_pmp(by_hart: &mut [HartState; 2], harts: u8, hart: u8, table: &Table)
     requires has { hart < harts }
     requires few { harts ≤ 2 }
@@ -72,7 +73,7 @@ fn program_other_pmp(by_hart: &mut [HartState; 2], harts: u8, hart: u8, table: &
     }
 }
 
-/// That there are as many seats as harts. It does nothing.
+/// Establishes that there are as many hart states as harts. Has no effect.
 #[inline(always)]
 #[tactic(auto, using(crate::proofs::Held::length_of))]
 const fn counts(by_hart: &[HartState; 2], harts: u8)
@@ -82,7 +83,7 @@ const fn counts(by_hart: &[HartState; 2], harts: u8)
     let _ = &by_hart[0];
 }
 
-/// Does one step of a hart over what is shared. The entries and mie of the other hart are set anew where the monitor has worked.
+/// Executes one step of a hart over the shared state. If the step traps, programs the PMP entries and mie of the other hart again.
 fn step_in(by_hart: &mut [HartState; 2], harts: u8, shared: &mut Shared, hart: u8) -> Outcome
     requires has { hart < harts }
     requires few { harts ≤ 2 }
@@ -102,8 +103,8 @@ fn step_in(by_hart: &mut [HartState; 2], harts: u8, shared: &mut Shared, hart: u
     }
 }
 
-/// Does steps of a hart over what is shared, at most so many, of which each ends in no trap and touches nothing outside the limits, and
-/// answers how many it did. The monitor has no work after them.
+/// Executes at most `count` steps of a hart over the shared state, and returns how many it executed. Each ends in no trap and accesses nothing
+/// outside the limits, so the trap handler does not run.
 fn run_fast_in(
     by_hart: &mut [HartState; 2],
     harts: u8,
@@ -147,7 +148,7 @@ fn set_reg_in(by_hart: &mut [HartState; 2], hart: u8, reg: Reg, value: u32)
 impl HartState {
     ghost use Rattle.rv_monitor.specs.MonitoredMachine.{hart_state_at_start, second_hart_state_at_start};
 
-    /// A hart at reset in mode S, with the host's entries and the entry next.
+    /// Returns the state of a hart at reset: mode S, the PMP entries of the host, and pc at `entry`.
     fn new(entry: u32) -> Self
         requires { entry % 4 ≡ 0 }
         ensures { result ≡ hart_state_at_start entry }
@@ -161,7 +162,7 @@ impl HartState {
         hart_state
     }
 
-    /// The same for hart 1: it begins with x10 = 1.
+    /// Returns the same for hart 1, which starts with x10 = 1.
     fn beside(entry: u32) -> Self
         requires { entry % 4 ≡ 0 }
         ensures { result ≡ second_hart_state_at_start entry }
@@ -172,15 +173,15 @@ impl HartState {
     }
 }
 
-/// The monitored machine: its harts, each with its world, the memory, and what the monitor keeps of the enclaves.
+/// The monitored machine: its harts, each with its world, the memory, and the monitor's state of the enclaves.
 ///
-/// In every state the table is valid, a slot runs exactly where it is the world of one hart, and of each hart the PMP entries and mie are
-/// those of the table and its world, the mode is S or U, and MIE, MPRV, TVM, TW and TSR are 0 (`Invariant`).
+/// In every state `Invariant` holds. The table is valid, and a slot runs if and only if it is the world of one hart. For each hart, the PMP
+/// entries and mie are those of the table and its world. Its mode is S or U, and MIE, MPRV, TVM, TW and TSR are 0.
 #[derive(Drop)]
 pub struct MonitoredMachine {
-    /// That of hart 0, and that of hart 1, which with one hart is never looked at.
+    /// The states of hart 0 and hart 1. With one hart, the second is never read.
     by_hart: [HartState; 2],
-    /// How many there are.
+    /// The number of harts.
     harts: u8,
     shared: Shared,
     decode_cache: DecodeCache,
@@ -209,8 +210,8 @@ impl MonitoredMachine {
     ghost use Rattle.rv_monitor.specs.Step.{step_of};
     ghost use Rattle.rv_monitor.specs.StepLaws.{ObeysStepLaws};
 
-    /// The machine at reset over a memory as it is: on each hart the host in mode S with the entry next, and no enclave. Hart 1, where there
-    /// are two, begins with x10 = 1. The entry must be a multiple of 4.
+    /// Returns the machine at reset with the given memory. On each hart the host runs in mode S with pc at `entry`, and there is no enclave.
+    /// Hart 1, if there are two harts, starts with x10 = 1. `entry` must be a multiple of 4.
     #[tactic(auto, unfolding(crate::specs::MonitoredMachine::at_start))]
     pub fn new(ram: Ram, entry: u32, harts: Harts) -> Self
         requires { entry % 4 ≡ 0 }
@@ -229,7 +230,7 @@ impl MonitoredMachine {
         }
     }
 
-    /// How many harts it has: 1 or 2.
+    /// Returns the number of harts: 1 or 2.
     pub fn harts(&self) -> u8
         ensures count { result ≡ count_of self.now }
         ensures some { 0 < result }
@@ -238,27 +239,30 @@ impl MonitoredMachine {
         self.harts
     }
 
-    /// Does one step of a hart: takes the timer's interrupt, or does the instruction at pc, or its trap. After a trap it does the monitor's
-    /// work: an ecall from S is a call, whose status is left in a0 and whose result in a1; the timer stops the enclave; every other
-    /// exception goes to the world's own mode S. Behind it each hart's entries and mie are those of the table and its world. It never
-    /// refuses.
+    /// Executes one step of a hart: takes the timer interrupt, executes the instruction at pc, or takes its trap. After a trap the trap handler
+    /// runs:
+    /// - An ecall from S is a call. It returns its status in a0 and its result in a1.
+    /// - A timer interrupt stops the enclave.
+    /// - Every other exception is forwarded to the world's own mode S.
     ///
-    /// `meaning` is all of it. Of what follows, `kept` and `stored` are what holds in every state, and `laws` is what every step obeys:
-    /// - `touches`: the instruction is fetched at pc, where there is one, and what it is fetched from, loads or stores lies in its world's
-    ///   reach;
-    /// - `changes`: a byte of memory changes only where the instruction stored it, in its world's reach, where a destroy ended the enclave
-    ///   of its region, or where a measure put it, in the caller's reach;
-    /// - `integrity`: the step changes neither record nor region nor context of a live enclave that is not the world of its hart, but where it
-    ///   enters or ends it; and where the enclave runs on another hart, that hart keeps all but the entries and mie;
-    /// - `keeps_others_running`: an enclave that runs on another hart is not entered, and stays live;
-    /// - `noninterference`: nothing the step shows or leaves depends on the region, the context or the hart of an enclave that is not the world of
-    ///   its hart, wherever it runs; a step that enters it leaves the same too, but for the hart on which it runs then;
-    /// - `refuses`: a call that is refused changes a0, a1, pc, and what every trap and return change, and nothing else;
-    /// - `switches`: the world goes on, or the host enters an enclave and is kept as it was, past its ecall, or an enclave leaves and the
-    ///   host goes on as it was kept, but for a0 and a1;
-    /// - `leaves`: where an enclave leaves, beside the switch only its record's state, the timer's line after the timer, and what every trap
-    ///   and return change are different;
-    /// - `reads`: a step that traps depends of memory on the region that create measures, and of the kept contexts on the one that is entered.
+    /// After the handler, the PMP entries and mie of each hart are those of the table and its world. The step never fails.
+    ///
+    /// `meaning` specifies the step completely. `invariant` holds in every state, and every step obeys `laws`:
+    /// - `touches`: the instruction, if there is one, is fetched at pc. All bytes that it fetches, loads or stores are accessible to its world.
+    /// - `changes`: a byte of memory changes only if the instruction stored it, a destroy cleared it, or a measure wrote it. A stored byte is
+    ///   accessible to the world, and a byte that a measure wrote to the caller. A cleared byte is in the region of the destroyed enclave.
+    /// - `integrity`: the step changes neither record, region nor saved context of a live enclave that is not the world of its hart, unless it
+    ///   enters or destroys it. If the enclave runs on another hart, that hart keeps everything except the PMP entries and mie.
+    /// - `keeps_others_running`: an enclave that runs on another hart is not entered, and stays live.
+    /// - `noninterference`: take an enclave that is not the world of this hart, wherever it runs. Neither the outcome nor the new state depends
+    ///   on its region, its saved context or its hart. If the step enters the enclave, the exception is the hart on which it then runs.
+    /// - `refuses`: a refused call changes only a0, a1, pc, and what every trap and return change.
+    /// - `switches`: one of three cases applies. The world continues. Or the host enters an enclave, and its context is saved as it was, to
+    ///   continue after its ecall. Or an enclave exits, and the host is restored except for a0 and a1.
+    /// - `leaves`: if an enclave exits, few things change besides the switch. They are the state in its record, the timer line after a timer
+    ///   interrupt, and what every trap and return change.
+    /// - `reads`: a step that traps depends, in memory, only on the region that create measures. The only saved context that it depends on is
+    ///   the one that is entered.
     pub fn step(&mut self, hart: u8) -> Outcome
         requires { hart < count_of self.old }
         ensures meaning { step_of hart self.old ≡ record { state = self.new; outcome = result } }
@@ -270,8 +274,8 @@ impl MonitoredMachine {
         step_in(&mut self.by_hart, self.harts, &mut self.shared, hart)
     }
 
-    /// Does steps of a hart, at most so many, of which each ends in no trap and touches nothing outside the limits, and answers how many it
-    /// did. It may stop before any step: what it does not do, `step` does.
+    /// Executes at most `count` steps of a hart, and returns how many it executed. Each ends in no trap and accesses nothing outside the limits.
+    /// It may stop before any step; `step` executes the rest.
     pub fn run_fast(&mut self, hart: u8, limits: &Limits, count: u32) -> u32
         requires { hart < count_of self.old }
         ensures count { result ≤ count }
@@ -291,31 +295,31 @@ impl MonitoredMachine {
         )
     }
 
-    /// What holds in every state. It does nothing.
+    /// Establishes the invariant. Has no effect.
     pub fn invariant(&self)
         ensures invariant { Invariant self.now }
         ensures legal { HostContextsAreLegal self.now }
         ensures first { 0 < count_of self.now }
     {
-        // brings in what holds of every monitored machine
+        // this call brings the invariant of every monitored machine into scope
         counts(&self.by_hart, self.harts);
     }
 
-    /// The enclaves that are live, by slot.
+    /// Returns the enclave table, by slot.
     pub fn table(&self) -> &Table
         ensures { result.now ≡ self.now.shared.table }
     {
         &self.shared.table
     }
 
-    /// The memory, with every region in it.
+    /// Returns the memory, with every region in it.
     pub fn ram(&self) -> &Ram
         ensures { result.now ≡ self.now.shared.memory }
     {
         &self.shared.memory
     }
 
-    /// The seat of a hart.
+    /// Returns the state of a hart.
     #[inline(always)]
     #[tactic(auto, using(crate::proofs::Held::read_at, crate::proofs::Held::has_hart))]
     fn hart_state(&self, hart: u8) -> &HartState
@@ -325,7 +329,7 @@ impl MonitoredMachine {
         &self.by_hart[hart as usize]
     }
 
-    /// Who runs on a hart.
+    /// Returns the world that runs on a hart.
     pub fn world(&self, hart: u8) -> World
         requires { hart < count_of self.now }
         ensures { result ≡ (hart_state_of hart self.now).world }
@@ -333,7 +337,7 @@ impl MonitoredMachine {
         self.hart_state(hart).world
     }
 
-    /// The integer registers of the world that runs on a hart.
+    /// Returns the integer registers of the world that runs on a hart.
     pub fn regs(&self, hart: u8) -> &Regs
         requires { hart < count_of self.now }
         ensures { result.now ≡ (hart_state_of hart self.now).hart.regs }
@@ -341,7 +345,7 @@ impl MonitoredMachine {
         self.hart_state(hart).hart.regs()
     }
 
-    /// The control and status registers of a hart, the PMP entries among them.
+    /// Returns the CSRs of a hart, including the PMP entries.
     pub fn csrs(&self, hart: u8) -> &Csrs
         requires { hart < count_of self.now }
         ensures { result.now ≡ (hart_state_of hart self.now).hart.csrs }
@@ -349,7 +353,7 @@ impl MonitoredMachine {
         self.hart_state(hart).hart.csrs()
     }
 
-    /// The address of the next instruction of a hart, a multiple of 4.
+    /// Returns the address of the next instruction of a hart, a multiple of 4.
     #[inline(always)]
     pub fn pc(&self, hart: u8) -> u32
         requires { hart < count_of self.now }
@@ -358,7 +362,7 @@ impl MonitoredMachine {
         self.hart_state(hart).hart.pc()
     }
 
-    /// The mode of a hart, which is S or U.
+    /// Returns the mode of a hart, S or U.
     pub fn mode(&self, hart: u8) -> Mode
         requires { hart < count_of self.now }
         ensures { result ≡ (hart_state_of hart self.now).hart.mode }
@@ -366,7 +370,7 @@ impl MonitoredMachine {
         self.hart_state(hart).hart.mode()
     }
 
-    /// Raises or lowers the timer line of a hart. A raised one stops the enclave that runs there before its next instruction.
+    /// Raises or lowers the timer line of a hart. A raised line stops the enclave that runs there before its next instruction.
     pub fn set_timer(&mut self, hart: u8, raised: bool)
         requires { hart < count_of self.old }
         ensures meaning { self.new ≡ with_timer hart self.old raised }
@@ -375,7 +379,7 @@ impl MonitoredMachine {
         set_timer_in(&mut self.by_hart, hart, raised);
     }
 
-    /// A debugger's write of a register of the world that runs on a hart. A write to x0 changes nothing.
+    /// Writes a register of the world that runs on a hart, for a debugger. A write to x0 has no effect.
     pub fn set_reg(&mut self, hart: u8, reg: Reg, value: u32)
         requires { hart < count_of self.old }
         ensures meaning { self.new ≡ with_reg hart self.old reg value }
@@ -384,8 +388,8 @@ impl MonitoredMachine {
         set_reg_in(&mut self.by_hart, hart, reg, value);
     }
 
-    /// A debugger's write of a byte, in whosever memory it is. It answers false, and changes nothing, only where the address is not
-    /// in RAM.
+    /// Writes a byte for a debugger, whichever world owns the memory. Returns `false`, and changes nothing, if and only if the address is not in
+    /// RAM.
     pub fn poke(&mut self, addr: u32, byte: u8) -> bool
         ensures done { (if result then Some self.new.shared.memory else None) ≡ write self.old.shared.memory addr (byte ∷ []) }
         ensures rest { self.new ≡ with_memory self.old self.new.shared.memory }
@@ -395,11 +399,12 @@ impl MonitoredMachine {
         self.shared.memory.poke(addr, byte)
     }
 
-    /// Complements what is private to the enclave of a slot that runs on no hart: each byte of its region (b becomes 255 - b), and x1 to
-    /// x31 of its kept context (w becomes FFFFFFFF - w). It answers false, and changes nothing, only where the slot's enclave is not
-    /// live or runs. An enclave that has ended has a context too.
+    /// Complements the private state of the enclave of a slot that runs on no hart. Each byte b of its region becomes 255 - b. Each of x1 to x31
+    /// in its saved context, w, becomes FFFFFFFF - w. Returns `false`, and changes nothing, if and only if the slot's enclave is not live or is
+    /// running. An enclave that has exited still has a context.
     ///
-    /// `asked` and `meaning` are all of it; `equivalent` is that the machine is as it was in all that is not private to the slot's enclave.
+    /// `asked` and `meaning` specify the call completely. `equivalent` states that nothing outside the private state of the slot's enclave
+    /// changes.
     pub fn scramble(&mut self, slot: Slot) -> bool
         ensures asked { result ≡ can_scramble self.old.shared.table slot }
         ensures meaning { result ≡ true → self.new ≡ scrambled self.old slot }
@@ -412,7 +417,7 @@ impl MonitoredMachine {
 }
 
 impl fmt::Debug for MonitoredMachine {
-    /// That it is one: what it has is told by its calls, and a memory is too long to be shown.
+    /// Writes only the name, since a memory is too long to print. The accessors return the contents.
     fn fmt<W: fmt::Write>(&self, f: &mut fmt::Formatter<W>) -> fmt::Result {
         f.debug_struct("MonitoredMachine").finish_non_exhaustive()
     }

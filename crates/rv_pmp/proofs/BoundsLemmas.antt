@@ -14,7 +14,7 @@ use Rattle.rv_pmp.specs.Entries.{Entries}
 abbrev pub IsAmong : List ℕ → ℕ → ℕ → Type 0
 IsAmong xs n x = (m : ℕ) × (m < n) × (slice_index xs m ≡ x)
 
--- of the first ranges those that have a byte have both ends among the first bounds
+-- both ends of each of the first ranges that has a byte are among the first bounds
 pub record AreWritten (ranges : EntryRanges) (bounds : List ℕ) (count number : ℕ) : Type 0 where
   pub long : length bounds ≡ 33
   pub some : 0 < count
@@ -79,7 +79,7 @@ among_first bounds count x fits found = (
   get_or-take count bounds found.0 x found.1 ∙ get_or_default_zero bounds found.0 x (omega (arith, found.1)) ∙ found.2,
 )
 
--- all ranges are through
+-- all ranges are written
 pub all_written : (ranges : EntryRanges) (bounds : List ℕ) (count number : ℕ) → count ≤ length bounds → 16 ≤ number
     → AreWritten ranges bounds count number → AreBounds ranges (take count bounds)
 all_written ranges bounds count number fits through done = record {

@@ -10,7 +10,7 @@ use Rattle.rv_pmp.specs.Covers.{covers}
 use Rattle.rv_pmp.specs.Cache.Segments.{byte_match, is_within, AreRanges}
 use Rattle.rv_pmp.proofs.VerdictLemmas.{find_at, find_none, find_cases}
 
--- two tests that agree find the same
+-- two equal tests find the same number
 find_alike : (p q : ℕ → Bool) (a n : ℕ) → ((i : ℕ) → a ≤ i → i < a + n → p i ≡ q i) → find p (range_with_len a n) ≡ find q (range_with_len a n)
 find_alike p q a zero same = refl
 find_alike p q a (suc n) same =

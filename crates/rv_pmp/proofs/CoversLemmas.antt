@@ -19,7 +19,7 @@ same_quotient size q b positive = (
   λ within. eq-eqb _ _ (div-eq_of_lt-le size within.0 (omega (arith, within.1))),
 )
 
--- the ones that a number ends in are the zeros that its complement ends in
+-- the trailing ones of a number are the trailing zeros of its complement
 complement : (bits n : ℕ) → n < 2 ^ bits → count_trailing_zeros bits (2 ^ bits - 1 - n) ≡ ones_at_end bits n
 unfolding count_trailing_zeros ones_at_end
 complement zero n fits = refl
@@ -38,11 +38,11 @@ complement (suc bits) n fits =
           ap₂ under low rest ∙ sym (cond-false (n % 2 == 1) (1 + ones) 0 (ne_eqb _ _ even))
     ]
 
--- as the code counts them
+-- the same, as the code counts them
 pub trailing_ones_is : (addr : ℕ) → addr < 2 ^ 32 → trailing_ones w32 addr ≡ ones_at_end 32 addr
 trailing_ones_is addr fits = complement 32 addr fits
 
--- a number of 32 bits ends in at most 32
+-- a number of 32 bits has at most 32 trailing ones
 pub ones_at_end_le : (addr : ℕ) → addr < 2 ^ 32 → ones_at_end 32 addr ≤ 32
 ones_at_end_le addr fits = rw (← trailing_ones_is addr fits) (trailing_le 32 _)
 

@@ -15,7 +15,7 @@ use Rattle.rv_pmp.proofs.ByteMatchLemmas.{bool_same, byte_match_alike}
 
 -- ---- the last segment grows, or one is added
 
--- where a segment begins, by the list of ends
+-- the start of a segment, from the list of ends
 abbrev begin : List ℕ → ℕ → ℕ
 begin ends k = if k == 0 then 0 else slice_index ends (k - 1)
 
@@ -39,7 +39,7 @@ pub record Reaches (covering : ℕ → ℕ → Bool) (s : Segments) (end : ℕ) 
   pub order : AreInOrder s
   pub matched : AreMatched covering s
 
--- up to an end before which all bytes have the same matching entry: the last segment grows, or one is added
+-- the segments extended to an end, if all bytes before it have the same matching entry: the last segment grows, or one is added
 module _ (covering : ℕ → ℕ → Bool) (old : Segments) (start end : ℕ) (matched_entry : Option ℕ) (order : AreInOrder old) (matched : AreMatched covering old)
     (is_reach : start ≡ reach_of old) (some : start < end) (alike : (byte : ℕ) → start ≤ byte → byte < end → byte_match covering byte ≡ matched_entry) where
   abbrev n : ℕ
@@ -142,7 +142,7 @@ both_or_neither from to start end byte low high from_apart to_apart =
       | inr past ↦ and_from _ _ (le-leb from byte (omega arith)) (lt-ltb byte to (omega arith))
     ])
 
--- bounds of which the first k are not above start, and the others not below end: the bytes between the two have the same matching entry
+-- if the first k bounds are not above start, and the others not below end, the bytes between start and end have the same matching entry
 module _ (ranges : EntryRanges) (bounds : List ℕ) (start end k : ℕ) (all : AreBounds ranges bounds)
     (before : (m : ℕ) → m < k → slice_index bounds m ≤ start) (after : (m : ℕ) → k ≤ m → m < length bounds → end ≤ slice_index bounds m) where
   apart : (x : ℕ) → Contains bounds x → (x ≤ start) ⊎ (end ≤ x)
@@ -160,7 +160,7 @@ module _ (ranges : EntryRanges) (bounds : List ℕ) (start end k : ℕ) (all : A
       (λ some. apart (slice_index ranges.from i) (all.from i in_range some))
       (λ some. apart (slice_index ranges.to i) (all.to i in_range some)))
 
-  -- past all bounds there is 2^35
+  -- after all bounds the start is at least 2^35
   pub last_before : length bounds ≤ k → 2 ^ 35 ≤ start
   last_before done = elim (apart (2 ^ 35) all.last) [
     | inl is ↦ is

@@ -1,4 +1,4 @@
--- Verdicts and ranges worked out by the definitions alone.
+-- Examples of verdicts and ranges, computed by the definitions alone.
 use Rattle.std.proofs.Common.{◌≡◌, [], ◌∷◌, true, false, refl}
 use Rattle.rv_pmp.specs.declared.mode.Mode.TheVariants.{U, S, M}
 use Rattle.rv_pmp.specs.declared.access.Access.TheVariants.{Fetch, Read, Write}
@@ -7,8 +7,7 @@ use Rattle.rv_pmp.specs.Entries.{Entries}
 use Rattle.rv_pmp.specs.Covers.{covers, ones_at_end}
 use Rattle.rv_pmp.specs.Verdicts.{bytes_from, matching_entry, verdict}
 
--- NA4 for U to read and write at 80000100; NAPOT for all from 80000000 to 80000FFF; a locked TOR from there to 80002000
--- for reading
+-- NA4 at 80000100, with R and W; NAPOT from 80000000 to 80000FFF, with all permissions; a locked TOR from there to 80002000, with R
 entries : Entries
 entries = record {
   cfgs = 0x13 ∷ 0x1f ∷ 0x00 ∷ 0x89 ∷ [];

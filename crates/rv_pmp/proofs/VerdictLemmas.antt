@@ -1,4 +1,4 @@
--- Tests of the numbers from one up to another, and the verdict from which entries meet an access.
+-- Tests of the numbers in an interval, and the verdict from the entries that match an access.
 use Rattle.std.proofs.Common.{◌≡◌, ℕ, zero, suc, ◌+◌, ◌<◌, ◌≤◌, ◌⊎◌, Bool, true, false, ◌||◌, ◌&&◌, List, Some, None, refl, sym, ◌∙◌, ap, inl, inr, arith}
 use Rattle.std.specs.List.{range_with_len, list_any, list_all, find}
 use Rattle.std.proofs.lemmas.Bool.{cases_eq, or_from, or_left, or_right, and_from, and_left, and_right, cases_Bool, cond-true}
@@ -11,7 +11,7 @@ use Rattle.rv_pmp.specs.Verdicts.{matching_entry, verdict, verdict_by, match_ver
 
 -- ---- tests of any and of all
 
--- a number that passes settles `any`
+-- `any` holds if some number satisfies the test
 pub any_at : (p : ℕ → Bool) (a n b : ℕ) → a ≤ b → b < a + n → p b ≡ true → list_any p (range_with_len a n) ≡ true
 any_at p a zero b low high passes = absurd (omega arith)
 any_at p a (suc n) b low high passes = elim (cases_eq a b) [
@@ -19,21 +19,21 @@ any_at p a (suc n) b low high passes = elim (cases_eq a b) [
   | inr other ↦ or_right (p a) _ (any_at p (a + 1) n b (omega arith) (omega arith) passes)
 ]
 
--- where none passes, `any` fails
+-- `any` fails if no number satisfies it
 pub any_none : (p : ℕ → Bool) (a n : ℕ) → ((b : ℕ) → a ≤ b → b < a + n → p b ≡ false) → list_any p (range_with_len a n) ≡ false
 any_none p a zero none = refl
 any_none p a (suc n) none =
     or_from (p a) _ (none a (omega arith) (omega arith))
     (any_none p (a + 1) n (λ b low high. none b (omega arith) (omega arith)))
 
--- where each passes, `all` holds
+-- `all` holds if each number satisfies it
 pub all_each : (p : ℕ → Bool) (a n : ℕ) → ((b : ℕ) → a ≤ b → b < a + n → p b ≡ true) → list_all p (range_with_len a n) ≡ true
 all_each p a zero each = refl
 all_each p a (suc n) each =
     and_from (p a) _ (each a (omega arith) (omega arith))
     (all_each p (a + 1) n (λ b low high. each b (omega arith) (omega arith)))
 
--- a number that fails settles `all`
+-- `all` fails if some number does not satisfy it
 pub all_fails_at : (p : ℕ → Bool) (a n b : ℕ) → a ≤ b → b < a + n → p b ≡ false → list_all p (range_with_len a n) ≡ false
 all_fails_at p a zero b low high fails = absurd (omega arith)
 all_fails_at p a (suc n) b low high fails = elim (cases_eq a b) [
@@ -41,12 +41,12 @@ all_fails_at p a (suc n) b low high fails = elim (cases_eq a b) [
   | inr other ↦ and_right (p a) _ (all_fails_at p (a + 1) n b (omega arith) (omega arith) fails)
 ]
 
--- where `all` holds, each passes
+-- if `all` holds, each number satisfies the test
 pub each_from_all : (p : ℕ → Bool) (a n : ℕ) → list_all p (range_with_len a n) ≡ true → (b : ℕ) → a ≤ b → b < a + n → p b ≡ true
 each_from_all p a n all b low high =
     true_from_ne_false (p b) (λ fails. both_ways _ (all_fails_at p a n b low high fails) all)
 
--- where `any` fails, none passes
+-- if `any` fails, no number satisfies it
 pub none_from_any : (p : ℕ → Bool) (a n : ℕ) → list_any p (range_with_len a n) ≡ false → (b : ℕ) → a ≤ b → b < a + n → p b ≡ false
 none_from_any p a n none b low high =
     false_from_ne_true (p b) (λ passes. both_ways _ none (any_at p a n b low high passes))
@@ -59,7 +59,7 @@ and_rest : (x y : Bool) → x ≡ true → (x && y) ≡ y
 and_rest true y passes = refl
 and_rest false y passes = absurd (both_ways false refl passes)
 
--- where `any` holds, some number passes
+-- if `any` holds, some number satisfies it
 pub some_from_any : (p : ℕ → Bool) (a n : ℕ) → list_any p (range_with_len a n) ≡ true → (b : ℕ) × (a ≤ b) × (b < a + n) × (p b ≡ true)
 some_from_any p a zero passes = absurd (both_ways false refl passes)
 some_from_any p a (suc n) passes = elim (cases_Bool (p a)) [
@@ -69,7 +69,7 @@ some_from_any p a (suc n) passes = elim (cases_Bool (p a)) [
       (rest.0, omega (arith, rest.1), omega (arith, rest.2), rest.3)
 ]
 
--- where `all` fails, some number fails
+-- if `all` fails, some number does not satisfy it
 pub some_from_all : (p : ℕ → Bool) (a n : ℕ) → list_all p (range_with_len a n) ≡ false → (b : ℕ) × (a ≤ b) × (b < a + n) × (p b ≡ false)
 some_from_all p a zero fails = absurd (both_ways true fails refl)
 some_from_all p a (suc n) fails = elim (cases_Bool (p a)) [
@@ -79,9 +79,9 @@ some_from_all p a (suc n) fails = elim (cases_Bool (p a)) [
   | inr here ↦ (a, omega arith, omega arith, here)
 ]
 
--- ---- the first that passes
+-- ---- the first number that satisfies a test
 
--- the first that passes is found
+-- the first number that satisfies the test is found
 pub find_at : (p : ℕ → Bool) (a n i : ℕ) → a ≤ i → i < a + n → p i ≡ true → ((j : ℕ) → a ≤ j → j < i → p j ≡ false) → find p (range_with_len a n) ≡ Some i
 find_at p a zero i low high passes first = absurd (omega arith)
 find_at p a (suc n) i low high passes first = elim (cases_eq a i) [
@@ -90,21 +90,21 @@ find_at p a (suc n) i low high passes first = elim (cases_eq a i) [
       ∙ find_at p (a + 1) n i (omega arith) (omega arith) passes (λ j j_low j_high. first j (omega arith) (omega arith))
 ]
 
--- where none passes, nothing is found
+-- if no number satisfies it, nothing is found
 pub find_none : (p : ℕ → Bool) (a n : ℕ) → ((j : ℕ) → a ≤ j → j < a + n → p j ≡ false) → find p (range_with_len a n) ≡ None
 find_none p a zero none = refl
 find_none p a (suc n) none =
     cond-false (p a) _ _ (none a (omega arith) (omega arith))
     ∙ find_none p (a + 1) n (λ j low high. none j (omega arith) (omega arith))
 
--- i is the first from a on, among n, that passes
+-- i is the first of the n numbers from a on that satisfies the test
 pub record IsFirst (p : ℕ → Bool) (a n i : ℕ) : Type 0 where
   pub low : a ≤ i
   pub high : i < a + n
   pub passes : p i ≡ true
   pub first : (j : ℕ) → a ≤ j → j < i → p j ≡ false
 
--- a number is found that is the first, or nothing where none passes
+-- the found number is the first, or no number satisfies the test
 pub find_cases : (p : ℕ → Bool) (a n : ℕ)
     → ((i : ℕ) × (find p (range_with_len a n) ≡ Some i) × IsFirst p a n i)
     ⊎ ((find p (range_with_len a n) ≡ None) × ((j : ℕ) → a ≤ j → j < a + n → p j ≡ false))

@@ -1,4 +1,4 @@
--- What a cfg byte of an entry spells: RISC-V Privileged Architecture 20211203, section 3.7.1.
+-- The fields of a cfg byte: RISC-V Privileged Architecture 20211203, section 3.7.1.
 use Rattle.std.specs.Prelude.{ℕ, ◌+◌, ◌*◌, ◌^◌, Bool, not, ◌&&◌, ◌||◌, ◌==◌, if◌then◌else◌}
 use Rattle.rv_word.specs.BitFields.{bits, is_set, flag}
 use Rattle.rv_pmp.specs.declared.mode.Mode.{Mode}
@@ -19,15 +19,15 @@ pub record Cfg : Type 0 where
 abbrev pub fields_of : ℕ → Cfg
 fields_of cfg = record { l = is_set cfg 7; a = bits cfg 4 3; x = is_set cfg 2; w = is_set cfg 1; r = is_set cfg 0 }
 
--- the byte with these fields, its bits 6 and 5 0
+-- the byte with these fields; its bits 6 and 5 are 0
 abbrev pub cfg_with : Cfg → ℕ
 cfg_with fields = flag 7 fields.l + fields.a * 2 ^ 3 + flag 2 fields.x + flag 1 fields.w + flag 0 fields.r
 
--- The byte that is stored for a written one: bits 6 and 5 are cleared, and W where R is 0.
+-- The stored form of a written byte: bits 6 and 5 are cleared, and W is cleared if R is 0.
 unfoldable pub stored_cfg : ℕ → ℕ
 stored_cfg cfg = let fields = fields_of cfg in cfg_with (record fields { w = fields.w && fields.r })
 
--- how A matches addresses
+-- the address matching that A encodes
 abbrev pub matching_of : ℕ → AddressMatching
 matching_of cfg =
     let a = (fields_of cfg).a in
@@ -44,13 +44,13 @@ is_tor cfg = (fields_of cfg).a == 1
 abbrev pub is_locked : ℕ → Bool
 is_locked cfg = (fields_of cfg).l
 
--- whether the bit of this kind of access is set
+-- whether the permission bit for this kind of access is set
 abbrev pub has_permission : Access → ℕ → Bool
 has_permission Fetch cfg = (fields_of cfg).x
 has_permission Read cfg = (fields_of cfg).r
 has_permission Write cfg = (fields_of cfg).w
 
--- Whether an access is given to a mode: M is bound by the permissions of a locked entry alone.
+-- Whether a mode is granted an access. Only the permissions of a locked entry bind mode M.
 abbrev pub grants : Mode → Access → ℕ → Bool
 grants M access cfg = not (is_locked cfg) || has_permission access cfg
 grants S access cfg = has_permission access cfg

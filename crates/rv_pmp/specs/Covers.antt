@@ -6,24 +6,24 @@ use Rattle.rv_pmp.specs.Entries.{Entries, cfg_of, addr_of, addr_before}
 use Rattle.rv_pmp.specs.declared.address_matching.AddressMatching.{AddressMatching}
 use Rattle.rv_pmp.specs.declared.address_matching.AddressMatching.TheVariants.{Off, Tor, Na4, Napot}
 
--- The granularity is 4 bytes (G = 0): a pmpaddr value is an address in units of it, each of its bits is kept, and NA4 can be chosen.
+-- The granularity is 4 bytes (G = 0). A pmpaddr value is an address in units of it, each of its bits is stored, and NA4 can be selected.
 abbrev pub granularity : ℕ
 granularity = 4
 
--- how many ones a number of so many bits ends in
+-- the number of trailing ones of a number with `bits` bits
 unfoldable pub ones_at_end : ℕ → ℕ → ℕ
 ones_at_end zero number = 0
 ones_at_end (suc bits) number = if number % 2 == 1 then 1 + ones_at_end bits (number / 2) else 0
 
--- the bytes in the range of a NAPOT entry: 2^(k+3) where its pmpaddr ends in k ones
+-- the size in bytes of the range of a NAPOT entry: 2^(k+3) if its pmpaddr ends in k ones
 abbrev pub napot_size : ℕ → ℕ
 napot_size addr = 8 * 2 ^ ones_at_end 32 addr
 
--- whether a byte address is in the naturally aligned block of so many bytes that another one is in
+-- whether two byte addresses are in the same naturally aligned block of `size` bytes
 abbrev pub is_in_block : ℕ → ℕ → ℕ → Bool
 is_in_block size address byte = byte / size == address / size
 
--- whether a byte address matches, given the pmpaddr value before the entry's own, and its own
+-- whether a byte address matches, given the pmpaddr value of the entry before, and the entry's own
 abbrev pub matches : AddressMatching → ℕ → ℕ → ℕ → Bool
 matches Off before addr byte = false
 matches Tor before addr byte = nat_le (granularity * before) byte && nat_lt byte (granularity * addr)

@@ -12,7 +12,7 @@ cfg_of entries i = slice_index entries.cfgs i
 abbrev pub addr_of : Entries → ℕ → ℕ
 addr_of entries i = slice_index entries.addrs i
 
--- the pmpaddr value before that of entry i, and 0 before the first
+-- the pmpaddr value of the entry before entry i, and 0 for the first
 abbrev pub addr_before : Entries → ℕ → ℕ
 addr_before entries i = if i == 0 then 0 else addr_of entries (i - 1)
 

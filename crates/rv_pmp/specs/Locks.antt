@@ -1,12 +1,11 @@
--- Writes of entries, and the locks that refuse them: RISC-V Privileged Architecture 20211203, section 3.7.1, Locking and
--- Privilege Mode.
+-- Writes of entries, and the locks that make them ignored: RISC-V Privileged Architecture 20211203, section 3.7.1, Locking and Privilege Mode.
 use Rattle.std.specs.Prelude.{ℕ, ◌+◌, ◌/◌, ◌%◌, ◌<◌, ◌==◌, ◌≡◌, nat_lt, Bool, false, not, ◌&&◌, ◌||◌, if◌then◌else◌, List, map, slice_set, [], ◌∷◌, ◌*◌}
 use Rattle.std.specs.List.{range_with_len}
 use Rattle.rv_word.specs.ByteOrder.{word_of_bytes, byte_of}
 use Rattle.rv_pmp.specs.Cfg.{is_tor, is_locked, stored_cfg}
 use Rattle.rv_pmp.specs.Entries.{Entries, cfg_of}
 
--- whether the cfg byte of entry i takes no write
+-- whether writes of the cfg byte of entry i are ignored
 abbrev pub is_cfg_locked : Entries → ℕ → Bool
 is_cfg_locked entries i = is_locked (cfg_of entries i)
 
@@ -14,7 +13,7 @@ is_cfg_locked entries i = is_locked (cfg_of entries i)
 abbrev pub HasNoLock : Entries → Type 0
 HasNoLock entries = (i : ℕ) → i < 16 → is_cfg_locked entries i ≡ false
 
--- whether entry i is a locked TOR entry, also where it covers nothing
+-- whether entry i is a locked TOR entry, even if it covers no byte
 abbrev pub is_locked_tor : Entries → ℕ → Bool
 is_locked_tor entries i = is_locked (cfg_of entries i) && is_tor (cfg_of entries i)
 
@@ -43,19 +42,19 @@ with_entry entries i cfg addr =
 abbrev pub with_entries : List ℕ → List ℕ → Entries
 with_entries cfgs addrs = record { cfgs = map stored_cfg cfgs; addrs = addrs }
 
--- what a register pmpcfg reads: the cfg bytes of four entries, the lowest first
+-- the value of a pmpcfg register: the cfg bytes of four entries, the lowest first
 abbrev pub cfg_word : Entries → ℕ → ℕ
 cfg_word entries register =
     word_of_bytes (cfg_of entries (4 * register) ∷ cfg_of entries (4 * register + 1) ∷ cfg_of entries (4 * register + 2)
     ∷ cfg_of entries (4 * register + 3) ∷ [])
 
--- the cfg byte of entry i after a write of a word to a register pmpcfg: byte k of the word is for entry 4 * register + k
+-- the cfg byte of entry i after a write of a word to a pmpcfg register: byte k of the word is for entry 4 * register + k
 abbrev pub cfg_after : Entries → ℕ → ℕ → ℕ → ℕ
 cfg_after entries register word i =
     if i / 4 == register && not (is_cfg_locked entries i) then stored_cfg (byte_of word (i % 4))
     else cfg_of entries i
 
--- The entries after that write: each byte goes by the lock of its own entry as it stood before.
+-- The entries after that write. The lock of each entry before the write decides whether its byte is written.
 abbrev pub with_cfg_word : Entries → ℕ → ℕ → Entries
 with_cfg_word entries register word =
     record { cfgs = map (cfg_after entries register word) (range_with_len 0 16); addrs = entries.addrs }

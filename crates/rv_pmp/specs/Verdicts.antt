@@ -1,4 +1,5 @@
--- The verdict of the PMP entries on an access, by the addresses of its bytes (Privileged 3.7.1, Priority and Matching Logic).
+-- The verdict of the PMP entries on an access, by the addresses of its bytes (RISC-V Privileged Architecture 20211203, section 3.7.1, Priority
+-- and Matching Logic).
 use Rattle.std.specs.Prelude.{ℕ, Bool, true, false, if◌then◌else◌, List, Option, Some, None}
 use Rattle.std.specs.List.{range_with_len, list_any, list_all, find}
 use Rattle.rv_pmp.specs.declared.mode.Mode.{Mode}

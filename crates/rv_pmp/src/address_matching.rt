@@ -1,24 +1,24 @@
-//! How an entry matches addresses.
+//! The address matching of an entry.
 
 ghost use Rattle.std.specs.Prelude.{◌≡◌};
 
 /// The field A of a cfg byte (Privileged Architecture, section 3.7.1, Address Matching).
 #[derive(Clone, Copy)]
 pub(crate) enum AddressMatching {
-    /// No address.
+    /// OFF: no address.
     Off,
-    /// Those from the pmpaddr of the entry below up to the own one: top of range.
+    /// TOR, top of range: the addresses from the pmpaddr of the entry before up to, and without, the entry's own.
     Tor,
-    /// Four bytes.
+    /// NA4: four bytes.
     Na4,
-    /// A naturally aligned power of two of bytes, 8 or more.
+    /// NAPOT: a naturally aligned range whose size is a power of two, 8 bytes or more.
     Napot,
 }
 
 impl AddressMatching {
     ghost use Rattle.rv_pmp.specs.Cfg.{matching_of};
 
-    /// The field A, bits 4 and 3 of a cfg byte.
+    /// Returns the field A, bits 4 and 3 of a cfg byte.
     pub(crate) fn of(cfg: u8) -> AddressMatching
         ensures { result ≡ matching_of cfg }
     {

@@ -1,4 +1,4 @@
-//! The cache of the PMP entries, so that an access need not search them.
+//! The cache of the PMP entries, which saves a search of the entries at each access.
 
 ghost use Rattle.rv_pmp.specs.Cache.Coherence.{IsCacheOf};
 ghost use Rattle.rv_pmp.specs.Entries.{Entries, HasSixteen};

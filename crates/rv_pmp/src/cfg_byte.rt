@@ -7,21 +7,21 @@ ghost use Rattle.rv_pmp.specs.Cfg as spec;
 use crate::access::Access;
 use crate::mode::Mode;
 
-/// Whether L, bit 7, is set.
+/// Returns whether L, bit 7, is set.
 pub(crate) fn is_locked(cfg: u8) -> bool
     ensures { result ≡ spec.is_locked cfg }
 {
     cfg / 128 % 2 == 1
 }
 
-/// Whether L is set and A, bits 4 and 3, is TOR.
+/// Returns whether L is set and A, bits 4 and 3, is TOR.
 pub(crate) fn is_locked_tor(cfg: u8) -> bool
     ensures { result ≡ (spec.is_locked cfg && spec.is_tor cfg) }
 {
     is_locked(cfg) && cfg / 8 % 4 == 1
 }
 
-/// Whether the bit for this kind of access is set.
+/// Returns whether the permission bit for this kind of access is set.
 pub(crate) fn has_permission(access: Access, cfg: u8) -> bool
     ensures { result ≡ spec.has_permission access cfg }
 {
@@ -32,7 +32,7 @@ pub(crate) fn has_permission(access: Access, cfg: u8) -> bool
     }
 }
 
-/// Whether an entry gives this kind of access to a mode; M is bound by a locked entry alone.
+/// Returns whether an entry grants this kind of access to a mode. Only a locked entry binds mode M.
 pub(crate) fn grants(mode: Mode, access: Access, cfg: u8) -> bool
     ensures { result ≡ spec.grants mode access cfg }
 {
@@ -42,7 +42,7 @@ pub(crate) fn grants(mode: Mode, access: Access, cfg: u8) -> bool
     }
 }
 
-/// The byte that is stored for a written one: bits 6 and 5 are cleared, and W where R is 0.
+/// Returns the stored form of a written byte: bits 6 and 5 are cleared, and W is cleared if R is 0.
 #[tactic(auto, using(crate::proofs::CfgLemmas::without_write, crate::proofs::CfgLemmas::with_write))]
 pub(crate) fn stored(cfg: u8) -> u8
     ensures { result ≡ spec.stored_cfg cfg }
@@ -51,14 +51,14 @@ pub(crate) fn stored(cfg: u8) -> u8
     if kept & 3 == 2 { kept & 0xfd } else { kept }
 }
 
-/// Whether L is clear in each cfg byte.
+/// Returns whether L is clear in each cfg byte.
 pub(crate) fn is_none_locked(cfgs: &[u8; 16]) -> bool
     ensures { result ≡ list_all (λ cfg. not (spec.is_locked cfg)) cfgs.now }
 {
     cfgs.iter().all(|cfg| !is_locked(*cfg))
 }
 
-/// The bytes that are stored for written ones.
+/// Returns the stored forms of written bytes.
 pub(crate) fn all_stored(cfgs: &[u8; 16]) -> [u8; 16]
     ensures { result ≡ map spec.stored_cfg cfgs.now }
 {

@@ -8,7 +8,7 @@ use crate::address_matching::AddressMatching;
 use crate::matched_range::matched_range;
 use crate::pmp_index::PmpIndex;
 
-/// Entries of a hart.
+/// The number of entries of a hart.
 const ENTRIES: u8 = 16;
 
 /// The range of each entry: the first byte that it covers and the first one after them, both 0 if it covers none.

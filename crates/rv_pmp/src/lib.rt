@@ -1,5 +1,5 @@
-//! Physical memory protection: the privilege modes, the kinds of access, the sixteen entries of a hart and their verdict
-//! on an access (RISC-V Privileged Architecture 20211203, sections 1.2 and 3.7).
+//! Physical memory protection: the privilege modes, the kinds of access, the sixteen entries of a hart, and their verdict on an access. See
+//! RISC-V Privileged Architecture 20211203, sections 1.2 and 3.7.
 //!
 //! ```text
 //! let mut pmp = Pmp::new();

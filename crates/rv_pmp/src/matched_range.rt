@@ -5,8 +5,8 @@ ghost use Rattle.rv_pmp.specs.Covers.{matches};
 
 use crate::address_matching::AddressMatching;
 
-/// The first byte that matches and the first past them, where a byte matches; `before` is the pmpaddr value before the
-/// entry's own.
+/// Returns the first byte that matches and the first one after the range, or `None` if no byte matches. `before` is the pmpaddr value of the
+/// entry before.
 pub(crate) fn matched_range(matching: AddressMatching, before: u32, addr: u32) -> Option<(u64, u64)>
     ensures range { IfSome result (λ range. (byte : ℕ) → IsTrue (matches matching before addr byte) ↔ ((range.0 ≤ byte) × (byte < range.1))) }
     ensures some_byte { IfSome result (λ range. range.0 < range.1) }

@@ -15,7 +15,7 @@ pub enum Mode {
 }
 
 impl Mode {
-    /// The mode's number, by which modes are ordered and fields of registers name them. 2 is no mode's.
+    /// Returns the number of the mode. It orders the modes, and fields of registers contain it. 2 is not the number of a mode.
     pub const fn number(self) -> u32
         ensures value { result ≡ mode_number self }
         ensures in_range { result < 4 }

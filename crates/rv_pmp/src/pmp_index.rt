@@ -4,7 +4,7 @@ ghost use Rattle.std.specs.Prelude.{◌≡◌, ℕ, ◌<◌, ◌≤◌};
 
 use std::marker::Model;
 
-/// The number of an entry, 0 to 15; a lower one has the higher priority (Privileged Architecture, section 3.7.1).
+/// The number of an entry, 0 to 15. A lower number has the higher priority (Privileged Architecture, section 3.7.1).
 #[derive(Clone, Copy, Debug, PartialEq, Eq)]
 pub struct PmpIndex {
     number: u8,
@@ -21,7 +21,7 @@ impl Model for PmpIndex {
 }
 
 impl PmpIndex {
-    /// The entry of a number from 0 to 15.
+    /// Returns the entry with a number from 0 to 15.
     pub const fn new(number: u8) -> Self
         requires { number ≤ 15 }
         ensures { result ≡ number }
@@ -29,7 +29,7 @@ impl PmpIndex {
         PmpIndex { number }
     }
 
-    /// The entry's number, 0 to 15.
+    /// Returns the number of the entry, 0 to 15.
     pub const fn number(self) -> u8
         ensures value { result ≡ self }
         ensures in_range { result < 16 }

@@ -1,11 +1,10 @@
-//! The numbers of the registers that hold cfg bytes.
+//! The numbers of the pmpcfg registers.
 
 ghost use Rattle.std.specs.Prelude.{◌≡◌, ℕ, ◌<◌, ◌≤◌};
 
 use std::marker::Model;
 
-/// The number of a register pmpcfg0 to pmpcfg3, each of which holds the cfg bytes of four entries (Privileged Architecture,
-/// section 3.7.1).
+/// The number of a register pmpcfg0 to pmpcfg3. Each has the cfg bytes of four entries (Privileged Architecture, section 3.7.1).
 #[derive(Clone, Copy, Debug, PartialEq, Eq)]
 pub struct PmpRegister {
     number: u8,
@@ -22,7 +21,7 @@ impl Model for PmpRegister {
 }
 
 impl PmpRegister {
-    /// The register of a number from 0 to 3.
+    /// Returns the register with a number from 0 to 3.
     pub const fn new(number: u8) -> Self
         requires { number ≤ 3 }
         ensures { result ≡ number }
@@ -30,7 +29,7 @@ impl PmpRegister {
         PmpRegister { number }
     }
 
-    /// The register's number, 0 to 3.
+    /// Returns the number of the register, 0 to 3.
     pub const fn number(self) -> u8
         ensures value { result ≡ self }
         ensures in_range { result < 4 }

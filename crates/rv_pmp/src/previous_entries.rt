@@ -1,4 +1,4 @@
-//! The previous entries, for when they are set again.
+//! The previous entries, to detect that they are set again.
 
 ghost use Rattle.std.specs.Prelude.{◌≡◌, IsTrue};
 

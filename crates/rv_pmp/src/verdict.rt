@@ -1,19 +1,19 @@
-//! What the entries say of an access.
+//! The verdict of the entries on an access.
 
 ghost use Rattle.std.specs.Prelude.{◌≡◌};
 ghost use Rattle.rv_pmp.specs.Verdicts as spec;
 
 use crate::pmp_index::PmpIndex;
 
-/// What the entries say of an access (Privileged Architecture, section 3.7.1, Priority and Matching Logic). The entry that
-/// is named decides: it is the first that covers a byte of the access.
+/// The verdict of the entries on an access (Privileged Architecture, section 3.7.1, Priority and Matching Logic). A verdict with an entry names
+/// the matching entry, the first that covers a byte of the access.
 #[derive(Clone, Copy, Debug, PartialEq, Eq)]
 pub enum Verdict {
-    /// The entry covers every byte and gives the permission.
+    /// The entry covers every byte and grants the access.
     Allowed(PmpIndex),
     /// No entry covers a byte, and the mode is M.
     AllowedFree,
-    /// The entry covers every byte and does not give the permission.
+    /// The entry covers every byte and does not grant the access.
     Denied(PmpIndex),
     /// The entry covers some bytes but not all.
     DeniedPartial(PmpIndex),
@@ -22,7 +22,7 @@ pub enum Verdict {
 }
 
 impl Verdict {
-    /// Whether the access is permitted.
+    /// Returns whether the access is permitted.
     pub fn permits(&self) -> bool
         ensures { result ≡ spec.permits self.now }
     {

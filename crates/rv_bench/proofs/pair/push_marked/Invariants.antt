@@ -2,7 +2,7 @@ use Rattle.std.proofs.Common.{◌≡◌, ◌≤◌, ◌+◌, ◌*◌, ◌++◌, 
 use Rattle.rv_bench.specs.Pair.{marked}
 use Rattle.rv_bench.proofs.pair.push_marked.Given as goal
 
--- what is written, and what is still to be
+-- the written bytes, and the remaining ones
 abbrev pub invariant-loop-byte : goal.invariant-loop-byte
 invariant-loop-byte l = record {
   written : l.out.items ++ marked l.mark l.begins (drop l.byte-index l.text) ≡ l.initial.out.items ++ marked l.mark true l.text;

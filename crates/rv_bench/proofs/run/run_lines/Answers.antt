@@ -11,7 +11,7 @@ use Rattle.rv_bench.proofs.run.run_lines.Given as given
 use Rattle.rv_bench.proofs.run.run_lines.Goals as goal
 use Rattle.rv_bench.proofs.run.run_lines.Goals.{After-respond_to_line, After-is_over}
 
--- a line was taken and answered
+-- a line was taken and has its response
 turn : (g : given.Over) (c : After-respond_to_line g) → Turn g.W.Sink (g.T.Responder.responding c.args.responding.now) c.args.end
     (g.T.Responder.state c.args.responding.now) c.args.lines.now c.args.sink.now (g.T.Responder.state c.loop-told.responding) c.loop-told.lines c.loop-told.sink
     (g.T.Responder.state c.respond_to_line.new.self) c.next_line_before.new.self (g.T.Told.AsSlice.items c.respond_to_line.new.out)
@@ -35,7 +35,7 @@ wrote g c told =
     let done = ok_mapped _ c.write_all.result c.map_err-in-Some.result _ c.map_err-in-Some.ensures.cases c.in_ok-map_err.was in
     IfOk-at_ok _ done c.write_all.ensures.written told ∙ ap (λ t. g.W.Sink.taken c.loop-told.sink ++ t) c.as_slice-in-Some.ensures
 
--- whether it is over then
+-- whether the responder is over then
 over : (g : given.Over) (c : After-is_over g)
     → (g.T.Responder.responding c.args.responding.now).is_over (g.T.Responder.state c.respond_to_line.new.self) ≡ c.is_over.result
 over g c = ap (λ (by : Responding g.row.T-State.Denot). by.is_over (g.T.Responder.state c.respond_to_line.new.self))

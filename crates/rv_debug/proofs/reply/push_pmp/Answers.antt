@@ -11,7 +11,7 @@ loop-number-preserved c = record {
   len = omega (arith, c.push_entry.ensures.len, c.loop-number.invariant.len);
 }
 
--- bounded, so that a wrong body is refused soon
+-- the bound on the steps makes the prover reject a mutant soon
 pub returns-clause-items : goal.returns-clause-items
 unfolding pmp_text
 returns-clause-items c = grind (arith, common_steps) steps 400000

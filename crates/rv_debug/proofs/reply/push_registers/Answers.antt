@@ -13,7 +13,7 @@ loop-number-preserved c =
       len = rw c.push_register.ensures.items (simp length-append (rw (c.new-register.ensures) (omega (arith, line))));
     }
 
--- bounded, so that a wrong body is refused soon
+-- the bound on the steps makes the prover reject a mutant soon
 pub returns-clause-items : goal.returns-clause-items
 unfolding registers_text
 returns-clause-items c = grind (arith, common_steps) steps 400000

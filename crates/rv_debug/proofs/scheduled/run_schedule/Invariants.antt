@@ -6,7 +6,7 @@ use Rattle.rv_debug.specs.ScheduledSteps.{schedule_summary}
 use Rattle.rv_debug.proofs.ScheduledSteps.{after_schedule}
 use Rattle.rv_debug.proofs.scheduled.run_schedule.Given as goal
 
--- the scheduled steps so far, and those that are left
+-- the scheduled steps so far, and the remaining ones
 abbrev pub invariant-loop-digit : goal.invariant-loop-digit
 invariant-loop-digit l = record {
   scheduled_steps : scheduled_steps (rest 0 l.digits) (schedule_start l.fn.target) ≡ scheduled_steps (rest l.digit-index l.digits) (after_schedule l.target (schedule_summary l.first l.second));

@@ -2,7 +2,7 @@ use Rattle.std.proofs.Common.{arith}
 use Rattle.rv_enclaves.proofs.InvariantLemmas.{layout_from_each}
 use Rattle.rv_enclaves.proofs.layout.write_layout.Goals as goal
 
--- all sixteen are
+-- all sixteen entries are those of the layout
 pub returns : goal.returns
 returns c =
     let kept = c.loop-i.invariant in

@@ -2,7 +2,7 @@ use Rattle.std.proofs.Common.{◌≡◌, ℕ, ◌<◌, ◌≤◌, length, slice_
 use Rattle.rv_enclaves.proofs.Prelude.{entry_at}
 use Rattle.rv_enclaves.proofs.layout.write_layout.Given as goal
 
--- the entries so far are those of the layout, and the others are not used
+-- the entries so far are those of the layout, and the others are unused
 abbrev pub invariant-loop-i : goal.invariant-loop-i
 invariant-loop-i l = record {
   cfgs_long : length l.cfgs ≡ 16;

@@ -7,7 +7,7 @@ use Rattle.rv_monitor.proofs.PmpProgramming.{work_unlocked}
 use Rattle.rv_monitor.proofs.handler.handle.Goals as goal
 use Rattle.rv_monitor.proofs.handler.handle.Goals.{in-Interrupt, in-Exception-EnvironmentCallFromS}
 
--- neither the timer's stop nor a call has written an entry
+-- neither a stop by the timer nor a call writes an entry
 pub program_pmp-requires : goal.program_pmp-requires
 program_pmp-requires c =
     let P : HartState → Type 0 = λ hart_state. IsUnlocked hart_state.hart.csrs.pmp in

@@ -2,7 +2,7 @@ use Rattle.std.proofs.Common.{◌≡◌, ◌<◌, ℕ, length, slice_index}
 use Rattle.rv_pmp.specs.Cfg.{stored_cfg}
 use Rattle.rv_pmp.proofs.cfg_byte.all_stored.Given as goal
 
--- the bytes so far are those that are stored
+-- the bytes so far are the stored forms
 abbrev pub invariant-loop-k : goal.invariant-loop-k
 invariant-loop-k l = record {
   long : length l.kept ≡ 16;

@@ -16,7 +16,7 @@ extend-requires-clause-alike c =
     loop.invariant.before
     (λ m from used. ascending loop.k m 0 from used)
 
--- the segments go up to the next bound
+-- the segments extend to the next bound
 pub loop-k-preserved : goal.loop-k-preserved
 loop-k-preserved c =
     let bounds = c.sort_unstable.new.self in

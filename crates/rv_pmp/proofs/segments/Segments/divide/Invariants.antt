@@ -2,7 +2,7 @@ use Rattle.std.proofs.Common.{◌≡◌, ℕ, ◌<◌, ◌≤◌, length, slice_
 use Rattle.rv_pmp.specs.Cache.Segments.{is_within, reach_of, AreInOrder, AreMatched}
 use Rattle.rv_pmp.proofs.segments.Segments.divide.Given as goal
 
--- the segments go up to start, which the bounds so far have reached
+-- the segments extend to start; no bound so far is above it, and no later bound is below it
 abbrev pub invariant-loop-k : goal.invariant-loop-k
 invariant-loop-k l = record {
   room : l.self.count ≤ l.k;

@@ -5,7 +5,7 @@ use Rattle.rv_pmp.proofs.ByteMatchLemmas.{option_same}
 use Rattle.rv_pmp.proofs.SegmentLemmas.{goes_on, one_more}
 use Rattle.rv_pmp.proofs.segments.Segments.extend.Goals as goal
 
--- the last segment goes on
+-- the last segment grows
 pub returns-then-eq : goal.returns-then-eq
 returns-then-eq c =
     let a = c.args in
@@ -20,7 +20,7 @@ returns-then-eq c =
     c.if-count-gt0.true (omega arith) (is ∙ same ∙ c.byte_match-byte_match.ensures) in
     record { room = omega arith; reach = new.reach; order = new.order; matched = new.matched }
 
--- one more begins
+-- a segment is added
 pub returns-else-count-gt0 : goal.returns-else-count-gt0
 returns-else-count-gt0 c =
     let a = c.args in
