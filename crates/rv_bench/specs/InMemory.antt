@@ -22,7 +22,7 @@ job_output Dis input = dis_output input
 -- A fault is that of the input; but a call may fail, and memory be refused, at any: in a text that is assembled at a line which has no fault
 -- that is told there in the place of that.
 abbrev pub MeetsFault : Job → List ℕ → BenchFault → Type 0
-MeetsFault job input Read = ⊤
+MeetsFault job input Read = ⊥
 MeetsFault job input Write = ⊤
 MeetsFault job input NoMemory = ⊤
 MeetsFault job input (Ram NoRamMemory) = ⊤

@@ -5,7 +5,7 @@ ghost use Rattle.rv_bench.specs.InMemory.{InMemoryNoninterference, job_output, M
 
 use crate::job::run_job;
 use rv_command_line::Job;
-use rv_streams::{BenchFault, StandardSink, StandardSource};
+use rv_streams::{BenchFault, MemorySource, StandardSink};
 use std::alloc::Global;
 
 /// What a job puts out for an input. It is `run_job` over the program's own devices, here over a slice and a vector of std, of which std
@@ -21,7 +21,7 @@ pub fn run_in_memory(alloc: Global, job: &Job, input: &[u8]) -> Result<Vec<u8>, 
     ensures secret { InMemoryNoninterference job.now input.now }
 {
     let mut sink = StandardSink::new(Vec::new(alloc));
-    let (_, outcome) = run_job(alloc, job, StandardSource::new(input), &mut sink);
+    let (_, outcome) = run_job(alloc, job, MemorySource::new(input), &mut sink);
     outcome?;
     Ok(sink.into_writer())
 }

@@ -108,16 +108,16 @@ pub fn refuse<W: Sink>(fault: &WordsFault, sink: &mut W) -> u8
 }
 
 /// Does a job, tells its fault, and gives the status. A line that cannot be written changes nothing about it.
-fn done<S: Source + Drop, W: Sink>(alloc: Global, job: &Job, source: S, sink: &mut W) -> u8
-    ensures { DoesAndReports S.Source W.Sink source sink.old sink.new job.now result }
+fn done<S: Source, W: Sink>(alloc: Global, job: &Job, source: S, sink: &mut W) -> (S, u8)
+    ensures { DoesAndReports S.Source W.Sink source result.0 sink.old sink.new job.now result.1 }
 {
-    let (_, outcome) = run_job(alloc, job, source, sink);
+    let (left, outcome) = run_job(alloc, job, source, sink);
     match outcome {
-        Ok(()) => DONE,
-        Err(BenchFault::Write) => FAILED,
+        Ok(()) => (left, DONE),
+        Err(BenchFault::Write) => (left, FAILED),
         Err(fault) => {
             let _ = report(sink, fault_line(fault).as_slice());
-            FAILED
+            (left, FAILED)
         }
     }
 }
@@ -125,16 +125,19 @@ fn done<S: Source + Drop, W: Sink>(alloc: Global, job: &Job, source: S, sink: &m
 /// Does what the words ask for, the program's name first, from a source to a sink, and gives the status: 0 where the job was done, or the
 /// help that was asked for, and the sink was flushed behind it; 1 at a fault, whose line is written behind what the job wrote, but for one
 /// of the output itself; 2 where the words are refused, which is told too.
-pub fn perform<'a, S: Source + Drop, W: Sink>(
+pub fn perform<'a, S: Source, W: Sink>(
     alloc: Global,
     words: &'a [&'a str],
     source: S,
     sink: &mut W,
-) -> u8
-    ensures { Performs S.Source W.Sink source sink.old sink.new (texts words.entry.now) result }
+) -> (S, u8)
+    ensures { Performs S.Source W.Sink source result.0 sink.old sink.new (texts words.entry.now) result.1 }
 {
     match read_words(alloc, words) {
         Ok(job) => done(alloc, &job, source, sink),
-        Err(fault) => refuse(&fault, sink),
+        Err(fault) => {
+            let status = refuse(&fault, sink);
+            (source, status)
+        }
     }
 }
