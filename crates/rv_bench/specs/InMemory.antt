@@ -19,10 +19,10 @@ job_output (Twin setup slot) input = twin_output setup slot input
 job_output Asm input = asm_output input
 job_output Dis input = dis_output input
 
--- An error is that of the input. But a call may fail, and memory be refused, for any input. In the assembly of a text, the program may run out
+-- An error is that of the input, and no read fails. But a write may fail, and memory be refused, for any input. In the assembly of a text, the program may run out
 -- of memory at a line that has no error which is reported instead.
 abbrev pub MeetsFault : Job → List ℕ → BenchFault → Type 0
-MeetsFault job input Read = ⊤
+MeetsFault job input Read = ⊥
 MeetsFault job input Write = ⊤
 MeetsFault job input NoMemory = ⊤
 MeetsFault job input (Ram NoRamMemory) = ⊤

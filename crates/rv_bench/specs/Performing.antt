@@ -70,22 +70,22 @@ module _ {W : Type 0} (h : SinkGhosts W) where
   Refuses before after (words.Help text) status =
       (WritesAll before after (string_bytes text) × (status ≡ 0)) ⊎ (WritesOnlyPrefix before after (string_bytes text) × (status ≡ 1))
 
-module _ {S W : Type 0} (g : SourceGhosts S) (h : SinkGhosts W) (source : S) (before after : W) where
-  -- the job was performed, and its outcome reported
+module _ {S W : Type 0} (g : SourceGhosts S) (h : SinkGhosts W) (source left : S) (before after : W) where
+  -- The program executed the job, which left the source so, and reported its outcome.
   pub record DoesAndReports (job : Job) (status : ℕ) : Type 0 where
-    pub left : S
     pub outcome : Outcome
     pub mid : W
     pub does : DoesJob g h source left before mid job outcome
     pub told : ReportsOutcome h outcome mid after
     pub status_is : status ≡ exit_status outcome
 
-  -- the arguments name no job, for one of the reasons that hold, or memory was refused
+  -- The arguments name no job, for a reason that they have, or an allocation failed. The program reports it, and reads nothing.
   pub record RefusesArguments (given : List Text) (status : ℕ) : Type 0 where
     pub fault : WordsFault
     pub reason : IsFaultOf (refusals_of given) fault
     pub refuses : Refuses h before after fault status
+    pub untouched : left ≡ source
 
-  -- the arguments name a job, which was performed, or they name none
+  -- The arguments name a job, which the program executed, or they name none.
   abbrev pub Performs : List Text → ℕ → Type 0
   Performs given status = ((refusals_of given ≡ []) × DoesAndReports (job_of given) status) ⊎ RefusesArguments given status

@@ -107,36 +107,40 @@ pub fn refuse<W: Sink>(fault: &WordsFault, sink: &mut W) -> u8
     }
 }
 
-/// Performs a job, writes the line of its error, and returns the status. If the line cannot be written, the status is the same.
-fn done<S: Source + Drop, W: Sink>(alloc: Global, job: &Job, source: S, sink: &mut W) -> u8
-    ensures { DoesAndReports S.Source W.Sink source sink.old sink.new job.now result }
+/// Performs a job, and writes the line of its error. Returns the source as the job left it, and the status. If the line cannot be written,
+/// the status is the same.
+fn done<S: Source, W: Sink>(alloc: Global, job: &Job, source: S, sink: &mut W) -> (S, u8)
+    ensures { DoesAndReports S.Source W.Sink source result.0 sink.old sink.new job.now result.1 }
 {
-    let (_, outcome) = run_job(alloc, job, source, sink);
+    let (left, outcome) = run_job(alloc, job, source, sink);
     match outcome {
-        Ok(()) => DONE,
-        Err(BenchFault::Write) => FAILED,
+        Ok(()) => (left, DONE),
+        Err(BenchFault::Write) => (left, FAILED),
         Err(fault) => {
             let _ = report(sink, fault_line(fault).as_slice());
-            FAILED
+            (left, FAILED)
         }
     }
 }
 
-/// Performs the job that the arguments request, from a source to a sink, and returns the status. The first argument is the name of the program.
-/// The status is:
+/// Performs the job that the arguments request, from a source to a sink. The first argument is the name of the program. Returns the source
+/// and the status. The source is as the job left it. If the arguments are refused or request help, nothing was read from it. The status is:
 /// - 0 if the job succeeded, or the requested help was written, and the sink was flushed afterwards;
 /// - 1 after an error. Its line follows the output of the job. An error of the output itself has no line;
 /// - 2 if the arguments are refused. A line reports this too.
-pub fn perform<'a, S: Source + Drop, W: Sink>(
+pub fn perform<'a, S: Source, W: Sink>(
     alloc: Global,
     words: &'a [&'a str],
     source: S,
     sink: &mut W,
-) -> u8
-    ensures { Performs S.Source W.Sink source sink.old sink.new (texts words.entry.now) result }
+) -> (S, u8)
+    ensures { Performs S.Source W.Sink source result.0 sink.old sink.new (texts words.entry.now) result.1 }
 {
     match read_words(alloc, words) {
         Ok(job) => done(alloc, &job, source, sink),
-        Err(fault) => refuse(&fault, sink),
+        Err(fault) => {
+            let status = refuse(&fault, sink);
+            (source, status)
+        }
     }
 }

@@ -20,7 +20,7 @@ fn expect_performed(
 ) {
     let mut buffer = [0u8; 128];
     let mut sink = MemorySink::new(&mut buffer);
-    let found = perform(alloc, words, MemorySource::new(input), &mut sink);
+    let (_, found) = perform(alloc, words, MemorySource::new(input), &mut sink);
     expect_bytes(rt, sink.bytes(), written, 0);
     expect_number(rt, u64::from(found), u64::from(status), 0);
 }
@@ -98,14 +98,38 @@ fn reports_the_errors_of_inputs(rt: HostRuntime) {
 fn gives_help(rt: HostRuntime) {
     let mut buffer = [0u8; 8192];
     let mut sink = MemorySink::new(&mut buffer);
-    let status = perform(
+    let (source, status) = perform(
         rt.alloc(),
         &["rvbench", "--help"],
-        MemorySource::new(b""),
+        MemorySource::new(INPUT),
         &mut sink,
     );
     expect_number(&rt, u64::from(status), 0, 0);
+    expect_bytes(&rt, source.rest(), INPUT, 0);
     assert!(&rt; sink.bytes().len() > 500);
+}
+
+#[test]
+fn reads_nothing_for_refused_arguments(rt: HostRuntime) {
+    let mut buffer = [0u8; 64];
+    let mut sink = MemorySink::new(&mut buffer);
+    let words = ["rvbench", "walk"];
+    let (source, status) = perform(rt.alloc(), &words, MemorySource::new(INPUT), &mut sink);
+    expect_number(&rt, u64::from(status), 2, 0);
+    expect_bytes(&rt, source.rest(), INPUT, 0);
+}
+
+#[test]
+fn reads_the_input_of_a_job_to_its_end(rt: HostRuntime) {
+    let mut buffer = [0u8; 128];
+    let mut sink = MemorySink::new(&mut buffer);
+    let (source, _) = perform(
+        rt.alloc(),
+        &["rvbench"],
+        MemorySource::new(INPUT),
+        &mut sink,
+    );
+    expect_bytes(&rt, source.rest(), b"", 0);
 }
 
 /// Expects the line and the exit status for an error of the arguments.
@@ -135,7 +159,7 @@ fn reports_a_failed_read(rt: HostRuntime) {
     let mut buffer = [0u8; 128];
     let mut sink = FaultySink::new(&mut buffer, 128, 0, AtSetCall::Fail);
     let source = FaultySource::new(INPUT, 1, 21);
-    let status = perform(rt.alloc(), &["rvbench"], source, &mut sink);
+    let (_, status) = perform(rt.alloc(), &["rvbench"], source, &mut sink);
     expect_number(&rt, u64::from(status), 1, 0);
     let written = b"ran 1 pc=80000004 mode=M world=bare why=done trap=-\nrvbench: read\n";
     expect_bytes(&rt, sink.bytes(), written, 0);
@@ -152,7 +176,7 @@ fn expect_failed_write(
 ) {
     let mut buffer = [0u8; 128];
     let mut sink = FaultySink::new(&mut buffer, 128, set_call, AtSetCall::Fail);
-    let found = perform(alloc, &["rvbench"], MemorySource::new(input), &mut sink);
+    let (_, found) = perform(alloc, &["rvbench"], MemorySource::new(input), &mut sink);
     expect_bytes(rt, sink.bytes(), written, set_call);
     expect_number(rt, u64::from(found), u64::from(status), set_call);
     expect_number(rt, sink.calls(), set_call, set_call);

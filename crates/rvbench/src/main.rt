@@ -29,7 +29,8 @@ fn performed<W: Sink>(rt: &HostRuntime, words: &[String], sink: &mut W) -> u8 {
         return refuse(&WordsFault::NoMemory, sink);
     };
     let source = StandardSource::new(rt.stdin());
-    perform(rt.alloc(), texts.as_slice(), source, sink)
+    let (_, status) = perform(rt.alloc(), texts.as_slice(), source, sink);
+    status
 }
 
 fn main(rt: HostRuntime) -> ExitCode {
