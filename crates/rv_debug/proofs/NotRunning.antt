@@ -1,5 +1,4 @@
--- An enclave that runs on no hart: it is undisturbed by every command, and after a command that does not enter it, it still runs on no
--- hart.
+-- An enclave that runs on no hart: every command avoids it, and after a command that does not enter it, it still runs on no hart.
 use Rattle.std.proofs.Common.{◌≡◌, ℕ, true, false, List, [], ◌∷◌, Option, Some, None, refl, sym, ◌∙◌, ap, subst, inl, inr}
 use Rattle.rv_enclaves.proofs.Scrambled.{slot_rests}
 use Rattle.rv_monitor.proofs.Beside.{runs_among}

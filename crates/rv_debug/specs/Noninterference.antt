@@ -51,8 +51,8 @@ abbrev pub PokesInto : ℕ → BenchState → Command → Type 0
 PokesInto e bench (Poke address byte) = has (region_in e bench.target) address ≡ true
 PokesInto e bench _ = ⊥
 
--- after a poke into the region of slot e, of any byte at any of its addresses in each bench, two equivalent benches are equivalent again, and
--- reply the same
+-- Take two equivalent benches, and in each a poke of any byte to any address in the region of slot e. They are equivalent again, and reply the
+-- same.
 abbrev pub PokeLaw : Type 0
 PokeLaw =
     (e : ℕ) (first second : BenchState) (here there : Command) → TargetInvariant first.target → TargetInvariant second.target

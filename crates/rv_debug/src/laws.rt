@@ -17,7 +17,7 @@ pub const fn running_is_undisturbed()
     ensures { RunningLaw }
 {}
 
-/// States noninterference. Take two benches that are equivalent except for an enclave, and a command that is blind to it and neither steps nor
+/// States noninterference. Take two benches that are equivalent except for an enclave. Take a command that is blind to it, and neither steps nor
 /// shows a hart on which it runs. The command enters the enclave in both benches or in neither. If in neither, the replies are equal and the
 /// benches are equivalent again, and equal once the enclave has ended.
 pub const fn noninterference()

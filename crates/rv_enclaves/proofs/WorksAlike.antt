@@ -1,5 +1,5 @@
--- The premises of the trap handler's noninterference on two shared states: if these are equivalent except for an enclave, so are the results of
--- each call and switch.
+-- The facts that the trap handler's noninterference needs about two shared states. If these are equivalent except for an enclave, so are the
+-- results of each call and switch.
 use Rattle.std.proofs.Common.{◌≡◌, ◌≢◌, ℕ, true, List, Option, refl, sym, subst, inl, inr}
 use Rattle.std.proofs.lemmas.Bool.{cases_Bool}
 use Rattle.rv_enclaves.specs.CallLaws.{CallsAlikeLaw}

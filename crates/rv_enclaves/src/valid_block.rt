@@ -31,8 +31,7 @@ const fn is_power(number: u32, k: u32) -> bool
     number == 1 << k
 }
 
-/// Returns whether a block is valid: its size is a power of two from 4096 up, its base a multiple of the size, and all its bytes are in
-/// RAM.
+/// Returns whether a block is valid. Its size is a power of two from 4096 up, its base is a multiple of the size, and all its bytes are in RAM.
 #[tactic(auto, unfolding(crate::specs::ValidBlocks::is_valid_block))]
 pub(crate) fn is_valid_block(block: Block, memory: &Ram) -> bool
     ensures value { result ≡ is_valid_block_of memory.now block }

@@ -1,5 +1,5 @@
--- Access control: in every state of the machine, the PMP entries of a hart permit exactly the accessible bytes, and no byte of a region other
--- than the world's own. (A law about the monitor's definitions; Keystone, EuroSys 2020, in this project's profile.)
+-- Access control: in every state of the machine, the PMP entries of a hart permit exactly the accessible bytes. None of these is in a region
+-- other than the world's own. (A law about the monitor's definitions; Keystone, EuroSys 2020, in this project's profile.)
 use Rattle.std.specs.Prelude.{ℕ, ◌≡◌, ◌≢◌, true}
 use Rattle.rv_word.specs.declared.width.Width.{Width}
 use Rattle.rv_monitor.specs.Prelude.{Access, M, Mode, bytes_from, bytes_in, is_accessible, is_inside, permits, verdict}

@@ -1,5 +1,5 @@
--- Equivalence except for one enclave: two monitored machines that differ at most in what is private to it. That is the bytes of its region, its
--- context, and the hart on which it runs, if it runs. The specification calls this relation AgreeBut. (Not a rule of a standard; the
+-- Equivalence except for one enclave: two monitored machines that differ at most in what is private to it. Private are the bytes of its region,
+-- its context, and the hart on which it runs, if it runs. The specification calls this relation AgreeBut. (Not a rule of a standard; the
 -- noninterference laws are about it.)
 use Rattle.std.specs.Prelude.{◌≡◌, ℕ, Bool, false}
 use Rattle.rv_monitor.specs.Prelude.{HartState, SharedEquivExcept, is_world_of}

@@ -1,6 +1,6 @@
--- Integrity of a step: it preserves an enclave that is not the world of its hart, unless it enters or ends it. The record, the bytes of the
--- region and the saved context are unchanged, and so is the hart on which the enclave runs, if it runs. (A law about the monitor's definitions,
--- not a rule of a standard.)
+-- Integrity of a step: it preserves a live enclave that is not the world of its hart, unless it enters or ends it. Its record, the bytes of its
+-- region and its saved context are unchanged. The hart on which it runs, if it runs, keeps everything except the PMP entries and mie. (A law
+-- about the monitor's definitions, not a rule of a standard.)
 use Rattle.std.specs.Prelude.{ℕ, ◌≡◌, ◌==◌, Bool, true, false, Option, Some, None}
 use Rattle.rv_monitor.specs.Prelude.{Shared, byte_at, context_at, has, is_live, region, slot_at}
 use Rattle.rv_monitor.specs.EquivExcept.{runs_on}

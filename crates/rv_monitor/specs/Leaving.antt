@@ -70,8 +70,8 @@ left_machine own before k trap host =
       shared = shared;
     }
 
--- if an enclave runs, the host has a saved context, the step traps, and the host runs after it, then the step leaves this state and enters no
--- slot
+-- Let an enclave run, the host have a saved context, the step trap, and the host run after it. The step then leaves this state and enters no
+-- slot.
 abbrev pub LeavesOnly : ℕ → MonitoredMachine → MonitoredStepped → Type 0
 LeavesOnly hart before after =
     (k : ℕ) (host : Context) (trap : Trap) → (hart_state_of hart before).world ≡ Enclave k → (hart_state_of hart before).host_context ≡ Some host

@@ -1,6 +1,5 @@
-//! Laws of the monitored machine in every state that satisfies the invariant, for the crates above to cite. Each is proved about the definitions
-//! in `specs/`. The laws of one step are clauses of `MonitoredMachine::step`. The laws here are about the parts of a step, and about steps of
-//! the harts in any order.
+//! Laws of the monitored machine in every state, for the crates above to cite. Each is proved about the definitions in `specs/`. The laws of one
+//! step are clauses of `MonitoredMachine::step`. The laws here are about the parts of a step, and about steps of the harts in any order.
 
 ghost use Rattle.rv_monitor.specs.AccessControl.{AccessControlLaw};
 ghost use Rattle.rv_monitor.specs.HandlerReads.{HandlerReadsLaw};
@@ -15,13 +14,13 @@ pub const fn access_control()
     ensures { AccessControlLaw }
 {}
 
-/// States that a step of the hart, without the trap handler, depends on no byte of the region of an enclave that is not its world.
+/// States that a step of the hart, without the trap handler, depends on no byte of the region of an enclave other than its world.
 #[tactic(auto, using(crate::proofs::BareStepNoninterference::bare_law))]
 pub const fn bare_step_noninterference()
     ensures { BareLaw }
 {}
 
-/// States that the trap handler depends on nothing private to an enclave that is not the world of its hart, even if it enters that enclave.
+/// States that the trap handler depends on nothing private to an enclave other than the world of its hart, even if it enters that enclave.
 pub const fn handler_noninterference()
     ensures { HandlerLaw }
 {}
