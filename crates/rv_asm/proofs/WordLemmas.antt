@@ -101,7 +101,8 @@ pub fails_or_out_of_memory : (labels : List ℕ → Option ℕ) (words : List �
     → (line_words labels (length words) (line_read line) ≡ Err kind) ⊎ ((kind ≡ NoMemory) × IsOk (line_words labels (length words) (line_read line)))
     → (first_line_fault (name_fault labels) [] (readings text) ≡ Some (record { line = lines + 1; kind = kind }))
     ⊎ ((kind ≡ NoMemory) × (first_line_fault (name_fault labels) [] (take (lines + 1) (readings text)) ≡ None))
-fails_or_out_of_memory labels words lines text rest after line kind has is (inl gives) = inl (fails_at labels words lines text rest after line kind has is gives)
+fails_or_out_of_memory labels words lines text rest after line kind has is (inl gives) =
+    inl (fails_at labels words lines text rest after line kind has is gives)
 fails_or_out_of_memory labels words lines text rest after line kind has is (inr out_of_memory) =
     inr (out_of_memory.0, none_through labels words lines text rest after line has is out_of_memory.1)
 

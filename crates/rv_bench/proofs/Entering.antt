@@ -31,7 +31,8 @@ use Rattle.rv_bench.proofs.Runs.{RespondsToNext-going, RespondsToNext-state, Res
 
 -- ---- the same, for equal written bytes
 
-StopsAtRead-after : {A : Type 0} {by : Responding A} {start : A} {is_specified : Type 0} {unread left kept old other new : List ℕ} → (is_specified → old ≡ other)
+StopsAtRead-after : {A : Type 0} {by : Responding A} {start : A} {is_specified : Type 0} {unread left kept old other new : List ℕ}
+    → (is_specified → old ≡ other)
     → StopsAtRead by Input start is_specified unread left kept old new → StopsAtRead by Input start is_specified unread left kept other new
 StopsAtRead-after {by = by} {start = start} same stops = record {
   text = stops.text;
@@ -126,10 +127,12 @@ module _ {S W : Type 0} {g : SourceGhosts S} (h : SinkGhosts W) (slot : ℕ) {st
   -- to the end of the script
   module _ (run : RespondsToEnd h (both_benches slot) Input start now old new before mid) (is_specified : g.is_specified) where
     all_state : now ≡ state_after (pair_line slot) start (lines_of (unread old))
-    all_state = RespondsToLines-state (run.responded is_specified) (FindsEnd-whole old run.last new Input _ run.found (run.responded is_specified).taken is_specified)
+    all_state =
+        RespondsToLines-state (run.responded is_specified) (FindsEnd-whole old run.last new Input _ run.found (run.responded is_specified).taken is_specified)
 
     all_wrote : h.is_specified → h.taken mid ≡ h.taken before ++ replies (pair_line slot) start (lines_of (unread old))
-    all_wrote = RespondsToLines-all (run.responded is_specified) (FindsEnd-whole old run.last new Input _ run.found (run.responded is_specified).taken is_specified)
+    all_wrote =
+        RespondsToLines-all (run.responded is_specified) (FindsEnd-whole old run.last new Input _ run.found (run.responded is_specified).taken is_specified)
 
     never_entered : (state_after (pair_line slot) start (lines_of (unread old))).entered ≡ false
     never_entered = ap (λ (pair : Pair). pair.entered) (sym all_state) ∙ run.going

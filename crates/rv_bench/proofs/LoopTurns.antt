@@ -14,7 +14,8 @@ use Rattle.rv_streams.proofs.Ends.{SinkFailed-after, EndsWithSource-none, EndsWi
 use Rattle.rv_bench.specs.Responses.{RespondsToAll, RespondsToLine, RespondsToLines, RespondsToNext}
 use Rattle.rv_bench.specs.Replies.{Responding}
 use Rattle.rv_bench.specs.Run.{FailsIn}
-use Rattle.rv_bench.proofs.Runs.{RespondsToLines-none, RespondsToLines-going, RespondsToLines-read, RespondsToNext-wrote, RespondsToNext-stops, StopsAtWrite-prefix}
+use Rattle.rv_bench.proofs.Runs.{RespondsToLines-none, RespondsToLines-going, RespondsToLines-read, RespondsToNext-wrote}
+use Rattle.rv_bench.proofs.Runs.{RespondsToNext-stops, StopsAtWrite-prefix}
 
 module _ {S W : Type 0} {g : SourceGhosts S} (h : SinkGhosts W) {A : Type 0} (by : Responding A) (end : ScriptEnd) (start : A) (old : Lines S g) (before : W)
     (now : A) (mid : Lines S g) (between : W) where

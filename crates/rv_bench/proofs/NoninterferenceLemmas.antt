@@ -20,7 +20,8 @@ use Rattle.rv_command_line.specs.declared.setup.Setup.{Setup}
 use Rattle.rv_streams.specs.declared.fault.BenchFault.{BenchFault}
 use Rattle.rv_streams.specs.Image.{image_in}
 use Rattle.rv_streams.specs.Separator.{after_separator, has_separator}
-use Rattle.rv_bench.specs.Noninterference.{RepliesAlike, AreSecret, SecretNoninterference, ScriptNoninterference, DifferInPokes, LineAvoidsHart, LineAvoidsEnclave}
+use Rattle.rv_bench.specs.Noninterference.{RepliesAlike, AreSecret, SecretNoninterference, ScriptNoninterference, DifferInPokes}
+use Rattle.rv_bench.specs.Noninterference.{LineAvoidsHart, LineAvoidsEnclave}
 use Rattle.rv_bench.specs.Noninterference.{LinesAvoidHart, EachLineAvoidsHart, LinesAvoidEnclave, PokeOrPass}
 use Rattle.rv_bench.specs.InMemory.{InMemoryNoninterference}
 use Rattle.rv_bench.specs.Loaded.{started}
@@ -147,7 +148,8 @@ module _ (e : ℕ) where
 
   poke_or_pass_rests : (first second : BenchState) (line other : List ℕ) → TargetInvariant first.target → RunsOnNoHart e first.target
       → PokeOrPass e first second line other → LineAvoidsHart e first line × RunsOnNoHart e (execute_line first line).state.target
-  poke_or_pass_rests first second line other kept not_running (inl pokes) = (by_at_rest first line kept not_running, poke_rests first line kept not_running pokes.0)
+  poke_or_pass_rests first second line other kept not_running (inl pokes) =
+      (by_at_rest first line kept not_running, poke_rests first line kept not_running pokes.0)
   poke_or_pass_rests first second line other kept not_running (inr passes) = line_rests first line kept not_running passes.1
 
   -- the facts after lines that differ in pokes

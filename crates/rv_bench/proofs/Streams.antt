@@ -89,7 +89,8 @@ module _ {S W : Type 0} {g : SourceGhosts S} (h : SinkGhosts W) (setup : Setup) 
         λ is_specified.
             subst (λ m. IsOkAnd m (λ state. StopsAtWrite one_bench Input state h.is_specified (after_separator (unread old)) (unread new) (h.taken before)
             (h.taken after))) (sym (bench_is (Ok state) starts is_specified))
-            (subst (λ t. StopsAtWrite one_bench Input state h.is_specified t (unread new) (h.taken before) (h.taken after)) (reads.rest is_specified) (run.1 is_specified)),
+            (subst (λ t. StopsAtWrite one_bench Input state h.is_specified t (unread new) (h.taken before) (h.taken after)) (reads.rest is_specified)
+            (run.1 is_specified)),
       )
   streamed (Err (Ram BadSize)) (none, same, unwritten) =
       (none, subst (ReadsThroughSeparator old) (sym same) reads, fault_is (Ram BadSize) (no_ram image setup none), unwritten)

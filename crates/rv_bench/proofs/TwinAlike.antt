@@ -10,7 +10,8 @@ use Rattle.rv_script.specs.Command.{parse_of}
 use Rattle.rv_debug.specs.Noninterference.{AlikeBy, StayAlike}
 use Rattle.rv_debug.specs.Isolation.{IsPreservedIn, after_commands}
 use Rattle.rv_debug.specs.Targets.{TargetInvariant}
-use Rattle.rv_debug.specs.BothBenches.{BenchesEquivExcept, BothExecuted, BothLineExecuted, RunsOnNoHart, TargetsEquivExcept, both_execute, both_do, both_execute_line, both_line_executed}
+use Rattle.rv_debug.specs.BothBenches.{BenchesEquivExcept, BothExecuted, BothLineExecuted, RunsOnNoHart, TargetsEquivExcept, both_execute}
+use Rattle.rv_debug.specs.BothBenches.{both_do, both_execute_line, both_line_executed}
 use Rattle.rv_debug.specs.BothBenches.{can_scramble}
 use Rattle.rv_debug.specs.BothBenches.{can_scramble_in, has_no_command, is_blind, scrambled, scrambled_in}
 use Rattle.rv_debug.specs.declared.both.BothLine.{BothLine}
@@ -34,7 +35,8 @@ use Rattle.rv_bench.specs.Output.{bench_in}
 use Rattle.rv_bench.specs.Replies.{Replied, state_after}
 use Rattle.rv_text.specs.Lines.{lines_of}
 use Rattle.rv_bench.specs.Twin.{after_first_script, monitored_setup}
-use Rattle.rv_bench.specs.TwinLaws.{BothPreserve, RepliesAlikeTo, OfPair, StayTogether, TwinNoninterference, TwinIntegrity, commands_done, done_by_both, done_in_line}
+use Rattle.rv_bench.specs.TwinLaws.{BothPreserve, RepliesAlikeTo, OfPair, StayTogether, TwinNoninterference, TwinIntegrity, commands_done}
+use Rattle.rv_bench.specs.TwinLaws.{done_by_both, done_in_line}
 use Rattle.rv_bench.proofs.NoninterferenceLemmas.{bench_keeps}
 use Rattle.rv_bench.proofs.RepliesLemmas.{state_after-append}
 use Rattle.rv_bench.proofs.IntegrityLemmas.{keeps_lines, stream_integrity}

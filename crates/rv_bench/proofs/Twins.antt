@@ -213,7 +213,8 @@ module _ {S W : Type 0} {g : SourceGhosts S} (h : SinkGhosts W) (setup : Setup) 
               going = λ is_specified. of_scripts is_specified (IsNeverEntered slot) (ended.going is_specified);
               told = ended.told;
             })
-            | inr (over, told) ↦ inr (λ is_specified. of_scripts is_specified (λ pair script. IsOver slot pair script (unread new) new.is_at_end) (over is_specified), told)
+            | inr (over, told) ↦ inr (λ is_specified. of_scripts is_specified (λ pair script. IsOver slot pair script (unread new) new.is_at_end)
+            (over is_specified), told)
           ];
           written = λ is_specified. subst (λ o. IsOkAnd o (λ text. h.is_specified → h.taken after ≡ h.taken before ++ text))
               (sym (output_is bench starts is_specified))
@@ -260,7 +261,8 @@ module _ {S W : Type 0} {g : SourceGhosts S} (h : SinkGhosts W) (setup : Setup) 
             subst (λ (m : Result BenchState BenchFault). IsOkAnd m (StopsInScriptsAtWrite h setup slot old new before after (after_separator (unread old))))
             (sym (bench_is (Ok bench) starts is_specified))
             (subst (λ (scripts : List ℕ). StopsInScriptsAtWrite h setup slot old new before after scripts bench) (read.through.rest is_specified)
-            (inr (of_rest is_specified Stops (write_after slot (make_pair slot then) h.is_specified _ _ _ _ _ (first.written is_specified) (run.1 is_specified))))),
+            (inr (of_rest is_specified Stops
+            (write_after slot (make_pair slot then) h.is_specified _ _ _ _ _ (first.written is_specified) (run.1 is_specified))))),
       ) where
         Stops : Option Pair → List ℕ → Type 0
         Stops pair script = StopsSecondAtWrite slot pair h.is_specified script (unread new) (h.taken before ++ first_text bench (unread mid)) (h.taken after)

@@ -30,7 +30,8 @@ module _ {S W : Type 0} (g : SourceGhosts S) (h : SinkGhosts W) (source left : S
   abbrev pub DoesJob : Job → Outcome → Type 0
   DoesJob (Run setup) outcome =
       (old : Lines S g) × (new : Lines S g) × ReadsByLines g source left old new × RunsStream h setup old new before after outcome
-      × IfOk (bench_in setup (unread old)) PreservesThrough × IfOk (bench_in setup (unread old)) ScriptNoninterference × SecretNoninterference setup (unread old)
+      × IfOk (bench_in setup (unread old)) PreservesThrough × IfOk (bench_in setup (unread old)) ScriptNoninterference
+      × SecretNoninterference setup (unread old)
   DoesJob (Twin setup slot) outcome =
       (old : Lines S g) × (new : Lines S g) × ReadsByLines g source left old new × RunsTwin h setup slot old new before after outcome
       × TwinNoninterference setup slot (unread old) × TwinIntegrity setup slot (unread old)

@@ -2,7 +2,8 @@
 use Rattle.std.proofs.Common.{◌≡◌, ℕ, List, [], ◌∷◌, Option, Some, None, refl, sym, subst}
 use Rattle.rv_debug.specs.Prelude.{Bare, Command, Invariant, Monitored, Machine, Target, option_case, with_register, write}
 use Rattle.rv_debug.proofs.Prelude.{BenchState, Selected, Effect, IsBare, TargetInvariant, Nothing, OneByte, Register, Steps, TimerLine, execute}
-use Rattle.rv_debug.proofs.Prelude.{selected_hart_state, effect, done, invariant_by_size, length-write, schedule_start, option_map, over_memory, sched_invariant}
+use Rattle.rv_debug.proofs.Prelude.{selected_hart_state, effect, done, invariant_by_size, length-write, schedule_start, option_map}
+use Rattle.rv_debug.proofs.Prelude.{over_memory, sched_invariant}
 use Rattle.rv_debug.proofs.Prelude.{written_invariant}
 use Rattle.rv_debug.proofs.ScheduledSteps.{by_bare, stays_bare, step_scheduled_bare, schedule_is_sched}
 

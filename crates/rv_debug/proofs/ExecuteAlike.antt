@@ -63,7 +63,8 @@ same_line : (e hart : ℕ) (ran : HartRan) (one other : Selected) → SelectedEq
     → hart_summary_text (Monitored one) hart ran ≡ hart_summary_text (Monitored other) hart ran
 same_line e hart ran one other equiv not_running =
     let hart_states = (let state = equiv.state in state.hart_states hart) in
-    ap (λ (hart_state : HartState). hart_text hart hart_state.hart.pc hart_state.hart.mode (world_name hart_state.world) ran) (hart_states.same (not_running hart))
+    ap (λ (hart_state : HartState). hart_text hart hart_state.hart.pc hart_state.hart.mode (world_name hart_state.world) ran)
+    (hart_states.same (not_running hart))
 
 same_lines : (e : ℕ) (did : Scheduled) (one other : Selected) → SelectedEquivExcept e one other → RunsOnNoHart e (Monitored one)
     → harts_summary_text (after_schedule (Monitored one) did) ≡ harts_summary_text (after_schedule (Monitored other) did)
@@ -79,7 +80,8 @@ schedule_executed hart breaks watches after =
 
 past_alike : (e hart : ℕ) (breaks watches : List ℕ) (did did' : Scheduled) (one other : Selected) → did ≡ did' → SelectedEquivExcept e one other
     → RunsOnNoHart e (Monitored one)
-    → Alike e (schedule_executed hart breaks watches (after_schedule (Monitored one) did)) (schedule_executed hart breaks watches (after_schedule (Monitored other) did'))
+    → Alike e (schedule_executed hart breaks watches (after_schedule (Monitored one) did))
+    (schedule_executed hart breaks watches (after_schedule (Monitored other) did'))
 past_alike e hart breaks watches did did' one other same equiv not_running =
     subst (λ (d : Scheduled). Alike e (schedule_executed hart breaks watches (after_schedule (Monitored one) did))
     (schedule_executed hart breaks watches (after_schedule (Monitored other) d))) same
@@ -122,7 +124,8 @@ run_told target breaks watches at_breaks at_watches count =
 -- ---- monitored machines
 
 -- the enclave runs on no hart, if it runs on none of the harts of the machine
-on_none : (e n first j : ℕ) (machine : MonitoredMachine) → RunsOnNone e (range_with_len first n) machine → first ≤ j → j < first + n → runs_on e j machine ≡ false
+on_none : (e n first j : ℕ) (machine : MonitoredMachine) → RunsOnNone e (range_with_len first n) machine → first ≤ j → j < first + n
+    → runs_on e j machine ≡ false
 on_none e zero first j machine none low high = absurd (omega (arith, low, high))
 on_none e (suc n) first j machine none low high = elim (cases_eq j first) [
   | inl same ↦ ap (λ (hart : ℕ). runs_on e hart machine) same ∙ none.0
@@ -252,7 +255,8 @@ module _ (e hart : ℕ) (one other : MonitoredMachine) (equiv : EquivExcept e on
     passed = λ none. record {
       reply =
           let own = (let state = past.state in state.hart_states hart) in
-          ap₂ (λ (hart_state : HartState) (ran : Ran). ran_text hart_state.hart.pc hart_state.hart.mode (world_name hart_state.world) ran) (own.same past.not_running) past.ran;
+          ap₂ (λ (hart_state : HartState) (ran : Ran). ran_text hart_state.hart.pc hart_state.hart.mode (world_name hart_state.world) ran)
+          (own.same past.not_running) past.ran;
       entered = ap (λ (ran : Ran). ran.entered) past.ran;
       state = record { target = record { hart = refl; state = past.state }; breaks = refl; watches = refl };
     };

@@ -19,7 +19,8 @@ pub tells_reach : (target : Target) (command : Command) → TargetInvariant targ
 unfolding read
 tells_reach (Monitored selected) (Access mode access address width) kept has = λ below inside. record {
   told = rw inside refl;
-  exact = access_control_law (hart_view selected.hart selected.state) mode access address width (hart_view_invariant selected.hart selected.state kept has) below inside;
+  exact = access_control_law (hart_view selected.hart selected.state) mode access address width
+  (hart_view_invariant selected.hart selected.state kept has) below inside;
 }
 tells_reach _ _ kept has = tt
 
@@ -54,7 +55,8 @@ preserves (Monitored machine) (OneByte address byte) kept k not_running =
     poke_integrity k address byte machine (write machine.state.shared.memory address (byte ∷ [])) refl not_running.1
 preserves (Monitored machine) _ kept k not_running = itself k machine
 
-pub integrity_resting : (bench : BenchState) (command : Command) → TargetInvariant bench.target → PreservesUndisturbed bench command (execute bench command).state
+pub integrity_resting : (bench : BenchState) (command : Command) → TargetInvariant bench.target
+    → PreservesUndisturbed bench command (execute bench command).state
 unfolding execute
 integrity_resting bench command kept = preserves bench.target (effect bench command) kept
 

@@ -25,7 +25,8 @@ on_none_in e harts (Monitored selected) not_running = on_none e harts selected.s
 -- ---- the effect enters it, or it still runs on no hart
 
 steps_rest : (e selected : ℕ) (harts : List ℕ) (machine : Selected) → TargetInvariant (Monitored machine) → RunsOnNoHart e (Monitored machine)
-    → is_entered e (scheduled_steps harts (schedule_start (Monitored machine))).did.entered ≡ false → RunsOnNoHart e (done (Monitored machine) (Steps harts selected))
+    → is_entered e (scheduled_steps harts (schedule_start (Monitored machine))).did.entered ≡ false
+    → RunsOnNoHart e (done (Monitored machine) (Steps harts selected))
 steps_rest e selected harts machine kept not_running none =
     let same : SelectedEquivExcept e machine machine = record { hart = refl; state = equiv_itself e machine.state (itself e machine.state.shared) } in
     elim (scheduled_steps_alike e harts machine machine _ kept kept same not_running) [
@@ -37,10 +38,12 @@ steps_rest e selected harts machine kept not_running none =
       selected_rests (Monitored machine) not_running = not_running
 
 -- a debugger's write keeps the world of each hart
-written_rests : (e : ℕ) (machine : Selected) (change : HartState → HartState) → ((hart_state : HartState) → (change hart_state).world ≡ hart_state.world) → RunsOnNoHart e (Monitored machine)
+written_rests : (e : ℕ) (machine : Selected) (change : HartState → HartState) → ((hart_state : HartState) → (change hart_state).world ≡ hart_state.world)
+    → RunsOnNoHart e (Monitored machine)
     → RunsOnNoHart e (selected_at machine.hart (changed machine.hart change machine.state))
 written_rests e machine change same not_running hart =
-    changed_of (λ (hart_state : HartState). is_world_of e hart_state.world) change (λ hart_state. ap (is_world_of e) (same hart_state)) machine.hart hart machine.state ∙ not_running hart
+    changed_of (λ (hart_state : HartState). is_world_of e hart_state.world) change
+    (λ hart_state. ap (is_world_of e) (same hart_state)) machine.hart hart machine.state ∙ not_running hart
 
 poke_rests : (e : ℕ) (machine : Selected) (memory : Option (List ℕ)) → RunsOnNoHart e (Monitored machine) → RunsOnNoHart e (poke_of (Monitored machine) memory)
 poke_rests e machine None not_running = not_running
@@ -64,7 +67,8 @@ rest_law e bench command kept not_running = record {
   not_running = λ none. effect_rests e bench.target (effect bench command) kept not_running none;
 }
 
-pub rest_all : (e : ℕ) (bench : BenchState) (commands : List Command) → TargetInvariant bench.target → RunsOnNoHart e bench.target → CommandsAvoidHart e bench commands
+pub rest_all : (e : ℕ) (bench : BenchState) (commands : List Command) → TargetInvariant bench.target → RunsOnNoHart e bench.target
+    → CommandsAvoidHart e bench commands
 rest_all e bench [] kept not_running = tt
 rest_all e bench (command ∷ commands) kept not_running =
     let stays = rest_law e bench command kept not_running in

@@ -69,7 +69,8 @@ has_inside memory (Some info) address law is =
 written : (state : MonitoredMachine) (e address byte : ℕ) → Invariant state → has (region state.shared.table e) address ≡ true
     → write state.shared.memory address (byte ∷ []) ≡ Some (write_bytes state.shared.memory (address - ram_base) (byte ∷ []))
 written state e address byte kept is =
-    write-some state.shared.memory address (byte ∷ []) (has_inside state.shared.memory (slot_at state.shared.table e) address (kept.shared.valid.well_formed e) is)
+    write-some state.shared.memory address (byte ∷ [])
+    (has_inside state.shared.memory (slot_at state.shared.table e) address (kept.shared.valid.well_formed e) is)
 
 -- ---- machines
 

@@ -27,7 +27,8 @@ abbrev host_in : ℕ → Target → Option Context
 host_in hart target = option_case (machine_in target) None (host_on hart)
 
 -- a debugger's write is not part of the saved context
-write_host : (hart : ℕ) (machine : Selected) (change : HartState → HartState) → ((hart_state : HartState) → (change hart_state).host_context ≡ hart_state.host_context)
+write_host : (hart : ℕ) (machine : Selected) (change : HartState → HartState)
+    → ((hart_state : HartState) → (change hart_state).host_context ≡ hart_state.host_context)
     → host_in hart (selected_at machine.hart (changed machine.hart change machine.state)) ≡ host_on hart machine.state
 write_host hart machine change same = changed_of (λ (hart_state : HartState). hart_state.host_context) change same machine.hart hart machine.state
 

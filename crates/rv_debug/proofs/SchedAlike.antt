@@ -50,7 +50,8 @@ entered_next : (e hart : ℕ) (harts : List ℕ) (did : Scheduled) (state : Moni
 entered_next e hart harts did state outcome is =
     stays_entered e harts (next hart did state outcome) (enters-now e did.entered outcome.entered is)
 
-pub scheduled_steps_alike : (e : ℕ) (harts : List ℕ) (one other : Selected) (did : Scheduled) → Invariant one.state → Invariant other.state → SelectedEquivExcept e one other
+pub scheduled_steps_alike : (e : ℕ) (harts : List ℕ) (one other : Selected) (did : Scheduled) → Invariant one.state → Invariant other.state
+    → SelectedEquivExcept e one other
     → RunsOnNoHart e (Monitored one)
     → ScheduledStepsAlike e (scheduled_steps harts (after_schedule (Monitored one) did)) (scheduled_steps harts (after_schedule (Monitored other) did))
 unfolding scheduled_steps

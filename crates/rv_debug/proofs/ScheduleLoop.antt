@@ -49,18 +49,22 @@ module _ (before after : Target) (first second now : Ran) where
       record { state = (target_stepped (with_selected hart before)).state; did = record { first = a; second = b; entered = entered } }
 
   pub first_step : GoesOn 0 before first after now
-      → with_scheduled_step 0 (after_schedule before (schedule_summary first second)) (target_stepped (with_selected 0 before)) ≡ after_schedule after (schedule_summary now second)
+      → with_scheduled_step 0 (after_schedule before (schedule_summary first second)) (target_stepped (with_selected 0 before))
+      ≡ after_schedule after (schedule_summary now second)
   first_step is =
       let last = target_stepped (with_selected 0 before) in
-      ap (step_scheduled 0 (record { steps = first.steps + 1; trap = option_or last.outcome.trap first.trap }) (record { steps = second.steps; trap = second.trap }))
+      ap (step_scheduled 0 (record { steps = first.steps + 1; trap = option_or last.outcome.trap first.trap })
+      (record { steps = second.steps; trap = second.trap }))
       (first_slot first.entered second.entered last.entered)
       ∙ ap (λ (r : AfterRun Target). after_schedule r.state (schedule_summary r.ran second)) is
 
   pub second_step : GoesOn 1 before second after now
-      → with_scheduled_step 1 (after_schedule before (schedule_summary first second)) (target_stepped (with_selected 1 before)) ≡ after_schedule after (schedule_summary first now)
+      → with_scheduled_step 1 (after_schedule before (schedule_summary first second)) (target_stepped (with_selected 1 before))
+      ≡ after_schedule after (schedule_summary first now)
   second_step is =
       let last = target_stepped (with_selected 1 before) in
-      ap (step_scheduled 1 (record { steps = first.steps; trap = first.trap }) (record { steps = second.steps + 1; trap = option_or last.outcome.trap second.trap }))
+      ap (step_scheduled 1 (record { steps = first.steps; trap = first.trap })
+      (record { steps = second.steps + 1; trap = option_or last.outcome.trap second.trap }))
       (second_slot first.entered second.entered last.entered)
       ∙ ap (λ (r : AfterRun Target). after_schedule r.state (schedule_summary first r.ran)) is
 
@@ -73,7 +77,8 @@ pub harts_after : (hart : ℕ) (before after : AfterSchedule) → with_scheduled
 harts_after hart before after is =
     sym (ap (λ (a : AfterSchedule). harts_of a.state) is) ∙ stepped_harts (with_selected hart before.state) ∙ step_scheduled_harts hart before.state
 
-pub bare_after : (hart : ℕ) (before after : AfterSchedule) → with_scheduled_step hart before (target_stepped (with_selected hart before.state)) ≡ after → IsBare before.state
+pub bare_after : (hart : ℕ) (before after : AfterSchedule) → with_scheduled_step hart before (target_stepped (with_selected hart before.state)) ≡ after
+    → IsBare before.state
     → IsBare after.state
 bare_after hart before after is bare = subst (λ (a : AfterSchedule). IsBare a.state) is (step_bare hart before.state bare)
 
@@ -94,7 +99,8 @@ unfold_schedule hart harts before = refl
 
 pub scheduled_step_more : (digits : List ℕ) (n digit hart : ℕ) (before after : AfterSchedule) → n < length digits → digit ≡ get_or digits n 0
     → hart ≡ hart_of_digit digit
-    → with_scheduled_step hart before (target_stepped (with_selected hart before.state)) ≡ after → scheduled_steps (rest n digits) before ≡ scheduled_steps (rest (n + 1) digits) after
+    → with_scheduled_step hart before (target_stepped (with_selected hart before.state)) ≡ after
+    → scheduled_steps (rest n digits) before ≡ scheduled_steps (rest (n + 1) digits) after
 scheduled_step_more digits n digit hart before after inside is names goes =
     ap (λ (harts : List ℕ). scheduled_steps harts before) (next_digit digits n digit inside is ∙ ap (λ (h : ℕ). h ∷ rest (n + 1) digits) (sym names))
     ∙ unfold_schedule hart (rest (n + 1) digits) before ∙ ap (scheduled_steps (rest (n + 1) digits)) goes

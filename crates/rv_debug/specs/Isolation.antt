@@ -27,7 +27,8 @@ pub record ReportsVerdict (machine : HartView) (mode : Mode) (access : AccessKin
 -- in S and U, for bytes that are in RAM
 abbrev pub ReportsAccess : Target → Command → Type 0
 ReportsAccess (Monitored selected) (Access mode access address width) =
-    mode ≢ M → is_inside selected.state.shared.memory address (bytes_in width) ≡ true → ReportsVerdict (hart_view selected.hart selected.state) mode access address width
+    mode ≢ M → is_inside selected.state.shared.memory address (bytes_in width) ≡ true
+    → ReportsVerdict (hart_view selected.hart selected.state) mode access address width
 ReportsAccess _ _ = Unit {0}
 
 -- ---- integrity

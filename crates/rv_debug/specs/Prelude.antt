@@ -22,7 +22,8 @@ pub use Rattle.rv_monitor.specs.EquivExcept.{EquivExcept, runs_on}
 pub use Rattle.rv_monitor.specs.Debugger.{changed, reg_set, timer_line_set, with_memory, with_reg, with_timer}
 pub use Rattle.rv_monitor.specs.HartLaws.{IsChangedInOrder, IsUndisturbed, RunsOnNone, sched}
 pub use Rattle.rv_monitor.specs.Integrity.{IsPreserved, enters}
-pub use Rattle.rv_monitor.specs.MonitoredMachine.{HostContextsAreLegal, HostContextIsLegal, Invariant, MonitoredMachine, HartView, count_of, hart_state_at_start, hart_state_of, reprogrammed}
+pub use Rattle.rv_monitor.specs.MonitoredMachine.{HostContextsAreLegal, HostContextIsLegal, Invariant, MonitoredMachine, HartView, count_of}
+pub use Rattle.rv_monitor.specs.MonitoredMachine.{hart_state_at_start, hart_state_of, reprogrammed}
 pub use Rattle.rv_monitor.specs.MonitoredMachine.{hart_view}
 unfoldable pub use Rattle.rv_monitor.specs.Step.{monitored_step, step_of}
 pub use Rattle.rv_monitor.specs.declared.hart_state.HartState.{HartState}

@@ -5,7 +5,8 @@ use Rattle.rv_hart.specs.HartRecord.{Hart}
 use Rattle.rv_hart.specs.Step.{step}
 use Rattle.rv_enclaves.specs.declared.world.World.{World}
 use Rattle.rv_enclaves.specs.declared.world.World.TheVariants.{Host, Enclave}
-use Rattle.rv_debug.specs.Prelude.{HostContextsAreLegal, Bare, Invariant, MonitoredMachine, Monitored, HartState, Machine, Target, count_of, is_live, option_case}
+use Rattle.rv_debug.specs.Prelude.{HostContextsAreLegal, Bare, Invariant, MonitoredMachine, Monitored, HartState, Machine, Target, count_of}
+use Rattle.rv_debug.specs.Prelude.{is_live, option_case}
 use Rattle.rv_debug.specs.Prelude.{hart_state_of, step_of, with_memory, with_reg, with_register, with_timer, write}
 use Rattle.rv_debug.specs.Selected.{Selected}
 use Rattle.rv_debug.specs.EnclaveText.{table_text}

@@ -10,7 +10,8 @@ use Rattle.rv_enclaves.specs.SharedEquivExcept.{SameContexts}
 use Rattle.rv_enclaves.specs.Create.{with_enclave}
 use Rattle.rv_enclaves.specs.Destroy.{without}
 use Rattle.rv_enclaves.specs.declared.call.Call.TheVariants as calls
-use Rattle.rv_enclaves.proofs.Prelude.{EqualOutside, Block, Context, Contexts, EnclaveState, IsValidSlot, IsValid, CreateArgs, Shared, SharedEquivExcept, SlotInfo}
+use Rattle.rv_enclaves.proofs.Prelude.{EqualOutside, Block, Context, Contexts, EnclaveState, IsValidSlot, IsValid, CreateArgs, Shared}
+use Rattle.rv_enclaves.proofs.Prelude.{SharedEquivExcept, SlotInfo}
 use Rattle.rv_enclaves.proofs.Prelude.{Slots, context_at, created, destroyed, first_context, has, is_block_size, is_inside, is_valid_block, is_live, is_private}
 use Rattle.rv_enclaves.proofs.Prelude.{measured, measurement_at, measurement_of, meets, new_slot, option_case, recorded, region, region_of, slot_at}
 use Rattle.rv_enclaves.proofs.Prelude.{with_bytes_at, with_context, with_slot, with_state, zeroed}

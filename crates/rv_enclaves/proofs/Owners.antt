@@ -172,7 +172,8 @@ module _ (memory : List ℕ) (t : Slots) (w : World) (ram_size : length memory �
 
   pub covers_slot : (k : ℕ) → k < 13 → covers (layout t w) (k + 1) b ≡ has (region t k) b
   covers_slot k in_range =
-      at_entry (k + 1) _ _ (omega arith) (entry_at-slot t w k in_range) (λ before. region_covers memory w k (slot_at t k) before b ram_size (valid.well_formed k))
+      at_entry (k + 1) _ _ (omega arith) (entry_at-slot t w k in_range)
+      (λ before. region_covers memory w k (slot_at t k) before b ram_size (valid.well_formed k))
 
   pub covers_window : covers (layout t w) 14 b ≡ has (world_window t w) b
   covers_window = at_entry 14 _ _ (lit< tt) (entry_at-window t w) (λ before. window_owned memory t w before b ram_size valid)

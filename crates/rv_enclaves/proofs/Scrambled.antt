@@ -7,7 +7,8 @@ use Rattle.std.proofs.lemmas.Bool.{cases_lt, cases_eq, cases_Bool, and_from, le-
 use Rattle.rv_memory.proofs.Complements.{with_complements, length-with_complements, below, above, inside-index, complemented-is}
 use Rattle.rv_enclaves.specs.CallLaws.{ScrambledLaw}
 use Rattle.rv_enclaves.specs.Scramble.{can_scramble, complemented_context, complemented_block, scrambled_shared}
-use Rattle.rv_enclaves.proofs.Prelude.{EqualOutside, Block, Context, Contexts, SharedInvariant, Shared, SharedEquivExcept, SlotInfo, World, can_go_on, context_at, has}
+use Rattle.rv_enclaves.proofs.Prelude.{EqualOutside, Block, Context, Contexts, SharedInvariant, Shared, SharedEquivExcept, SlotInfo, World}
+use Rattle.rv_enclaves.proofs.Prelude.{can_go_on, context_at, has}
 use Rattle.rv_enclaves.proofs.Prelude.{is_held, is_inside, is_live, is_running, option_case, ram_base, region, runs, slot_at, with_context}
 use Rattle.rv_enclaves.proofs.EqualMemory.{inside-is, read-none}
 use Rattle.rv_enclaves.proofs.Slots.{at_same, at_other}

@@ -12,8 +12,10 @@ use Rattle.sha2.proofs.Facts256.{length-sha256}
 use Rattle.rv_enclaves.specs.Destroy.{without}
 use Rattle.rv_enclaves.specs.Table.{free_slot}
 use Rattle.rv_enclaves.specs.declared.call.Call.TheVariants as calls
-use Rattle.rv_enclaves.proofs.Prelude.{AreApart, Block, Context, Enclave, EnclaveState, Host, SharedInvariant, CreateArgs, Running, Shared, SlotInfo, Slots, World}
-use Rattle.rv_enclaves.proofs.Prelude.{can_go_on, context_at, created, destroyed, first_context, has, is_held, is_valid_block, is_running, is_window, is_world_of}
+use Rattle.rv_enclaves.proofs.Prelude.{AreApart, Block, Context, Enclave, EnclaveState, Host, SharedInvariant, CreateArgs, Running, Shared}
+use Rattle.rv_enclaves.proofs.Prelude.{SlotInfo, Slots, World}
+use Rattle.rv_enclaves.proofs.Prelude.{can_go_on, context_at, created, destroyed, first_context, has, is_held, is_valid_block, is_running}
+use Rattle.rv_enclaves.proofs.Prelude.{is_window, is_world_of}
 use Rattle.rv_enclaves.proofs.Prelude.{length-write, measured, measurement_at, measurement_of, new_slot, option_case, overlaps, recorded}
 use Rattle.rv_enclaves.proofs.Prelude.{region, running_slot, runs}
 use Rattle.rv_enclaves.proofs.Prelude.{slot_at, window, with_bytes_at, with_context, with_slot, with_state, write, zeroed}
@@ -203,7 +205,8 @@ destroyed_sound shared worlds k may sound = gone shared worlds k may.info sound 
 
 -- ---- measure
 
-pub measured_sound : (shared : Shared) (worlds : List World) (k address : ℕ) → SharedInvariant shared worlds → SharedInvariant (measured shared k address) worlds
+pub measured_sound : (shared : Shared) (worlds : List World) (k address : ℕ) → SharedInvariant shared worlds
+    → SharedInvariant (measured shared k address) worlds
 unfolding measured
 measured_sound shared worlds k address sound =
     let bytes = measurement_at shared.table k in

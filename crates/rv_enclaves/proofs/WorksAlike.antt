@@ -4,7 +4,8 @@ use Rattle.std.proofs.Common.{◌≡◌, ◌≢◌, ℕ, true, List, Option, ref
 use Rattle.std.proofs.lemmas.Bool.{cases_Bool}
 use Rattle.rv_enclaves.specs.CallLaws.{CallsAlikeLaw}
 use Rattle.rv_enclaves.specs.SharedEquivExcept.{SameContexts}
-use Rattle.rv_enclaves.proofs.Prelude.{EqualOutside, Context, Contexts, Destroy, EnclaveState, SharedInvariant, CreateArgs, Shared, SharedEquivExcept, Slots, World, created}
+use Rattle.rv_enclaves.proofs.Prelude.{EqualOutside, Context, Contexts, Destroy, EnclaveState, SharedInvariant, CreateArgs, Shared}
+use Rattle.rv_enclaves.proofs.Prelude.{SharedEquivExcept, Slots, World, created}
 use Rattle.rv_enclaves.proofs.Prelude.{destroyed, is_live, is_private, saved_context, measured, with_context, with_state}
 use Rattle.rv_enclaves.proofs.Alike.{itself, as_before, created_alike, destroyed_alike, measured_alike, switched_alike}
 use Rattle.rv_enclaves.proofs.Refusals.{MayCreate, IsTaken, may_create, may_take}

@@ -121,14 +121,16 @@ confined state = step_ways state (IsConfined state) (record {
     bytes = bytes_of (bytes_in width) value;
     alike = λ n agree.
         let reads : EqualOn state.memory n (store_of state.hart address width) = rw touched-ended at agree in
-        let there = requested_step _ word instr (Store address width value) (op_request-too state n word instr (Store address width value) reads.fetched here) in
+        let there =
+        requested_step _ word instr (Store address width value) (op_request-too state n word instr (Store address width value) reads.fetched here) in
         let stores = store_done_too state.memory n state.hart.csrs.pmp (data_mode state.hart) address width value memory reads.size is in
         stored-alike state n word instr address width value memory reads.size is (rw stores at there);
   };
   store_refused = λ word instr address width value fault here is. record {
     bytes = [];
     alike = λ n agree.
-        let there = requested_step _ word instr (Store address width value) (op_request-too state n word instr (Store address width value) agree.fetched here) in
+        let there =
+        requested_step _ word instr (Store address width value) (op_request-too state n word instr (Store address width value) agree.fetched here) in
         let refused = store_refused_too state.memory n state.hart.csrs.pmp (data_mode state.hart) address width value fault agree.size is in
         unchanged state n _ refl (rw refused at there);
   };

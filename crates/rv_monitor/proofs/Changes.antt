@@ -46,7 +46,8 @@ abbrev Changes : World → List ℕ → Shared → ℕ → Shared → Type 0
 Changes world regs before byte after =
     byte_at after.memory byte ≡ byte_at before.memory byte ⊎ ByMonitor world regs before after byte
 
-destroyed_changes : (hart_state : HartState) (shared : Shared) (byte : ℕ) → IsValid shared.memory shared.table → requested_call hart_state.world hart_state.hart.regs ≡ Some Destroy
+destroyed_changes : (hart_state : HartState) (shared : Shared) (byte : ℕ) → IsValid shared.memory shared.table
+    → requested_call hart_state.world hart_state.hart.regs ≡ Some Destroy
     → IsTaken shared.table Destroy (a0 hart_state) → Changes hart_state.world hart_state.hart.regs shared byte (destroyed shared (a0 hart_state))
 unfolding destroyed
 destroyed_changes hart_state shared byte valid asked taken =
@@ -107,7 +108,8 @@ module _ (hart_state : HartState) (shared : Shared) (valid : IsValid shared.memo
     unfolding measured
     measured_changes = put_changes (slot_at shared.table slot) (valid.well_formed slot) live
 
-module _ (hart_state : HartState) (shared : Shared) (valid : IsValid shared.memory shared.table) (laid : hart_state.hart.csrs.pmp ≡ layout shared.table hart_state.world) (byte : ℕ)
+module _ (hart_state : HartState) (shared : Shared) (valid : IsValid shared.memory shared.table)
+    (laid : hart_state.hart.csrs.pmp ≡ layout shared.table hart_state.world) (byte : ℕ)
     (trap : Trap) where
   -- only a call changes a byte
   abbrev ChangedBy : Shared → Type 0
@@ -115,7 +117,8 @@ module _ (hart_state : HartState) (shared : Shared) (valid : IsValid shared.memo
       byte_at after.memory byte ≡ byte_at shared.memory byte
       ⊎ ((is_call trap.cause ≡ true) × ByMonitor hart_state.world hart_state.hart.regs shared after byte)
 
-  by_call : (call : Call) (after : Shared) → Requests hart_state trap.cause call → Changes hart_state.world hart_state.hart.regs shared byte after → ChangedBy after
+  by_call : (call : Call) (after : Shared) → Requests hart_state trap.cause call → Changes hart_state.world hart_state.hart.regs shared byte after
+      → ChangedBy after
   by_call call after reads (inl same) = inl same
   by_call call after reads (inr changed) = let is = reads.is_call in inr (rw is refl, changed)
 

@@ -21,7 +21,8 @@ equiv_itself e machine shared =
     record { harts = refl; hart_states = λ hart. record { world = refl; same = λ not_running. refl }; shared = shared }
 
 -- the state of a hart, changed in the same way in both, if the change keeps its world
-changed_in : (e hart : ℕ) (change : HartState → HartState) (one other : MonitoredMachine) → ((hart_state : HartState) → (change hart_state).world ≡ hart_state.world)
+changed_in : (e hart : ℕ) (change : HartState → HartState) (one other : MonitoredMachine)
+    → ((hart_state : HartState) → (change hart_state).world ≡ hart_state.world)
     → hart < count_of one → EquivExcept e one other → EquivExcept e (changed hart change one) (changed hart change other)
 changed_in e hart change one other keeps has equiv =
     let a = change (hart_state_of hart one) in
@@ -37,7 +38,8 @@ changed_in e hart change one other keeps has equiv =
       shared = equiv.shared;
     }
 
-pub changed_equiv : (e hart : ℕ) (change : HartState → HartState) (one other : MonitoredMachine) → ((hart_state : HartState) → (change hart_state).world ≡ hart_state.world)
+pub changed_equiv : (e hart : ℕ) (change : HartState → HartState) (one other : MonitoredMachine)
+    → ((hart_state : HartState) → (change hart_state).world ≡ hart_state.world)
     → EquivExcept e one other → EquivExcept e (changed hart change one) (changed hart change other)
 changed_equiv e hart change one other keeps equiv = elim (cases_lt hart (count_of one)) [
   | inl has ↦ changed_in e hart change one other keeps has equiv

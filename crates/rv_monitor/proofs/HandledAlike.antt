@@ -20,19 +20,22 @@ module _ (e : ℕ) (table : Slots) (m n : List ℕ) (cs ds : Contexts) (cases : 
   there = over table n ds
 
   returned_alike : (one other : Shared) (status result : ℕ) → SharedEquivExcept e one other
-      → HandledAlike e (with_reprogrammed_hart (returned_to_caller hart_state one status result)) (with_reprogrammed_hart (returned_to_caller hart_state other status result))
+      → HandledAlike e (with_reprogrammed_hart (returned_to_caller hart_state one status result))
+      (with_reprogrammed_hart (returned_to_caller hart_state other status result))
   returned_alike one other status result equiv = record {
     entered = refl;
     hart_state = record {
       world = refl;
       same = λ not_running.
-          ap (λ (slots : Slots). continuing_from (with_reprogrammed_hart (returned_to_caller hart_state (over slots one.memory one.contexts) status result))) equiv.table;
+          ap (λ (slots : Slots). continuing_from
+          (with_reprogrammed_hart (returned_to_caller hart_state (over slots one.memory one.contexts) status result))) equiv.table;
     };
     shared = equiv;
   }
 
   -- a slot other than e
-  enters_other : (a0 hart_state ≡ e → ⊥) → HandledAlike e (with_reprogrammed_hart (entering hart_state here)) (with_reprogrammed_hart (entering hart_state there))
+  enters_other : (a0 hart_state ≡ e → ⊥)
+      → HandledAlike e (with_reprogrammed_hart (entering hart_state here)) (with_reprogrammed_hart (entering hart_state there))
   unfolding entered_slot
   enters_other other =
       let same = cases.contexts (a0 hart_state) other in

@@ -104,10 +104,13 @@ module _ (hart_state : HartState) (trap : Trap) (table : Slots) (m n : List ℕ)
     pub answers : (status result : ℕ) → Both (λ shared. returned_to_caller hart_state shared status result)
     pub creates : Requests hart_state trap.cause Create → MayCreate here (create_args_of hart_state.hart.regs)
         → Both (λ shared. returned_to_caller hart_state (created shared (create_args_of hart_state.hart.regs)) 0 (new_slot shared.table))
-    pub destroys : Requests hart_state trap.cause Destroy → IsTaken table Destroy (a0 hart_state) → Both (λ shared. returned_to_caller hart_state (destroyed shared (a0 hart_state)) 0 0)
-    pub measures : Requests hart_state trap.cause Measure → MayMeasure here hart_state.hart.csrs.pmp (measured_slot hart_state.world (a0 hart_state)) (a1 hart_state)
+    pub destroys : Requests hart_state trap.cause Destroy → IsTaken table Destroy (a0 hart_state)
+        → Both (λ shared. returned_to_caller hart_state (destroyed shared (a0 hart_state)) 0 0)
+    pub measures : Requests hart_state trap.cause Measure
+        → MayMeasure here hart_state.hart.csrs.pmp (measured_slot hart_state.world (a0 hart_state)) (a1 hart_state)
         → Both (λ shared. returned_to_caller hart_state (measured shared (measured_slot hart_state.world (a0 hart_state)) (a1 hart_state)) 0 0)
-    pub enters : (call : Call) → Requests hart_state trap.cause call → is_entering (Some call) ≡ true → hart_state.world ≡ Host → IsTaken table call (a0 hart_state)
+    pub enters : (call : Call) → Requests hart_state trap.cause call → is_entering (Some call) ≡ true → hart_state.world ≡ Host
+        → IsTaken table call (a0 hart_state)
         → Both (entering hart_state)
     pub leaves : Both (leaving trap.cause hart_state)
     pub forwards : Both (λ shared. forwarded hart_state shared trap)
@@ -174,18 +177,22 @@ module _ (hart_state : HartState) (trap : Trap) (table : Slots) (m n : List ℕ)
 
 -- two shared states side by side
 abbrev pub HandlerCasesOfBoth : HartState → Trap → Slots → List ℕ → List ℕ → Contexts → Contexts → (Handled → Handled → Type 0) → Type 0
-HandlerCasesOfBoth hart_state trap table m n cs ds P = Pieces hart_state trap table m n cs ds (λ one other. P (with_reprogrammed_hart one) (with_reprogrammed_hart other))
+HandlerCasesOfBoth hart_state trap table m n cs ds P =
+    Pieces hart_state trap table m n cs ds (λ one other. P (with_reprogrammed_hart one) (with_reprogrammed_hart other))
 
 pub handler_cases_of_both : (hart_state : HartState) (trap : Trap) (table : Slots) (m n : List ℕ) (cs ds : Contexts) (P : Handled → Handled → Type 0)
-    → HandlerCasesOfBoth hart_state trap table m n cs ds P → length m ≡ length n → P (handled hart_state (over table m cs) trap) (handled hart_state (over table n ds) trap)
+    → HandlerCasesOfBoth hart_state trap table m n cs ds P → length m ≡ length n
+    → P (handled hart_state (over table m cs) trap) (handled hart_state (over table n ds) trap)
 unfolding handled
 handler_cases_of_both hart_state trap table m n cs ds P pieces size =
     by_pieces hart_state trap table m n cs ds (λ one other. P (with_reprogrammed_hart one) (with_reprogrammed_hart other)) pieces size
 
 -- one shared state
 abbrev pub OneHandlerCases : HartState → Trap → Shared → (Handled → Type 0) → Type 0
-OneHandlerCases hart_state trap shared P = HandlerCasesOfBoth hart_state trap shared.table shared.memory shared.memory shared.contexts shared.contexts (λ one _. P one)
+OneHandlerCases hart_state trap shared P =
+    HandlerCasesOfBoth hart_state trap shared.table shared.memory shared.memory shared.contexts shared.contexts (λ one _. P one)
 
-pub handler_cases : (hart_state : HartState) (trap : Trap) (shared : Shared) (P : Handled → Type 0) → OneHandlerCases hart_state trap shared P → P (handled hart_state shared trap)
+pub handler_cases : (hart_state : HartState) (trap : Trap) (shared : Shared) (P : Handled → Type 0) → OneHandlerCases hart_state trap shared P
+    → P (handled hart_state shared trap)
 handler_cases hart_state trap shared P pieces =
     handler_cases_of_both hart_state trap shared.table shared.memory shared.memory shared.contexts shared.contexts (λ one _. P one) pieces refl

@@ -88,18 +88,22 @@ module _ (table : Slots) (m n : List ℕ) (cs ds : Contexts) (size : length m �
     asks_for call reads = let is = reads.is_call in rw is reads.asked
 
     caller_same : (one other : Shared) (status result : ℕ) → Same one other
-        → HandlerCases (with_reprogrammed_hart (returned_to_caller hart_state one status result)) (with_reprogrammed_hart (returned_to_caller hart_state other status result))
+        → HandlerCases (with_reprogrammed_hart (returned_to_caller hart_state one status result))
+        (with_reprogrammed_hart (returned_to_caller hart_state other status result))
     caller_same one other status result same =
-        record { hart_state = ap (λ (slots : Slots). reprogrammed slots (returned_to_caller hart_state one status result).hart_state) same.table; next = refl; shared = same }
+        record { hart_state = ap (λ (slots : Slots). reprogrammed slots
+        (returned_to_caller hart_state one status result).hart_state) same.table; next = refl; shared = same }
 
-    enters_same : context_at cs (a0 hart_state) ≡ context_at ds (a0 hart_state) → HandlerCases (with_reprogrammed_hart (entering hart_state here)) (with_reprogrammed_hart (entering hart_state there))
+    enters_same : context_at cs (a0 hart_state) ≡ context_at ds (a0 hart_state)
+        → HandlerCases (with_reprogrammed_hart (entering hart_state here)) (with_reprogrammed_hart (entering hart_state there))
     unfolding entered_slot
     enters_same own =
         let contexts : saved_context cs (a0 hart_state) ≡ saved_context ds (a0 hart_state) =
         ap (λ (o : Option Context). option_case o exited_context (λ context. context)) own in
         rw (← contexts) (record { hart_state = refl; next = refl; shared = with_kept (with_state table (a0 hart_state) Running) (a0 hart_state) None })
 
-    entering_call : (call : Call) → is_entering (Some call) ≡ true → Requests hart_state trap.cause call → is_entering (requested_by trap.cause hart_state) ≡ true
+    entering_call : (call : Call) → is_entering (Some call) ≡ true → Requests hart_state trap.cause call
+        → is_entering (requested_by trap.cause hart_state) ≡ true
     entering_call call enters reads = let is = asks_for call reads in rw is enters
 
     handled_same : HandlerCases (handled hart_state here trap) (handled hart_state there trap)
@@ -176,10 +180,12 @@ step_reads_law hart machine other trap hart_states trapped trapped_too same =
     let after = (monitored_step (hart_view hart other)).state in
     record {
       hart_states = ap (λ (m : MonitoredMachine). m.hart_states) here.state
-          ∙ ap (λ (all : List HartState). let first = (monitored_step (hart_view hart machine)).state in put all first.shared.table first.hart_state) hart_states
+          ∙ ap (λ (all : List HartState). let first =
+          (monitored_step (hart_view hart machine)).state in put all first.shared.table first.hart_state) hart_states
           ∙ ap₂ (put other.hart_states) table one.hart_state ∙ sym (ap (λ (m : MonitoredMachine). m.hart_states) there.state);
       entered = ap (λ (o : Outcome). o.entered) here.outcome ∙ one.entered ∙ sym (ap (λ (o : Outcome). o.entered) there.outcome);
       shared = subst (λ (m : MonitoredMachine). SameWhereSame machine.shared other.shared m.shared (step_of hart other).state.shared) (sym here.state)
-          (subst (λ (m : MonitoredMachine). SameWhereSame machine.shared other.shared (monitored_step (hart_view hart machine)).state.shared m.shared) (sym there.state)
+          (subst (λ (m : MonitoredMachine). SameWhereSame machine.shared other.shared (monitored_step (hart_view hart machine)).state.shared m.shared)
+          (sym there.state)
           one.shared);
     }

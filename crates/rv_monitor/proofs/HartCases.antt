@@ -4,7 +4,8 @@ use Rattle.std.specs.Prelude.{map, nat_lt, slice_index_or}
 use Rattle.rv_monitor.specs.Prelude.{HartState, Slots, Trap}
 use Rattle.rv_monitor.proofs.Prelude.{Invariant, HartInvariant, MonitoredMachine, MonitoredStepped, HartView, HartViewStepped, cases_eq, cases_lt}
 use Rattle.rv_monitor.proofs.Prelude.{count_of, get_or-map, get_or-set_at, get_or-set_other, get_or_past, length-map, length-set, lt-ltb}
-use Rattle.rv_monitor.proofs.Prelude.{monitored_step, nat_tests, not_stepped, hart_state_at_start, hart_state_of, reprogrammed, hart_states_reprogrammed, hart_view_after}
+use Rattle.rv_monitor.proofs.Prelude.{monitored_step, nat_tests, not_stepped, hart_state_at_start, hart_state_of, reprogrammed}
+use Rattle.rv_monitor.proofs.Prelude.{hart_states_reprogrammed, hart_view_after}
 use Rattle.rv_monitor.proofs.Prelude.{hart_view, step_of, stepped_by}
 use Rattle.rv_monitor.proofs.PmpProgramming.{as_is}
 use Rattle.rv_monitor.proofs.TrapSteps.{step_cases}
@@ -16,7 +17,8 @@ pub past_hart_state : (hart_states : List HartState) (j : ℕ) → length hart_s
 past_hart_state hart_states j past = get_or_past {X = HartState} hart_states j (hart_state_at_start 0) past
 
 -- case analysis of two lists in which the state of one hart is replaced: a property that holds of it and of the others holds of each
-pub hart_cases_of_both : (xs ys : List HartState) (hart : ℕ) (x y : HartState) (P : ℕ → HartState → HartState → Type 0) → length xs ≡ length ys → hart < length xs
+pub hart_cases_of_both : (xs ys : List HartState) (hart : ℕ) (x y : HartState) (P : ℕ → HartState → HartState → Type 0) → length xs ≡ length ys
+    → hart < length xs
     → P hart x y → ((j : ℕ) → j ≢ hart → P j (hart_state_in xs j) (hart_state_in ys j))
     → (j : ℕ) → P j (hart_state_in (slice_set xs hart x) j) (hart_state_in (slice_set ys hart y) j)
 hart_cases_of_both xs ys hart x y P size has own others j =
@@ -34,7 +36,8 @@ hart_cases_of_both xs ys hart x y P size has own others j =
 -- the same for one list
 pub hart_cases : (hart_states : List HartState) (hart : ℕ) (hart_state : HartState) (P : ℕ → HartState → Type 0) → hart < length hart_states → P hart hart_state
     → ((j : ℕ) → j ≢ hart → P j (hart_state_in hart_states j)) → (j : ℕ) → P j (hart_state_in (slice_set hart_states hart hart_state) j)
-hart_cases hart_states hart hart_state P has own others = hart_cases_of_both hart_states hart_states hart hart_state hart_state (λ j s _. P j s) refl has own others
+hart_cases hart_states hart hart_state P has own others =
+    hart_cases_of_both hart_states hart_states hart hart_state hart_state (λ j s _. P j s) refl has own others
 
 -- ---- the hart states after the trap handler, before that of the stepping hart is replaced
 
@@ -71,7 +74,8 @@ module _ (hart : ℕ) (machine : MonitoredMachine) (after : HartViewStepped) whe
   pub other_hart_state : (j : ℕ) → j ≢ hart → j < count_of machine
       → hart_state_of j (stepped_by hart machine after).state ≡ hart_state_reprogrammed o slots (hart_state_of j machine)
   other_hart_state j apart has =
-      get_or-set_other (hart_states_reprogrammed o slots machine.hart_states) hart j after.state.hart_state (hart_state_at_start 0) apart ∙ behind_at o slots machine.hart_states j has
+      get_or-set_other (hart_states_reprogrammed o slots machine.hart_states) hart j after.state.hart_state
+      (hart_state_at_start 0) apart ∙ behind_at o slots machine.hart_states j has
 
 -- ---- any step
 
@@ -96,7 +100,8 @@ pub step_count : (hart : ℕ) (machine : MonitoredMachine) → count_of (step_of
 step_count hart machine = by_hart hart machine (λ after. count_of after.state ≡ count_of machine) refl
     (λ has. count_behind hart machine (monitored_step (hart_view hart machine)))
 
-pub step_seen : (hart : ℕ) (machine : MonitoredMachine) → hart < count_of machine → hart_view_after hart (step_of hart machine) ≡ monitored_step (hart_view hart machine)
+pub step_seen : (hart : ℕ) (machine : MonitoredMachine) → hart < count_of machine
+    → hart_view_after hart (step_of hart machine) ≡ monitored_step (hart_view hart machine)
 step_seen hart machine has =
     let after = monitored_step (hart_view hart machine) in
     let seen : HartState → HartViewStepped =
@@ -104,7 +109,8 @@ step_seen hart machine has =
     ap (hart_view_after hart) (inside hart machine has) ∙ ap seen (own_hart_state hart machine after hart refl has)
 
 -- a step preserves every property of the other harts' states that does not depend on the PMP entries and mie
-pub step_beside : {X : Type 0} (of : HartState → X) → ((slots : Slots) (hart_state : HartState) → of (reprogrammed slots hart_state) ≡ of hart_state) → (hart j : ℕ) (machine : MonitoredMachine)
+pub step_beside : {X : Type 0} (of : HartState → X) → ((slots : Slots) (hart_state : HartState) → of (reprogrammed slots hart_state) ≡ of hart_state)
+    → (hart j : ℕ) (machine : MonitoredMachine)
     → j ≢ hart → of (hart_state_of j (step_of hart machine).state) ≡ of (hart_state_of j machine)
 step_beside of same hart j machine apart = by_hart hart machine (λ after. of (hart_state_of j after.state) ≡ of (hart_state_of j machine)) refl
     (λ has.
@@ -112,7 +118,8 @@ step_beside of same hart j machine apart = by_hart hart machine (λ after. of (h
     let size = count_behind hart machine after in
     elim (cases_lt j (count_of machine)) [
       | inl here ↦ ap of (other_hart_state hart machine after j apart here) ∙ by_trap after.outcome.step.trap after.state.shared.table
-      | inr past ↦ ap of (past_hart_state (stepped_by hart machine after).state.hart_states j (omega (arith, size, past)) ∙ sym (past_hart_state machine.hart_states j past))
+      | inr past ↦ ap of (past_hart_state (stepped_by hart machine after).state.hart_states j (omega (arith, size, past)) ∙ sym
+      (past_hart_state machine.hart_states j past))
     ]) where
       by_trap : (o : Option Trap) (slots : Slots) → of (hart_state_reprogrammed o slots (hart_state_of j machine)) ≡ of (hart_state_of j machine)
       by_trap None slots = refl
@@ -132,7 +139,8 @@ behind_is (Some trap) before after hart_state same is = refl
 -- after a step the other harts' states have the PMP entries and mie of the table
 pub behind_seated : (hart j : ℕ) (machine : MonitoredMachine) → Invariant machine → j < count_of machine
     → (let after = monitored_step (hart_view hart machine) in
-    hart_state_reprogrammed after.outcome.step.trap after.state.shared.table (hart_state_of j machine) ≡ reprogrammed after.state.shared.table (hart_state_of j machine))
+    hart_state_reprogrammed after.outcome.step.trap after.state.shared.table (hart_state_of j machine)
+    ≡ reprogrammed after.state.shared.table (hart_state_of j machine))
 behind_seated hart j machine kept here =
     let after = monitored_step (hart_view hart machine) in
     behind_is after.outcome.step.trap machine.shared.table after.state.shared.table (hart_state_of j machine) (quiet_table (hart_view hart machine))
@@ -148,7 +156,8 @@ step_programmed hart j machine kept apart here =
 -- ---- a step that traps
 
 abbrev pub programmed_by : ℕ → MonitoredMachine → HartView → MonitoredMachine
-programmed_by hart machine after = record { hart_states = slice_set (map (reprogrammed after.shared.table) machine.hart_states) hart after.hart_state; shared = after.shared }
+programmed_by hart machine after =
+    record { hart_states = slice_set (map (reprogrammed after.shared.table) machine.hart_states) hart after.hart_state; shared = after.shared }
 
 -- the hart is a hart of the machine, and its step trapped
 pub record IsTrapping (hart : ℕ) (machine : MonitoredMachine) (trap : Trap) : Type 0 where

@@ -10,7 +10,8 @@ use Rattle.rv_monitor.specs.Prelude.{with_state}
 use Rattle.rv_monitor.specs.Integrity.{PreservesOthers}
 use Rattle.rv_monitor.proofs.Prelude.{Handled, HartViewInvariant, IsPreserved, IsTaken, MayCreate, HartView, SlotInfo, a0, at_other}
 use Rattle.rv_monitor.proofs.Prelude.{at_same, both_ways, cases_eq, entered_slot, enters, eq-eqb, free_slot_from, handled, left}
-use Rattle.rv_monitor.proofs.Prelude.{live_in_range, monitored_step, ne_eqb, accessible_apart, hart_view, enclave_state_after, MonitoredMachine, Invariant, step_of}
+use Rattle.rv_monitor.proofs.Prelude.{live_in_range, monitored_step, ne_eqb, accessible_apart, hart_view, enclave_state_after}
+use Rattle.rv_monitor.proofs.Prelude.{MonitoredMachine, Invariant, step_of}
 use Rattle.rv_monitor.proofs.Beside.{hart_state_preserved}
 use Rattle.rv_monitor.proofs.Changes.{changes}
 use Rattle.rv_monitor.proofs.InvariantLemmas.{hart_view_invariant}

@@ -3,9 +3,11 @@ use Rattle.std.proofs.Common.{◌≡◌, ◌<◌, ◌≤◌, ℕ, Bool, List, []
 use Rattle.std.specs.Prelude.{map, slice_index_or}
 use Rattle.std.proofs.lemmas.Simd.{map-map}
 use Rattle.rv_monitor.specs.Prelude.{Host, SharedInvariant, HartState, Slots, Trap, World}
-use Rattle.rv_monitor.proofs.Prelude.{HostContextsAreLegal, HostContextIsLegal, Invariant, HartViewInvariant, HartInvariant, MonitoredMachine, SchedInvariantLaw, cases_eq, cases_lt}
+use Rattle.rv_monitor.proofs.Prelude.{HostContextsAreLegal, HostContextIsLegal, Invariant, HartViewInvariant, HartInvariant}
+use Rattle.rv_monitor.proofs.Prelude.{MonitoredMachine, SchedInvariantLaw, cases_eq, cases_lt}
 use Rattle.rv_monitor.proofs.Prelude.{changed, count_of, get_or-map, length-map, length-set, map-set, monitored_step, hart_state_at_start}
-use Rattle.rv_monitor.proofs.Prelude.{hart_state_of, reprogrammed, hart_states_reprogrammed, hart_view, set-get_or, set_past, sound_by_size, step_of, stepped_by}
+use Rattle.rv_monitor.proofs.Prelude.{hart_state_of, reprogrammed, hart_states_reprogrammed, hart_view, set-get_or, set_past, sound_by_size}
+use Rattle.rv_monitor.proofs.Prelude.{step_of, stepped_by}
 use Rattle.rv_monitor.proofs.Prelude.{with_hart_state, worlds}
 use Rattle.rv_monitor.proofs.Others.{sound_back, sound_prefix, without}
 use Rattle.rv_monitor.proofs.HartCases.{behind_seated, by_hart, hart_cases, count_behind, other_hart_state, own_hart_state}
@@ -19,13 +21,15 @@ world_of hart_state = hart_state.world
 pub has_world : (hart : ℕ) (machine : MonitoredMachine) → hart < count_of machine → hart < length (worlds machine)
 has_world hart machine has = let size = length-map machine.hart_states world_of in omega (arith, size, has)
 
-pub world_at : (hart : ℕ) (machine : MonitoredMachine) → hart < count_of machine → slice_index_or (worlds machine) hart Host ≡ (hart_state_of hart machine).world
+pub world_at : (hart : ℕ) (machine : MonitoredMachine) → hart < count_of machine
+    → slice_index_or (worlds machine) hart Host ≡ (hart_state_of hart machine).world
 world_at hart machine has = get_or-map world_of machine.hart_states hart (hart_state_at_start 0) Host has
 
 abbrev pub beside : ℕ → MonitoredMachine → List World
 beside hart machine = without (worlds machine) hart
 
-pub worlds_are : (hart : ℕ) (machine : MonitoredMachine) → hart < count_of machine → slice_set (worlds machine) hart (hart_state_of hart machine).world ≡ worlds machine
+pub worlds_are : (hart : ℕ) (machine : MonitoredMachine) → hart < count_of machine
+    → slice_set (worlds machine) hart (hart_state_of hart machine).world ≡ worlds machine
 worlds_are hart machine has =
     ap (slice_set (worlds machine) hart) (sym (world_at hart machine has)) ∙ set-get_or (worlds machine) hart Host
 
@@ -47,7 +51,8 @@ invariant_of_others hart machine kept has =
 
 -- ---- the machine
 
-worlds_behind : (o : Option Trap) (slots : Slots) (hart_states : List HartState) → map world_of (hart_states_reprogrammed o slots hart_states) ≡ map world_of hart_states
+worlds_behind : (o : Option Trap) (slots : Slots) (hart_states : List HartState)
+    → map world_of (hart_states_reprogrammed o slots hart_states) ≡ map world_of hart_states
 worlds_behind None slots hart_states = refl
 worlds_behind (Some trap) slots hart_states = map-map world_of (reprogrammed slots) hart_states
 
@@ -87,7 +92,8 @@ sched_invariant (hart ∷ harts) machine kept = sched_invariant harts (step_of h
 abbrev pub written : List ℕ → Bool → HartState → HartState
 written regs raised hart_state = record hart_state { hart = record hart_state.hart { regs = regs; csrs = record hart_state.hart.csrs { timer = raised } } }
 
-written_seated : (slots : Slots) (regs : List ℕ) (raised : Bool) (hart_state : HartState) → HartInvariant slots hart_state → HartInvariant slots (written regs raised hart_state)
+written_seated : (slots : Slots) (regs : List ℕ) (raised : Bool) (hart_state : HartState) → HartInvariant slots hart_state
+    → HartInvariant slots (written regs raised hart_state)
 written_seated slots regs raised hart_state is =
     let layout = is.layout in reprogrammed_by slots slots hart_state (written regs raised hart_state).hart is layout.entries layout.mie refl refl
 
@@ -108,7 +114,8 @@ written_in hart regs raised machine kept has =
 -- a write to a number that is not the number of a hart has no effect
 pub past_as_is : (hart : ℕ) (hart_state : HartState) (machine : MonitoredMachine) → count_of machine ≤ hart → with_hart_state hart hart_state machine ≡ machine
 past_as_is hart hart_state machine past =
-    ap (λ (hart_states : List HartState). let after : MonitoredMachine = record { hart_states = hart_states; shared = machine.shared } in after) (set_past machine.hart_states hart hart_state past)
+    ap (λ (hart_states : List HartState). let after : MonitoredMachine = record { hart_states = hart_states; shared = machine.shared } in after)
+    (set_past machine.hart_states hart hart_state past)
 
 pub written_invariant : (hart : ℕ) (regs : List ℕ) (raised : Bool) (machine : MonitoredMachine) → Invariant machine
     → Invariant (with_hart_state hart (written regs raised (hart_state_of hart machine)) machine)
@@ -117,18 +124,21 @@ written_invariant hart regs raised machine kept = elim (cases_lt hart (count_of 
   | inr past ↦ subst Invariant (sym (past_as_is hart (written regs raised (hart_state_of hart machine)) machine past)) kept
 ]
 
-pub hart_state_stored : (hart : ℕ) (hart_state : HartState) (machine : MonitoredMachine) → HostContextsAreLegal machine → hart < count_of machine → HostContextIsLegal hart_state
+pub hart_state_stored : (hart : ℕ) (hart_state : HartState) (machine : MonitoredMachine) → HostContextsAreLegal machine → hart < count_of machine
+    → HostContextIsLegal hart_state
     → HostContextsAreLegal (with_hart_state hart hart_state machine)
 hart_state_stored hart hart_state machine stored has own =
     hart_cases machine.hart_states hart hart_state (λ j s. HostContextIsLegal s) has own (λ j other. stored j)
 
 -- a property that a write to a hart preserves, for the state of each hart
-pub changed_of : {X : Type 0} (of : HartState → X) (change : HartState → HartState) → ((hart_state : HartState) → of (change hart_state) ≡ of hart_state) → (hart j : ℕ) (machine : MonitoredMachine)
+pub changed_of : {X : Type 0} (of : HartState → X) (change : HartState → HartState) → ((hart_state : HartState) → of (change hart_state) ≡ of hart_state)
+    → (hart j : ℕ) (machine : MonitoredMachine)
     → of (hart_state_of j (changed hart change machine)) ≡ of (hart_state_of j machine)
 changed_of of change same hart j machine = elim (cases_lt hart (count_of machine)) [
   | inr past ↦ ap (λ (m : MonitoredMachine). of (hart_state_of j m)) (past_as_is hart (change (hart_state_of hart machine)) machine past)
   | inl has ↦
-      hart_cases machine.hart_states hart (change (hart_state_of hart machine)) (λ i s. of s ≡ of (hart_state_of i machine)) has (same (hart_state_of hart machine))
+      hart_cases machine.hart_states hart (change (hart_state_of hart machine)) (λ i s. of s ≡ of (hart_state_of i machine)) has
+      (same (hart_state_of hart machine))
       (λ i other. refl) j
 ]
 

@@ -49,7 +49,8 @@ abbrev after_bare : StepOutcome → HartState → Shared → HartViewStepped
 after_bare outcome hart_state shared =
     option_case outcome.trap (unhandled outcome hart_state shared) (λ trap. returned outcome (handled hart_state shared trap))
 
-stored_sound : (worlds : List World) (hart_state : HartState) (shared : Shared) → SharedInvariant shared worlds → SharedInvariant (stored hart_state shared) worlds
+stored_sound : (worlds : List World) (hart_state : HartState) (shared : Shared) → SharedInvariant shared worlds
+    → SharedInvariant (stored hart_state shared) worlds
 stored_sound worlds hart_state shared sound =
     let before : Machine = record { hart = hart_state.hart; memory = shared.memory } in
     sound_by_size shared worlds (stepped hart_state shared).state.memory sound (step_size before (step before) (confined before))
@@ -88,15 +89,18 @@ same_worlds e one other equiv =
     get_or-map world one.hart_states k (hart_state_at_start 0) d has ∙ (equiv.hart_states k).world
     ∙ sym (get_or-map world other.hart_states k (hart_state_at_start 0) d (omega (arith, size, has))))
 
-own_equiv : (e hart : ℕ) (one other : MonitoredMachine) → Invariant one → Invariant other → EquivExcept e one other → hart < count_of one → runs_on e hart one ≡ false
+own_equiv : (e hart : ℕ) (one other : MonitoredMachine) → Invariant one → Invariant other → EquivExcept e one other → hart < count_of one
+    → runs_on e hart one ≡ false
     → Agree e (monitored_step (hart_view hart one)) (monitored_step (hart_view hart other))
 own_equiv e hart one other here there equiv has not_running =
     let hart_states = equiv.hart_states hart in
     let sound = subst (SharedInvariant other.shared) (sym (same_worlds e one other equiv)) there.shared in
     subst (λ (s : HartState). Agree e (monitored_step (hart_view hart one)) (monitored_step (on s other.shared))) (hart_states.same not_running)
-    (step_equiv e (hart_state_of hart one) (worlds one) one.shared other.shared (hart_view_invariant hart one here has) here.shared sound not_running equiv.shared)
+    (step_equiv e (hart_state_of hart one) (worlds one) one.shared other.shared
+    (hart_view_invariant hart one here has) here.shared sound not_running equiv.shared)
 
-behind_equiv : (e : ℕ) (o : Option Trap) (slots : Slots) (a b : HartState) → HartStatesEquivExcept e a b → HartStatesEquivExcept e (hart_state_reprogrammed o slots a) (hart_state_reprogrammed o slots b)
+behind_equiv : (e : ℕ) (o : Option Trap) (slots : Slots) (a b : HartState) → HartStatesEquivExcept e a b
+    → HartStatesEquivExcept e (hart_state_reprogrammed o slots a) (hart_state_reprogrammed o slots b)
 behind_equiv e None slots a b equiv = equiv
 behind_equiv e (Some trap) slots a b equiv = record { world = equiv.world; same = λ not_running. ap (reprogrammed slots) (equiv.same not_running) }
 
@@ -111,11 +115,13 @@ stepped_equiv e hart one other a b equiv has step j =
           same_hart_states e _ _ (past_hart_state (stepped_by hart one a).state.hart_states j (omega (arith, here, past))
           ∙ sym (past_hart_state (stepped_by hart other b).state.hart_states j (omega (arith, there, size, past))))
       | inl inside ↦ elim (cases_eq j hart) [
-        | inl same ↦ hart_states_equiv e _ _ _ _ (own_hart_state hart one a j same has) (own_hart_state hart other b j same (omega (arith, size, has))) step.hart_state
+        | inl same ↦ hart_states_equiv e _ _ _ _ (own_hart_state hart one a j same has)
+        (own_hart_state hart other b j same (omega (arith, size, has))) step.hart_state
         | inr apart ↦
             let traps = ap (λ (outcome : Outcome). outcome.step.trap) step.outcome in
             let behind : Option Trap → Slots → Type 0 =
-            λ o slots. HartStatesEquivExcept e (hart_state_reprogrammed a.outcome.step.trap a.state.shared.table (hart_state_of j one)) (hart_state_reprogrammed o slots (hart_state_of j other)) in
+            λ o slots. HartStatesEquivExcept e (hart_state_reprogrammed a.outcome.step.trap a.state.shared.table (hart_state_of j one))
+            (hart_state_reprogrammed o slots (hart_state_of j other)) in
             hart_states_equiv e _ _ _ _ (other_hart_state hart one a j apart inside) (other_hart_state hart other b j apart (omega (arith, size, inside)))
             (subst (λ (o : Option Trap). behind o b.state.shared.table) traps
             (subst (behind a.outcome.step.trap) step.shared.table

@@ -15,12 +15,14 @@ as_is slots hart_state is =
     let mie = is.layout.mie in
     rw (← entries, ← mie) refl
 
-pub all_as_are : (slots : Slots) (hart_states : List HartState) → ((j : ℕ) → j < length hart_states → HartInvariant slots (slice_index_or hart_states j (hart_state_at_start 0)))
+pub all_as_are : (slots : Slots) (hart_states : List HartState)
+    → ((j : ℕ) → j < length hart_states → HartInvariant slots (slice_index_or hart_states j (hart_state_at_start 0)))
     → map (reprogrammed slots) hart_states ≡ hart_states
 all_as_are slots [] each = refl
 all_as_are slots (hart_state ∷ hart_states) each =
     let rest = all_as_are slots hart_states (λ j has. each (suc j) (omega (arith, has))) in
-    ap (λ (s : HartState). s ∷ map (reprogrammed slots) hart_states) (as_is slots hart_state (each 0 (omega arith))) ∙ ap (λ (ss : List HartState). hart_state ∷ ss) rest
+    ap (λ (s : HartState). s ∷ map (reprogrammed slots) hart_states) (as_is slots hart_state (each 0 (omega arith))) ∙ ap
+    (λ (ss : List HartState). hart_state ∷ ss) rest
 
 pub forwarded_laid_out : (hart_state : HartState) (shared : Shared) (trap : Trap) → reprogrammed shared.table hart_state ≡ hart_state
     → with_reprogrammed_hart (forwarded hart_state shared trap) ≡ forwarded hart_state shared trap
@@ -35,10 +37,12 @@ forwarded_laid_out hart_state shared trap laid =
 abbrev pub entries_of : Handled → Entries
 entries_of h = h.hart_state.hart.csrs.pmp
 
-pub work_entries : (hart_state : HartState) (shared : Shared) (trap : Trap) → entries_of (handled_cause hart_state shared trap trap.cause) ≡ hart_state.hart.csrs.pmp
+pub work_entries : (hart_state : HartState) (shared : Shared) (trap : Trap)
+    → entries_of (handled_cause hart_state shared trap trap.cause) ≡ hart_state.hart.csrs.pmp
 unfolding entered_slot left forwarded_csrs
 work_entries hart_state shared trap =
-    by_pieces hart_state trap shared.table shared.memory shared.memory shared.contexts shared.contexts (λ h _. entries_of h ≡ hart_state.hart.csrs.pmp) (record {
+    by_pieces hart_state trap shared.table shared.memory shared.memory shared.contexts shared.contexts (λ h _. entries_of h ≡ hart_state.hart.csrs.pmp)
+    (record {
       answers = λ status result. refl;
       creates = λ reads may. refl;
       destroys = λ reads taken. refl;

@@ -21,8 +21,10 @@ pub use Rattle.rv_monitor.specs.HartLaws.{EntryLaw, IsUndisturbed, LowStepsLaw, 
 pub use Rattle.rv_monitor.specs.HartLaws.{SchedLaw, SchedIntegrityLaw, sched}
 pub use Rattle.rv_monitor.specs.Integrity.{KeepsRunning, IsPreserved, IsUntouched, enters}
 pub use Rattle.rv_monitor.specs.Leaving.{saved_after, left_hart, left_shared, line_after, enclave_state_after}
-pub use Rattle.rv_monitor.specs.MonitoredMachine.{HostContextsAreLegal, HasPmpLayout, HostContextIsLegal, Invariant, HartViewInvariant, HartInvariant, HostContextInvariant, MonitoredMachine, HartView}
-pub use Rattle.rv_monitor.specs.MonitoredMachine.{count_of, machine_of_parts, hart_state_at_start, hart_state_of, reprogrammed, hart_states_at_start, hart_view, with_hart_state, worlds}
+pub use Rattle.rv_monitor.specs.MonitoredMachine.{HostContextsAreLegal, HasPmpLayout, HostContextIsLegal, Invariant, HartViewInvariant}
+pub use Rattle.rv_monitor.specs.MonitoredMachine.{HartInvariant, HostContextInvariant, MonitoredMachine, HartView}
+pub use Rattle.rv_monitor.specs.MonitoredMachine.{count_of, machine_of_parts, hart_state_at_start, hart_state_of, reprogrammed}
+pub use Rattle.rv_monitor.specs.MonitoredMachine.{hart_states_at_start, hart_view, with_hart_state, worlds}
 unfoldable pub use Rattle.rv_monitor.specs.MonitoredMachine.{at_start}
 pub use Rattle.rv_monitor.specs.Step.{MonitoredStepped, HartViewStepped, returned_to_caller, forwarded, handled_cause, handled_exception, not_stepped}
 pub use Rattle.rv_monitor.specs.Step.{past_call, refused, returned, returned_to, hart_states_reprogrammed, hart_view_after, stepped_by, stopped_context}

@@ -5,7 +5,8 @@ use Rattle.rv_state.specs.declared.cause.Cause.TheVariants as causes
 use Rattle.rv_monitor.specs.Prelude.{Call, Cause, EnvironmentCallFromS, NotSupported, Outcome, Refusal, HartState, Shared, StepOutcome, Trap}
 use Rattle.rv_monitor.specs.Prelude.{aligned_to_4, requested_call, first_refusal, is_set, option_case, step, sum_of}
 use Rattle.rv_monitor.specs.Refused.{refusal_of, refused_hart, RefusesOnly}
-use Rattle.rv_monitor.proofs.Prelude.{HartViewInvariant, MonitoredMachine, HartView, HartViewStepped, bare_machine, call_handled, call_refusals, called, handled}
+use Rattle.rv_monitor.proofs.Prelude.{HartViewInvariant, MonitoredMachine, HartView, HartViewStepped, bare_machine, call_handled}
+use Rattle.rv_monitor.proofs.Prelude.{call_refusals, called, handled}
 use Rattle.rv_monitor.proofs.Prelude.{handled_cause, monitored_step, refused, returned, hart_view, with_reprogrammed_hart, Invariant, step_of}
 use Rattle.rv_monitor.proofs.InvariantLemmas.{hart_view_invariant}
 use Rattle.rv_monitor.proofs.PmpProgramming.{all_as_are}
@@ -15,7 +16,8 @@ use Rattle.rv_monitor.proofs.TrapSteps.{hart_state_after, trapped_step}
 -- ---- the call
 
 module _ (hart_state : HartState) (shared : Shared) (refusal : Refusal) where
-  refused_called : (call : Call) → first_refusal (call_refusals hart_state shared call) ≡ Some refusal → called hart_state shared call ≡ refused hart_state shared refusal
+  refused_called : (call : Call) → first_refusal (call_refusals hart_state shared call) ≡ Some refusal
+      → called hart_state shared call ≡ refused hart_state shared refusal
   unfolding called
   refused_called call is = rw is refl
 

@@ -36,13 +36,15 @@ pub hart_state_unlocked : (slots : Slots) (hart_state : HartState) → HartInvar
 hart_state_unlocked slots hart_state is = let layout = is.layout in subst IsUnlocked (sym layout.entries) (layout_unlocked slots hart_state.world)
 
 -- no entry of a programmed hart is locked, before or after a trap
-unlocked_if : (slots : Slots) (hart_state : HartState) (o : Option Trap) (hart : Hart) (memory left : List ℕ) (trap : Trap) → o ≡ Some trap → HartInvariant slots hart_state
+unlocked_if : (slots : Slots) (hart_state : HartState) (o : Option Trap) (hart : Hart) (memory left : List ℕ) (trap : Trap) → o ≡ Some trap
+    → HartInvariant slots hart_state
     → IfSome o (λ t. (hart ≡ hart_after hart_state.hart t) × (left ≡ memory)) → IsUnlocked hart.csrs.pmp
 unlocked_if slots hart_state None hart memory left trap is reprogrammed keeps = cc
 unlocked_if slots hart_state (Some t) hart memory left trap is reprogrammed keeps =
     subst (λ (h : Hart). IsUnlocked h.csrs.pmp) (sym keeps.0) (hart_state_unlocked slots hart_state reprogrammed)
 
-pub unlocked_after : (hart_state : HartState) (shared : Shared) (after : Stepped) (trap : Trap) → after.outcome.trap ≡ Some trap → HartInvariant shared.table hart_state
+pub unlocked_after : (hart_state : HartState) (shared : Shared) (after : Stepped) (trap : Trap) → after.outcome.trap ≡ Some trap
+    → HartInvariant shared.table hart_state
     → TrapKeeps (record { hart = hart_state.hart; memory = shared.memory }) after → IsUnlocked after.state.hart.csrs.pmp
 unlocked_after hart_state shared after trap is reprogrammed keeps =
     unlocked_if shared.table hart_state after.outcome.trap after.state.hart shared.memory after.state.memory trap is reprogrammed keeps
@@ -93,7 +95,8 @@ hart_seated : (slots : Slots) (hart_state : HartState) (hart : Hart) → HostCon
 hart_seated slots hart_state hart host layout = record { host = record { kept = host.kept; held = host.held }; layout = layout }
 
 -- with a hart that keeps the mode and mstatus, and has the PMP entries and mie of a table, possibly another one
-pub reprogrammed_by : (before after : Slots) (hart_state : HartState) (hart : Hart) → HartInvariant before hart_state → hart.csrs.pmp ≡ layout after hart_state.world
+pub reprogrammed_by : (before after : Slots) (hart_state : HartState) (hart : Hart) → HartInvariant before hart_state
+    → hart.csrs.pmp ≡ layout after hart_state.world
     → hart.csrs.mie ≡ mie_of hart_state.world → hart.mode ≡ hart_state.hart.mode → hart.csrs.mstatus ≡ hart_state.hart.csrs.mstatus
     → HartInvariant after (record hart_state { hart = hart })
 reprogrammed_by before after hart_state hart is entries mie mode status =
@@ -123,7 +126,8 @@ abbrev pub KeptBeside : List World → HartViewStepped → Type 0
 KeptBeside beside after =
     SharedInvariant after.state.shared (after.state.hart_state.world ∷ beside) × HartInvariant after.state.shared.table after.state.hart_state
 
-module _ (beside : List World) (hart_state : HartState) (shared : Shared) (sound : SharedInvariant shared (hart_state.world ∷ beside)) (is : HartInvariant shared.table hart_state) where
+module _ (beside : List World) (hart_state : HartState) (shared : Shared) (sound : SharedInvariant shared (hart_state.world ∷ beside))
+    (is : HartInvariant shared.table hart_state) where
   abbrev state : HartView
   state = record { hart_state = hart_state; shared = shared }
 
@@ -143,7 +147,8 @@ module _ (beside : List World) (hart_state : HartState) (shared : Shared) (sound
       }
 
   -- without a trap
-  quiet_kept : (after : Stepped) → IsConfined (bare_machine state) after → StaysBelow hart_state.hart after.state.hart → after.state.hart.csrs.mstatus.mprv ≡ false
+  quiet_kept : (after : Stepped) → IsConfined (bare_machine state) after → StaysBelow hart_state.hart after.state.hart
+      → after.state.hart.csrs.mstatus.mprv ≡ false
       → KeptBeside beside (unhandled after.outcome (record hart_state { hart = after.state.hart }) (record shared { memory = after.state.memory }))
   quiet_kept after confined below mprv =
       let hart = after.state.hart in
@@ -185,7 +190,8 @@ module _ (beside : List World) (hart_state : HartState) (shared : Shared) (sound
       let layout = is.layout in
       step_cases state (KeptBeside beside)
       (λ none.
-      let below = stays_if after.outcome.trap (StaysBelow hart_state.hart after.state.hart) none (keeps_machine_parts (bare_machine state) layout.mode layout.mprv) in
+      let below =
+      stays_if after.outcome.trap (StaysBelow hart_state.hart after.state.hart) none (keeps_machine_parts (bare_machine state) layout.mode layout.mprv) in
       quiet_kept after (confined (bare_machine state)) below (keeps_mprv_clear (bare_machine state) (λ b. layout.mprv) below.1))
       (λ trap traps.
       let last = hart_state_after hart_state trap in

@@ -27,7 +27,8 @@ pub record EntersFrom (hart_state : HartState) (h : Handled) : Type 0 where
 -- the host receives two return values
 pub record LeavesFor (hart_state : HartState) (trap : Trap) (h : Handled) : Type 0 where
   pub world : h.hart_state.world ≡ Host
-  pub regs : h.hart_state.hart.regs ≡ with_return_values (saved_host hart_state).regs (reason trap.cause hart_state.hart.regs) (value trap.cause hart_state.hart.regs)
+  pub regs : h.hart_state.hart.regs ≡ with_return_values (saved_host hart_state).regs (reason trap.cause hart_state.hart.regs)
+  (value trap.cause hart_state.hart.regs)
   pub pc : h.next.pc ≡ (saved_host hart_state).pc
   pub mode : h.next.mode ≡ (saved_host hart_state).mode
   pub supervisor : s_context h.hart_state.hart.csrs ≡ s_context (with_s_context hart_state.hart.csrs (saved_host hart_state).supervisor)
@@ -78,7 +79,8 @@ runs_on hart_state trap h (inr (inr leaves)) before after = absurd (both_ways _ 
 
 pub kept_between : (state : HartView) → is_host state.hart_state.world ≡ false → is_host (monitored_step state).state.hart_state.world ≡ false
     → (monitored_step state).state.hart_state.host_context ≡ state.hart_state.host_context
-kept_between state before = step_cases state (λ after. is_host after.state.hart_state.world ≡ false → after.state.hart_state.host_context ≡ state.hart_state.host_context)
+kept_between state before =
+    step_cases state (λ after. is_host after.state.hart_state.world ≡ false → after.state.hart_state.host_context ≡ state.hart_state.host_context)
     (λ none after. refl)
     (λ trap is after.
     let hart_state = hart_state_after state.hart_state trap in
@@ -141,4 +143,5 @@ module _ (state : HartView) (kept : HostContextInvariant state.hart_state) (stor
 pub switch_law : (state : HartView) → HostContextInvariant state.hart_state → HostContextIsLegal state.hart_state → StaysOrSwitches state (monitored_step state)
 switch_law state kept stored = step_cases state (StaysOrSwitches state)
     (λ none. inl (record { world = refl; host = refl; entered = refl }))
-    (λ trap is. returned_turns state kept stored trap (step (bare_machine state)).outcome _ is (handled_turns (hart_state_after state.hart_state trap) state.shared trap))
+    (λ trap is. returned_turns state kept stored trap (step (bare_machine state)).outcome _ is
+    (handled_turns (hart_state_after state.hart_state trap) state.shared trap))

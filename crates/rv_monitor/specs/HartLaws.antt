@@ -50,7 +50,8 @@ EntryLaw =
 
 -- steps of harts on which the enclave did not run at first are low steps, up to and including the one that enters it
 abbrev pub LowStepsLaw : Type 0
-LowStepsLaw = (e : ℕ) (harts : List ℕ) (machine : MonitoredMachine) → RunsOnNone e harts machine → IsNotEnteredBefore e harts machine → AreLowSteps e harts machine
+LowStepsLaw =
+    (e : ℕ) (harts : List ℕ) (machine : MonitoredMachine) → RunsOnNone e harts machine → IsNotEnteredBefore e harts machine → AreLowSteps e harts machine
 
 -- ---- noninterference
 
@@ -78,7 +79,8 @@ IsUndisturbed k (hart ∷ harts) machine =
 -- every order of steps preserves each enclave that it leaves undisturbed
 abbrev pub SchedIntegrityLaw : Type 0
 SchedIntegrityLaw =
-    (k : ℕ) (harts : List ℕ) (machine : MonitoredMachine) → Invariant machine → IsUndisturbed k harts machine → IsUntouched k machine (sched harts machine).state
+    (k : ℕ) (harts : List ℕ) (machine : MonitoredMachine) → Invariant machine → IsUndisturbed k harts machine
+    → IsUntouched k machine (sched harts machine).state
 
 -- an enclave that runs on a hart is undisturbed by every order of steps of the other harts
 abbrev pub RunningLaw : Type 0

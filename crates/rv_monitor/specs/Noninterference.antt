@@ -55,4 +55,5 @@ pub record SteppedAlike (e : ℕ) (one other : MonitoredStepped) : Type 0 where
 -- enclave, the step has the same effect. The step may be the one that enters the enclave.
 abbrev pub StepNoninterference : ℕ → MonitoredMachine → MonitoredStepped → Type 0
 StepNoninterference hart before after =
-    (e : ℕ) (other : MonitoredMachine) → Invariant other → EquivExcept e before other → runs_on e hart before ≡ false → SteppedAlike e after (step_of hart other)
+    (e : ℕ) (other : MonitoredMachine) → Invariant other → EquivExcept e before other → runs_on e hart before ≡ false
+    → SteppedAlike e after (step_of hart other)

@@ -185,7 +185,8 @@ shown-return text prefix e h =
     ) refl
 
 -- any other last byte is shown
-pub shown-other : (text prefix : List ℕ) (last : ℕ) → text ≡ prefix ++ last ∷ [] → last ≢ 13 → take (min (length text) 121) text ≡ take 121 (without_return text)
+pub shown-other : (text prefix : List ℕ) (last : ℕ) → text ≡ prefix ++ last ∷ [] → last ≢ 13
+    → take (min (length text) 121) text ≡ take 121 (without_return text)
 shown-other text prefix last e h = take-min 121 text ∙ ap (take 121) (e ∙ (sym (without_return-other prefix last h) ∙ ap without_return (sym e)))
 
 pub shown-empty : (text : List ℕ) → length text ≡ 0 → take (min (length text) 121) text ≡ take 121 (without_return text)

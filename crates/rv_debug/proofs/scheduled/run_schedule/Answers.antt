@@ -24,7 +24,8 @@ loop-digit-preserved c =
     let harts = harts_after hart before after is in
     let next = has_next (harts_of c.loop-digit.target) digits n (get_or digits n 0) c.loop-digit-test.true refl so_far.has in
     record {
-      scheduled_steps = so_far.scheduled_steps ∙ scheduled_step_more digits n (get_or digits n 0) hart before after c.loop-digit-test.true refl c.hart.ensures.which is;
+      scheduled_steps =
+          so_far.scheduled_steps ∙ scheduled_step_more digits n (get_or digits n 0) hart before after c.loop-digit-test.true refl c.hart.ensures.which is;
       has = ap (λ (count : ℕ). has_all count (rest (n + 1) digits)) harts ∙ next.1;
       harts = harts ∙ so_far.harts;
       first = omega (arith, c.scheduled_step.ensures.first, so_far.first);

@@ -9,7 +9,8 @@ use Rattle.rv_debug.proofs.scheduled.run_schedule.Given as goal
 -- the scheduled steps so far, and the remaining ones
 abbrev pub invariant-loop-digit : goal.invariant-loop-digit
 invariant-loop-digit l = record {
-  scheduled_steps : scheduled_steps (rest 0 l.digits) (schedule_start l.fn.target) ≡ scheduled_steps (rest l.digit-index l.digits) (after_schedule l.target (schedule_summary l.first l.second));
+  scheduled_steps : scheduled_steps (rest 0 l.digits) (schedule_start l.fn.target)
+      ≡ scheduled_steps (rest l.digit-index l.digits) (after_schedule l.target (schedule_summary l.first l.second));
   has : has_all (harts_of l.target) (rest l.digit-index l.digits) ≡ true;
   harts : harts_of l.target ≡ harts_of l.fn.target;
   first : l.first.steps ≤ l.digit-index;

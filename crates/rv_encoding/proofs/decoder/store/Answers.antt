@@ -4,7 +4,8 @@ use Rattle.rv_encoding.proofs.ReadingLemmas.{only_store}
 use Rattle.rv_encoding.proofs.decoder.store.Goals as goal
 
 pub returns-in_err-kind-clause-only : goal.returns-in_err-kind-clause-only
-returns-in_err-kind-clause-only c = λ instr encodes. let is : read_store c.args.word ≡ Some instr = only_store c.args.word instr c.requires encodes in grind arith
+returns-in_err-kind-clause-only c =
+    λ instr encodes. let is : read_store c.args.word ≡ Some instr = only_store c.args.word instr c.requires encodes in grind arith
 
 pub returns-clause-only : goal.returns-clause-only
 returns-clause-only c = λ instr encodes. let is : read_store c.args.word ≡ Some instr = only_store c.args.word instr c.requires encodes in grind arith

@@ -24,7 +24,8 @@ unread : {S W : Type 0} (Z : Type 0) (g : SourceGhosts S) (h : SinkGhosts W) (ol
 unread Z g h old new sink Read reads = (reads, refl)
 unread Z g h old new sink TooLong reads = (
   reads,
-  λ is_specified. let (prefix, split, many) = reads.reads is_specified in asm_output-too_long _ (omega (arith, many, ap length split, length-append prefix (g.remaining new))),
+  λ is_specified. let (prefix, split, many) =
+      reads.reads is_specified in asm_output-too_long _ (omega (arith, many, ap length split, length-append prefix (g.remaining new))),
   refl,
 )
 unread Z g h old new sink NoMemory reads = (reads, refl)
@@ -85,5 +86,6 @@ faulty g h old new sink text fault reads is short line told = (
 pub returns : goal.returns
 returns g c =
     faulty g.S.Source g.W.Sink c.args.source.now c.read_whole.new.source c.args.sink.now c.as_slice.result.now c.in-Err.fault
-    c.in_ok-text.ensures.0 (λ is_specified. c.as_slice.ensures.value ∙ c.in_ok-text.ensures.2 is_specified) (few _ _ c.as_slice.ensures.value c.in_ok-text.ensures.1)
+    c.in_ok-text.ensures.0 (λ is_specified. c.as_slice.ensures.value ∙ c.in_ok-text.ensures.2 is_specified)
+    (few _ _ c.as_slice.ensures.value c.in_ok-text.ensures.1)
     c.in-Err.ensures.line c.in-Err.ensures.fault

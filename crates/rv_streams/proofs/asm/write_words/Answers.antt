@@ -14,8 +14,10 @@ loop-word-preserved g c = record {
 
 pub returns-in_err-make_room-clause-prefix : goal.returns-in_err-make_room-clause-prefix
 returns-in_err-make_room-clause-prefix g c = λ is_specified.
-    lines-stopped word_line c.args.words.now c.loop-word.word-index _ _ _ _ (c.loop-word.invariant.written is_specified) (c.make_room.ensures.prefix is_specified)
+    lines-stopped word_line c.args.words.now c.loop-word.word-index _ _ _ _ (c.loop-word.invariant.written is_specified)
+    (c.make_room.ensures.prefix is_specified)
 
 pub returns-clause-prefix : goal.returns-clause-prefix
 returns-clause-prefix g c = λ is_specified.
-    lines-stopped word_line c.args.words.now c.loop-word.word-index _ _ _ _ (c.loop-word.invariant.written is_specified) (c.write_last.ensures.prefix is_specified)
+    lines-stopped word_line c.args.words.now c.loop-word.word-index _ _ _ _ (c.loop-word.invariant.written is_specified)
+    (c.write_last.ensures.prefix is_specified)

@@ -33,5 +33,6 @@ pub returns-clause-harts : goal.returns-clause-harts
 returns-clause-harts c =
     let inside = c.self.inside in
     let before : MonitoredMachine = machine_of_parts inside.by_hart inside.harts inside.shared in
-    subst (λ (machine : MonitoredMachine). count_of (machine_of_parts c.step_in.new.by_hart inside.harts c.step_in.new.shared) ≡ count_of machine) c.self.view_is
+    subst (λ (machine : MonitoredMachine). count_of
+    (machine_of_parts c.step_in.new.by_hart inside.harts c.step_in.new.shared) ≡ count_of machine) c.self.view_is
     (subst (λ (after : MonitoredStepped). count_of after.state ≡ count_of before) c.step_in.ensures.meaning (step_count c.args.hart before))
