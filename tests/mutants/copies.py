@@ -1,8 +1,8 @@
 """Mutants as functions of their own: for each one a copy of its function, with the change, beside the function itself.
 
-A copy has the contract, attributes and proof files of the function, and a name of its own, by which nothing calls it. So all mutants of a
-crate, several of one function too, are tried in one check, and each is judged by its own body alone: it calls the functions as they are. The
-functions themselves must be proved in the same check. A method in the impl block of a trait, or a mutant of no function, cannot be copied.
+A copy has the contract, attributes and proof files of the function. Nothing calls it, since it has a name of its own. One check therefore tries
+all mutants of a crate, also several of one function. Each is judged by its own body alone, because it calls the original functions. The
+original functions must be proved in the same check. A method in the impl block of a trait, or a mutant of no function, cannot be copied.
 """
 import os
 import re
@@ -25,14 +25,14 @@ class Copy:
         self.text = re.sub(rf"\bfn {self.was}\b", f"fn {self.name}", head, count=1) + body
 
     def place(self, folder, texts):
-        """The copy as a function of the texts that have it."""
+        """Returns the copy as a function of the texts that have it."""
         text = texts[self.file]
         function = next(it for it in functions_in(text) if it.last_name == self.name)
         return Place(folder, self.mutant.crate, self.file, text, function)
 
 
 def can_be_copied(folder, mutant):
-    """Whether the mutant changes a function of a type or of a module that is in no cycle of calls."""
+    """Returns whether the mutant changes a function of a type or of a module that is in no cycle of calls."""
     if not mutant.function:
         return False
     text = text_of(folder, mutant.pairs[0][0])
@@ -41,7 +41,7 @@ def can_be_copied(folder, mutant):
 
 
 def with_copies(folder, copies):
-    """The texts of the crate's files with these copies, by the names of the files."""
+    """Returns the texts of the crate's files with these copies, by the names of the files."""
     texts = {}
     for file in {it.file for it in copies}:
         text = text_of(folder, file)
@@ -54,7 +54,7 @@ def with_copies(folder, copies):
 
 
 def proofs_of(folder, copy):
-    """The proof files of the copied function, for its copy: they name the modules of the proof by the path of the function."""
+    """Returns the proof files of the copied function, for its copy: they name the modules of the proof by the path of the function."""
     original = place_of(folder, copy.mutant)
     crate, *path = original.name.split("::")
     modules = ".".join(["Rattle", crate, "proofs", *path])

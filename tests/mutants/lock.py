@@ -1,8 +1,8 @@
 """`mutants.lock`: the texts over which the prover last rejected the mutants.
 
-It has a line for each crate: its name, the number of its mutants, and a digest. The digest is of the sources, definitions and proofs of the crate
-and of the crates below it, of their lines in crates.txt, of the mutants, of the scripts that judge them, and of the kit. An equal digest means
-that these mutants were rejected over just these texts.
+It has a line for each crate: its name, the number of its mutants, and a digest. The digest covers the sources, definitions and proofs of the
+crate and of the crates below it, and their lines in crates.txt. It also covers the mutants, the scripts that judge them, and the kit. If the
+digest is equal, these mutants were rejected over exactly these texts.
 """
 import hashlib
 import os
@@ -15,7 +15,7 @@ HERE = os.path.dirname(os.path.realpath(__file__))
 FILE = f"{HERE}/mutants.lock"
 # The scripts that judge a mutant.
 JUDGES = ("copies.py", "mutants.py", "prover.py", "trial.py")
-# Of the mutants of unchanged crates, one in so many is tried.
+# The gate tries one in PARTS mutants of the crates that did not change.
 PARTS = 12
 TITLE = "# crate, mutants, digest of all that the result depends on; written by tests/mutants/run --all\n"
 
@@ -25,12 +25,12 @@ class Unreadable(Exception):
 
 
 def kit_line():
-    """The identity of the Rattle kit."""
+    """Returns the identity of the Rattle kit."""
     return subprocess.run(["rt", "version"], capture_output=True, text=True, check=True).stdout.strip()
 
 
 def digest(crate, kit):
-    """The digest of all that the result of the crate's mutants depends on."""
+    """Returns the digest of all that the result of the crate's mutants depends on."""
     of = hashlib.sha256(kit.encode())
     for it in [crate, *sorted(crate.below(), key=lambda it: it.name)]:
         libraries = sorted([*it.of_kit, *(dep.name for dep in it.deps)])
@@ -59,7 +59,7 @@ def add_file(of, folder, name):
 
 
 def read():
-    """The digest of each crate that the lock file has."""
+    """Returns the digest of each crate that the lock file has."""
     found = {}
     if not os.path.exists(FILE):
         return found
@@ -80,13 +80,13 @@ def write(found):
 
 
 def sample(mutants, commit):
-    """One in PARTS of these mutants: neighbours, so that few crates are proved for them. The hash of the commit chooses which."""
+    """Returns one in PARTS of these mutants: neighbours, so that few crates are proved for them. The hash of the commit chooses which."""
     part = int(commit, 16) % PARTS
     first, end = (len(mutants) * it // PARTS for it in (part, part + 1))
     return mutants[first:end]
 
 
 def commit(root):
-    """The hash of the commit that is checked out."""
+    """Returns the hash of the commit that is checked out."""
     ran = subprocess.run(["git", "rev-parse", "HEAD"], cwd=root, capture_output=True, text=True)
     return ran.stdout.strip() if ran.returncode == 0 else hashlib.sha1(b"no commit").hexdigest()

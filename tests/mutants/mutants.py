@@ -44,12 +44,12 @@ class Mutant:
 
 
 def crates_with_mutants():
-    """The names of the crates that have a file of mutants."""
+    """Returns the names of the crates that have a file of mutants."""
     return sorted(it[: -len(ENDING)] for it in os.listdir(HERE) if it.endswith(ENDING))
 
 
 def sections(text):
-    """The mutants of a file's text: the number of each one's first line, and its lines."""
+    """Returns the mutants of a file's text: the number of each one's first line, and its lines."""
     found, start = [], None
     for number, line in enumerate(text.split("\n"), 1):
         if not line.strip():
@@ -63,7 +63,7 @@ def sections(text):
 
 
 def read(crate):
-    """The mutants of a crate, and for each section that is no mutant why."""
+    """Returns the mutants of a crate, and for each section that is no mutant why."""
     with open(f"{HERE}/{crate}{ENDING}", encoding="utf-8") as it:
         text = it.read()
     found, faults = [], []
@@ -79,7 +79,7 @@ def read(crate):
 
 
 def parse(crate, lines):
-    """The mutant of a section."""
+    """Returns the mutant of a section."""
     head = re.fullmatch(r"(mutant|equivalent) ([\w-]+)", lines[0])
     if not head:
         raise BadMutant(f"'{lines[0]}' is neither 'mutant NAME' nor 'equivalent NAME'")
@@ -109,14 +109,14 @@ def parse(crate, lines):
 
 
 def matched(pattern, text, otherwise):
-    """The text, if it matches."""
+    """Returns the text, if it matches."""
     if not re.fullmatch(pattern, text):
         raise BadMutant(f"'{text}' {otherwise}")
     return text
 
 
 def mutated(folder, mutants):
-    """The texts of the files that these mutants change, by the names of the files."""
+    """Returns the texts of the files that these mutants change, by the names of the files."""
     texts = {}
     for mutant in mutants:
         for file, old, new in mutant.pairs:
@@ -130,14 +130,14 @@ def mutated(folder, mutants):
 
 
 def replaced(text, old, new, where):
-    """The text with the new part in place of the old one."""
+    """Returns the text with the new part in place of the old one."""
     if text.count(old) != 1:
         raise BadMutant(f"the text 'old: {old.strip()}' occurs {text.count(old)} times in {where}, and not once")
     return text.replace(old, new)
 
 
 def text_of(folder, file):
-    """The text of a file of a crate."""
+    """Returns the text of a file of a crate."""
     try:
         with open(f"{folder}/{file}", encoding="utf-8") as it:
             return it.read()
@@ -146,8 +146,10 @@ def text_of(folder, file):
 
 
 class Function:
-    """A function in a file's text: its name, with the type of a method; its trait, if an impl block of a trait has it; its indentation; and the
-    offsets in the text at which its attributes, head and body begin, and at which it ends."""
+    """A function in the text of a file.
+
+    It has its name (with the type, for a method), its trait (if it is in the impl block of a trait), and its indentation. The offsets in the text
+    are those at which its attributes, head and body begin, and at which it ends."""
 
     def __init__(self, text, head):
         self.indent, self.last_name = head.groups()
@@ -166,7 +168,7 @@ class Function:
 
 
 def start_of_head(text, head):
-    """The offset at which the attributes of the function begin whose head is at this offset."""
+    """Returns the offset at which the attributes of the function begin whose head is at this offset."""
     lines = text[:head].split("\n")[:-1]
     first = len(lines)
     for number in range(len(lines) - 1, -1, -1):
@@ -179,13 +181,13 @@ def start_of_head(text, head):
 
 
 def functions_in(text):
-    """The functions that have a body, in the text of a file."""
+    """Returns the functions that have a body, in the text of a file."""
     found = (Function(text, it) for it in HEAD.finditer(text))
     return [it for it in found if it.end > it.body and not it.is_method_of_no_type()]
 
 
 def function_of(mutant, text):
-    """The function that the mutant names, in the text of its file."""
+    """Returns the function that the mutant names, in the text of its file."""
     found = [it for it in functions_in(text) if it.name == mutant.function]
     if len(found) != 1:
         raise BadMutant(f"the file has {len(found)} functions {mutant.function}, and not one")
@@ -193,7 +195,7 @@ def function_of(mutant, text):
 
 
 def is_of_trait(folder, mutant):
-    """Whether the mutant changes a method in the impl block of a trait."""
+    """Returns whether the mutant changes a method in the impl block of a trait."""
     return bool(mutant.function and function_of(mutant, text_of(folder, mutant.pairs[0][0])).trait)
 
 
@@ -212,18 +214,18 @@ class Place:
         return file == self.file and self.first <= line <= self.last
 
     def proofs(self):
-        """The folder of its proof files."""
+        """Returns the folder of its proof files."""
         return "proofs/" + "/".join(self.name.split("::")[1:])
 
 
 def declared_in(folder, name):
-    """The file of src/ that declares the type, if one does."""
+    """Returns the file of src/ that declares the type, if one does."""
     return declarations(folder).get(name) if name else None
 
 
 @functools.lru_cache(maxsize=None)
 def declarations(folder):
-    """The files of the crate's src/ by the names of the types that they declare; a type that two files declare has none."""
+    """Returns the files of the crate's src/ by the names of the types that they declare; a type that two files declare has none."""
     found = {}
     for at, _, names in os.walk(f"{folder}/src"):
         for file in (os.path.relpath(f"{at}/{it}", folder) for it in names if it.endswith(".rt")):
@@ -233,7 +235,7 @@ def declarations(folder):
 
 
 def place_of(folder, mutant):
-    """The function whose body the mutant changes, if it names one."""
+    """Returns the function whose body the mutant changes, if it names one."""
     if not mutant.function:
         return None
     file = mutant.pairs[0][0]

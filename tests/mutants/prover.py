@@ -26,7 +26,7 @@ class Unknown(Exception):
 
 
 def load_rt():
-    """The kit's command `rt` as a module."""
+    """Returns the kit's command `rt` as a module."""
     path = shutil.which("rt")
     if not path:
         raise SystemExit("mutants: the command rt of the Rattle kit is not on the PATH")
@@ -61,7 +61,7 @@ class Answer:
         return [it for it in self.lines if re.search(r":\d+:\d+: error", it)]
 
     def first(self):
-        """The first error, or else the first thing that is not proved, or else the first line."""
+        """Returns the first error, or else the first thing that is not proved, or else the first line."""
         unproved = [it for it in self.lines if re.match(r"\w+ \S+: (?!proved)", it)]
         return (self.errors() or unproved or [it for it in self.lines if it] or ["no line"])[0][:300]
 
@@ -69,26 +69,26 @@ class Answer:
         return bool(PROVED.fullmatch(self.functions[name]))
 
     def refuses(self, name):
-        """Whether the function, or a closure in it, is rejected, and not for a function that it calls."""
+        """Returns whether the function, or a closure in it, is rejected, and not for a function that it calls."""
         within = "{}::fn::{}::".format(*name.rsplit("::", 1))
         return any(REFUSED.fullmatch(said) for it, said in self.functions.items() if it == name or it.startswith(within))
 
     def goals(self, place):
-        """The notes on unproved goals of a function, by the lines of its text; of the crate, if no place is given."""
+        """Returns the notes on unproved goals of a function, by the lines of its text; of the crate, if no place is given."""
         notes = re.findall(r"^note: (src/\S+?):(\d+):\d+: it is not proved.*", "\n".join(self.lines), re.M)
         return [it for it in notes if place is None or place.holds(it[0], int(it[1]))]
 
     def proof_errors(self, place):
-        """The errors in the proof files of a function, or all errors, if no place is given."""
+        """Returns the errors in the proof files of a function, or all errors, if no place is given."""
         folder = rf"(?:\./)?{re.escape(place.proofs())}/" if place else ""
         return [it for it in self.errors() if re.match(folder, it)]
 
     def shows_why(self, place):
-        """Whether a goal of the function itself is unproved, or an answer in its own proof files is rejected."""
+        """Returns whether a goal of the function itself is unproved, or an answer in its own proof files is rejected."""
         return bool(self.goals(place) or self.proof_errors(place) or "`search` did not prove" in self.functions[place.name])
 
     def of_names_alone(self, place):
-        """Whether a function, or the crate if no place is given, is rejected only because proof files name something that a mutant removed."""
+        """Returns whether a function (or the crate, if no place is given) is rejected only because a proof file names what a mutant removed."""
         errors = self.proof_errors(place)
         return bool(errors) and not self.goals(place) and all(OF_NAMES.search(it) for it in errors)
 

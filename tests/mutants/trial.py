@@ -1,6 +1,6 @@
 """The trial of a crate's mutants: the prover must reject each, and prove each equivalent one.
 
-The crate as it stands is proved already. One check has all copies (copies.py) and the functions that they call: each mutant must be rejected,
+The unchanged crate is already proved. One check has all copies (copies.py) and the functions that they call: each mutant must be rejected,
 each equivalent mutant proved, and so must every function that they call. Methods of traits cannot be copied: a second check has one mutant of
 each such method, in place. A mutant that these checks did not reject is tried alone, in place, and so is every other that cannot be copied. A
 mutant has also failed if it does not fit its file, does not compile, or is rejected only because a proof file names what it removed. A check
@@ -30,7 +30,7 @@ class Trial:
         self.report.say(f"{crate}: {count} mutants, in {time.time() - self.begun:.0f} s")
 
     def seconds(self):
-        """The seconds since the last call."""
+        """Returns the seconds since the last call."""
         before, self.started = self.started, time.time()
         return self.started - before
 
@@ -59,7 +59,7 @@ class Trial:
         return [it for it in self.in_place if it not in shown]
 
     def not_compiled(self, answer, places):
-        """The mutants in whose copies a check found errors before it reached the prover; the others are tried again without them."""
+        """Returns the mutants in whose copies a check found errors before it reached the prover; the others are tried again without them."""
         errors = [it.split(":") for it in answer.errors()]
         named = [it for it, place in places.items() if any(place.holds(file, int(line)) for file, line, *_ in errors)]
         if not named:
@@ -79,7 +79,7 @@ class Trial:
                 raise Unknown(f"the unchanged crate is not proved: {name}: {answer.functions[name][:200]}")
 
     def is_shown(self, answer, mutant, place, seconds):
-        """Whether the check decides the mutant: it is rejected for a goal of its own, or, if it is equivalent, proved or not."""
+        """Returns whether the check decides the mutant: it is rejected for a goal of its own, or, if it is equivalent, proved or not."""
         if mutant.is_equivalent:
             if answer.proves(place.name):
                 self.report.passes(mutant, "equivalent, and proved", seconds)
@@ -108,7 +108,7 @@ class Trial:
 
 
 def flaw(answer, place, name):
-    """Why this answer does not show that the function of this name, at this place or at none, is rejected for the meaning of the mutant; None
+    """Returns why this answer does not show that the function of this name, at this place or at none, is rejected for the meaning of the mutant; None
     if it does."""
     if answer.is_proved:
         return f"NOT REJECTED: {name} is still proved with this mutant"
