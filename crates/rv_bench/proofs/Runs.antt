@@ -203,7 +203,7 @@ module _ {S W : Type 0} {g : SourceGhosts S} (h : SinkGhosts W) where
     pub one_bench-state : g.is_specified → now ≡ state_after bench_line start (script_lines end (lines_of (unread old)))
     one_bench-state is_specified = elim responds.stopped [
       | inl run ↦ RespondsToLines-state (run.responded is_specified)
-      (FindsEnd-whole old run.last new end _ run.found (run.responded is_specified).taken is_specified)
+          (FindsEnd-whole old run.last new end _ run.found (run.responded is_specified).taken is_specified)
       | inr run ↦ absurd (false≢true run.over)
     ]
 

@@ -213,8 +213,11 @@ module _ {S W : Type 0} {g : SourceGhosts S} (h : SinkGhosts W) (setup : Setup) 
               going = λ is_specified. of_scripts is_specified (IsNeverEntered slot) (ended.going is_specified);
               told = ended.told;
             })
-            | inr (over, told) ↦ inr (λ is_specified. of_scripts is_specified (λ pair script. IsOver slot pair script (unread new) new.is_at_end)
-            (over is_specified), told)
+            | inr (over, told) ↦ inr (
+              λ is_specified. of_scripts is_specified (λ pair script. IsOver slot pair script (unread new) new.is_at_end)
+                  (over is_specified),
+              told,
+            )
           ];
           written = λ is_specified. subst (λ o. IsOkAnd o (λ text. h.is_specified → h.taken after ≡ h.taken before ++ text))
               (sym (output_is bench starts is_specified))

@@ -20,7 +20,7 @@ unfolding read
 tells_reach (Monitored selected) (Access mode access address width) kept has = λ below inside. record {
   told = rw inside refl;
   exact = access_control_law (hart_view selected.hart selected.state) mode access address width
-  (hart_view_invariant selected.hart selected.state kept has) below inside;
+      (hart_view_invariant selected.hart selected.state kept has) below inside;
 }
 tells_reach _ _ kept has = tt
 

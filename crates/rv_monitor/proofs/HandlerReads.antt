@@ -91,8 +91,12 @@ module _ (table : Slots) (m n : List ℕ) (cs ds : Contexts) (size : length m �
         → HandlerCases (with_reprogrammed_hart (returned_to_caller hart_state one status result))
         (with_reprogrammed_hart (returned_to_caller hart_state other status result))
     caller_same one other status result same =
-        record { hart_state = ap (λ (slots : Slots). reprogrammed slots
-        (returned_to_caller hart_state one status result).hart_state) same.table; next = refl; shared = same }
+        record {
+          hart_state = ap (λ (slots : Slots). reprogrammed slots
+              (returned_to_caller hart_state one status result).hart_state) same.table;
+          next = refl;
+          shared = same;
+        }
 
     enters_same : context_at cs (a0 hart_state) ≡ context_at ds (a0 hart_state)
         → HandlerCases (with_reprogrammed_hart (entering hart_state here)) (with_reprogrammed_hart (entering hart_state there))

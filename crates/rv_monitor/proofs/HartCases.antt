@@ -119,7 +119,7 @@ step_beside of same hart j machine apart = by_hart hart machine (λ after. of (h
     elim (cases_lt j (count_of machine)) [
       | inl here ↦ ap of (other_hart_state hart machine after j apart here) ∙ by_trap after.outcome.step.trap after.state.shared.table
       | inr past ↦ ap of (past_hart_state (stepped_by hart machine after).state.hart_states j (omega (arith, size, past)) ∙ sym
-      (past_hart_state machine.hart_states j past))
+          (past_hart_state machine.hart_states j past))
     ]) where
       by_trap : (o : Option Trap) (slots : Slots) → of (hart_state_reprogrammed o slots (hart_state_of j machine)) ≡ of (hart_state_of j machine)
       by_trap None slots = refl

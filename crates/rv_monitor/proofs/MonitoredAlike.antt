@@ -116,7 +116,7 @@ stepped_equiv e hart one other a b equiv has step j =
           ∙ sym (past_hart_state (stepped_by hart other b).state.hart_states j (omega (arith, there, size, past))))
       | inl inside ↦ elim (cases_eq j hart) [
         | inl same ↦ hart_states_equiv e _ _ _ _ (own_hart_state hart one a j same has)
-        (own_hart_state hart other b j same (omega (arith, size, has))) step.hart_state
+            (own_hart_state hart other b j same (omega (arith, size, has))) step.hart_state
         | inr apart ↦
             let traps = ap (λ (outcome : Outcome). outcome.step.trap) step.outcome in
             let behind : Option Trap → Slots → Type 0 =
