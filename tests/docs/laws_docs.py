@@ -82,8 +82,8 @@ def check_law(sources, section):
 
 
 def check_table(sources, page):
-    """The table of LAWS: in each cell functions, and then clauses of theirs."""
-    rows = [line.split("|")[2:-1] for line in page.split("\n## ")[0].splitlines() if line.startswith("| ") and "`" in line]
+    """Checks the table in section Index of LAWS: each cell has functions, and then clauses of them."""
+    rows = [line.split("|")[2:-1] for line in page.split("\n## Index\n")[1].splitlines() if line.startswith("| ") and "`" in line]
     for cell in [it for row in rows for it in row if "`" in it]:
         names = names_in(re.sub(r" of `\w+`", "", cell))
         calls = [name for at, name in enumerate(names) if "::" in name or at == 0 or name.startswith("run_")]
@@ -121,7 +121,7 @@ def main(arguments):
     for section in re.split(r"^(?=\*\*)", laws, flags=re.M):
         check_law(sources, section)
     check_table(sources, laws)
-    promises = promises.split("\n## Wrong bodies")[0]
+    check_places(sources, "", laws.split("\n## Limits of the theorems\n")[1])
     check_refusals(sources, promises)
     check_promises(sources, promises)
     print("\n".join([*sources.wrong, f"{sources.count} asked, {len(sources.wrong)} wrong"]))
