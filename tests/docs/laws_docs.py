@@ -1,10 +1,12 @@
 #!/usr/bin/env python3
-"""python3 -m docs.laws_docs --check: tells whether what docs/LAWS.md and docs/PROMISES.md name stands where they say.
+"""python3 -m docs.laws_docs --check: checks that the names in docs/LAWS.md and docs/PROMISES.md exist where the pages say.
 
-Of LAWS: the files, definitions, functions and clauses of each law are there, those before a file's name in that file; a clause is one of
-the functions named before it, also in the table; and each definition is part of what one of the functions of that law promises. Of
-PROMISES: the definitions in parentheses are part of the contract of some function; and in the table of refusals each clause and
-definition is of each call of its row.
+In LAWS, each theorem has premises, a definition, a contract and limits. Its files, definitions, functions and clauses exist, and a name before
+a file is in that file. A clause belongs to the functions before it, also in the index. Each definition is part of the contract of one of the
+functions of its theorem.
+
+In PROMISES, the definitions in parentheses are part of the contract of some function. In the table of refusals, each clause and definition
+belongs to each call of its row.
 """
 import os
 import re
@@ -60,7 +62,9 @@ def check_places(sources, carried, defined):
 
 
 def check_law(sources, section):
-    """A part of LAWS: what it defines and which calls carry it."""
+    """Checks a theorem of LAWS: its definitions, and the functions that carry it."""
+    labels = set(re.findall(r"^- (Premises|Definition|Contract|Limits)\b", section, re.M))
+    sources.ask(not labels or len(labels) == 4, f"LAWS: {section.splitlines()[0][:60]} has only {sorted(labels)}")
     items = {kind: " ".join(text.split()) for kind, text in re.findall(r"^- (Definition|Contract): ((?:.+\n)(?:  .+\n)*)", section, re.M)}
     if not items:
         return
@@ -82,8 +86,8 @@ def check_law(sources, section):
 
 
 def check_table(sources, page):
-    """The table of LAWS: in each cell functions, and then clauses of theirs."""
-    rows = [line.split("|")[2:-1] for line in page.split("\n## ")[0].splitlines() if line.startswith("| ") and "`" in line]
+    """Checks the table in section Index of LAWS: each cell has functions, and then clauses of them."""
+    rows = [line.split("|")[2:-1] for line in page.split("\n## Index\n")[1].splitlines() if line.startswith("| ") and "`" in line]
     for cell in [it for row in rows for it in row if "`" in it]:
         names = names_in(re.sub(r" of `\w+`", "", cell))
         calls = [name for at, name in enumerate(names) if "::" in name or at == 0 or name.startswith("run_")]
@@ -121,7 +125,7 @@ def main(arguments):
     for section in re.split(r"^(?=\*\*)", laws, flags=re.M):
         check_law(sources, section)
     check_table(sources, laws)
-    promises = promises.split("\n## Wrong bodies")[0]
+    check_places(sources, "", laws.split("\n## Limits of the theorems\n")[1])
     check_refusals(sources, promises)
     check_promises(sources, promises)
     print("\n".join([*sources.wrong, f"{sources.count} asked, {len(sources.wrong)} wrong"]))

@@ -1,6 +1,6 @@
 #!/usr/bin/env python3
-"""python3 -m docs.names --check: tells which public definitions have the name of another one, where no reason for it stands here, and
-which reasons are of names that stand once. Definitions of caches (specs/Cache) are not among them, since no manual has them.
+"""python3 -m docs.names --check: reports public definitions that have the name of another one without a reason below, and reasons for names
+that are defined once. Definitions of caches (specs/Cache) are left out, since no manual has them.
 """
 import collections
 import importlib.machinery
@@ -10,18 +10,18 @@ import sys
 
 ROOT = os.path.dirname(os.path.dirname(os.path.dirname(os.path.abspath(__file__))))
 
-LAYER = "the same law or word of the machine, of its commands or of its scripts, each over the values of its own crate"
+LAYER = "the same theorem or term for the machine, for commands or for scripts, each over the values of its own crate"
 REASONS = {
     **dict.fromkeys(("FastSteps", "IsFast", "ReturnLaw", "RunningLaw"), LAYER),
     **dict.fromkeys(("can_scramble", "scrambled"), LAYER),
-    "RunsOutOfMemory": "an allocation that failed: for a text of assembly, and for an image",
-    "Stepped": "what a step leaves and shows: of a hart with its memory, and of whatever a debugger steps",
+    "RunsOutOfMemory": "memory is exhausted: in a text of assembly, and in an image",
+    "Stepped": "the result of a step: of a hart with its memory, and of any target of a debugger",
     "at_reset": "the reset of a hart, and that of its control and status registers",
 }
 
 
 def twice():
-    """The names of more than one public definition, with the files."""
+    """Returns the names that more than one public definition has, with the files."""
     loader = importlib.machinery.SourceFileLoader("definitions", os.path.join(ROOT, "tools", "definitions"))
     module = importlib.util.module_from_spec(importlib.util.spec_from_loader("definitions", loader))
     loader.exec_module(module)
@@ -35,8 +35,8 @@ def twice():
 
 def main(_arguments):
     found = twice()
-    told = [f"{name} stands in {' and '.join(paths)}" for name, paths in found.items() if name not in REASONS]
-    told += [f"{name} stands once, and has a reason here" for name in REASONS if name not in found]
+    told = [f"{name} is defined in {' and '.join(paths)}" for name, paths in found.items() if name not in REASONS]
+    told += [f"{name} is defined once, and has a reason here" for name in REASONS if name not in found]
     print("\n".join(told))
     return 1 if told else 0
 
