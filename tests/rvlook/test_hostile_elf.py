@@ -92,13 +92,13 @@ def test_other_readers_of_a_damaged_file_end_in_time(bench, tmp_path, what, word
 
 
 def test_each_cut_of_the_file_has_symbols_or_a_reason(tmp_path, capsys):
-    from rvlook.errors import Fault
+    from rvlook.errors import RvlookError
     from rvlook.image.symbols import symbols_of, told
     for end in range(4, len(HELLO), 37):
         told.cache_clear()
         try:
             symbols = symbols_of("program.elf", HELLO[:end])
-        except Fault:
+        except RvlookError:
             continue
         symbols.caller(0x80000018)
         assert symbols or capsys.readouterr().err.startswith("rvlook: program.elf: no ")

@@ -75,7 +75,7 @@ def test_script_of_races_has_no_command_from_a_name(bench, elf, tmp_path):
 
 def test_bench_is_given_no_line_feed_in_a_command(bench, monkeypatch):
     from rvlook.protocol.bench import Bench
-    from rvlook.errors import Fault
+    from rvlook.errors import RvlookError
     monkeypatch.setenv("RVBENCH", bench)
-    with Bench(["run"], b"6f000000\n") as board, pytest.raises(Fault):
+    with Bench(["run"], b"6f000000\n") as board, pytest.raises(RvlookError):
         board.ask("reg 5\nsetreg 5 1")

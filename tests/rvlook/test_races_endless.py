@@ -155,7 +155,7 @@ def test_time_limit_holds_while_final_states_are_replayed(final_states, monkeypa
 
 def test_wait_for_the_state_of_a_loop_is_bounded():
     from rvlook.finders.races import loop as races_loop
-    from rvlook.errors import Fault
+    from rvlook.errors import RvlookError
 
     class Round:  # a hart whose state is its number of steps, in a loop of four
         hart, context, digest, registers = 0, 0, 0, ()
@@ -178,7 +178,7 @@ def test_wait_for_the_state_of_a_loop_is_bounded():
     races_loop.Work = Round
     try:
         assert races_loop.first_arrival(Steps, None, work, (3, 0, 0, ()), 5).done == 7
-        with pytest.raises(Fault):
+        with pytest.raises(RvlookError):
             races_loop.first_arrival(Steps, None, work, (9, 0, 0, ()), 0)
     finally:
         races_loop.Work = old

@@ -4,7 +4,7 @@ from __future__ import annotations
 from typing import Sequence, TYPE_CHECKING
 
 from rvlook.output.escapes import visible
-from rvlook.errors import Fault
+from rvlook.errors import RvlookError
 from rvlook.image.source_paths import files_of
 from rvlook.access.touch import Touches, covered_functions, covered_lines
 
@@ -15,9 +15,9 @@ if TYPE_CHECKING:
 
 
 def show_lcov(run: Run, symbols: Symbols, printer: Printer, paths: Sequence[str]) -> None:
-    """Prints a record for each world and each source file; raises Fault if there are no source lines."""
+    """Prints a record for each world and each source file; raises RvlookError if there are no source lines."""
     if not symbols.lines:
-        raise Fault("there are no source lines: an ELF file that is built with -g has them")
+        raise RvlookError("no source lines; use an ELF file built with -g")
     touches = Touches(run)
     places: dict[str, str] = {}
     for path in paths:

@@ -149,7 +149,7 @@ def overflows(run: Run, symbols: Symbols) -> list[Overflow]:
 def overflow_text(it: Overflow, symbols: Symbols) -> str:
     """Returns an overflow as a line: its place, and how many bytes it is outside."""
     where = symbols.source(it.pc) or symbols.name(it.pc) or hex8(it.pc)
-    does = "stores to" if it.is_store else "moves sp to"
-    outside, border, side = ("below", it.stack.bottom, "bottom") if it.address < it.stack.bottom else ("above", it.stack.top, "top")
-    return "stack overflow in %s at step %d, %s: it %s %08x, %d bytes %s %s_stack_%s" % (
-        it.world, it.step, where, does, it.address, abs(border - it.address), outside, it.stack.name, side)
+    use = "store to" if it.is_store else "sp set to"
+    outside, bound, side = ("below", it.stack.bottom, "bottom") if it.address < it.stack.bottom else ("above", it.stack.top, "top")
+    return "stack overflow in %s at step %d, %s: %s %08x, %d bytes %s %s_stack_%s" % (
+        it.world, it.step, where, use, it.address, abs(bound - it.address), outside, it.stack.name, side)

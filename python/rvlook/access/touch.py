@@ -9,7 +9,7 @@ from typing import Iterable, Iterator, Optional, TYPE_CHECKING
 
 from rvlook.protocol import names
 from rvlook.access.accesses import accesses
-from rvlook.errors import WordsRefused
+from rvlook.errors import UsageError
 from rvlook.access.map import Moment, moments
 from rvlook.access.ranges import NOTHING, Range
 from rvlook.protocol.run import Stretch
@@ -23,7 +23,7 @@ if TYPE_CHECKING:
 
 KINDS = {"r": "read", "w": "wrote", "x": "executed"}
 LEAST_SIZE = 4096
-BARE = "touch merges all modes of a bare image, and %s %s at step %d; map and trace tell each mode apart"
+BARE = "touch does not distinguish modes, but %s %s at step %d; use map or trace"
 
 
 @dataclass(frozen=True)
@@ -182,10 +182,10 @@ def refuse_modes(run: Run) -> None:
         found = MODE.search(item.data) if isinstance(item, Stretch) else None
         if isinstance(item, Stretch) and found:
             step, what = item.first + item.data.count(b"\n", 0, found.start()), "enters mode " + found[1].decode()
-            raise WordsRefused(BARE % (run.setup.image.name, what, step))
+            raise UsageError(BARE % (run.setup.image.name, what, step))
     for moment in () if run.setup.monitor else moments(run):
         if isinstance(moment, Moment) and moment.step:
-            raise WordsRefused(BARE % (run.setup.image.name, "writes a PMP register", moment.step))
+            raise UsageError(BARE % (run.setup.image.name, "writes a PMP register", moment.step))
 
 
 def show_touch(run: Run, symbols: Symbols, printer: Printer) -> None:

@@ -10,7 +10,7 @@ from contextlib import closing
 from dataclasses import dataclass
 from typing import Any, Mapping, Optional, Sequence, TYPE_CHECKING
 
-from rvlook.errors import Fault, Unfinished
+from rvlook.errors import RvlookError, Unfinished
 from rvlook.finders.secrets import place_and_size
 from rvlook.access.activations import Stays
 
@@ -72,7 +72,7 @@ def seen(run: Run, secret: Secret, is_strict: bool) -> Seen:
                 if stay.left == "exit":
                     return Seen(run, found, stay.last)
     if not found:
-        raise Unfinished("the enclave of slot %d is never entered after step %d, from which on runs are compared" % (secret.slot, secret.step))
+        raise Unfinished("the enclave in slot %d is never entered after step %d, where the comparison starts" % (secret.slot, secret.step))
     assert stays.end is not None
     return Seen(run, found, stays.end.steps, stays.end.why == "limit" and found[-1].left == "nothing")
 
@@ -216,6 +216,6 @@ def together(one: Stay, x: int, two: Stay, y: int) -> tuple[int, int]:
 
 
 def check_values(values: Sequence[bytes]) -> None:
-    """Raises Fault if two secrets have different lengths."""
+    """Raises RvlookError if two secrets have different lengths."""
     if len(values[0]) != len(values[1]):
-        raise Fault("the two have not the same number of bytes")
+        raise RvlookError("the two secrets differ in length")

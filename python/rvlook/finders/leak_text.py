@@ -4,7 +4,7 @@ from __future__ import annotations
 import time
 from typing import Mapping, Sequence, TYPE_CHECKING
 
-from rvlook.errors import Fault, WordsRefused
+from rvlook.errors import RvlookError, UsageError
 from rvlook.finders.leak import PARTS, Comparison, check_values, public_of, seen
 from rvlook.finders.secrets import drawn, secret_of
 from rvlook.output.progress import Progress
@@ -39,7 +39,7 @@ class Leak:
         """Returns the observations of the run with a secret. Notes if --steps ends the run too early."""
         found = seen(self.run.with_lines(secret.step, secret.lines()), secret, self.is_strict)
         if found.is_cut and not self.findings.cut:
-            self.findings.cut_short("--steps %d ends the run before the enclave of slot %d leaves" % (self.run.setup.limit, secret.slot))
+            self.findings.cut_short("--steps %d ended the run while the enclave in slot %d was running" % (self.run.setup.limit, secret.slot))
         return found
 
     def compared(self, one: Seen, two: Seen, secret: Secret) -> Comparison:
@@ -60,11 +60,11 @@ def show_leak(run: Run, symbols: Symbols, printer: Printer, options: Namespace) 
         show_tries(leak)
         return
     if len(options.secrets) != 2:
-        raise WordsRefused("leak compares two secrets, ONE and TWO, or draws them, --tries N; rvlook leak --help tells the words")
+        raise UsageError("leak requires two secrets (ONE TWO) or --tries N; see 'rvlook leak --help'")
     try:
         values = [bytes.fromhex(text) for text in options.secrets]
     except ValueError:
-        raise Fault("BYTES are pairs of hexadecimal digits") from None
+        raise RvlookError("a secret must consist of pairs of hexadecimal digits") from None
     check_values(values)
     secret = leak.secret(len(values[0]))
     secrets = [secret.with_bytes(it) for it in values]
@@ -97,7 +97,7 @@ def show_tries(leak: Leak) -> None:
                     told[number] = (other, two, found)
                 progress.bar(done, len(values), "%d told" % len(told))
                 if until is not None and time.monotonic() > until and done < len(values):
-                    leak.findings.cut_short("--seconds ends leak after %s of %d" % (pairs_text(done), len(values)))
+                    leak.findings.cut_short("--seconds ended leak after %d of %s" % (done, pairs_text(len(values))))
                     break
     except KeyboardInterrupt:
         cut = True

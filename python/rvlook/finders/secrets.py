@@ -9,7 +9,7 @@ from dataclasses import dataclass, replace
 from typing import TYPE_CHECKING
 
 from rvlook.protocol import names
-from rvlook.errors import Fault, Unfinished
+from rvlook.errors import RvlookError, Unfinished
 from rvlook.access.map import moments
 from rvlook.protocol.replies import bytes_of
 from rvlook.protocol.run import End
@@ -71,17 +71,17 @@ def created(run: Run, slot: int) -> Moment:
 
 
 def place_and_size(text: str, symbols: Symbols) -> tuple[int, int | None]:
-    """Parses PLACE or PLACE:BYTES into an address and a number of bytes, None if it is not known. Raises Fault."""
+    """Parses PLACE or PLACE:BYTES into an address and a number of bytes, None if it is not known. Raises RvlookError."""
     place, _, count = text.partition(":")
     at = symbols.address(place)
     if at is None or count and not count.isdigit():
-        raise Fault("%s is no hexadecimal number and no symbol" % text)
+        raise RvlookError("'%s' is neither a hexadecimal address nor a symbol" % text)
     symbol = symbols.by_name.get(place)
     return at, int(count) if count else symbol.size if symbol and symbol.size else None
 
 
 def secret_of(text: str, symbols: Symbols, run: Run, slot: int, size: int | None = None) -> Secret:
-    """Returns the secret that --at names, all zeros. `size` is the length of the given values, if there are any. Raises Fault."""
+    """Returns the secret that --at names, all zeros. `size` is the length of the given values, if there are any. Raises RvlookError."""
     register = REGISTER_AT.match(text)
     if register and register[1] in names.NUMBER_OF and text.split("@")[0] not in symbols.by_name:
         return register_secret(register, symbols, run, slot)
@@ -89,13 +89,13 @@ def secret_of(text: str, symbols: Symbols, run: Run, slot: int, size: int | None
     at, told = place_and_size(text[len("image:"):] if is_image else text, symbols)
     count = size or told
     if not count:
-        raise Fault("--at PLACE:BYTES tells how many bytes of %s are secret" % text)
+        raise RvlookError("the size of '%s' is unknown; use --at PLACE:BYTES" % text)
     if is_image:
         return Secret(slot, at, 0, bytes(count))
     moment = created(run, slot)
     enclave = next(it for it in moment.enclaves if it.slot == slot)
     if not enclave.base <= at <= at + count <= enclave.base + enclave.size:
-        raise Fault("the bytes from %08x on are not in the region of e%d" % (at, slot))
+        raise RvlookError("the bytes at %08x are outside the region of e%d" % (at, slot))
     return Secret(slot, at, moment.step, bytes(count))
 
 
@@ -107,7 +107,7 @@ def register_secret(match: re.Match[str], symbols: Symbols, run: Run, slot: int)
             found = next((step for step, it in zip(stay.steps, stay.pcs) if it & -4 == pc), None) if stay.slot == slot else None
             if found is not None:
                 return Secret(slot, 0, found - 1, bytes(WORD), names.NUMBER_OF[match[1]], stay.hart)
-    raise Unfinished("the enclave of slot %d does not come to %08x" % (slot, pc))
+    raise Unfinished("the enclave in slot %d never reaches %08x" % (slot, pc))
 
 
 def drawn(size: int, seed: int, first: int, last: int) -> list[tuple[int, bytes]]:

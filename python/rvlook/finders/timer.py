@@ -75,7 +75,7 @@ def last_of(run: Run, slot: int) -> Last:
             enclave = next((it for it in moment.enclaves if it.slot == slot), None)
             found = Last(moment.step, enclave) if enclave else found
     if found is None:
-        raise Unfinished("there is no enclave in slot %d" % slot)
+        raise Unfinished("no enclave in slot %d" % slot)
     assert end is not None
     return found if found.enclave.state in LEFT else Last(end.steps, found.enclave, end.why == "limit")
 
@@ -198,18 +198,18 @@ def show_timer(run: Run, symbols: Symbols, printer: Printer, options: Namespace)
         quiet.bench.ask(*(quiet.lines_to(last.step) or ["reg 0"]))
         outcome = interrupted(replay, inside_steps(run, slot, last, teller), every)
         if not outcome.steps:
-            raise Unfinished("the enclave of slot %d does nothing behind the script" % slot)
+            raise Unfinished("the enclave in slot %d executes no step after the script" % slot)
         if not (outcome.differs or outcome.not_resumed):
             pairs = zip(finish_of(quiet.bench, last.enclave), finish_of(replay.bench, last.enclave))
             outcome.differs = next((Differs(outcome.steps, None, a, b) for a, b in pairs if a != b), None)
     (timer_object if printer.as_json else timer_text)(run, symbols, printer, slot, every, outcome)
     if outcome.not_resumed:
-        raise Unfinished("the host does not resume the enclave of slot %d after the timer stopped it, at its step %d; timer needs a host "
-                         "that resumes it each time" % (slot, outcome.not_resumed.number))
+        raise Unfinished("the host does not resume the enclave in slot %d after the timer interrupt at its step %d; timer requires a "
+                         "host that always resumes it" % (slot, outcome.not_resumed.number))
     it = outcome.differs
     findings.add("e%d comes to the same end" % slot, "its step %d: %s in place of %s" % (it.number, it.found, it.wanted) if it else "")
     if last.is_cut:
-        findings.cut_short("--steps %d ends the run before the enclave of slot %d leaves" % (run.setup.limit, slot))
+        findings.cut_short("--steps %d ended the run while the enclave in slot %d was running" % (run.setup.limit, slot))
 
 
 def timer_object(run: Run, symbols: Symbols, printer: Printer, slot: int, every: int, outcome: Outcome) -> None:

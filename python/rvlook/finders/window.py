@@ -196,7 +196,7 @@ def show_window(run: Run, symbols: Symbols, printer: Printer, options: Namespace
                 options.findings.add("%s, stay %d" % (stay.world, stay.number), finding_of(stay, view, symbols, secret))
             progress.tell("step %d, %d stays", stay.last or 0, number)
     if not number:
-        raise Unfinished("no enclave runs" if slot is None else "there is no enclave in slot %d" % slot)
+        raise Unfinished("no enclave runs" if slot is None else "no enclave in slot %d" % slot)
 
 
 def finding_of(stay: Stay, view: View, symbols: Symbols, secret: Secret | None) -> str:

@@ -11,7 +11,7 @@ from typing import Callable, NamedTuple, Sequence, TYPE_CHECKING, TextIO
 from rvlook.protocol.bench_line import words_of
 from rvlook.protocol.commands import COMMANDS, Form, is_form, written
 from rvlook.output.escapes import visible
-from rvlook.errors import Fault
+from rvlook.errors import RvlookError
 from rvlook.gdb.entry import Entry
 from rvlook.gdb.moves import FORGOTTEN
 from rvlook.protocol.names import Call
@@ -60,7 +60,7 @@ class Monitor:
         with contextlib.redirect_stdout(out), errors, moves.link.watched(moves.behind_watches):
             try:
                 self.do(text, out)
-            except Fault as fault:
+            except RvlookError as fault:
                 out.write(visible(str(fault)) + "\n")
             except SystemExit:
                 pass  # the help of a word was told
@@ -141,10 +141,10 @@ class Monitor:
         named = read_files + [it for it in (getattr(arguments, name, None) for name in FOLDERS) if it]
         if named and not self.has_files:
             named = named[0] if isinstance(named[0], str) else named[0][0]
-            raise Fault("%s: a debugger on a port may name no file; rvlook gdb --allow-files --port N lets it" % named)
+            raise RvlookError("%s: a debugger on a port may name no file; rvlook gdb --allow-files --port N lets it" % named)
         for path in read_files:
             if not os.path.isfile(path):
-                raise Fault("%s: it is no regular file" % path)
+                raise RvlookError("%s: it is no regular file" % path)
 
     # of the bridge
 

@@ -10,14 +10,14 @@ from typing import Callable, Dict, Optional, TYPE_CHECKING
 
 from rvlook.protocol import names
 from rvlook.output.escapes import visible
-from rvlook.errors import BenchEnded, Fault
+from rvlook.errors import BenchEnded, RvlookError, error as report_error, note, warn
 from rvlook.gdb.reverse import Back
 from rvlook.gdb.link import Gone, Link, escaped, hex_of, little, number_of, unescaped
 from rvlook.gdb.monitor import Monitor
 from rvlook.gdb.moves import Moves
 from rvlook.gdb.stops import Halt, Watch
 from rvlook.gdb.target import CORE, ENTERED, MODES, PC, PRIV, REGISTERS, TRIPLE, WORLD, WORLDS, memory_text, target_text, threads_text
-from rvlook.protocol.run import told_fault
+from rvlook.protocol.run import error_of
 from rvlook.protocol.timeline import Timeline
 
 if TYPE_CHECKING:
@@ -91,7 +91,7 @@ class Server:
             except BenchEnded:
                 self.link.send(GONE if name in MOVING else "E.the bench has ended")
                 raise
-            except Fault as fault:
+            except RvlookError as fault:
                 answer = "E." + SIGNS.sub("?", visible(str(fault)))
             except (ValueError, LookupError, TypeError, ArithmeticError, MemoryError, RecursionError):
                 answer = "E01"
@@ -222,8 +222,8 @@ class Server:
             conditions = [bytes.fromhex(it[2])[:int(it[1], 16)] for it in CONDITION.finditer(rest)]
             self.moves.stops.set_break(self.timeline, kind, first, conditions)
         elif count > MOST_WATCHED or not self.moves.stops.set_watch(self.timeline, Watch(*WATCHES[kind], first, count)):
-            print("rvlook: the bench watches %d bytes at most, and these would be more" % MOST_WATCHED, file=sys.stderr, flush=True)
-            raise Refused("the bench watches %d bytes at most" % MOST_WATCHED)
+            report_error("cannot set the watchpoint: rvbench watches at most %d bytes" % MOST_WATCHED)
+            raise Refused("rvbench watches at most %d bytes" % MOST_WATCHED)
         return "OK"
 
     def clear_stop(self, rest: str) -> str:
@@ -364,18 +364,18 @@ ACTS: Dict[str, Callable[[Server, str], Optional[str]]] = {
 
 def link_of(setup: Setup, port: int | None) -> Link:
     """Opens the connection with the debugger: the standard streams, or a port of this machine for the first client. A thread turns away later
-    clients. Raises Fault."""
+    clients. Raises RvlookError."""
     if port is None and sys.stdin.isatty():
         words = " ".join([*(["--monitor"] if setup.monitor else []), setup.image.name])
-        raise Fault("a debugger speaks here, and no person: gdb-multiarch %s -ex 'target remote | ./rvlook gdb %s'; or --port N" % (
-            setup.image.name, words))
+        raise RvlookError("standard input is a terminal, not a debugger; "
+                          "run gdb-multiarch %s -ex 'target remote | ./rvlook gdb %s', or use --port N" % (setup.image.name, words))
     if port is None:
         return Link(sys.stdin.fileno(), sys.stdout.fileno())
     try:
         listening = socket.create_server(("localhost", port))
     except (OSError, OverflowError) as error:
-        raise Fault("port %d: %s" % (port, getattr(error, "strerror", None) or error)) from None
-    print("rvlook: localhost:%d" % listening.getsockname()[1], file=sys.stderr, flush=True)
+        raise RvlookError("cannot listen on port %d: %s" % (port, getattr(error, "strerror", None) or error)) from None
+    note("listening on localhost:%d" % listening.getsockname()[1])
     connection = listening.accept()[0]
     connection.setsockopt(socket.IPPROTO_TCP, socket.TCP_NODELAY, 1)
     threading.Thread(target=turn_away, args=(listening,), daemon=True).start()
@@ -388,7 +388,7 @@ def turn_away(listening: socket.socket) -> None:
     """Tells each that comes to the port that there is a debugger already."""
     while True:
         listening.accept()[0].close()
-        print("rvlook: a second debugger came to the port, and was turned away", file=sys.stderr, flush=True)
+        warn("rejected a second connection to the port")
 
 
 def serve_gdb(setup: Setup, symbols: Callable[[], Symbols], port: int | None, allow_files: bool, command_line: CommandLine) -> None:
@@ -401,9 +401,9 @@ def serve_gdb(setup: Setup, symbols: Callable[[], Symbols], port: int | None, al
         server = Server(link_of(setup, port), setup, symbols, command_line, port is None or allow_files)
         server.serve()
     except Gone:
-        print("rvlook: the debugger has gone", file=sys.stderr)
+        note("the debugger disconnected")
     except BenchEnded as ended:
-        raise told_fault(setup, ended) from None
+        raise error_of(setup, ended) from None
     finally:
         if server:
             server.close()

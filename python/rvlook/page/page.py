@@ -29,7 +29,7 @@ def page_template() -> Any:
     try:
         from jinja2 import Environment, FileSystemLoader, StrictUndefined
     except ImportError:
-        raise Unfinished(package_missing("jinja2", "python3-jinja2", "the page cannot be made")) from None
+        raise Unfinished(package_missing("jinja2", "python3-jinja2", "page cannot render its output")) from None
     environment = Environment(loader=FileSystemLoader(FOLDER), autoescape=True, undefined=StrictUndefined, keep_trailing_newline=False)
     return environment.get_template("page.html")
 

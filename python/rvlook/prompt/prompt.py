@@ -16,7 +16,7 @@ if TYPE_CHECKING:
     from rvlook.protocol.symbols import Symbols
 
 
-LONGEST_INPUT = 1 << 16  # characters of a line; a longer one is taken in parts
+LONGEST_INPUT = 1 << 16  # characters of a line; a longer one is read in parts
 
 
 def plain_lines(session: Session) -> Iterator[str]:
@@ -69,26 +69,26 @@ def bytes_text(line: str) -> str:
     return next(iter(lines_of(data.decode("latin-1"))), "")
 
 
-def done(session: Session, line: str) -> bool:
-    """Does a line; where Ctrl-C stops it, the bench is brought back to where it was before."""
+def run_line(session: Session, line: str) -> bool:
+    """Runs a line. If Ctrl-C interrupts it, the state before the line is restored."""
     position = session.timeline.position
     try:
         return session.line(bytes_text(line))
     except KeyboardInterrupt:
         session.held.go(position)
-        session.tell("stopped; it is as it was before")
+        session.print("interrupted; the state is unchanged")
         return True
 
 
 def show_prompt(run: Run, symbols: Symbols, printer: Printer) -> None:
-    """Reads lines and does them, up to the end."""
+    """Reads and runs lines up to the end of the input."""
     held = Held(Timeline.of_script(run.setup))
     session = Session(held, run, symbols, printer)
     try:
         if sys.stdin.isatty():
-            printer.line(printer.styled("help tells the commands; quit, or Ctrl-D, leaves", Style.aside))
+            printer.line(printer.styled("Type help for the commands, quit or Ctrl-D to leave.", Style.aside))
         for line in terminal_lines(session) if sys.stdin.isatty() else plain_lines(session):
-            if not done(session, line):
+            if not run_line(session, line):
                 return
     finally:
         held.timeline.close()

@@ -9,7 +9,7 @@ from rvlook.protocol.bench_line import has_reply, is_malformed, words_of
 from rvlook.protocol.commands import COMMANDS, Form, is_form
 from rvlook.output.escapes import visible
 from rvlook.protocol.messages import line_error
-from rvlook.errors import NameRefused
+from rvlook.errors import SymbolError
 from rvlook.protocol.lines import resolved
 from rvlook.access.map import Event, Finder
 from rvlook.access.map_text import moment_text
@@ -29,12 +29,12 @@ LONGEST_COUNT = 18  # digits of the operand of `back`
 PLACES = (Form.address, Form.value)
 
 OWN = {
-    "until": "until switch | trap: steps up to another world, or to a trap, at most 1000000",
-    "back": "back [N]: N steps back, 1 where it is not said; the run is played again from reset",
-    "map": "map: who may touch what now, and the table",
-    "where": "where: the next instruction, its symbol and its source line",
-    "help": "help: this",
-    "quit": "quit: leaves; so does the end of the input"}
+    "until": "until switch | trap: run to the next world switch or trap, at most 1000000 steps",
+    "back": "back [N]: go back N steps (default 1), by a replay from reset",
+    "map": "map: show the current access rights and the enclaves",
+    "where": "where: show the next instruction, its symbol and its source line",
+    "help": "help: show this list",
+    "quit": "quit: leave the prompt; so does the end of the input"}
 
 
 class Keeper(Protocol):
@@ -90,12 +90,12 @@ class Session:
         """Does a line; False where the session ends."""
         try:
             return self.done(text)
-        except NameRefused as fault:
-            self.tell(str(fault), Style.bad)
+        except SymbolError as fault:
+            self.print(str(fault), Style.bad)
             return True
 
     def done(self, text: str) -> bool:
-        """Runs a line; returns False if the session ends. Raises NameRefused for an ambiguous name."""
+        """Runs a line; returns False if the session ends. Raises SymbolError for an ambiguous name."""
         words = words_of(text)
         if not has_reply(text):
             return True
@@ -113,11 +113,11 @@ class Session:
         try:
             inspect.signature(act).bind(*operands)
         except TypeError:
-            self.tell(OWN[name])
+            self.print(OWN[name])
             return
         act(*operands)
 
-    def tell(self, text: str, style: Style | None = None) -> None:
+    def print(self, text: str, style: Style | None = None) -> None:
         """Prints a text."""
         text = visible(text)
         self.printer.line(self.printer.styled(text, style) if style else text)
@@ -126,24 +126,24 @@ class Session:
         """Runs a command of the bench."""
         replies = self.timeline.do(line)
         for reply in replies:
-            self.tell(reply, Style.bad if reply.startswith("error ") else None)
+            self.print(reply, Style.bad if reply.startswith("error ") else None)
         if replies and replies[0].startswith("error "):
             self.refused(replies[0], words_of(line))
         if replies and ran_of(replies[0]):
             self.where()
 
     def refused(self, reply: str, words: Sequence[str]) -> None:
-        """Prints what an error means, and what to write."""
-        meant, write = line_error(reply, words)
+        """Prints the meaning of an error, and what to write instead."""
+        meaning, suggestion = line_error(reply, words)
         unknown = self.unknown_symbol(words) if reply == "error operand" else None
         if unknown:
             near = nearest(unknown, self.symbols.by_name)
-            meant = "%s is no symbol of the image" % unknown if self.symbols else "%s is no address, and no symbols are known" % unknown
-            write = " ".join(near if it == unknown else it for it in words) if near else \
-                None if self.symbols else "--symbols FILE behind the image, or an ELF file that has them"
-        self.tell("  " + meant)
-        if write:
-            self.tell("  write: " + write)
+            meaning = "no symbol '%s'%s" % (unknown, "" if self.symbols else ": no symbols are loaded")
+            suggestion = " ".join(near if it == unknown else it for it in words) if near else \
+                None if self.symbols else "an ELF file, or --symbols FILE"
+        self.print("  " + meaning)
+        if suggestion:
+            self.print("  try: " + suggestion)
 
     def unknown_symbol(self, words: Sequence[str]) -> str | None:
         """Returns the operand that should be an address or a value and is none, or None."""
@@ -154,19 +154,19 @@ class Session:
 
     def help(self) -> None:
         """Prints the commands."""
-        self.tell("of the bench, in which symbols and the names of registers may stand:")
-        self.tell("  " + "  ".join(("%s %s" % (name, it.letters)).strip() for name, it in list(COMMANDS.items())[:10]))
-        self.tell("  " + "  ".join(("%s %s" % (name, it.letters)).strip() for name, it in list(COMMANDS.items())[10:]))
-        self.tell("of the prompt:")
+        self.print("rvbench commands (operands may be symbols and register names):")
+        self.print("  " + "  ".join(("%s %s" % (name, it.letters)).strip() for name, it in list(COMMANDS.items())[:10]))
+        self.print("  " + "  ".join(("%s %s" % (name, it.letters)).strip() for name, it in list(COMMANDS.items())[10:]))
+        self.print("prompt commands:")
         for text in OWN.values():
-            self.tell("  " + text)
+            self.print("  " + text)
 
     def where(self) -> None:
         """Prints the next instruction."""
         pc = self.pc
         text = self.timeline.ask("dis " + pc)[0][0].split(": ")[-1]
         word, _, text = text.partition(" ")
-        self.tell("next  %s  %s" % (names.with_abi_names(text) if word != "error" else "(outside)", place_text(pc, self.symbols)))
+        self.print("next  %s  %s" % (names.with_abi_names(text) if word != "error" else "(outside)", place_text(pc, self.symbols)))
 
     def map(self) -> None:
         """Prints the present access rights."""
@@ -178,7 +178,7 @@ class Session:
     def back(self, count: str = "1") -> None:
         """Goes back by a number of steps."""
         if not (count.isascii() and count.isdigit() and len(count) <= LONGEST_COUNT):
-            self.tell(OWN["back"])
+            self.print(OWN["back"])
             return
         self.held.go(max(0, self.timeline.position - int(count)))
         self.where()
@@ -187,10 +187,10 @@ class Session:
         """Goes on up to a switch of world or a trap. A second bench, at the same step, goes ahead to find how far it is; where it does not
         come, nothing is done."""
         if what not in ("switch", "trap"):
-            self.tell(OWN["until"])
+            self.print(OWN["until"])
             return
         if what == "switch" and not self.setup.monitor:
-            self.tell("without the monitor there is one world: ./rvlook --monitor %s" % self.setup.image.name)
+            self.print("until switch requires the monitor; start with ./rvlook --monitor %s" % self.setup.image.name)
             return
         ahead = self.timeline.again(self.timeline.position)
         ahead.settle()
@@ -199,7 +199,7 @@ class Session:
         finally:
             ahead.close()
         if count is None:
-            self.tell("it does not come in %d steps; nothing is done" % MOST_STEPS)
+            self.print("not reached within %d steps; the state is unchanged" % MOST_STEPS)
         else:
             self.command("step %d" % count)
 

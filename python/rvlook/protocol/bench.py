@@ -17,7 +17,7 @@ from functools import lru_cache
 from typing import IO, Sequence
 
 from rvlook.protocol.bench_line import ended, has_reply, is_malformed, words_of
-from rvlook.errors import BenchEnded, Fault, Unfinished
+from rvlook.errors import BenchEnded, RvlookError, Unfinished
 
 # Of a clone of the repository in which this package is: finds or builds the program.
 FINDER = os.path.join(os.path.dirname(os.path.abspath(__file__)), "..", "..", "..", "tools", "program")
@@ -35,7 +35,7 @@ def program_path() -> str:
     """Returns the path of the program: the one that RVBENCH names, or the one that ./rvbench runs."""
     path = os.environ.get("RVBENCH") or installed_program()
     if path and not os.path.exists(path):
-        raise Fault("there is no program at %s, which RVBENCH names" % path)
+        raise RvlookError("RVBENCH: no program at '%s'" % path)
     return path or built_program()
 
 
@@ -48,7 +48,7 @@ def built_program() -> str:
     """Returns the path of the program that ./prove has built, or builds one without proof. Ends the build on SIGTERM and Ctrl-C. Raises
     Unfinished."""
     if not os.path.exists(FINDER):
-        raise Unfinished("there is no program; RVBENCH names one, or it is rvbench on the PATH")
+        raise Unfinished("cannot find rvbench; add it to PATH, or set RVBENCH to its path")
     with subprocess.Popen([FINDER, "rvlook"], stdin=subprocess.DEVNULL, stdout=subprocess.PIPE, text=True) as building:
         old = signal.signal(signal.SIGTERM, lambda *_: sys.exit(128 + signal.SIGTERM))
         try:
@@ -59,7 +59,7 @@ def built_program() -> str:
         finally:
             signal.signal(signal.SIGTERM, old)
     if building.returncode:
-        raise Unfinished("there is no program; ./prove builds it, or RVBENCH names another")
+        raise Unfinished("cannot build rvbench; build it with ./prove, or set RVBENCH to its path")
     return path.rstrip("\n")
 
 
@@ -86,7 +86,7 @@ class Bench:
             self.process = subprocess.Popen([path, *words], stdin=subprocess.PIPE, stdout=subprocess.PIPE, bufsize=0,
                                             start_new_session=True)
         except OSError as error:
-            raise Unfinished("%s: %s" % (path, error.strerror)) from None
+            raise Unfinished("cannot run '%s': %s" % (path, error.strerror)) from None
         assert self.process.stdin and self.process.stdout
         self.stdin, self.stdout = self.process.stdin, self.process.stdout
         os.set_blocking(self.stdin.fileno(), False)
@@ -141,7 +141,7 @@ class Bench:
         said = b"".join(self.parts).decode("ascii", "replace").splitlines()
         self.process.wait()
         faults = [line for line in said if line.startswith("rvbench: ")]
-        return faults[-1] if faults else "the bench ended with status %d" % self.process.returncode
+        return faults[-1] if faults else "rvbench exited with status %d" % self.process.returncode
 
     def block(self, text: bytes, count: int) -> bytes:
         """Sends commands whose replies have `count` lines; returns the replies."""
@@ -187,9 +187,9 @@ class Bench:
         return self.told(*commands)
 
     def give(self, *commands: str) -> None:
-        """Queues commands whose replies `told` will read. Raises Fault for a command of more than one line."""
+        """Queues commands whose replies `told` will read. Raises RvlookError for a command of more than one line."""
         if any("\n" in it for it in commands):
-            raise Fault("a command of the bench is one line, and has no line feed")
+            raise RvlookError("a command must be a single line")
         text = "".join(ended(it) + (MARK + "\n" if is_enclaves(it) else "") for it in commands)
         self.send(text.encode("latin-1", "replace"))
 

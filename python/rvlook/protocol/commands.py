@@ -15,18 +15,18 @@ if TYPE_CHECKING:
 class Form(Enum):
     """The form of an operand."""
     count = "a decimal number from 1 to 1000000"
-    register = "a register's number, decimal, 0 to 31"
-    address = "an address: one to eight hexadecimal digits, after 0x or not"
-    value = "a value: one to eight hexadecimal digits, after 0x or not"
+    register = "a register number (decimal, 0 to 31)"
+    address = "an address (1 to 8 hexadecimal digits, optionally after 0x)"
+    value = "a value (1 to 8 hexadecimal digits, optionally after 0x)"
     length = "a decimal number from 1 to 64"
-    byte = "one or two hexadecimal digits, without 0x"
-    csr = "one to three hexadecimal digits, without 0x"
+    byte = "a byte (1 or 2 hexadecimal digits, without 0x)"
+    csr = "a CSR number (1 to 3 hexadecimal digits, without 0x)"
     mode = "M, S or U"
     kind = "r, w or x"
     width = "1, 2 or 4"
     line = "on or off"
     hart = "0 or 1"
-    schedule = "one to 64 digits 0 and 1"
+    schedule = "a schedule (1 to 64 digits 0 and 1)"
 
 
 @dataclass(frozen=True)

@@ -7,7 +7,7 @@ from rvlook.protocol.bench_line import is_malformed, words_of
 from rvlook.protocol.commands import COMMANDS, Form, is_form, written
 from rvlook.output.escapes import visible_line
 from rvlook.protocol.messages import line_error
-from rvlook.errors import NameRefused
+from rvlook.errors import SymbolError
 from rvlook.protocol.inputs import ScriptLine
 from rvlook.protocol.nearest import nearest
 
@@ -18,7 +18,7 @@ LONGEST_SHOWN = 160  # characters of a line in a message
 
 
 def resolved(line: str, symbols: Symbols) -> str:
-    """Returns a line in the syntax of the bench. Raises NameRefused for an ambiguous name. Returns what is not valid unchanged, as the bench
+    """Returns a line in the syntax of the bench. Raises SymbolError for an ambiguous name. Returns what is not valid unchanged, as the bench
     refuses it."""
     words = words_of(line)
     if is_malformed(line) or not words or words[0] not in COMMANDS:
@@ -35,11 +35,11 @@ def resolved_line(line: ScriptLine, symbols: Symbols) -> ScriptLine:
     """Returns a line of a script in the syntax of the bench; unchanged if a name is ambiguous, as the bench then refuses it."""
     try:
         return ScriptLine(line.given, line.place, resolved(line.given, symbols))
-    except NameRefused as fault:
+    except SymbolError as fault:
         return ScriptLine(line.given, line.place, line.given, str(fault))
 
 
-def fault_text(line: ScriptLine, reply: str, symbols: Symbols) -> str:
+def error_text(line: ScriptLine, reply: str, symbols: Symbols) -> str:
     """Returns the message for a line that the bench refuses."""
     meant = line.refused or meaning(reply, words_of(line.given), symbols)
     return visible_line("%s: %s: %s: %s" % (line.place, line.given[:LONGEST_SHOWN], reply, meant))
@@ -62,6 +62,6 @@ def unknown_name(words: Sequence[str], symbols: Symbols) -> str | None:
 def no_symbol(name: str, symbols: Symbols) -> str:
     """Returns the message for an unknown name."""
     if not symbols:
-        return "%s is no address, and there are no symbols: an ELF file has them, or --symbols FILE" % name
+        return "no symbol '%s': no symbols are loaded; use an ELF file or --symbols FILE" % name
     near = nearest(name, symbols.by_name)
-    return "there is no symbol %s%s" % (name, "; near it is %s" % near if near else "")
+    return "no symbol '%s'%s" % (name, "; did you mean '%s'?" % near if near else "")

@@ -11,7 +11,7 @@ from typing import AnyStr, Generator, Iterable, Iterator, Sequence
 from rvlook.protocol.bench import Bench
 from rvlook.protocol.bench_line import has_reply, words_of
 from rvlook.protocol.messages import INPUT_REPLIES, input_error
-from rvlook.errors import BenchEnded, Fault, Unfinished
+from rvlook.errors import BenchEnded, RvlookError, Unfinished
 from rvlook.protocol.inputs import Image, ScriptLine
 from rvlook.protocol.replies import ran_of, step_of
 from rvlook.protocol.symbols import Symbols
@@ -116,13 +116,13 @@ class Stretch:
 
 
 class Run:
-    """A configuration with the plan of its script. `hart` is the chosen hart after the script, `faults` the lines that the bench refused, each
+    """A configuration with the plan of its script. `hart` is the chosen hart after the script, `errors` the lines that rvbench rejected, each
     with its reply."""
 
     def __init__(self, setup: Setup) -> None:
         self.setup, self.hart, self.length = setup, 0, 0
         self.plan: list[Line | Steps] = []
-        self.faults: list[tuple[ScriptLine, str]] = []
+        self.errors: list[tuple[ScriptLine, str]] = []
         self.mode, self.world = ("S", "host") if setup.monitor else ("M", "bare")
         with setup.bench() as bench:
             self.pc = bench.ask("regs")[0][32][3:]
@@ -137,7 +137,7 @@ class Run:
         replies = bench.ask(line)[0]
         ran = ran_of(replies[0]) if replies else None
         if replies and replies[0].startswith("error "):
-            self.faults.append((script_line, replies[0]))
+            self.errors.append((script_line, replies[0]))
         if ran:
             self.add_steps(ran.steps)
         elif words[:1] == ["sched"] and replies[0].startswith("hart "):
@@ -305,16 +305,16 @@ class Replay:
 
 
 def run_of(setup: Setup) -> Run:
-    """Returns the run of a configuration; raises Fault or Unfinished if the bench ends."""
+    """Returns the run of a configuration; raises RvlookError or Unfinished if the bench ends."""
     try:
         return Run(setup)
     except BenchEnded as error:
-        raise told_fault(setup, error) from None
+        raise error_of(setup, error) from None
 
 
-def told_fault(setup: Setup, error: BenchEnded) -> Fault:
+def error_of(setup: Setup, error: BenchEnded) -> RvlookError:
     """Returns the error for a bench that ended, with its meaning if it refused the image."""
-    told = str(error)
-    if told not in INPUT_REPLIES:
-        return Unfinished("%s: %s" % (setup.image.name, told))
-    return Fault("%s: %s: %s" % (setup.image.name, told, input_error(told)[0]))
+    message = str(error)
+    if message not in INPUT_REPLIES:
+        return Unfinished("%s: %s" % (setup.image.name, message))
+    return RvlookError("cannot load '%s': %s: %s" % (setup.image.name, message, input_error(message)[0]))

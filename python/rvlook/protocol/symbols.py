@@ -6,7 +6,7 @@ from collections import defaultdict
 from dataclasses import dataclass
 from typing import Callable, Iterable, Iterator, Sequence, Tuple
 
-from rvlook.errors import NameRefused
+from rvlook.errors import SymbolError
 from rvlook.protocol.memory_map import RAM_BASE
 
 UNSIZED = 4096  # bytes that a symbol without a size has at most
@@ -105,7 +105,7 @@ class Symbols:
 
     def address(self, text: str) -> int | None:
         """Returns the address of a name, a name+offset or hexadecimal digits, or None. Of an ambiguous name, name@place is the first from a
-        place on. Raises NameRefused."""
+        place on. Raises SymbolError."""
         named, plus, offset = text.partition("+")
         name, at, place = named.partition("@")
         try:
@@ -116,13 +116,13 @@ class Symbols:
             return None
 
     def place_of(self, name: str, first: int | None) -> int:
-        """Returns the address of a name: the only one, or the first from an address on. Raises NameRefused."""
+        """Returns the address of a name: the only one, or the first from an address on. Raises SymbolError."""
         places = sorted(self.places[name])
         if first is not None:
             places = [it for it in places if it >= first][:1]
             if not places:
-                raise NameRefused("there is no %s from %08x on" % (name, first))
+                raise SymbolError("no symbol '%s' at or after %08x" % (name, first))
         if len(places) == 1:
             return places[0]
         shown = " and ".join("%08x" % it for it in places)
-        raise NameRefused("%s is at %s; %s@PLACE is the first from a place on" % (name, shown, name))
+        raise SymbolError("symbol '%s' is ambiguous (%s); use %s@PLACE for the first at or after PLACE" % (name, shown, name))

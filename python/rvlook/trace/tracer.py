@@ -167,7 +167,7 @@ class Tracer:
             yield self.step(number, stretch.hart, hart, done, replies)
         kept = [line.split(b"=")[1].decode() for line in (next(replies) for _ in range(REGISTERS - 1))]
         if kept != hart.registers:
-            raise Unfinished("the registers behind step %d are not those that its steps gave" % stop)
+            raise Unfinished("the registers after step %d differ from those derived from its steps" % stop)
         self.position = stop
 
     @staticmethod

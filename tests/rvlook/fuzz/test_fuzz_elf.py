@@ -1,4 +1,4 @@
-"""Mutated ELF files: each reader of one ends in time, with no error but a Fault, and every name that it gives can be printed."""
+"""Mutated ELF files: each reader of one ends in time, with no error but a RvlookError, and every name that it gives can be printed."""
 import struct
 
 from support.fuzzing import at_most, fuzz
@@ -28,7 +28,7 @@ def mutant(edits):
 
 def read(path, data):
     """Reads all that rvlook reads of an ELF file."""
-    from rvlook.errors import Fault
+    from rvlook.errors import RvlookError
     from rvlook.page.sources import files_of
     from rvlook.image.symbols import symbols_of
     path.write_bytes(data)
@@ -38,7 +38,7 @@ def read(path, data):
         texts = [it for at in addresses for it in (symbols.name(at), symbols.line(at), symbols.function(at)) if it]
         texts += [it for symbol in symbols.ordered[:9] for it in symbols.sources_in(symbol.address, symbol.address + symbols.size_of(symbol)) if it]
         return texts + list(files_of(path))
-    except Fault:
+    except RvlookError:
         return []
 
 

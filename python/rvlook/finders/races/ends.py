@@ -7,7 +7,7 @@ from collections import defaultdict, deque
 from dataclasses import dataclass
 from typing import Any, Callable, Iterable, Iterator, Mapping, Optional, Sequence, Set, TYPE_CHECKING, Tuple
 
-from rvlook.errors import Fault
+from rvlook.errors import RvlookError
 from rvlook.finders.races.search import Graph, Vertex, way_of
 from rvlook.finders.races.loop import do_steps
 from rvlook.finders.races.machine import Piece, State, Work
@@ -177,7 +177,7 @@ class Part:
             yield work
             if full_state(work) == start:
                 return
-        raise Fault("hart %d does not come back to its state in an endless loop at %08x" % (hart, work.pc))
+        raise RvlookError("hart %d does not return to its state in the endless loop at %08x" % (hart, work.pc))
 
     def values(self, outcome: Sequence[Observed]) -> tuple[dict[tuple[Value, ...], Found], bool]:
         """Returns the sets of values that hold again and again, each with a vertex, the state and the schedule from the vertex to it; and

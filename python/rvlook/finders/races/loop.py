@@ -3,7 +3,7 @@ from __future__ import annotations
 
 from typing import Iterator, NamedTuple, TYPE_CHECKING
 
-from rvlook.errors import Fault
+from rvlook.errors import RvlookError
 from rvlook.finders.races.machine import Work, digest_of
 
 if TYPE_CHECKING:
@@ -71,6 +71,6 @@ def first_arrival(machine: Machine, state: State, work: Work, wanted: tuple[int,
     again, most = Work(machine, state, work.hart), work.done
     while again.done < first or state_of(again) != wanted:
         if again.done > most:
-            raise Fault("hart %d does not come back to the loop that was detected at %08x" % (work.hart, work.pc))
+            raise RvlookError("hart %d does not return to the loop detected at %08x" % (work.hart, work.pc))
         machine.step(again, machine.look(again), lambda: [])
     return again

@@ -7,7 +7,7 @@ from typing import Callable, Sequence, TYPE_CHECKING
 
 from rvlook.protocol.bench_line import ended
 from rvlook.output.escapes import visible
-from rvlook.errors import Fault
+from rvlook.errors import RvlookError
 from rvlook.finders.outcomes import Bytes, Register
 from rvlook.finders.races.machine import ROW, commands_of
 from rvlook.protocol.replies import step_of
@@ -37,7 +37,7 @@ class Replays:
         return bench.block(self.question, self.count).decode().splitlines()
 
     def check(self, end: End) -> None:
-        """Replays a final state, and its round twice; raises Fault if the bench comes to another state."""
+        """Replays a final state, and its round twice; raises RvlookError if the bench comes to another state."""
         machine, state = self.machine, end.state
         with machine.at_start() as bench:
             if self.rows is None:
@@ -74,9 +74,9 @@ class Replays:
 
     @staticmethod
     def expect(end: End, found: object, wanted: object) -> None:
-        """Raises Fault if the bench shows something unexpected."""
+        """Raises RvlookError if the bench shows something unexpected."""
         if found != wanted:
-            raise Fault("the order of end %d came otherwise on the bench: what a step depends on was not all seen" % end.number)
+            raise RvlookError("the replay of final state %d on rvbench differs from the search: a dependency was missed" % end.number)
 
 
 def questions_of(outcome: Observed, count: int) -> list[str]:
@@ -106,11 +106,11 @@ def script_of(machine: Machine, end: End, outcome: Sequence[Observed], heading: 
 
 
 def write_scripts(folder: str, machine: Machine, ends: Sequence[End], outcome: Sequence[Observed], heading_of: Callable[[End], str]) -> None:
-    """Writes a file for each final state; raises Fault if that fails."""
+    """Writes a file for each final state; raises RvlookError if that fails."""
     try:
         os.makedirs(folder, exist_ok=True)
         for end in ends:
             with open(os.path.join(folder, "end_%d" % end.number), "wb") as file:
                 file.write(script_of(machine, end, outcome, heading_of(end)))
     except OSError as error:
-        raise Fault("%s: %s" % (folder, error.strerror)) from None
+        raise RvlookError("cannot write to '%s': %s" % (folder, error.strerror)) from None

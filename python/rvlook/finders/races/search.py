@@ -255,7 +255,7 @@ class Search:
             if self.progress:
                 self.progress(self)
             if len(self.done) >= MOST_PLACES:
-                self.why_cut = "the bound of %d places" % MOST_PLACES
+                self.why_cut = "the limit of %d states" % MOST_PLACES
                 return True
             for following in self.next_nodes(node):
                 heapq.heappush(heap, (following.cost, next(order), following))

@@ -5,7 +5,7 @@ from dataclasses import dataclass, field
 from typing import Callable, Iterator, List, Sequence, Set, TYPE_CHECKING, Tuple
 
 from rvlook.finders.outcomes import Condition, Table, condition_of, number_of, outcomes_of, ranges_of, value_text, watched_of
-from rvlook.errors import Fault, Unfinished, tell
+from rvlook.errors import RvlookError, Unfinished, warn
 from rvlook.output.progress import Progress
 from rvlook.finders.races.search import MOST_ALONE, Bounds, Search
 from rvlook.finders.races.ends import GOES_ON, GRACE, LEFT, LONG, OVER, SLACK, STAYS, WAITS, End, Ends, search_ends
@@ -205,7 +205,7 @@ def show_races(run: Run, symbols: Symbols, printer: Printer, options: Namespace)
             search.progress = teller(progress)
             found = search_ends(search, lambda it: outcome or [*ranges_of(it.met, symbols), Table()])
         told(Report(run, symbols, search, found, conditions), printer, options)
-    except Fault as fault:  # the arguments are right, but the program cannot be searched
+    except RvlookError as fault:  # the arguments are right, but the program cannot be searched
         raise Unfinished(str(fault)) from None
     finally:
         machine.close()
@@ -214,10 +214,10 @@ def show_races(run: Run, symbols: Symbols, printer: Printer, options: Namespace)
 
 
 def place_of(text: str, symbols: Symbols) -> int:
-    """Returns the address of a place; raises Fault."""
+    """Returns the address of a place; raises RvlookError."""
     at = symbols.address(text)
     if at is None:
-        raise Fault("%s is no hexadecimal number and no symbol" % text)
+        raise RvlookError("'%s' is neither a hexadecimal address nor a symbol" % text)
     return at
 
 
@@ -278,17 +278,17 @@ def note_cut(findings: Findings, stories: Sequence[Story], search: Search, found
         return
     long = [story for story in stories if any(how == LONG for how, _ in story.end.harts)]
     if conditions:
-        findings.cut_short("--forbid is not decided: not all was searched")
+        findings.cut_short("--forbid is undecided: the search is incomplete")
     elif long:
-        findings.cut_short("not all was searched: " + long[0].heading())
+        findings.cut_short("the search is incomplete: " + long[0].heading())
     else:
-        findings.cut_short("races was cut by %s: not all was searched" % (search.why_cut or "--seconds"))
+        findings.cut_short("the search is incomplete: it was stopped by %s" % (search.why_cut or "--seconds"))
 
 
 def note_forbidden(findings: Findings, stories: Sequence[Story], bad: Sequence[tuple[Condition, End]], conditions: Sequence[Condition]) -> None:
     """Notes the ends that --forbid names; no other counts as found."""
     for condition, end in bad:
-        tell("--forbid %s: end %d is so" % (condition.text, end.number))
+        warn("--forbid %s: final state %d matches" % (condition.text, end.number))
     for condition in conditions:
         ends = ["end %d: %s" % (it.end.number, it.heading()) for it in stories if (condition, it.end) in bad]
         findings.add("--forbid " + condition.text, "\n".join(ends))
