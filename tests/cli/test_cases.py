@@ -1,4 +1,4 @@
-"""The command-line cases: the program writes exactly the wanted bytes and ends with the wanted status."""
+"""The command-line cases: the program writes exactly the expected bytes and exits with the expected status."""
 import subprocess
 
 import pytest

@@ -1,4 +1,4 @@
-"""Help: the text of the command line, on standard output and with status 0. The examples in it run as they are."""
+"""Help texts: on standard output, with status 0. The examples in them run unchanged."""
 import re
 import subprocess
 
@@ -14,7 +14,7 @@ ENTRIES = ("step", "run", "break", "watch", "reg", "csr", "mem", "dis", "pmp,", 
 
 @pytest.fixture
 def help_of(bench):
-    """The help that these arguments ask for; nothing is written elsewhere."""
+    """Returns the help for these arguments; nothing else is written."""
     def text(*words):
         done = subprocess.run([bench, *words], stdin=subprocess.DEVNULL, capture_output=True, text=True, timeout=60, check=False)
         assert (done.returncode, done.stderr) == (0, "")

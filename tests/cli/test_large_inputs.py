@@ -1,4 +1,4 @@
-"""Inputs that are too long to be kept as files: they are answered within seconds and in little memory."""
+"""Inputs that are too long to store as files: they are processed within seconds and in little memory."""
 import os
 import random
 import resource
@@ -20,12 +20,12 @@ BLOCKS = {"garbage": random.Random(1).randbytes(MEBIBYTE - 1) + b"\n", "zeros": 
 
 
 def stream(kind, length):
-    """At least so many bytes of a kind."""
+    """Returns an input of a kind with at least this many bytes."""
     return BLOCKS[kind] * -(-length // len(BLOCKS[kind]))
 
 
 def replies(kind, length):
-    """The replies of a bench to such a script."""
+    """Returns the expected replies to such a script."""
     if kind == "zeros":
         return b"error line\n"
     found = []
@@ -38,20 +38,20 @@ def replies(kind, length):
 
 
 def run(program, words, data, most=None):
-    """The output and the status. If `most` is given, the address space of the program is limited to so many bytes."""
+    """Runs the program; returns the output and the status. `most` limits its address space, in bytes."""
     limit = (lambda: resource.setrlimit(resource.RLIMIT_AS, (most, most))) if most else None
     done = subprocess.run([program, *words.split()], input=data, stdout=subprocess.PIPE, timeout=60, check=False, preexec_fn=limit)
     return done.stdout, done.returncode
 
 
 def image(count):
-    """The text of an image of so many bytes 11, and a script that shows the last byte of RAM."""
+    """Returns the text of an image of bytes 11, and a script that shows the last byte of RAM."""
     whole, rest = divmod(count - 1, 60)
     return (b"11" * 60 + b"\n") * whole + b"11" * (rest + 1) + SCRIPT
 
 
 def elf_image(size, count):
-    """The text of an ELF file whose one segment has so many bytes at the first byte of RAM, with `count` bytes after the headers."""
+    """Returns the text of an ELF file with one segment at the first byte of RAM and `count` bytes after the headers."""
     digits = int(size).to_bytes(4, "little").hex().encode()
     header = b"7f454c460101010000000000000000000200f3000100000000000080340000000000000000000000340020000100280000000000\n"
     return header + b"01000000540000000000008000000080" + digits + digits + b"0500000004000000\n" + image(count)
@@ -95,7 +95,7 @@ def test_a_long_script_takes_little_time_and_memory(bench):
     wanted = b"ran 1 pc=80000000 mode=M world=bare why=done trap=-\n" * 200000
     assert run(bench, "run", script, 16 * MEBIBYTE) == (wanted, 0)
     seconds = []
-    for _ in range(5):  # the best of five, since the machine may have other work
+    for _ in range(5):  # the best of five, since the machine may be busy
         begin = time.monotonic()
         run(bench, "run", script)
         seconds.append(time.monotonic() - begin)

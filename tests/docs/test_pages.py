@@ -13,7 +13,7 @@ COUNTED = re.compile(r"\b(%s)\s+(?:\[)?attacks\b|\[(%s) attacks\]" % ("|".join(N
 
 
 def prose(page):
-    """The lines of a page outside of code blocks, without code spans."""
+    """Yields the lines of a page outside code blocks, without code spans."""
     lines, is_code = [], False
     for line in page.read_text(encoding="utf-8").split("\n"):
         if line.startswith("```"):

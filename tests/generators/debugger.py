@@ -1,14 +1,13 @@
 #!/usr/bin/env python3
-"""Makes the cases of debugger: where runs end by watches and breaks at each border of an access, what is asked
-first, sets of 32 addresses and one more, poke, hart and sched of the one hart, every malformed line of these commands, and long
-scripts of them.
+"""Generates the cases of debugger: runs that breakpoints and watchpoints end at each boundary of an access, their order, sets of 32 and 33
+addresses, poke, hart and sched with one hart, every malformed line of these commands, and long scripts of them.
 
-    python3 -m generators.debugger                      writes its digest and sample anew
-    python3 -m generators.debugger --check              tells whether they are what this script writes
-    python3 -m generators.debugger --check-with-llvm    tells whether llvm-mc gives the same word for each assembly text
+    python3 -m generators.debugger                      writes its digest and sample
+    python3 -m generators.debugger --check              checks that they are up to date
+    python3 -m generators.debugger --check-with-llvm    checks each instruction word against llvm-mc
 
-Nothing here comes from the bench: replies are those of the model of monitor_bench.py, over a bare hart. Where a reply is written here, by
-hand, the model gives the same.
+Independent of the code under test: the replies are those of the model in monitor_bench.py, over a bare hart. A handwritten
+reply must equal that of the model.
 """
 import sys
 
@@ -17,15 +16,15 @@ from models.instruction_words import assemble, named
 from models.monitor_bench import Bench
 
 START, PAST, ONES = 0x80000000, 0x80100000, 0xFFFFFFFF
-AREA = START + 0x2000  # data, behind the code
+AREA = START + 0x2000  # data, after the code
 WIDTH = {"b": 1, "h": 2, "w": 4}
 ACCESSES = named("load") + named("store")
 MOST = 32  # addresses in a set
-words = {}  # those of all instructions, by their texts
+words = {}  # the words of all instructions, by text
 
 
 class Case:
-    """A bench of a program in mode M, what it is told and what the model answers."""
+    """A bench with a program in mode M: its input, and the replies of the model."""
 
     def __init__(self, name, program):
         self.topic, self.name, self.image, self.lines, self.replies = "debugger", name, {}, [], []
@@ -44,14 +43,14 @@ class Case:
         return self.bench.machine.pc
 
     def tell(self, line, *written):
-        """A line of the script, and the reply where it is written by hand."""
+        """Adds a line of the script, with its reply if that is handwritten."""
         replies = self.bench.replies(line)
         assert not written or replies == list(written), (line, replies)
         self.lines.append(line)
         self.replies += replies
 
     def go(self, command, count, line=None):
-        """Steps, and why they ended."""
+        """Adds steps, and the reason why they end."""
         self.tell(line or "%s %d" % (command, count))
         return self.replies[-1].split("why=")[1].split(" ")[0]
 
@@ -62,11 +61,11 @@ class Case:
         self.tell("sched " + digits)
 
     def put(self, command, address):
-        """break or watch."""
+        """Adds break or watch."""
         self.tell("%s %x" % (command, address))
 
     def take(self, command, address):
-        """clear or unwatch."""
+        """Adds clear or unwatch."""
         self.put(command, address)
 
     def setreg(self, register, number):
@@ -87,16 +86,16 @@ BACK = ("jalr", 0, 0, 31)  # to the address in x31
 
 
 def numbers(seed):
-    """Numbers that look like chance and are the same everywhere."""
+    """Yields pseudorandom numbers that are the same on every platform."""
     while True:
         seed = seed * 6364136223846793005 + 1442695040888963407 & (1 << 64) - 1
         yield seed >> 33
 
 
-# ---- where a watch ends a run
+# ---- runs that a watchpoint ends
 
 def each_border():
-    """Each access at each alignment, with each byte from one before it to one behind it watched alone."""
+    """Each access at each alignment, with a watchpoint on each byte from one before it to one after it."""
     for name in ACCESSES:
         case = Case("watch_%s" % name, [(name, 5, 0, 8), BACK])
         case.setreg(31, START)
@@ -113,7 +112,7 @@ def each_border():
 
 
 def lowest_of_many():
-    """Watches that are set in any order: the lowest that was accessed is told, and none that was not."""
+    """Watchpoints in any order: the lowest accessed one is reported, and none that was not accessed."""
     case = Case("lowest_watch", [("sw", 5, 0, 8), ("lh", 6, 1, 8), ("lbu", 7, 3, 8), BACK])
     case.setreg(31, START)
     case.setreg(8, AREA)
@@ -128,7 +127,7 @@ def lowest_of_many():
 
 
 def fetches():
-    """A byte that is only fetched is watched in vain, and one that is stored into the code is not."""
+    """A fetch hits no watchpoint; a store into the code does."""
     case = Case("watch_on_code", [("addi", 1, 1, 1), ("sb", 5, 0, 8), ("ecall",)])
     for address in range(START, START + 12):
         case.put("watch", address)
@@ -140,7 +139,7 @@ def fetches():
 
 
 def refused():
-    """An access that is refused hits no watch, on no byte of it."""
+    """An access that traps hits no watchpoint on any of its bytes."""
     for name, address in (("load_below_ram", START - 2), ("load_behind_ram", PAST - 2), ("load_round_the_end", ONES - 1)):
         case = Case(name, [("lw", 5, 0, 8), BACK])
         case.setreg(8, address)
@@ -158,7 +157,7 @@ def refused():
         case.run(9)
 
 
-# ---- what is asked first
+# ---- order of the checks
 
 def order():
     loop = [("addi", 1, 1, 1), ("sb", 1, 0, 8), BACK]
@@ -166,7 +165,7 @@ def order():
     case.setreg(8, AREA)
     case.setreg(31, START)
     case.put("break", START)
-    for count in (1, 2, 3, 4):  # begins at the break, and is not held there
+    for count in (1, 2, 3, 4):  # starts at the breakpoint, and does not stop there
         case.run(count)
         case.run(3)
     case.put("break", START + 8)
@@ -184,7 +183,7 @@ def order():
 
 
 def breaks_on_the_way():
-    """A break behind a jump that is not met, at an address of no instruction, and at the place of a handler."""
+    """Breakpoints that a jump skips, at an address without an instruction, and at a handler."""
     case = Case("break_places", [("jal", 1, 8), ("addi", 2, 2, 1), ("addi", 3, 3, 1), ("ecall",)])
     for address in (START + 4, START + 2, START + 9, START + 11):
         case.put("break", address)
@@ -261,7 +260,7 @@ def pokes():
 
 
 def one_hart():
-    """hart and sched of the hart that there is, and of one that there is not: then no step is done, not even an earlier digit's."""
+    """hart and sched with the existing hart and with a missing one: then no step is made, not even that of an earlier digit."""
     case = Case("one_hart", [("addi", 1, 1, 1), ("sw", 1, 0, 8), ("ecall",), BACK])
     case.setreg(31, START)
     case.setreg(8, AREA)
@@ -305,14 +304,14 @@ def malformed():
         case.tell(line, "error command")
     for line in ("run 1\x00", "run 1\r\r", "break 0\x7f", "# watch 0\x80", "poke" + " " * 117 + "0"):
         case.tell(line, "error line")
-    # nothing of it is set, and nothing ran
+    # nothing is set, and nothing ran
     case.go("step", 1)
     case.put("break", START)
     case.go("run", 2, "run" + " " * 116 + "2")
 
 
 def hostile_lines():
-    """Lines that are nearly commands, of all kinds: the script goes on behind each."""
+    """Almost valid commands of all kinds: the script continues after each."""
     case = Case("hostile_lines", [("addi", 1, 1, 1), BACK])
     case.setreg(31, START)
     for line, reply in (
@@ -329,7 +328,7 @@ def hostile_lines():
 
 
 def long_scripts():
-    """A loop of accesses whose base moves, under a script that looks like chance."""
+    """A loop of accesses with a moving base, under a pseudorandom script."""
     for seed in range(1, 7):
         case = Case("long_script_%d" % seed, [("lw", 5, 0, 8), ("sh", 5, 6, 8), ("lb", 6, 9, 8), ("addi", 8, 8, 1), ("sb", 6, 0, 8),
                                               ("lhu", 7, 2, 8), BACK])

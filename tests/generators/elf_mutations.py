@@ -1,6 +1,4 @@
-"""An ELF file of five program headers whose fields are changed at random, by a fixed choice: the rows of mutated_images, and
-files for cases of elf.py.
-"""
+"""Mutates the fields of an ELF file with five program headers, with a fixed seed: the rows of mutated_images, and files for cases of elf.py."""
 import random
 
 from generators.elf_files import CODE, elf, place_of, segment, text, with_bytes
@@ -24,7 +22,7 @@ WORD_VALUES = {
 
 
 def mutation(chosen):
-    """One change of MUTATED: a place, and new bytes."""
+    """Returns a change of MUTATED: an offset, and new bytes."""
     if chosen.random() < 0.3:
         name = chosen.choice(sorted(VALUES))
         place, size = FIELDS[name]
@@ -34,7 +32,7 @@ def mutation(chosen):
 
 
 def mutated():
-    """Pairs of a length and changes of MUTATED, no file twice, with its least fault, or what it loads; a fixed choice."""
+    """Yields pairs of a length and changes of MUTATED without duplicates, each with its lowest fault or its loaded bytes; with a fixed seed."""
     chosen, seen, counts, found = random.Random(32), {MUTATED}, {}, []
     while len(found) < 360:
         edits = [mutation(chosen) for _ in range(chosen.choice((1, 2, 2, 3, 4)))]
@@ -54,7 +52,7 @@ def mutated():
 
 
 def looks(file):
-    """Commands that show each segment with what lies before and behind it."""
+    """Returns commands that show each segment with the bytes before and after it."""
     for words in program_headers(file):
         if words["type"] == LOAD and words["memsz"]:
             low, high = max(words["paddr"] - 8, START), min(words["paddr"] + words["memsz"] + 8, END)

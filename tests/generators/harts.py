@@ -2,11 +2,11 @@
 """Makes the cases of two harts, harts_*: races of every two calls, one on each hart; hart and sched at their
 borders, of two harts, of one, and of two benches; what each hart has of its own and what both share; a host beside an enclave that runs.
 
-    python3 -m generators.harts                      writes their digests and samples anew
-    python3 -m generators.harts --check              tells whether they are what this script writes
-    python3 -m generators.harts --check-with-llvm    tells whether llvm-mc gives the same word for each assembly text
+    python3 -m generators.harts                      writes their digests and samples
+    python3 -m generators.harts --check              checks that they are up to date
+    python3 -m generators.harts --check-with-llvm    checks each instruction word against llvm-mc
 
-Nothing here comes from the bench: replies are those of the model of monitor_bench.py, and what each call answers is written out
+Independent of the code under test: replies are those of the model of monitor_bench.py, and what each call answers is written out
 by hand beside it.
 """
 import sys

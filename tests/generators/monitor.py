@@ -2,11 +2,11 @@
 """Makes the cases of the monitored profile, monitor_*: every refusal of every call at its border and in
 company of the next one, the entries, the switches, the timer, the traps that are passed on, the debugger over it, and images.
 
-    python3 -m generators.monitor                      writes their digests and samples anew
-    python3 -m generators.monitor --check              tells whether they are what this script writes
-    python3 -m generators.monitor --check-with-llvm    tells whether llvm-mc gives the same word for each assembly text
+    python3 -m generators.monitor                      writes their digests and samples
+    python3 -m generators.monitor --check              checks that they are up to date
+    python3 -m generators.monitor --check-with-llvm    checks each instruction word against llvm-mc
 
-Nothing here comes from the bench: replies are those of the model of monitor_bench.py, and what each call answers is written out
+Independent of the code under test: replies are those of the model of monitor_bench.py, and what each call answers is written out
 by hand beside it.
 """
 import sys

@@ -2,11 +2,11 @@
 """Makes the cases of pmp: verdicts at the borders of sets of PMP entries, what writes to pmpcfg and pmpaddr leave
 under which locks, and fetches, loads and stores across the borders in each mode and under MPRV.
 
-    python3 -m generators.pmp                      writes its digest and sample anew
-    python3 -m generators.pmp --check              tells whether they are what this script writes
-    python3 -m generators.pmp --check-with-llvm    tells whether llvm-mc gives the same word for each assembly text
+    python3 -m generators.pmp                      writes its digest and sample
+    python3 -m generators.pmp --check              checks that they are up to date
+    python3 -m generators.pmp --check-with-llvm    checks each instruction word against llvm-mc
 
-Nothing here comes from the bench: the entries are in pmp_entries.py, the hart that the cases follow in privileged_hart.py.
+Independent of the code under test: the entries are in pmp_entries.py, the hart that the cases follow in privileged_hart.py.
 """
 import sys
 

@@ -2,11 +2,11 @@
 """Makes the cases of traps, returns, interrupts and counters: each cause from each mode, mret and sret, what is
 illegal below a mode, the order of interrupts, and what steps count.
 
-    python3 -m generators.traps                      writes their digests and samples anew
-    python3 -m generators.traps --check              tells whether they are what this script writes
-    python3 -m generators.traps --check-with-llvm    tells whether llvm-mc gives the same word for each assembly text
+    python3 -m generators.traps                      writes their digests and samples
+    python3 -m generators.traps --check              checks that they are up to date
+    python3 -m generators.traps --check-with-llvm    checks each instruction word against llvm-mc
 
-Nothing here comes from the bench: the hart that the cases follow is in privileged_hart.py.
+Independent of the code under test: the hart that the cases follow is in privileged_hart.py.
 """
 import sys
 

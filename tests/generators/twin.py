@@ -2,11 +2,11 @@
 """Makes the cases of two benches that differ in one enclave, twin_*: every command and every call of the monitor,
 what is not blind at each border of a region, what ends a run, lines, images, and worked examples whose output is written by hand.
 
-    python3 -m generators.twin                      writes their digests and samples anew
-    python3 -m generators.twin --check              tells whether they are what this script writes
-    python3 -m generators.twin --check-with-llvm    tells whether llvm-mc gives the same word for each assembly text
+    python3 -m generators.twin                      writes their digests and samples
+    python3 -m generators.twin --check              checks that they are up to date
+    python3 -m generators.twin --check-with-llvm    checks each instruction word against llvm-mc
 
-Nothing here comes from the bench: replies are those of the model of monitor_bench.py.
+Independent of the code under test: replies are those of the model of monitor_bench.py.
 """
 import sys
 

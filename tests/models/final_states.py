@@ -130,8 +130,8 @@ def final_states(program, registers=()):
         harts = []
         for hart in (0, 1):
             if any(accesses for _, of, _, accesses in inside if of == hart):
-                harts.append(("waits" if is_still else "goes on", None))
+                harts.append(("waits" if is_still else "runs on", None))
             else:
-                harts.append(("over", ENTRY + 4 * min(state[hart][0] for state in part)))
+                harts.append(("ended", ENTRY + 4 * min(state[hart][0] for state in part)))
         found |= {(tuple(harts), state[2], tuple(state[hart][1][number] for hart, number in registers)) for state in part}
     return found

@@ -30,9 +30,9 @@ def test_edit_is_forgotten_after_another_one_before_it(debugger):
     with debugger(TWO, HARTS) as client:
         for packet in ("vCont;s:1", "vCont;s:1", "M80040000,1:ab", "bc", "Z0,80010014,4", "bc", "M80040001,1:cd"):
             client.ask(packet)
-        client.told = ""
+        client.console = ""
         client.ask("vCont;s:1")
-        assert client.told == "[what had been done behind step 0 is forgotten]\n"
+        assert client.console == "[the history after step 0 is discarded]\n"
         client.ask("vCont;c")
         assert client.ask("m80040000,2") == "00cd"
 

@@ -13,7 +13,7 @@ from conftest import ROOT
 
 GOLDEN = Path(__file__).with_name("golden")
 PART = re.compile(r"^--- (input|stdout|stderr)\n", re.M)
-NO_SYMBOLS = "rvlook: pyelftools is not there"
+NO_SYMBOLS = "rvlook: warning: pyelftools is not installed"
 
 
 def read(path):

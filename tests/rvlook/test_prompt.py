@@ -58,5 +58,5 @@ def test_interrupt_stops_a_long_trace(terminal, tmp_path):
     assert trace.shows("80000000")
     trace.send("\x03")
     trace.wait()
-    assert trace.shows("rvlook: stopped")
+    assert trace.shows("rvlook: error: interrupted")
     assert trace.end() == (130, True)

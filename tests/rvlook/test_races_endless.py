@@ -105,11 +105,11 @@ def test_there_are_five_hundred_programs():
 @pytest.mark.parametrize("name", ["endless_attacker", "endless_attacker_nop"])
 def test_value_of_an_ended_hart_is_reported_although_the_other_never_ends(objects, program, name):
     status, found = objects("races", "--harts", "2", "--ram", "262144", *program(name), "--outcome", "seen", "--forbid", "seen == 800")
-    ends = [it for it in found if it["object"] == "race"]
+    ends = [it for it in found if it["object"] == "final_state"]
     assert status == 1
     assert sorted(it["values"]["seen"] for it in ends) == [0, 16, 800]
-    assert {(it["over"][0]["how"], it["over"][1]["how"]) for it in ends} == {("over", "goes on")}
-    assert found[-1]["whole"] and found[-1]["forbidden"]
+    assert {(it["harts"][0]["how"], it["harts"][1]["how"]) for it in ends} == {("ended", "runs on")}
+    assert found[-1]["complete"] and found[-1]["forbidden"]
 
 
 # ---- the time limit
@@ -131,14 +131,14 @@ def test_time_limit_holds(rvlook, tmp_path, first, second, seconds=3):
     done = rvlook("races", "--monitor", "--harts", "2", "--ram", "131072", path, "--seconds", seconds, "--steps", "1000000000",
                   "--forbid", "80011000 == 70000000", timeout=60)
     assert time.monotonic() - start < seconds + 1.2
-    assert "cut by --seconds" in done.stdout
+    assert "stopped by --seconds" in done.stdout
     assert done.returncode != 0
 
 
 def test_time_limit_holds_in_one_move(rvlook, tmp_path):
     path = write(tmp_path, model.linked(LONG, LONG))
     done = rvlook("races", "--monitor", "--harts", "2", "--ram", "131072", path, "--seconds", 1, "--steps", "1000000000", timeout=20)
-    assert "cut by --seconds" in done.stdout
+    assert "stopped by --seconds" in done.stdout
 
 
 def test_time_limit_holds_while_final_states_are_replayed(final_states, monkeypatch):
@@ -199,14 +199,14 @@ def test_hart_that_counts_for_ever_makes_the_result_not_whole(final_states, monk
     monkeypatch.setattr(races_machine, "AHEAD", 64)
     search, ends = final_states(model.image_of(model.linked(VICTIMS["one load"], COUNTS)), *WATCHED, steps=200)
     assert not search.is_whole()
-    assert {it.values[1] for it in ends.ends if it.harts[0][0] == "over"} >= set(range(10))
+    assert {it.values[1] for it in ends.ends if it.harts[0][0] == "ended"} >= set(range(10))
 
 
 def test_forbidden_condition_is_not_decided_if_a_hart_was_given_up(rvlook, tmp_path):
     path = write(tmp_path, model.linked([("jal", 0)], LONG))
     done = rvlook("races", "--monitor", "--harts", "2", "--ram", "131072", path, "--steps", "1000", "--forbid", "80011000 == 5")
     assert done.returncode != 0
-    assert "--forbid is not decided" in done.stderr
+    assert "--forbid is undecided" in done.stderr
     assert "Covered: all" not in done.stdout
 
 
@@ -216,7 +216,7 @@ def test_limit_of_steps_ends_an_endless_loop_where_the_limit_is(final_states, pl
     for limit in range(8, 14):
         _, ends = final_states(model.image_of(model.linked([("jal", 0)], body)), "80011000", "1.t1", limit=limit, plain=plain)
         at = limit - 2 - 3  # steps in the loop
-        assert [it.harts[1] for it in ends.ends] == [("over", model.ENTRY + 4 * (3 + 3 + at % 3))], limit
+        assert [it.harts[1] for it in ends.ends] == [("ended", model.ENTRY + 4 * (3 + 3 + at % 3))], limit
         assert int.from_bytes(ends.ends[0].values[0], "little") == (16, 800, 16)[at % 3] if at > 1 else True
 
 
@@ -237,5 +237,5 @@ def test_search_without_a_time_limit_is_bounded(final_states, monkeypatch):
     from rvlook.finders.races import search as races
     monkeypatch.setattr(races, "MOST_PLACES", 3)
     search, _ = final_states(model.image_of(model.linked(VICTIMS["one load"], VALUES + [NOP, *STORES, ("jal", 3)])), *WATCHED)
-    assert search.why_cut == "the bound of 3 places"
+    assert search.why_cut == "the limit of 3 states"
     assert not search.is_whole()

@@ -6,7 +6,7 @@ import subprocess
 
 import pytest
 from support.race_programs import DATA, KINDS, WINDOW, program_of
-from support.race_runs import OUTCOME, REGISTERS, WORDS, Races, apart, model_values, values_of
+from support.race_runs import OUTCOME, REGISTERS, WORDS, Races, differences, model_values, values_of
 
 from models.all_orders import Orders
 
@@ -46,8 +46,8 @@ def check_orders(races, bench, folder, seed, steps=None):
         assert orders.count == INTERLEAVINGS[count]
     found, last = races(written(folder, program), "--limit", str(count), "--timer", str(program.timers), *OUTCOME)
     mine = {values_of(it): (it["preemptions"], it["timers"]) for it in found}
-    assert apart(mine, {it: cost for it, (cost, _) in orders.found.items()}) == {}
-    assert last["whole"] and last["orders"] == sum(it["orders"] for it in found)
+    assert differences(mine, {it: cost for it, (cost, _) in orders.found.items()}) == {}
+    assert last["complete"] and last["schedules"] == sum(it["schedules"] for it in found)
 
 
 def test_final_states_are_those_of_all_orders(races, bench, tmp_path, orders_seed):
@@ -80,12 +80,12 @@ def test_final_states_are_those_without_reduction(races, bench, tmp_path, plain_
     program = program_of(bench, plain_seed)
     path, words = written(tmp_path, program), ("--timer", str(program.timers), *OUTCOME)
     (reduced, last), (plain, _) = races(path, *words), races(path, *words, "--plain")
-    one, other = ({(values_of(it), tuple(of["how"] for of in it["over"])): (it["preemptions"], it["timers"]) for it in them}
+    one, other = ({(values_of(it), tuple(of["how"] for of in it["harts"])): (it["preemptions"], it["timers"]) for it in them}
                   for them in (reduced, plain))
-    assert apart(one, other) == {}
-    known = {values_of(it)[:4] for it in reduced if "over" == it["over"][0]["how"] == it["over"][1]["how"]}
+    assert differences(one, other) == {}
+    known = {values_of(it)[:4] for it in reduced if "ended" == it["harts"][0]["how"] == it["harts"][1]["how"]}
     rng = random.Random(plain_seed)
-    for _ in range(WALKS if last["whole"] else 0):
+    for _ in range(WALKS if last["complete"] else 0):
         end = walk(bench, program, rng)
         assert end is None or end in known
 

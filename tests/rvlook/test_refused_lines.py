@@ -61,7 +61,7 @@ def test_explain_tells_right_lines_behind_a_refused_comment(bench, script):
 
 
 @pytest.mark.parametrize("word", ["trace", "page", "touch", "map"])
-def test_refused_hart_line_is_told_and_the_run_goes_on(bench, script, word):
+def test_refused_hart_line_is_reported_and_the_run_continues(bench, script, word):
     done = run(bench, word, script("hart 1", "hart x", "hart", "step 1"), "--steps", "3")
     check(done)
     assert done.status == 2
@@ -78,7 +78,7 @@ def test_prompt_refuses_what_the_bench_refuses(bench, script):
     check(done)
     lines = done.output.decode().splitlines()
     assert lines.count("error line") == 2
-    assert "  step takes 1 operand, 0 given" in lines
+    assert "  step takes 1 operand, but 0 were given" in lines
     assert "x5=00000000" in lines
 
 

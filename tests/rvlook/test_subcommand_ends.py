@@ -61,8 +61,8 @@ def test_missing_file_is_refused(runs, name):
 def test_file_that_is_cut_is_refused(runs, name, tmp_path):
     cut = Path(tmp_path, "cut.elf")
     cut.write_bytes(b"\x7fELF")
-    status, told = runs.run(with_file(SHORT[name], cut))
+    status, lines = runs.run(with_file(SHORT[name], cut))
     if name == "explain":  # a text is explained, whatever it is
-        assert (status, told) == (1, [])
+        assert (status, lines) == (1, [])
     else:
-        assert status == 2 and told and all(it.startswith("rvlook: ") for it in told), told
+        assert status == 2 and lines and all(it.startswith("rvlook: ") for it in lines), lines

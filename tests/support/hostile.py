@@ -124,10 +124,10 @@ def in_child(bench, words, files, seconds, memory):
 
 def check(done, notes=()):
     """What holds for every input: no traceback, an end in time, and lines behind `rvlook: ` without control characters."""
-    told = done.errors.decode("utf-8", "replace")
-    assert "Traceback" not in told, told
-    assert done.status >= 0, "signal %d, %s" % (-done.status, told)
+    errors = done.errors.decode("utf-8", "replace")
+    assert "Traceback" not in errors, errors
+    assert done.status >= 0, "signal %d, %s" % (-done.status, errors)
     assert done.memory < MEMORY
-    for line in told.split("\n")[:-1]:
-        assert line.startswith(("rvlook: ", "rvbench: ", *notes)), told
+    for line in errors.split("\n")[:-1]:
+        assert line.startswith(("rvlook: ", "rvbench: ", *notes)), errors
         assert line.isprintable(), repr(line)

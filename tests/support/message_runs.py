@@ -94,10 +94,10 @@ class Runs:
                                   preexec_fn=lambda: signal.signal(signal.SIGINT, signal.default_int_handler)) as process:
                 time.sleep(pause)
                 process.send_signal(signal.SIGINT)
-                _, told = process.communicate(timeout=60)
-            if process.returncode != -signal.SIGINT and "Exception ignored" not in told:
+                _, errors = process.communicate(timeout=60)
+            if process.returncode != -signal.SIGINT and "Exception ignored" not in errors:
                 break
-        return process.returncode, told.splitlines()
+        return process.returncode, errors.splitlines()
 
     def in_clone(self, folder, names, image):
         """Runs `map` in a clone that has these files alone, without RVBENCH."""

@@ -1,4 +1,4 @@
-"""The subcommand `touch`: what each world read, wrote and executed, beside what it was permitted."""
+"""The subcommand `touch`: what each world read, wrote and executed, and what it was permitted to."""
 from __future__ import annotations
 
 import re
@@ -10,7 +10,7 @@ from typing import Iterable, Iterator, Optional, TYPE_CHECKING
 from rvlook.protocol import names
 from rvlook.access.accesses import accesses
 from rvlook.errors import UsageError
-from rvlook.access.map import Moment, moments
+from rvlook.access.map import Event, events
 from rvlook.access.ranges import NOTHING, Range
 from rvlook.protocol.run import Stretch
 from rvlook.output.printer import Style, end_object, end_text, hex8, run_object
@@ -70,15 +70,15 @@ class Touches:
         found, self.end = accesses(run)
         for it, count in found.items():
             self.counts[Kind(it.world, it.kind, it.done)][it.address, it.width] += count
-        for moment in moments(run):
-            if isinstance(moment, Moment):
-                self.allow(moment)
+        for event in events(run):
+            if isinstance(event, Event):
+                self.allow(event)
 
-    def allow(self, moment: Moment) -> None:
-        """Adds the access rights that a moment gives to each world that runs."""
-        for column in (it for it in moment.columns if not it.derived):
+    def allow(self, event: Event) -> None:
+        """Adds the access rights that a event gives to each world that runs."""
+        for column in (it for it in event.columns if not it.derived):
             self.permitted[column.world] += [(row.range, row.what, set("".join(row.may[column.name].values())) - {"-"})
-                                             for row in moment.rows]
+                                             for row in event.rows]
 
     def worlds(self) -> list[str]:
         """Returns the worlds that accessed memory, the host first."""
@@ -183,9 +183,9 @@ def refuse_modes(run: Run) -> None:
         if isinstance(item, Stretch) and found:
             step, what = item.first + item.data.count(b"\n", 0, found.start()), "enters mode " + found[1].decode()
             raise UsageError(BARE % (run.setup.image.name, what, step))
-    for moment in () if run.setup.monitor else moments(run):
-        if isinstance(moment, Moment) and moment.step:
-            raise UsageError(BARE % (run.setup.image.name, "writes a PMP register", moment.step))
+    for event in () if run.setup.monitor else events(run):
+        if isinstance(event, Event) and event.step:
+            raise UsageError(BARE % (run.setup.image.name, "writes a PMP register", event.step))
 
 
 def show_touch(run: Run, symbols: Symbols, printer: Printer) -> None:
@@ -238,7 +238,7 @@ def world_text(touches: Touches, world: str, symbols: Symbols, printer: Printer)
     lines += ["  %-16s %s" % ("permitted", permitted_text(it)) for it in touches.permitted_rows(world)]
     lines += ["  %-16s %8d of %6d bytes  %s" % ("covered", executed, size, symbol.name)
               for symbol, size, executed in covered_functions(touches, world, symbols)]
-    lines += ["  %-16s %8d of %6d lines  %s%s" % ("covered", done, count, name, ", not " + " ".join(missed) if missed else "")
+    lines += ["  %-16s %8d of %6d lines  %s%s" % ("covered", done, count, name, ", not executed: " + " ".join(missed) if missed else "")
               for name, done, count, missed in by_file(covered_lines(touches, world, symbols))]
     for line in lines + [""]:
         printer.line(line)
@@ -256,5 +256,5 @@ def permitted_text(it: Permitted) -> str:
     used = "  ".join("%s %d" % (kind, it.touched[kind]) for kind in it.kinds if kind != "-") if it.lowest is not None else "nothing"
     text = "%08x-%08x %7s  %s  %s" % (it.range.first, it.range.end - 1, names.size_text(size), it.kinds, used)
     if it.what and it.lowest is not None and it.enough < size:
-        return "%s  %s, of which %s is enough" % (text, it.what, names.size_text(it.enough))
+        return "%s  %s, of which %s would be enough" % (text, it.what, names.size_text(it.enough))
     return text + ("  " + it.what if it.what else "")

@@ -19,7 +19,8 @@ if TYPE_CHECKING:
 
 OPERATORS = {"==": operator.eq, "!=": operator.ne, "<=": operator.le, ">=": operator.ge, "<": operator.lt, ">": operator.gt}
 CONDITION = re.compile(r"\s*([^\s=!<>]+)\s*(==|!=|<=|>=|<|>)\s*([^\s=!<>]+)\s*\Z")
-HOW = {"stays": "stays", "waits": "waits", "livelock": "goes on", "unended": "has not ended"}
+HOW = {"halts": "halts", "waits": "waits", "livelock": "runs on", "unfinished": "unfinished"}
+ALIASES = {"stays": "halts", "unended": "unfinished"}  # accepted too
 WORD_BYTES = 4
 
 
@@ -145,9 +146,10 @@ def outcome_of(text: str, symbols: Symbols, harts: int) -> Observed:
 
 
 def condition_of(text: str, symbols: Symbols) -> Condition:
-    """Parses --forbid: comparisons joined by `and`, or one of `stays`, `waits`, `livelock` and `unended`. Raises RvlookError."""
-    if text.strip() in HOW:
-        return Condition(text, (), HOW[text.strip()])
+    """Parses --forbid: comparisons joined by `and`, or one of HOW and ALIASES. Raises RvlookError."""
+    name = ALIASES.get(text.strip(), text.strip())
+    if name in HOW:
+        return Condition(text, (), HOW[name])
     texts = re.split(r"\band\b", text)
     parts = [match for match in map(CONDITION.match, texts) if match]
     if len(parts) < len(texts):

@@ -10,13 +10,13 @@ from typing import TYPE_CHECKING
 
 from rvlook.protocol import names
 from rvlook.errors import RvlookError, Unfinished
-from rvlook.access.map import moments
+from rvlook.access.map import events
 from rvlook.protocol.replies import bytes_of
 from rvlook.protocol.run import End
-from rvlook.access.activations import Stays
+from rvlook.access.activations import Activations
 
 if TYPE_CHECKING:
-    from rvlook.access.map import Moment
+    from rvlook.access.map import Event
     from rvlook.protocol.run import Run
     from rvlook.protocol.symbols import Symbols
 
@@ -62,11 +62,11 @@ class Secret:
         return names.abi_name(self.register) if self.register else "%08x" % self.at
 
 
-def created(run: Run, slot: int) -> Moment:
-    """Returns the moment at which the enclave of a slot is created; raises Unfinished if it is not."""
-    for moment in moments(run):
-        if not isinstance(moment, End) and moment.event == "create" and moment.slot == slot:
-            return moment
+def created(run: Run, slot: int) -> Event:
+    """Returns the event at which the enclave of a slot is created; raises Unfinished if it is not."""
+    for event in events(run):
+        if not isinstance(event, End) and event.cause == "create" and event.slot == slot:
+            return event
     raise Unfinished("no enclave is created in slot %d" % slot)
 
 
@@ -86,27 +86,27 @@ def secret_of(text: str, symbols: Symbols, run: Run, slot: int, size: int | None
     if register and register[1] in names.NUMBER_OF and text.split("@")[0] not in symbols.by_name:
         return register_secret(register, symbols, run, slot)
     is_image = text.startswith("image:")
-    at, told = place_and_size(text[len("image:"):] if is_image else text, symbols)
-    count = size or told
+    at, own_size = place_and_size(text[len("image:"):] if is_image else text, symbols)
+    count = size or own_size
     if not count:
         raise RvlookError("the size of '%s' is unknown; use --at PLACE:BYTES" % text)
     if is_image:
         return Secret(slot, at, 0, bytes(count))
-    moment = created(run, slot)
-    enclave = next(it for it in moment.enclaves if it.slot == slot)
+    event = created(run, slot)
+    enclave = next(it for it in event.enclaves if it.slot == slot)
     if not enclave.base <= at <= at + count <= enclave.base + enclave.size:
         raise RvlookError("the bytes at %08x are outside the region of e%d" % (at, slot))
-    return Secret(slot, at, moment.step, bytes(count))
+    return Secret(slot, at, event.step, bytes(count))
 
 
 def register_secret(match: re.Match[str], symbols: Symbols, run: Run, slot: int) -> Secret:
     """Returns the secret in a register when the enclave first comes to a place; raises Unfinished if it does not."""
     pc, _ = place_and_size(match[2], symbols)
-    with closing(Stays(run).all()) as every:
-        for stay in every:
-            found = next((step for step, it in zip(stay.steps, stay.pcs) if it & -4 == pc), None) if stay.slot == slot else None
+    with closing(Activations(run).all()) as every:
+        for activation in every:
+            found = next((step for step, it in zip(activation.steps, activation.pcs) if it & -4 == pc), None) if activation.slot == slot else None
             if found is not None:
-                return Secret(slot, 0, found - 1, bytes(WORD), names.NUMBER_OF[match[1]], stay.hart)
+                return Secret(slot, 0, found - 1, bytes(WORD), names.NUMBER_OF[match[1]], activation.hart)
     raise Unfinished("the enclave in slot %d never reaches %08x" % (slot, pc))
 
 

@@ -21,7 +21,7 @@ SCHEDULE = "0" * 32 + "1" * 32  # of two harts, where no other is asked for
 FIRST_RUN, MORE = 1024, 4  # steps of the first part of a continue, and times as many in the next
 SHORT, LONG = 0.005, 0.02  # seconds: a part that took less is followed by a longer one, one that took more by a shorter one
 MOST_BY_TURNS = 1 << 17  # steps of a part of which each is asked alone, or by turns
-FORGOTTEN = "[what had been done behind step %d is forgotten]"
+FORGOTTEN = "[the history after step %d is discarded]"
 CAREFUL = 4096  # steps that are done one exchange a turn, behind a stop that was none
 
 
@@ -135,7 +135,7 @@ class Moves:
             if halt or ran.trap or int(ran.pc, 16) not in inside or self.stops.is_break(self.timeline, ran.pc):
                 return Halt(hart)
             if alike >= ALIKE:
-                return self.halt_at(self.stays([hart], hart, ran))
+                return self.halt_at(self.halted([hart], hart, ran))
             if self.link.interrupted():
                 return Halt(hart, signal=INTERRUPTED)
 
@@ -144,7 +144,7 @@ class Moves:
         if ran.trap:
             self.link.tell("[%s, %s]" % (names.cause_name(ran.trap.cause), ran.trap.value))
         if ran.world != before:
-            self.link.tell("[%s goes on]" % ran.world)
+            self.link.tell("[switch to %s]" % ran.world)
 
     # many steps
 
@@ -228,13 +228,13 @@ class Moves:
         if ends is None:
             return None
         self.go(first_alike(self.timeline, first, ends))
-        return self.stays(harts, found[-1][0], found[-1][2])
+        return self.halted(harts, found[-1][0], found[-1][2])
 
-    def stays(self, harts: Sequence[int], hart: int, ran: Ran) -> Halt:
-        """Returns the halt of harts that do nothing more."""
+    def halted(self, harts: Sequence[int], hart: int, ran: Ran) -> Halt:
+        """Returns the halt of harts that make no progress."""
         cause = ran.trap and ran.trap.cause
-        who = "hart %d stays" % hart if len(harts) == 1 else "all harts stay"
-        told = "[%s at %s%s]" % (who, ran.pc, ": " + names.cause_name(cause) if cause else "")
+        who = "hart %d halts" % hart if len(harts) == 1 else "all harts halt"
+        text = "[%s at %s%s]" % (who, ran.pc, ": " + names.cause_name(cause) if cause else "")
         if ran.world == "bare" and int(self.view.registers(hart)[17], 16) == names.KEY:
-            told += "\n[a7 has the key of the monitor's calls, and there is no monitor: ./rvlook gdb --monitor has one]"
-        return Halt(hart, "", signal_of(ran.trap), told)
+            text += "\n[a7 holds the key of monitor calls, but there is no monitor; start with ./rvlook gdb --monitor]"
+        return Halt(hart, "", signal_of(ran.trap), text)

@@ -32,9 +32,9 @@ BREAKS, WATCHES = ("0", "1"), {"2": ("watch", "w"), "3": ("rwatch", "r"), "4": (
 FEATURES = ("PacketSize=4000;QStartNoAckMode+;qXfer:features:read+;qXfer:memory-map:read+;qXfer:threads:read+;vContSupported+;"
             "ReverseStep+;ReverseContinue+;ConditionalBreakpoints+")
 MOST_WATCHED = 32
-MOST_READ = 0x2000  # bytes of memory in a reply, whose digits are then as many as PacketSize tells
-PIECE = 2000  # characters of what `monitor` tells, in a packet
-SIGNS = re.compile(r"[#$}*]")  # which no text of an error may have
+MOST_READ = 0x2000  # bytes of memory in a reply; their digits fill PacketSize
+PIECE = 2000  # characters of the output of `monitor` in a packet
+SIGNS = re.compile(r"[#$}*]")  # characters that the text of an error must not contain
 GONE = "X09"  # the program was ended
 
 
@@ -70,7 +70,7 @@ class Server:
     def moves(self) -> Moves:
         """Returns the moves of the debugger; raises Refused if the bench was ended."""
         if not self.running:
-            raise Refused("the bench was ended")
+            raise Refused("rvbench was terminated")
         return self.running
 
     @property
@@ -89,7 +89,7 @@ class Server:
             except Refused as refusal:
                 answer = "E.%s" % refusal
             except BenchEnded:
-                self.link.send(GONE if name in MOVING else "E.the bench has ended")
+                self.link.send(GONE if name in MOVING else "E.rvbench has exited")
                 raise
             except RvlookError as fault:
                 answer = "E." + SIGNS.sub("?", visible(str(fault)))
@@ -127,7 +127,7 @@ class Server:
         """Returns the hart of a thread, the last one that halted for any thread. Raises Refused."""
         hart = self.last if thread in ("", "0", "-1") else number_of(thread) - 1
         if not 0 <= hart < self.setup.harts:
-            raise Refused("there is no such thread")
+            raise Refused("no such thread")
         return hart
 
     def choose(self, rest: str) -> str:
@@ -176,7 +176,7 @@ class Server:
         digits, value = rest.split("=")
         number = number_of(digits)
         if not 0 < number < PC:
-            raise Refused("no command of the bench writes %s" % REGISTERS[number])
+            raise Refused("rvbench cannot write %s" % REGISTERS[number])
         if not VALUE.match(value):
             raise ValueError(value)
         self.changing()
@@ -206,9 +206,9 @@ class Server:
         """Pokes bytes; raises Refused if one is outside RAM."""
         first, count = map(number_of, place.split(","))
         if len(data) != count:
-            raise Refused("%d bytes in place of %d" % (len(data), count))
+            raise Refused("got %d bytes instead of %d" % (len(data), count))
         if count and len(self.moves.view.bytes(first, count)) < count:
-            raise Refused("a byte of it is outside RAM")
+            raise Refused("the range is not entirely in RAM")
         self.changing()
         self.moves.tell(["poke %x %02x" % (first + n, byte) for n, byte in enumerate(data)])
         return "OK"
@@ -276,7 +276,7 @@ class Server:
     def go_on(self, action: str, place: str) -> str:
         """Replies to c and s of a debugger without vCont."""
         if place:
-            raise Refused("no command of the bench writes pc")
+            raise Refused("rvbench cannot write pc")
         return self.resume(";%s:%s" % (action, "-1" if self.moved is None else "%x" % (self.moved + 1)))
 
     def step_back(self, _: str) -> str:

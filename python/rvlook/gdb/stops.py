@@ -193,10 +193,10 @@ class Stops:
     def catch(self, hart: int, ran: Ran, before: str) -> Halt | None:
         """Returns the halt of a catchpoint after a single step, or None."""
         if "switch" in self.caught and ran.world != before:
-            return Halt(hart, "", STOPPED, "[hart %d: from %s to %s, by %s]" % (
-                hart, before, ran.world, "the timer" if ran.trap and ran.trap.cause == names.TIMER else "a call"))
+            return Halt(hart, "", STOPPED, "[hart %d: switch from %s to %s by %s]" % (
+                hart, before, ran.world, "the timer" if ran.trap and ran.trap.cause == names.TIMER else "a monitor call"))
         if "call" in self.caught and ran.trap and ran.trap.cause == names.ECALL_FROM_S and before != "bare":
-            return Halt(hart, "", STOPPED, "[hart %d: a call of %s]" % (hart, before))
+            return Halt(hart, "", STOPPED, "[hart %d: monitor call by %s]" % (hart, before))
         if "trap" in self.caught and ran.trap:
             return Halt(hart, "", signal_of(ran.trap), "[hart %d: %s, %s]" % (hart, names.cause_name(ran.trap.cause), ran.trap.value))
         return None

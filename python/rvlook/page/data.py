@@ -94,11 +94,11 @@ class Collector:
                       "value": array("I")}
         self.calls: list[dict[str, Any]] = []
         self.commands: list[dict[str, Any]] = []
-        self.moments: list[dict[str, Any]] = []
+        self.events: list[dict[str, Any]] = []
         self.granules: set[int] = set()
         self.labels: dict[str, int] = {}
         self.maps = Table()
-        self.borders: set[str] = set()
+        self.boundaries: set[str] = set()
         self.points = self.rows = 0
 
     @property
@@ -124,13 +124,13 @@ class Collector:
         """Takes a line of the script."""
         self.commands.append(it)
 
-    def take_moment(self, it: dict[str, Any]) -> None:
-        """Takes a moment. Equal maps are stored once."""
+    def take_event(self, it: dict[str, Any]) -> None:
+        """Takes a event. Equal maps are stored once."""
         self.rows += len(it["rows"])
-        self.borders.update(row["first"] for row in it["rows"])
+        self.boundaries.update(row["first"] for row in it["rows"])
         shown = json.dumps({name: it[name] for name in MAP})
         rest = {name: value for name, value in it.items() if name not in MAP}
-        self.moments.append({**rest, "map": self.maps.number(shown)})
+        self.events.append({**rest, "map": self.maps.number(shown)})
 
     def take_step(self, it: dict[str, Any]) -> None:
         """Takes a step."""
@@ -183,4 +183,4 @@ class Collector:
             "names": list(self.names.numbers), "site": columns.add(self.site), "place": columns.add(self.place),
             "trap": columns.add(self.trap), "changes": columns.add(self.changes), "registers": columns.add(self.registers),
             "values": columns.add(self.values), "touch": {name: columns.add(column) for name, column in self.touch.items()},
-            "calls": self.calls, "commands": self.commands, "moments": self.moments}
+            "calls": self.calls, "commands": self.commands, "events": self.events}

@@ -5,8 +5,8 @@ import os
 from typing import Any, Sequence, TYPE_CHECKING
 
 from rvlook.errors import Unfinished, package_missing
-from rvlook.access.map_text import moment_object
-from rvlook.access.map import moments
+from rvlook.access.map_text import write_event
+from rvlook.access.map import events
 from rvlook.page.axis import segments_of
 from rvlook.page.data import Collector, Columns, compressed
 from rvlook.page.sources import roots_of, source_texts
@@ -55,9 +55,9 @@ def collected(run: Run, symbols: Symbols) -> Collector:
             writer.end(item)
         else:
             writer.command(item)
-    for moment in moments(run):
-        if isinstance(moment, End):
-            end_object(found, moment)
+    for event in events(run):
+        if isinstance(event, End):
+            end_object(found, event)
         else:
-            moment_object(found, moment, symbols)
+            write_event(found, event, symbols)
     return found

@@ -11,8 +11,8 @@ from rvlook.output.escapes import visible
 from rvlook.protocol.messages import line_error
 from rvlook.errors import SymbolError
 from rvlook.protocol.lines import resolved
-from rvlook.access.map import Event, Finder
-from rvlook.access.map_text import moment_text
+from rvlook.access.map import Cause, Finder
+from rvlook.access.map_text import print_event
 from rvlook.protocol.nearest import nearest
 from rvlook.protocol.replies import Place, ran_of
 from rvlook.protocol.run import ALIKE, MOST_STEPS, alike_at_end
@@ -166,14 +166,14 @@ class Session:
         pc = self.pc
         text = self.timeline.ask("dis " + pc)[0][0].split(": ")[-1]
         word, _, text = text.partition(" ")
-        self.print("next  %s  %s" % (names.with_abi_names(text) if word != "error" else "(outside)", place_text(pc, self.symbols)))
+        self.print("next  %s  %s" % (names.with_abi_names(text) if word != "error" else "(outside RAM)", place_text(pc, self.symbols)))
 
     def map(self) -> None:
         """Prints the present access rights."""
         pc, now = self.pc, self.timeline
         self.finder.state = self.finder.state_of(now, now.worlds)
-        moment = self.finder.moment(now.position, now.hart, Event("now"), Place(pc, now.modes[now.hart], now.worlds[now.hart]))
-        moment_text(self.printer, moment, self.symbols)
+        event = self.finder.event(now.position, now.hart, Cause("now"), Place(pc, now.modes[now.hart], now.worlds[now.hart]))
+        print_event(self.printer, event, self.symbols)
 
     def back(self, count: str = "1") -> None:
         """Goes back by a number of steps."""

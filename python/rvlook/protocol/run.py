@@ -19,7 +19,7 @@ from rvlook.protocol.symbols import Symbols
 CHUNK = 16384  # single steps in one exchange
 MOST_STEPS = 1000000  # of one command
 STATE_WORDS = ("poke", "setreg", "timer", "hart")  # commands that change what a step does, and are none
-ALIKE = 3  # so many steps that leave pc, mode, world and trap as they were, and the hart stays there
+ALIKE = 3  # equal replies (pc, mode, world and trap) after which a hart counts as halted
 SINGLE = b"step 1\n"
 
 
@@ -211,7 +211,7 @@ class Run:
             lines = (held + bench.block(SINGLE * count, count)).splitlines(True)
             alike = alike_at_end(lines)
             if alike >= ALIKE:
-                why, kept = "stays", len(lines) - alike + 1
+                why, kept = "halted", len(lines) - alike + 1
             else:
                 kept = len(lines) - (ALIKE - 1 if left else 0)
             data, held = b"".join(lines[:kept]), b"".join(lines[kept:])

@@ -47,8 +47,8 @@ def test_readers_of_mutated_elf_files(tmp_path, capsys, fuzz_seconds):
         with at_most(10):
             texts = read(tmp_path / "program.elf", data)
         assert all(it.isprintable() for it in texts), texts
-        told = capsys.readouterr().err
-        assert all(it.startswith("rvlook: ") and it.isprintable() for it in told.split("\n")[:-1]), told
+        errors = capsys.readouterr().err
+        assert all(it.startswith("rvlook: ") and it.isprintable() for it in errors.split("\n")[:-1]), errors
 
     fuzz(files, holds, 120, fuzz_seconds)
 

@@ -30,8 +30,8 @@ def test_server_answers_behind_any_session(bench, tmp_path, fuzz_seconds):
     path.write_bytes(HELLO)
 
     def holds(session):
-        found, told = replies(bench, path, *session, b"\x03#00", packet("g"))
-        assert REGISTERS.match(found[-1]), (found[-3:], told)
-        assert all(it.startswith("rvlook: ") for it in told.splitlines()), told
+        found, errors = replies(bench, path, *session, b"\x03#00", packet("g"))
+        assert REGISTERS.match(found[-1]), (found[-3:], errors)
+        assert all(it.startswith("rvlook: ") for it in errors.splitlines()), errors
 
     fuzz(sessions, holds, 5, fuzz_seconds)

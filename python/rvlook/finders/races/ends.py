@@ -19,7 +19,7 @@ if TYPE_CHECKING:
     from rvlook.finders.races.machine import Machine
     from rvlook.finders.races.search import Edge, Move, Node, Search
 
-OVER, STAYS, WAITS, GOES_ON, LONG, LEFT = "over", "stays", "waits", "goes on", "has not ended", "is left"
+OVER, STAYS, WAITS, GOES_ON, LONG, LEFT = "ended", "halts", "waits", "runs on", "unfinished", "not searched"
 GRACE, SLACK = 0.01, 0.3  # beyond the time limit for the analysis and the replays: a share of it, and seconds
 
 

@@ -99,7 +99,7 @@ def script_of(machine: Machine, end: End, outcome: Sequence[Observed], heading: 
     lines = [comment(heading), comment("./rvbench %s < this file" % " ".join(setup.words()))]
     lines += machine.lines_of_script() + commands_of(end.way(), machine.count)
     if end.round:
-        lines += ["# from here on it goes round: so it may go on for ever"] + 2 * commands_of(end.round, machine.count)
+        lines += ["# the loop that may repeat forever, twice"] + 2 * commands_of(end.round, machine.count)
     for it in outcome:
         lines += questions_of(it, machine.count)
     return setup.image.text + b"--\n" + "".join(map(ended, lines)).encode("latin-1", "replace")
@@ -110,7 +110,7 @@ def write_scripts(folder: str, machine: Machine, ends: Sequence[End], outcome: S
     try:
         os.makedirs(folder, exist_ok=True)
         for end in ends:
-            with open(os.path.join(folder, "end_%d" % end.number), "wb") as file:
+            with open(os.path.join(folder, "final_state_%d" % end.number), "wb") as file:
                 file.write(script_of(machine, end, outcome, heading_of(end)))
     except OSError as error:
         raise RvlookError("cannot write to '%s': %s" % (folder, error.strerror)) from None

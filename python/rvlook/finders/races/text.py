@@ -24,7 +24,7 @@ if TYPE_CHECKING:
     from rvlook.output.printer import Json, Printer
 
 SHOWN = 3  # accesses at the beginning and at the end of a hart's turn
-HOW_TEXT = {WAITS: "waits for ever", GOES_ON: "goes on for ever", LEFT: "is left"}
+HOW_TEXT = {WAITS: "waits forever", GOES_ON: "runs forever", LEFT: "not searched further"}
 
 
 def counted(count: int, name: str) -> str:
@@ -43,20 +43,20 @@ class Story:
         parts = ["%s=%s" % (it.name, value_text(value)) for it, value in zip(self.outcome, self.end.values) if value != ()]
         for hart, (how, pc) in enumerate(self.end.harts):
             if how == LONG:
-                parts.append("hart %d has not ended in %s" % (hart, self.limit(hart)))
+                parts.append("hart %d not finished after %s" % (hart, self.limit(hart)))
             elif how == STAYS:
-                parts.append("hart %d never comes to its end, and stays at %s" % (hart, self.place(pc)))
+                parts.append("hart %d halts at %s, which is not an --end" % (hart, self.place(pc)))
             elif how != OVER:
                 parts.append("hart %d %s" % (hart, HOW_TEXT[how]))
             elif len(self.places[hart]) > 1:
                 parts.append("hart %d at %s" % (hart, self.place(pc)))
-        return "  ".join(parts) or "all is over"
+        return "  ".join(parts) or "all harts ended"
 
     def limit(self, hart: int) -> str:
         """Returns how far a hart was run."""
         search, state = self.search, self.end.node.place.state
         is_alone = any((state, hart) in it.alone for it in search.graphs())
-        return "%d moves alone" % MOST_ALONE if is_alone else counted(search.bounds.steps, "step")
+        return "%d transitions alone" % MOST_ALONE if is_alone else counted(search.bounds.steps, "step")
 
     def place(self, pc: int | None) -> str:
         """Returns the source line of a pc, its symbol or its address; the pc must be known."""
@@ -83,7 +83,7 @@ class Story:
                 before, behind = turns[number - 1], turns[number + 1]
                 met = [[it.last_move.met.pc for it in part if it.last_move.met.pc is not None] for part in (before, turn, behind)]
                 if all(met) and before[0].hart == behind[0].hart != turn[0].hart and not behind[0].is_timer:
-                    yield "hart %d does %s between %s and %s of hart %d" % (
+                    yield "hart %d executes %s between %s and %s of hart %d" % (
                         turn[0].hart, self.span(met[1]), self.place(met[0][-1]), self.place(met[2][0]), before[0].hart)
 
     def span(self, pcs: Sequence[int]) -> str:
@@ -100,14 +100,14 @@ class Story:
         elif look.kind in ("r", "w"):
             what = "%s %08x %d  %s" % (look.kind, look.at, look.width, self.symbols.name(look.at) or "")
         else:
-            what = "calls the monitor" if look.kind == "call" else "x"
+            what = "monitor call" if look.kind == "call" else "x"
         return "      %-34s %s" % (what.rstrip(), place_text(hex8(pc), self.symbols))
 
     def lines(self, total: int) -> Iterator[str]:
         """Yields the lines of a final state after its heading."""
         preemptions, timers, switches, _ = self.end.node.cost
         parts = [counted(preemptions, "preemption")] + ([counted(timers, "timer")] if self.search.bounds.timers else [])
-        yield "  %d of %s; simplest: %s, %s, %s" % (self.end.orders, counted(total, "order"), ", ".join(parts),
+        yield "  %d of %s; simplest: %s, %s, %s" % (self.end.orders, counted(total, "schedule"), ", ".join(parts),
                                                     counted(switches, "switch").replace("switchs", "switches"), counted(self.end.steps, "step"))
         yield from ("  " + it for it in self.sentences())
         for turn in self.turns():
@@ -119,21 +119,21 @@ class Story:
             yield "    then hart %d, %s" % (hart, counted(steps, "step"))
         if self.end.round:
             pieces = self.end.round
-            yield "    and from there, again and again: " + ", ".join("%s of hart %d" % (counted(steps, "step"), hart) for hart, steps, _ in pieces)
+            yield "    then repeats " + ", ".join("%s of hart %d" % (counted(steps, "step"), hart) for hart, steps, _ in pieces)
 
     def object(self, printer: Printer) -> None:
         """Writes the final state as an object."""
         end, count = self.end, self.search.machine.count
         preemptions, timers, switches, _ = end.node.cost
         turns = [dict(hart=turn[0].hart, steps=sum(it.last_move.steps for it in turn),
-                      touched=[self.touched(it) for it in turn if it.last_move.met.pc is not None]) for turn in self.turns()]
-        printer.object("race", end=end.number, values={it.name: shown(value) for it, value in zip(self.outcome, end.values)},
-                       over=[dict(hart=hart, how=how, pc=hex8(pc)) for hart, (how, pc) in enumerate(end.harts)], orders=end.orders,
-                       preemptions=preemptions, timers=timers, switches=switches, steps=end.steps, told=list(self.sentences()),
-                       schedule=commands_of(end.way(), count), round=commands_of(end.round, count) if end.round else [],
+                      accesses=[self.access_object(it) for it in turn if it.last_move.met.pc is not None]) for turn in self.turns()]
+        printer.object("final_state", number=end.number, values={it.name: shown(value) for it, value in zip(self.outcome, end.values)},
+                       harts=[dict(hart=hart, how=how, pc=hex8(pc)) for hart, (how, pc) in enumerate(end.harts)], schedules=end.orders,
+                       preemptions=preemptions, timers=timers, switches=switches, steps=end.steps, summary=list(self.sentences()),
+                       schedule=commands_of(end.way(), count), loop=commands_of(end.round, count) if end.round else [],
                        turns=turns)
 
-    def touched(self, node: Node) -> dict[str, Json]:
+    def access_object(self, node: Node) -> dict[str, Json]:
         """Returns the access of a node as an object."""
         look, pc = node.last_move.met.look, node.last_move.met.pc
         assert look is not None and pc is not None
@@ -143,7 +143,7 @@ class Story:
 
 def timer_text(met: Met) -> str:
     """Returns what the timer interrupt does. On the bare bench it may be masked."""
-    return "the timer rises" if met.world == "bare" else "the timer stops " + met.world
+    return "timer interrupt pending" if met.world == "bare" else "timer interrupt in " + met.world
 
 
 def shown(value: Value) -> Json:
@@ -162,7 +162,7 @@ def bound_text(bounds: Bounds) -> str:
         bound.append("at most " + counted(bounds.timers, "timer"))
     what = " with " + " and ".join(bound) if bound else ""
     if bounds.is_part:
-        what += ", left for the first time behind step %d%s" % (bounds.first, " or later" if bounds.last is None else " to %d" % bounds.last)
+        what += ", first switch after step %d%s" % (bounds.first, " or later" if bounds.last is None else " to %d" % bounds.last)
     return what
 
 
@@ -171,14 +171,14 @@ def covered_text(search: Search, found: Ends) -> str:
     what, graph = bound_text(search.bounds), search.graph
     given_up = len(graph.alone) + len(graph.unended)
     if search.why_cut:
-        text = "cut by %s behind %s%s; wholly searched: %s" % (search.why_cut, counted(found.orders, "order"), what, level_text(search))
+        text = "stopped by %s after %s%s; completely searched: %s" % (search.why_cut, counted(found.orders, "schedule"), what, level_text(search))
     elif found.is_cut:
-        text = "cut by --seconds after the search, before each end was done again on the bench; %s%s" % (counted(found.orders, "order"), what)
+        text = "stopped by --seconds before every final state was replayed; %s%s" % (counted(found.orders, "schedule"), what)
     elif given_up:
-        text = counted(found.orders, "order") + what
+        text = counted(found.orders, "schedule") + what
     else:
-        text = "all %d of %s%s" % (found.orders, counted(found.orders, "order"), what)
-    return text + ("; not what comes behind one hart that has not ended alone, %s" % counted(given_up, "place") if given_up else "")
+        text = "all %d of %s%s" % (found.orders, counted(found.orders, "schedule"), what)
+    return text + ("; not beyond %s in which a hart did not finish" % counted(given_up, "state") if given_up else "")
 
 
 def level_text(search: Search) -> str:
@@ -226,7 +226,7 @@ def teller(progress: Progress) -> Callable[[Search], None]:
     def tell(search: Search) -> None:
         """Shows the progress of a search."""
         if progress.is_shown:
-            progress.tell("round %d: %d places, %d more wait, %d preemptions, %d timers, %d runs of the bench", search.rounds,
+            progress.show("round %d: %d states, %d queued, %d preemptions, %d timers, %d runs of rvbench", search.rounds,
                           len(search.done), search.waiting, *search.level, search.machine.asked)
     return tell
 
@@ -252,7 +252,7 @@ def told(report: Report, printer: Printer, options: Namespace) -> None:
     places = [{pc for it in found.ends for how, pc in it.harts[hart:hart + 1]} for hart in range(machine.count)]
     stories = report.stories = [Story(it, named, search, report.symbols, places) for it in found.ends]
     if options.scripts:
-        write_scripts(options.scripts, machine, found.ends, named, lambda end: "end %d: %s" % (
+        write_scripts(options.scripts, machine, found.ends, named, lambda end: "final state %d: %s" % (
             end.number, stories[end.number - 1].heading()))
     bad = report.bad = forbidden(conditions, found)
     (objects if printer.as_json else texts)(report, printer)
@@ -269,7 +269,7 @@ def note(findings: Findings, stories: Sequence[Story], bad: Sequence[tuple[Condi
         return
     for story in stories:
         is_finding = story.end.number > 1 or not {how for how, _ in story.end.harts} <= {OVER, LONG, LEFT}
-        findings.add("end %d" % story.end.number, story.heading() if is_finding else "")
+        findings.add("final state %d" % story.end.number, story.heading() if is_finding else "")
 
 
 def note_cut(findings: Findings, stories: Sequence[Story], search: Search, found: Ends, conditions: Sequence[Condition]) -> None:
@@ -290,7 +290,7 @@ def note_forbidden(findings: Findings, stories: Sequence[Story], bad: Sequence[t
     for condition, end in bad:
         warn("--forbid %s: final state %d matches" % (condition.text, end.number))
     for condition in conditions:
-        ends = ["end %d: %s" % (it.end.number, it.heading()) for it in stories if (condition, it.end) in bad]
+        ends = ["final state %d: %s" % (it.end.number, it.heading()) for it in stories if (condition, it.end) in bad]
         findings.add("--forbid " + condition.text, "\n".join(ends))
 
 
@@ -327,26 +327,26 @@ def objects(report: Report, printer: Printer) -> None:
     for story in stories:
         story.object(printer)
     machine, bounds = search.machine, search.bounds
-    printer.object("races", ends=len(stories), orders=found.orders, whole=is_whole(search, found), covered=covered_text(search, found),
+    printer.object("races", final_states=len(stories), schedules=found.orders, complete=is_whole(search, found), covered=covered_text(search, found),
                    forbidden=sorted({end.number for _, end in bad}), preemptions=bounds.preemptions, timers=bounds.timers,
-                   met=[dict(address=hex8(it.at), size=it.count, symbol=it.name) for it in ranges_of(search.met, symbols)],
-                   places=len(search.done), moves=search.count, rounds=search.rounds, runs=machine.asked, asked=machine.learned)
+                   shared=[dict(address=hex8(it.at), size=it.count, symbol=it.name) for it in ranges_of(search.met, symbols)],
+                   states=len(search.done), transitions=search.count, rounds=search.rounds, runs=machine.asked, steps=machine.learned)
 
 
 def texts(report: Report, printer: Printer) -> None:
     """Writes a report as lines."""
     search, found, stories, bad = report.search, report.found, report.stories, report.bad
     for it in ranges_of(search.met, report.symbols):
-        printer.line("both touch  %08x %d  %s" % (it.at, it.count, it.name))
+        printer.line("shared memory  %08x %d  %s" % (it.at, it.count, it.name))
     forbidden = {end.number for _, end in bad}
     for story in stories:
         printer.line()
         style = Style.bad if story.end.number in forbidden else Style.heading
-        printer.line(printer.styled("end %d: %s" % (story.end.number, story.heading()), style))
+        printer.line(printer.styled("final state %d: %s" % (story.end.number, story.heading()), style))
         for line in story.lines(found.orders):
             printer.line(line)
     printer.line()
-    printer.line("%s, each done again on the bench. Covered: %s" % (counted(len(stories), "end"), covered_text(search, found)))
-    printer.line("%s, %s, in %s; %s of the bench with %s" % (
-        counted(len(search.done), "place"), counted(search.count, "move"), counted(search.rounds, "round"),
+    printer.line("%s, each replayed on rvbench. Covered: %s" % (counted(len(stories), "final state"), covered_text(search, found)))
+    printer.line("%s and %s in %s; %s of rvbench with %s" % (
+        counted(len(search.done), "state"), counted(search.count, "transition"), counted(search.rounds, "round"),
         counted(search.machine.asked, "run"), counted(search.machine.learned, "step")))
