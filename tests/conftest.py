@@ -150,7 +150,7 @@ def final_states(bench):
     outcome as `--outcome` has it, and members of `Bounds`; `plain` without partial-order reduction, `limit` and `seconds` as the options."""
     os.environ["RVBENCH"] = bench
     from rvlook.finders import outcomes
-    from rvlook.finders.races import ends, machine as machines, search as searches, time_limit
+    from rvlook.finders.races import final_states as states, machine as machines, search as searches, time_limit
     from rvlook.image import symbols
     from rvlook.image.files import Image, digits_of
     from rvlook.protocol import run
@@ -161,7 +161,7 @@ def final_states(bench):
         machine = machines.Machine(types.SimpleNamespace(setup=setup), (), limit)
         try:
             search = searches.Search(machine, searches.Bounds(**bounds), plain, outcomes.watched_of(outcome), time_limit.TimeLimit(seconds))
-            return search, ends.search_ends(search, lambda _: outcome)
+            return search, states.find_final_states(search, lambda _: outcome)
         finally:
             machine.close()
     return found

@@ -21,11 +21,11 @@ OTHERWISE = """
 class Forgetful(dict):
     def setdefault(self, key, value):
         return None
-learn = machine.Machine.learn
+decode_step = machine.Machine.decode_step
 def forgetful(self, *more):
     self.known = Forgetful(self.known)
-    return learn(self, *more)
-machine.Machine.learn = forgetful
+    return decode_step(self, *more)
+machine.Machine.decode_step = forgetful
 """
 MORE = "operands = machine.operands; machine.operands = lambda word: (0, *operands(word)[1:])"
 NEVER_BACK = """

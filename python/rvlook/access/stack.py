@@ -112,11 +112,11 @@ class Finder:
 
 def stack_pointers(replay: Replay, stretch: Stretch, steps: Sequence[int]) -> list[int]:
     """Returns the value of sp before each of these steps of a stretch. The bench is then at the end of the stretch."""
-    asked, done = [], 0
+    queries, done = [], 0
     for at in steps:
-        asked.append((b"step %d\n" % (at - done) if at > done else b"") + b"reg %d\n" % SP)
+        queries.append((b"step %d\n" % (at - done) if at > done else b"") + b"reg %d\n" % SP)
         done = at
-    text = b"".join(asked) + b"step %d\n" % (stretch.count - done)
+    text = b"".join(queries) + b"step %d\n" % (stretch.count - done)
     lines = replay.bench.block(text, text.count(b"\n")).split(b"\n")
     return [int(line.split(b"=")[1], 16) for line in lines if line.startswith(b"x")]
 

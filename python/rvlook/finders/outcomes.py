@@ -13,7 +13,7 @@ from rvlook.protocol.replies import enclave_of
 from rvlook.output.printer import hex8
 
 if TYPE_CHECKING:
-    from rvlook.finders.races.ends import End
+    from rvlook.finders.races.final_states import FinalState
     from rvlook.finders.races.machine import Look, Machine, Memory, State
     from rvlook.protocol.symbols import Symbols
 
@@ -96,7 +96,7 @@ class Condition(NamedTuple):
     parts: tuple[tuple[str, str, Union[int, str]], ...]
     how: str = ""
 
-    def holds(self, end: End, names_of: Sequence[str]) -> bool:
+    def holds(self, end: FinalState, names_of: Sequence[str]) -> bool:
         """Returns whether a final state meets the condition."""
         if self.how:
             return any(how == self.how for how, _ in end.harts)

@@ -7,8 +7,8 @@ import re
 from typing import Callable, Iterable, Iterator, Mapping, Optional, TYPE_CHECKING, Tuple
 
 from rvlook.protocol.replies import RAN, Ran, Trap, step_of, trap_of
-from rvlook.protocol.run import ALIKE, MOST_STEPS
-from rvlook.protocol.timeline import Steps, part, turned
+from rvlook.protocol.run import EQUAL, MOST_STEPS
+from rvlook.protocol.timeline import Steps, actions_between, rotated
 
 if TYPE_CHECKING:
     from rvlook.gdb.stops import Halt, Stops
@@ -50,8 +50,8 @@ def planned(turns: str, count: int, is_single: bool, chosen: int) -> tuple[list[
     return runs, ("\n".join(lines) + "\n").encode(), len(lines)
 
 
-def asked(timeline: Timeline, turns: str, count: int, is_single: bool,
-          is_quiet: Callable[[bytes, int], bool] | None = None) -> list[tuple[int, int, Ran]]:
+def query_steps(timeline: Timeline, turns: str, count: int, is_single: bool,
+                is_quiet: Callable[[bytes, int], bool] | None = None) -> list[tuple[int, int, Ran]]:
     """Does steps of a schedule, one by one or in runs; returns for each run its hart, its wanted steps and its reply. If a run met a stop, what
     follows is not by the schedule any more. Only the last replies are decoded if `is_quiet` holds."""
     timeline.settle()
@@ -80,7 +80,7 @@ def by_turns(timeline: Timeline, stops: Stops, turns: str, count: int) -> Iterat
             left = min(left, len(turns) - len(turns.lstrip(turns[0])))
         before = timeline.worlds[hart]
         ran = timeline.run(hart, 1 if stops.is_single else left, turns)
-        turns = turned(turns, ran.steps)
+        turns = rotated(turns, ran.steps)
         yield stops.met(timeline, hart, ran, before) if stops.may_meet(timeline, ran, before) else None
 
 
@@ -118,7 +118,7 @@ def ends_of(found: Iterable[tuple[int, int, Ran]]) -> dict[int, RanState] | None
     last: dict[int, list[RanState]] = {}
     for hart, _, ran in found:
         last.setdefault(hart, []).append(state_of(ran))
-    if any(len(states) < ALIKE or len(set(states[-ALIKE:])) > 1 for states in last.values()):
+    if any(len(states) < EQUAL or len(set(states[-EQUAL:])) > 1 for states in last.values()):
         return None
     return {hart: states[-1] for hart, states in last.items()}
 
@@ -128,19 +128,19 @@ def first_alike(timeline: Timeline, first: int, ends: Mapping[int, RanState]) ->
     end = timeline.position
     with contextlib.closing(timeline.again(block_before(timeline, first, ends))) as ahead:
         since: dict[int, int] = {}
-        for it in part(timeline.past, ahead.position, end):
+        for it in actions_between(timeline.past, ahead.position, end):
             while isinstance(it, Steps) and it.count:
                 count = min(it.count, BLOCK)
                 position = ahead.position
-                for hart, _, ran in asked(ahead, it.turns, count, True):
+                for hart, _, ran in query_steps(ahead, it.turns, count, True):
                     position += 1
                     if state_of(ran) != ends[hart]:
                         since.pop(hart, None)
                     else:
                         since.setdefault(hart, position)
-                if len(since) == len(ends) and position >= max(since.values()) + ALIKE * len(it.turns):
+                if len(since) == len(ends) and position >= max(since.values()) + EQUAL * len(it.turns):
                     return max(since.values())
-                it = next(part([it], count, it.count), Steps(it.turns, 0))
+                it = next(actions_between([it], count, it.count), Steps(it.turns, 0))
         return max(since.values(), default=end)
 
 

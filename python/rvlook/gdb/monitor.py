@@ -8,7 +8,7 @@ import io
 import os
 from typing import Callable, NamedTuple, Sequence, TYPE_CHECKING, TextIO
 
-from rvlook.protocol.bench_line import words_of
+from rvlook.protocol.bench_line import tokens_of
 from rvlook.protocol.commands import COMMANDS, Form, is_form, written
 from rvlook.output.escapes import visible
 from rvlook.errors import RvlookError
@@ -47,7 +47,7 @@ class Monitor:
     """Runs lines of `monitor`. `symbols` reads the symbols; only with `has_files` may a line name files."""
 
     def __init__(self, moves: Moves, symbols: Callable[[], Symbols], command_line: CommandLine, has_files: bool = True) -> None:
-        self.moves, self.symbols, self.entry, self.is_fresh = moves, symbols, Entry(), False
+        self.moves, self.symbols, self.entry, self.refreshes = moves, symbols, Entry(), False
         self.session: Session | None = None
         self.has_files, self.read = has_files, command_line.read
         self.subcommands = tuple(it for it in command_line.names if it not in (*OTHERS, "gdb"))  # over an image
@@ -55,9 +55,9 @@ class Monitor:
     def line(self, text: str) -> str:
         """Runs a line of `monitor`; returns its output. What `page` reports goes to standard error."""
         out, moves = io.StringIO(), self.moves
-        before, told = (moves.timeline, moves.timeline.changes), moves.timeline.was_told
-        errors = contextlib.nullcontext() if "page" in words_of(text)[:2] else contextlib.redirect_stderr(out)
-        with contextlib.redirect_stdout(out), errors, moves.link.watched(moves.behind_watches):
+        before, had_command = (moves.timeline, moves.timeline.changes), moves.timeline.has_command
+        errors = contextlib.nullcontext() if "page" in tokens_of(text)[:2] else contextlib.redirect_stderr(out)
+        with contextlib.redirect_stdout(out), errors, moves.link.watched(moves.stops_after_watch):
             try:
                 self.do(text, out)
             except RvlookError as fault:
@@ -65,23 +65,23 @@ class Monitor:
             except SystemExit:
                 pass  # after the help of a subcommand
         if before != (moves.timeline, moves.timeline.changes):
-            moves.forget(moves.timeline.position)
-            if told and moves.timeline is before[0] and not moves.timeline.was_told:
+            moves.discard(moves.timeline.position)
+            if had_command and moves.timeline is before[0] and not moves.timeline.has_command:
                 out.write(FORGOTTEN % moves.timeline.position + "\n")
-            out.write("" if self.is_fresh else STALE_IN_LLDB if moves.behind_watches else STALE)
+            out.write("" if self.refreshes else STALE_IN_LLDB if moves.stops_after_watch else STALE)
         return out.getvalue()
 
     def do(self, text: str, out: TextIO) -> None:
         """Runs a line, and prints its output."""
-        words = words_of(text)
+        tokens = tokens_of(text)
         if "\n" in text:
             print("monitor takes a single line")
-        elif not words or words == ["help"]:
+        elif not tokens or tokens == ["help"]:
             self.help()
-        elif words[0] in OWN:
-            self.own(*words)
-        elif words[0] == "rvlook" or words[0] in OTHERS or words[0] in self.subcommands and not self.is_command(words):
-            self.subcommand(words[1:] if words[0] == "rvlook" else words)
+        elif tokens[0] in OWN:
+            self.own(*tokens)
+        elif tokens[0] == "rvlook" or tokens[0] in OTHERS or tokens[0] in self.subcommands and not self.is_command(tokens):
+            self.subcommand(tokens[1:] if tokens[0] == "rvlook" else tokens)
         else:
             self.opened(out).line(text)
 
@@ -96,9 +96,9 @@ class Monitor:
         act(*operands)
 
     @staticmethod
-    def is_command(words: Sequence[str]) -> bool:
+    def is_command(tokens: Sequence[str]) -> bool:
         """Returns whether a line is a command of the bench: `timer on` is, `timer --every 2` is a subcommand."""
-        return words[0] in COMMANDS and written(words[0], words[1:]) is not None
+        return tokens[0] in COMMANDS and written(tokens[0], tokens[1:]) is not None
 
     def opened(self, out: TextIO | None = None) -> Session:
         """Returns the session of the prompt over the debugger's bench."""
@@ -115,21 +115,21 @@ class Monitor:
         print("subcommands over the run so far: %s; and %s" % (" ".join(self.subcommands), " ".join(OTHERS)))
         self.opened().help()
 
-    def subcommand(self, words: Sequence[str]) -> None:
+    def subcommand(self, tokens: Sequence[str]) -> None:
         """Runs a subcommand of rvlook over a run of what was done so far."""
-        words = [it.encode("latin-1", "replace").decode("utf-8", "surrogateescape") for it in words]
-        if not words or words[0] not in (*self.subcommands, *OTHERS):
+        tokens = [it.encode("latin-1", "replace").decode("utf-8", "surrogateescape") for it in tokens]
+        if not tokens or tokens[0] not in (*self.subcommands, *OTHERS):
             print("rvlook requires a subcommand over the run so far: %s; or %s" % (" ".join(self.subcommands), " ".join(OTHERS)))
             return
-        if words[0] in OTHERS:
-            arguments = self.read(words)
+        if tokens[0] in OTHERS:
+            arguments = self.read(tokens)
             self.check_files(arguments)
         else:
             timeline = self.moves.timeline
-            arguments = self.read([words[0], timeline.setup.image.name, *words[1:]])
+            arguments = self.read([tokens[0], timeline.setup.image.name, *tokens[1:]])
             self.check_files(arguments)
             arguments.has_sources = self.has_files
-            limit = arguments.steps if words[0] in FROM_HERE or "--steps" in words else 0
+            limit = arguments.steps if tokens[0] in FROM_HERE or "--steps" in tokens else 0
             setup = timeline.setup.with_script(commands_of(timeline.past, 0, timeline.hart), limit)
             arguments.opened = run_of(setup), self.opened().symbols
         arguments.do(arguments)

@@ -6,16 +6,16 @@ import time
 from typing import Container, NamedTuple, Sequence, TYPE_CHECKING
 
 from rvlook.protocol import names
-from rvlook.gdb.lookahead import asked, by_turns, ends_of, first_alike, judged
+from rvlook.gdb.lookahead import query_steps, by_turns, ends_of, first_alike, judged
 from rvlook.gdb.stops import INTERRUPTED, Halt, Stops, signal_of
 from rvlook.gdb.view import View
-from rvlook.protocol.run import ALIKE, MOST_STEPS
-from rvlook.protocol.timeline import Steps, part
+from rvlook.protocol.run import EQUAL, MOST_STEPS
+from rvlook.protocol.timeline import Steps, actions_between
 
 if TYPE_CHECKING:
     from rvlook.gdb.link import Link
     from rvlook.protocol.replies import Ran
-    from rvlook.protocol.timeline import Part, Timeline
+    from rvlook.protocol.timeline import Action, Timeline
 
 SCHEDULE = "0" * 32 + "1" * 32  # of two harts, where no other is asked for
 FIRST_RUN, MORE = 1024, 4  # steps of the first part of a continue, and times as many in the next
@@ -28,7 +28,7 @@ CAREFUL = 4096  # steps that are done one exchange a turn, behind a stop that wa
 class Start(NamedTuple):
     """Where steps began: the position, and what had been done after it before the debugger went back."""
     position: int
-    future: list[Part]
+    future: list[Action]
 
 
 class Moves:
@@ -41,14 +41,14 @@ class Moves:
         self.follower: Timeline | None = None
         self.careful = 0
         self.notes: list[str] = []
-        self.behind_watches = False  # whether a debugger expects to be behind the access that a watch met
+        self.stops_after_watch = False  # whether a debugger expects to be behind the access that a watch met
 
     def close(self) -> None:
         """Ends all benches."""
-        self.forget(0)
+        self.discard(0)
         self.timeline.close()
 
-    def forget(self, position: int) -> None:
+    def discard(self, position: int) -> None:
         """Ends the other benches at and behind a step: what they did may no longer be what was done."""
         for it in [it for it in self.ready if it >= position]:
             self.ready.pop(it).close()
@@ -65,33 +65,33 @@ class Moves:
         new.set_stops(self.timeline.stops)
         self.timeline.close()
         self.timeline, self.view = new, View(new)
-        self.forget(position)
+        self.discard(position)
 
-    def tell(self, lines: Sequence[str]) -> None:
+    def apply(self, lines: Sequence[str]) -> None:
         """Does commands of the person that change registers or bytes: they are part of what was done, and what had been done behind here
         is no longer what would come."""
-        self.forget(self.timeline.position)
-        had = self.timeline.was_told
+        self.discard(self.timeline.position)
+        had = self.timeline.has_command
         self.timeline.do_all(lines)
-        if had and not self.timeline.was_told:
+        if had and not self.timeline.has_command:
             self.notes.append(FORGOTTEN % self.timeline.position)
 
-    def tell_notes(self) -> None:
+    def show_notes(self) -> None:
         """Makes the debugger show the notes that were held back."""
         for note in self.notes:
-            self.link.tell(note)
+            self.link.show(note)
         self.notes = []
 
     def redo(self) -> None:
         """Tells again what was told at this step before one came back."""
         if self.timeline.redo():
-            self.forget(self.timeline.position)
+            self.discard(self.timeline.position)
 
     def followed(self, position: int) -> Timeline | None:
         """Returns the following bench, brought to a step; None if it is past that step."""
         found = self.follower if self.follower and self.follower.position <= position else None
         if found:
-            found.follow(part(self.timeline.past, found.position, position))
+            found.follow(actions_between(self.timeline.past, found.position, position))
             self.follower = None
         return found
 
@@ -99,7 +99,7 @@ class Moves:
         """Makes a bench follow to the present step."""
         if self.follower:
             self.follower.settle()
-            self.follower.follow(part(self.timeline.past, self.follower.position, self.timeline.position))
+            self.follower.follow(actions_between(self.timeline.past, self.follower.position, self.timeline.position))
         else:
             self.follower = self.timeline.again(self.timeline.position)
 
@@ -118,7 +118,7 @@ class Moves:
 
     def step(self, hart: int, others: Sequence[int], inside: Container[int] = ()) -> Halt:
         """Does a step of a hart, or as many as are inside a range; the other harts run by the schedule meanwhile."""
-        last, alike = None, 0
+        last, equal = None, 0
         while True:
             self.redo()
             turns = self.turns_of([hart, *others])
@@ -130,21 +130,21 @@ class Moves:
             halt = self.stops.met(self.timeline, hart, ran, before) if ran.why != "done" else None
             if halt and halt.reason:
                 return self.halt_at(halt)
-            self.tell_step(ran, before)
-            alike, last = alike + 1 if ran == last else 0, ran
+            self.show_step(ran, before)
+            equal, last = equal + 1 if ran == last else 0, ran
             if halt or ran.trap or int(ran.pc, 16) not in inside or self.stops.is_break(self.timeline, ran.pc):
                 return Halt(hart)
-            if alike >= ALIKE:
+            if equal >= EQUAL:
                 return self.halt_at(self.halted([hart], hart, ran))
             if self.link.interrupted():
                 return Halt(hart, signal=INTERRUPTED)
 
-    def tell_step(self, ran: Ran, before: str) -> None:
+    def show_step(self, ran: Ran, before: str) -> None:
         """Tells the trap of a step, and the world that it went to."""
         if ran.trap:
-            self.link.tell("[%s, %s]" % (names.cause_name(ran.trap.cause), ran.trap.value))
+            self.link.show("[%s, %s]" % (names.cause_name(ran.trap.cause), ran.trap.value))
         if ran.world != before:
-            self.link.tell("[switch to %s]" % ran.world)
+            self.link.show("[switch to %s]" % ran.world)
 
     # many steps
 
@@ -181,7 +181,7 @@ class Moves:
                 if verdict is not False:
                     return self.met_at(start, Steps(turns, done), int(turns[0]), ran, worlds[int(turns[0])])
             return None
-        for hart, wanted, ran in asked(self.timeline, turns, count, self.stops.is_single, self.stops.is_quiet(self.timeline)):
+        for hart, wanted, ran in query_steps(self.timeline, turns, count, self.stops.is_single, self.stops.is_quiet(self.timeline)):
             done += ran.steps
             if ran.steps < wanted or self.stops.may_meet(self.timeline, ran, worlds[hart]):
                 return self.met_at(start, Steps(turns, done), hart, ran, worlds[hart])
@@ -207,9 +207,9 @@ class Moves:
 
     def halt_at(self, halt: Halt) -> Halt:
         """Halts where the bench is. Halts before the access of a watchpoint if the debugger expects that, as gdb does on RISC-V."""
-        if halt.told:
-            self.link.tell(halt.told)
-        if halt.reason and not self.behind_watches:
+        if halt.message:
+            self.link.show(halt.message)
+        if halt.reason and not self.stops_after_watch:
             self.go(self.timeline.position - 1)
         return halt
 
@@ -217,7 +217,7 @@ class Moves:
         """Returns the halt at the first step after `first` from which on these harts do nothing, or None."""
         turns = self.turns_of(harts)
         start, worlds = Start(self.timeline.position, list(self.timeline.future)), list(self.timeline.worlds)
-        found = asked(self.timeline, turns, ALIKE * len(turns), True)
+        found = query_steps(self.timeline, turns, EQUAL * len(turns), True)
         for done, (hart, _, ran) in enumerate(found, 1):
             if self.stops.may_meet(self.timeline, ran, worlds[hart]):
                 halt = self.met_at(start, Steps(turns, done), hart, ran, worlds[hart])

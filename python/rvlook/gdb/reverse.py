@@ -5,15 +5,15 @@ from __future__ import annotations
 import contextlib
 from typing import Any, Iterable, Iterator, Sequence, TYPE_CHECKING
 
-from rvlook.gdb.lookahead import BLOCK, asked, by_turns, judged
+from rvlook.gdb.lookahead import BLOCK, query_steps, by_turns, judged
 from rvlook.gdb.stops import INTERRUPTED, Halt
 from rvlook.protocol.run import MOST_STEPS
-from rvlook.protocol.timeline import Told, part, steps_within
+from rvlook.protocol.timeline import Change, actions_between, steps_within
 
 if TYPE_CHECKING:
     from rvlook.gdb.moves import Moves
     from rvlook.protocol.replies import Ran
-    from rvlook.protocol.timeline import Part, Steps, Timeline
+    from rvlook.protocol.timeline import Action, Steps, Timeline
 
 FIRST_PART, MORE_BACK = 4096, 8  # steps of the first part that is looked through, and times as many in the next
 MOST_BY_TURNS = 1 << 18  # of a part of two harts, or of single steps
@@ -34,7 +34,7 @@ class Back:
         self.key: tuple[Any, ...] | None = None
         self.found: list[tuple[int, Halt]] = []
 
-    def forget(self) -> None:
+    def discard(self) -> None:
         """Forgets the stops that were found, as what follows may change."""
         self.key, self.found = None, []
 
@@ -67,7 +67,7 @@ class Back:
         try:
             return self.go_to_stop(hart, harts)
         except Interrupted:
-            self.forget()
+            self.discard()
             return Halt(hart, signal=INTERRUPTED)
 
     def go_to_stop(self, hart: int, harts: Sequence[int]) -> Halt:
@@ -88,8 +88,8 @@ class Back:
             position, halt = halts[-1]
             moves.go(position)
             self.prepare(it for it, _ in halts[-2:-2 - AHEAD:-1])
-            if halt.told:
-                moves.link.tell(halt.told)
+            if halt.message:
+                moves.link.show(halt.message)
             return halt
         moves.go(0)
         at_break = here and moves.stops.is_break(moves.timeline, moves.view.registers(hart)[32])
@@ -103,13 +103,13 @@ class Back:
         """Returns the stops after step `first`, up to step `end`."""
         moves = self.moves
         found: dict[int, Halt] = {}
-        pieces = list(part(moves.timeline.past, first, end))
+        pieces = list(actions_between(moves.timeline.past, first, end))
         if not moves.stops.is_single and not self.may_stop(first, pieces):
             return []
         with contextlib.closing(moves.timeline.again(first)) as ahead:
             ahead.set_stops(moves.timeline.stops)
             for it in pieces:
-                if isinstance(it, Told):
+                if isinstance(it, Change):
                     ahead.choose(it.hart)
                     ahead.do(it.line)
                 elif moves.stops.is_single:
@@ -120,18 +120,18 @@ class Back:
                     found.update(self.stops_by_turns(ahead, it))
         return sorted(((position, halt) for position, halt in found.items() if halt.hart in harts), key=lambda it: it[0])
 
-    def may_stop(self, first: int, pieces: Sequence[Part]) -> bool:
+    def may_stop(self, first: int, pieces: Sequence[Action]) -> bool:
         """Returns whether there may be a stop in steps of two harts. Steps of one hart are searched at once."""
-        if all(isinstance(it, Told) or it.chosen for it in pieces):
+        if all(isinstance(it, Change) or it.chosen for it in pieces):
             return True
         with contextlib.closing(self.moves.timeline.again(first)) as ahead:
             ahead.set_stops(self.moves.timeline.stops)
             for it in pieces:
-                if isinstance(it, Told):
+                if isinstance(it, Change):
                     ahead.choose(it.hart)
                     ahead.do(it.line)
                 elif any(ran.steps < count or self.moves.stops.may_meet(ahead, ran, "")
-                         for _, count, ran in asked(ahead, it.turns, it.count, False, self.moves.stops.is_quiet(ahead))):
+                         for _, count, ran in query_steps(ahead, it.turns, it.count, False, self.moves.stops.is_quiet(ahead))):
                     return True
         return False
 
@@ -160,7 +160,7 @@ class Back:
             self.ask_person()
             now = steps_within(steps, at, at + BLOCK)
             position, worlds = ahead.position, list(ahead.worlds)
-            for hart, _, ran in asked(ahead, now.turns, now.count, True):
+            for hart, _, ran in query_steps(ahead, now.turns, now.count, True):
                 position += 1
                 if stops.may_meet(ahead, ran, worlds[hart]):
                     halt = self.halt_there(ahead, position, hart, ran, worlds[hart])
@@ -171,7 +171,7 @@ class Back:
     def halt_there(self, ahead: Timeline, position: int, hart: int, ran: Ran, before: str) -> Halt | None:
         """Returns the halt after a step, or None. Uses another bench if the halt depends on registers or memory at that step."""
         stops = self.moves.stops
-        if not stops.asks(ran):
+        if not stops.needs_query(ran):
             return stops.met(ahead, hart, ran, before)
         with contextlib.closing(ahead.again(position)) as there:
             there.set_stops(self.moves.timeline.stops)

@@ -168,7 +168,7 @@ class Server:
 
     def changing(self) -> None:
         """Forgets what was derived from the steps after the present one, as they may change."""
-        self.back.forget()
+        self.back.discard()
         self.commands.entry.limit(self.timeline.position)
 
     def write_register(self, rest: str) -> str:
@@ -181,7 +181,7 @@ class Server:
             raise ValueError(value)
         self.changing()
         self.timeline.choose(self.shown)
-        self.moves.tell(["setreg %d %s" % (number, little(value))])
+        self.moves.apply(["setreg %d %s" % (number, little(value))])
         return "OK"
 
     def read_memory(self, rest: str) -> str:
@@ -210,7 +210,7 @@ class Server:
         if count and len(self.moves.view.bytes(first, count)) < count:
             raise Refused("the range is not entirely in RAM")
         self.changing()
-        self.moves.tell(["poke %x %02x" % (first + n, byte) for n, byte in enumerate(data)])
+        self.moves.apply(["poke %x %02x" % (first + n, byte) for n, byte in enumerate(data)])
         return "OK"
 
     # breakpoints and watchpoints
@@ -255,7 +255,7 @@ class Server:
 
     def resume(self, rest: str) -> str:
         """Replies to vCont: each hart does the first action that names it."""
-        self.moves.tell_notes()
+        self.moves.show_notes()
         self.changing()
         actions: dict[int, str] = {}
         for it in rest[1:].split(";"):
@@ -293,10 +293,10 @@ class Server:
     def monitor(self, rest: str) -> str:
         """Replies to qRcmd: runs a line of the bench or of the prompt, or a subcommand."""
         self.changing()
-        self.timeline.choose(self.last if self.moves.behind_watches else self.shown)  # lldb reads registers of each hart, and names none here
+        self.timeline.choose(self.last if self.moves.stops_after_watch else self.shown)  # lldb reads registers of each hart, and names none here
         text = self.commands.line(bytes.fromhex(rest[1:]).decode("latin-1"))
         self.shown = self.timeline.hart
-        self.last = self.shown if self.moves.behind_watches else self.last
+        self.last = self.shown if self.moves.stops_after_watch else self.last
         for first in range(0, len(text), PIECE):
             self.link.send("O" + hex_of(text[first:first + PIECE]))
         return "OK"
@@ -313,7 +313,7 @@ class Server:
 
     def end(self, _: str) -> str | None:
         """Replies to k: lldb expects a reply, gdb none."""
-        answers_it = self.running and self.running.behind_watches
+        answers_it = self.running and self.running.stops_after_watch
         self.close()
         self.over = not self.extended
         return GONE if answers_it else None
@@ -334,12 +334,12 @@ class Server:
 
     def host(self, _: str) -> str:
         """Replies to qHostInfo, which only lldb sends."""
-        self.moves.behind_watches = True
+        self.moves.stops_after_watch = True
         return "triple:%s;ptrsize:4;endian:little;watchpoint_exceptions_received:after;" % hex_of(TRIPLE)
 
-    def fresh(self, _: str) -> str:
+    def set_refresh(self, _: str) -> str:
         """Replies to QRvlookFresh: the debugger reads everything again after each line of `monitor`."""
-        self.commands.is_fresh = True
+        self.commands.refreshes = True
         return "OK"
 
 
@@ -354,7 +354,7 @@ ACTS: Dict[str, Callable[[Server, str], Optional[str]]] = {
     "R": Server.restart, "T": lambda server, rest: "OK" if server.hart_of(rest) >= 0 else "", "X": Server.write_binary, "Z": Server.set_stop,
     "k": Server.end, "m": Server.read_memory, "p": Server.read_register, "z": Server.clear_stop, "g": Server.registers,
     "c": lambda server, rest: server.go_on("c", rest), "s": lambda server, rest: server.go_on("s", rest),
-    "bc": Server.go_back, "bs": Server.step_back, "QRvlookFresh": Server.fresh,
+    "bc": Server.go_back, "bs": Server.step_back, "QRvlookFresh": Server.set_refresh,
     "QStartNoAckMode": Server.no_acknowledgements, "qAttached": answers("0"), "qC": lambda server, rest: "QC%x" % (server.last + 1),
     "qHostInfo": Server.host, "qProcessInfo": lambda server, rest: "pid:1;" + server.host(rest), "qRcmd": Server.monitor,
     "qSupported": answers(FEATURES), "qThreadExtraInfo": lambda server, rest: hex_of(server.hart_text(server.hart_of(rest[1:]))),
@@ -366,9 +366,9 @@ def link_of(setup: Setup, port: int | None) -> Link:
     """Opens the connection with the debugger: the standard streams, or a port of this machine for the first client. A thread turns away later
     clients. Raises RvlookError."""
     if port is None and sys.stdin.isatty():
-        words = " ".join([*(["--monitor"] if setup.monitor else []), setup.image.name])
+        arguments = " ".join([*(["--monitor"] if setup.monitor else []), setup.image.name])
         raise RvlookError("standard input is a terminal, not a debugger; "
-                          "run gdb-multiarch %s -ex 'target remote | ./rvlook gdb %s', or use --port N" % (setup.image.name, words))
+                          "run gdb-multiarch %s -ex 'target remote | ./rvlook gdb %s', or use --port N" % (setup.image.name, arguments))
     if port is None:
         return Link(sys.stdin.fileno(), sys.stdout.fileno())
     try:

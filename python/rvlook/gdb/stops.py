@@ -39,11 +39,11 @@ class Watch:
 
 @dataclass(frozen=True)
 class Halt:
-    """A halt on a hart. `reason` is that of the protocol, empty for a step, a breakpoint and a signal; `told` is a line for the user."""
+    """A halt on a hart. `reason` is that of the protocol, empty for a step, a breakpoint and a signal; `message` is a line for the user."""
     hart: int
     reason: str = ""
     signal: int = STEPPED
-    told: str = ""
+    message: str = ""
 
 
 def signal_of(trap: Trap | None) -> int:
@@ -132,7 +132,7 @@ class Stops:
         """Returns whether there may be a halt after a run, by its reply alone. `before` is the world before it."""
         return ran.why != "done" or self.is_break(timeline, ran.pc) or bool(self.caught and self.catch(0, ran, before))
 
-    def asks(self, ran: Ran) -> bool:
+    def needs_query(self, ran: Ran) -> bool:
         """Returns whether registers or memory decide if there is a halt."""
         return ran.why.startswith("watch") or any(code for it in self.breaks.get(int(ran.pc, 16), {}).values() for code in it)
 

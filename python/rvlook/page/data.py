@@ -62,9 +62,9 @@ class Columns:
 
 def compressed(data: Mapping[str, Any], columns: Columns) -> str:
     """Returns the data of a page and its columns as text."""
-    told = json.dumps(data, separators=(",", ":")).encode("utf-8")
-    told += b" " * (-len(told) % 4)
-    return base64.b64encode(zlib.compress(struct.pack("<I", len(told)) + told + bytes(columns.bytes), LEVEL)).decode("ascii")
+    header = json.dumps(data, separators=(",", ":")).encode("utf-8")
+    header += b" " * (-len(header) % 4)
+    return base64.b64encode(zlib.compress(struct.pack("<I", len(header)) + header + bytes(columns.bytes), LEVEL)).decode("ascii")
 
 
 def refusal(step: Mapping[str, Any]) -> str | None:

@@ -6,7 +6,7 @@ from typing import Iterator, TYPE_CHECKING
 
 from rvlook.protocol.bench_line import lines_of
 from rvlook.output.escapes import visible_line
-from rvlook.prompt.session import Held, Session, completions
+from rvlook.prompt.session import TimelineKeeper, Session, completions
 from rvlook.output.printer import Style
 from rvlook.protocol.timeline import Timeline
 
@@ -41,8 +41,8 @@ def complete_by(session: Session) -> None:
 
     def complete(text: str, number: int) -> str | None:
         """Returns a completion by its number, or None."""
-        words = (readline.get_line_buffer()[:readline.get_begidx()] + "|").split()
-        found = [it + " " for it in completions(session, words) if it.startswith(text)]
+        tokens = (readline.get_line_buffer()[:readline.get_begidx()] + "|").split()
+        found = [it + " " for it in completions(session, tokens) if it.startswith(text)]
         return found[number] if number < len(found) else None
 
     readline.set_completer(complete)
@@ -75,15 +75,15 @@ def run_line(session: Session, line: str) -> bool:
     try:
         return session.line(bytes_text(line))
     except KeyboardInterrupt:
-        session.held.go(position)
+        session.keeper.go(position)
         session.print("interrupted; the state is unchanged")
         return True
 
 
 def show_prompt(run: Run, symbols: Symbols, printer: Printer) -> None:
     """Reads and runs lines up to the end of the input."""
-    held = Held(Timeline.of_script(run.setup))
-    session = Session(held, run, symbols, printer)
+    keeper = TimelineKeeper(Timeline.of_script(run.setup))
+    session = Session(keeper, run, symbols, printer)
     try:
         if sys.stdin.isatty():
             printer.line(printer.styled("Type help for the commands, quit or Ctrl-D to leave.", Style.aside))
@@ -91,4 +91,4 @@ def show_prompt(run: Run, symbols: Symbols, printer: Printer) -> None:
             if not run_line(session, line):
                 return
     finally:
-        held.timeline.close()
+        keeper.timeline.close()

@@ -5,7 +5,7 @@ import inspect
 from typing import Protocol, Sequence, TYPE_CHECKING
 
 from rvlook.protocol import names
-from rvlook.protocol.bench_line import has_reply, is_malformed, words_of
+from rvlook.protocol.bench_line import has_reply, is_malformed, tokens_of
 from rvlook.protocol.commands import COMMANDS, Form, is_form
 from rvlook.output.escapes import visible
 from rvlook.protocol.messages import line_error
@@ -15,7 +15,7 @@ from rvlook.access.map import Cause, Finder
 from rvlook.access.map_text import print_event
 from rvlook.protocol.nearest import nearest
 from rvlook.protocol.replies import Place, ran_of
-from rvlook.protocol.run import ALIKE, MOST_STEPS, alike_at_end
+from rvlook.protocol.run import EQUAL, MOST_STEPS, equal_at_end
 from rvlook.output.printer import Style, place_text
 
 if TYPE_CHECKING:
@@ -45,7 +45,7 @@ class Keeper(Protocol):
         """Goes back to a step."""
 
 
-class Held:
+class TimelineKeeper:
     """A timeline that another one at an earlier step may replace; what had been done after that step is forgotten."""
 
     def __init__(self, timeline: Timeline) -> None:
@@ -59,15 +59,15 @@ class Held:
 
 
 class Session:
-    """The session of a prompt; `held` has its timeline."""
+    """The session of a prompt; `keeper` has its timeline."""
 
-    def __init__(self, held: Keeper, run: Run, symbols: Symbols, printer: Printer) -> None:
-        self.held, self.setup, self.symbols, self.printer, self.finder = held, run.setup, symbols, printer, Finder(run)
+    def __init__(self, keeper: Keeper, run: Run, symbols: Symbols, printer: Printer) -> None:
+        self.keeper, self.setup, self.symbols, self.printer, self.finder = keeper, run.setup, symbols, printer, Finder(run)
 
     @property
     def timeline(self) -> Timeline:
         """Returns the timeline of the bench."""
-        return self.held.timeline
+        return self.keeper.timeline
 
     @property
     def hart(self) -> int:
@@ -96,13 +96,13 @@ class Session:
 
     def done(self, text: str) -> bool:
         """Runs a line; returns False if the session ends. Raises SymbolError for an ambiguous name."""
-        words = words_of(text)
+        tokens = tokens_of(text)
         if not has_reply(text):
             return True
-        if words[0] in ("quit", "exit"):
+        if tokens[0] in ("quit", "exit"):
             return False
-        if words[0] in OWN and not is_malformed(text):
-            self.own(words[0], words[1:])
+        if tokens[0] in OWN and not is_malformed(text):
+            self.own(tokens[0], tokens[1:])
         else:
             self.command(resolved(text, self.symbols))
         return True
@@ -128,29 +128,29 @@ class Session:
         for reply in replies:
             self.print(reply, Style.bad if reply.startswith("error ") else None)
         if replies and replies[0].startswith("error "):
-            self.refused(replies[0], words_of(line))
+            self.refused(replies[0], tokens_of(line))
         if replies and ran_of(replies[0]):
             self.where()
 
-    def refused(self, reply: str, words: Sequence[str]) -> None:
+    def refused(self, reply: str, tokens: Sequence[str]) -> None:
         """Prints the meaning of an error, and what to write instead."""
-        meaning, suggestion = line_error(reply, words)
-        unknown = self.unknown_symbol(words) if reply == "error operand" else None
+        meaning, suggestion = line_error(reply, tokens)
+        unknown = self.unknown_symbol(tokens) if reply == "error operand" else None
         if unknown:
             near = nearest(unknown, self.symbols.by_name)
             meaning = "no symbol '%s'%s" % (unknown, "" if self.symbols else ": no symbols are loaded")
-            suggestion = " ".join(near if it == unknown else it for it in words) if near else \
+            suggestion = " ".join(near if it == unknown else it for it in tokens) if near else \
                 None if self.symbols else "an ELF file, or --symbols FILE"
         self.print("  " + meaning)
         if suggestion:
             self.print("  try: " + suggestion)
 
-    def unknown_symbol(self, words: Sequence[str]) -> str | None:
+    def unknown_symbol(self, tokens: Sequence[str]) -> str | None:
         """Returns the operand that should be an address or a value and is none, or None."""
-        command = COMMANDS.get(words[0])
-        pairs = zip(words[1:], command.forms) if command and len(words) - 1 == len(command.forms) else ()
-        return next((word for word, form in pairs if form in PLACES and not is_form(word, form)
-                     and self.symbols.address(word) is None), None)
+        command = COMMANDS.get(tokens[0])
+        pairs = zip(tokens[1:], command.forms) if command and len(tokens) - 1 == len(command.forms) else ()
+        return next((token for token, form in pairs if form in PLACES and not is_form(token, form)
+                     and self.symbols.address(token) is None), None)
 
     def help(self) -> None:
         """Prints the commands."""
@@ -165,8 +165,8 @@ class Session:
         """Prints the next instruction."""
         pc = self.pc
         text = self.timeline.ask("dis " + pc)[0][0].split(": ")[-1]
-        word, _, text = text.partition(" ")
-        self.print("next  %s  %s" % (names.with_abi_names(text) if word != "error" else "(outside RAM)", place_text(pc, self.symbols)))
+        token, _, text = text.partition(" ")
+        self.print("next  %s  %s" % (names.with_abi_names(text) if token != "error" else "(outside RAM)", place_text(pc, self.symbols)))
 
     def map(self) -> None:
         """Prints the present access rights."""
@@ -180,7 +180,7 @@ class Session:
         if not (count.isascii() and count.isdigit() and len(count) <= LONGEST_COUNT):
             self.print(OWN["back"])
             return
-        self.held.go(max(0, self.timeline.position - int(count)))
+        self.keeper.go(max(0, self.timeline.position - int(count)))
         self.where()
 
     def until(self, what: str) -> None:
@@ -211,7 +211,7 @@ def steps_to(ahead: Timeline, usual: str) -> int | None:
         found = next((n for n, line in enumerate(lines) if usual not in line), None)
         if found is not None:
             return done + found + 1
-        if alike_at_end(lines) >= ALIKE:
+        if equal_at_end(lines) >= EQUAL:
             return None
     return None
 
@@ -221,14 +221,14 @@ def operands_of(name: str) -> tuple[Form, ...]:
     return COMMANDS[name].forms if name in COMMANDS else ()
 
 
-def completions(session: Session, words: Sequence[str]) -> Sequence[str]:
+def completions(session: Session, tokens: Sequence[str]) -> Sequence[str]:
     """Returns the completions of the last word."""
-    if len(words) <= 1:
+    if len(tokens) <= 1:
         return sorted([*COMMANDS, *OWN])
-    if words[0] == "until":
+    if tokens[0] == "until":
         return ["switch", "trap"]
-    forms = operands_of(words[0])
-    form = forms[len(words) - 2] if len(words) - 2 < len(forms) else None
+    forms = operands_of(tokens[0])
+    form = forms[len(tokens) - 2] if len(tokens) - 2 < len(forms) else None
     if form is Form.register:
         return names.ABI
     return sorted(session.symbols.by_name) if form in PLACES else []

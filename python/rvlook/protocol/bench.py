@@ -16,7 +16,7 @@ import time
 from functools import lru_cache
 from typing import IO, Sequence
 
-from rvlook.protocol.bench_line import ended, has_reply, is_malformed, words_of
+from rvlook.protocol.bench_line import ended, has_reply, is_malformed, tokens_of
 from rvlook.errors import BenchEnded, RvlookError, Unfinished
 
 # Of a clone of the repository in which this package is: finds or builds the program.
@@ -65,7 +65,7 @@ def built_program() -> str:
 
 def is_enclaves(command: str) -> bool:
     """Returns whether a command's reply may have any number of lines."""
-    return "enclaves" in command and words_of(command)[0] == "enclaves" and not is_malformed(command)
+    return "enclaves" in command and tokens_of(command)[0] == "enclaves" and not is_malformed(command)
 
 
 def widen(*pipes: IO[bytes]) -> None:
@@ -78,12 +78,12 @@ def widen(*pipes: IO[bytes]) -> None:
 
 
 class Bench:
-    """One process of the bench. `words` are its arguments, `image` the text of the image."""
+    """One process of the bench. `arguments` are its arguments, `image` the text of the image."""
 
-    def __init__(self, words: Sequence[str], image: bytes, harts: int = 1) -> None:
+    def __init__(self, arguments: Sequence[str], image: bytes, harts: int = 1) -> None:
         path = program_path()
         try:
-            self.process = subprocess.Popen([path, *words], stdin=subprocess.PIPE, stdout=subprocess.PIPE, bufsize=0,
+            self.process = subprocess.Popen([path, *arguments], stdin=subprocess.PIPE, stdout=subprocess.PIPE, bufsize=0,
                                             start_new_session=True)
         except OSError as error:
             raise Unfinished("cannot run '%s': %s" % (path, error.strerror)) from None
@@ -138,9 +138,9 @@ class Bench:
 
     def last_words(self) -> str:
         """Returns the last error of the program."""
-        said = b"".join(self.parts).decode("ascii", "replace").splitlines()
+        lines = b"".join(self.parts).decode("ascii", "replace").splitlines()
         self.process.wait()
-        faults = [line for line in said if line.startswith("rvbench: ")]
+        faults = [line for line in lines if line.startswith("rvbench: ")]
         return faults[-1] if faults else "rvbench exited with status %d" % self.process.returncode
 
     def block(self, text: bytes, count: int) -> bytes:
@@ -177,31 +177,31 @@ class Bench:
         first = self.line()
         if first.startswith(b"error "):
             return [first]
-        word = words_of(command)[0]
-        count = self.harts if word == "sched" else COUNTS.get(word, 1)
+        name = tokens_of(command)[0]
+        count = self.harts if name == "sched" else COUNTS.get(name, 1)
         return [first] + [self.line() for _ in range(count - 1)]
 
     def ask(self, *commands: str) -> list[list[str]]:
         """Sends commands; returns for each one the lines of its reply."""
-        self.give(*commands)
-        return self.told(*commands)
+        self.queue(*commands)
+        return self.read_replies(*commands)
 
-    def give(self, *commands: str) -> None:
-        """Queues commands whose replies `told` will read. Raises RvlookError for a command of more than one line."""
+    def queue(self, *commands: str) -> None:
+        """Queues commands whose replies `read_replies` will read. Raises RvlookError for a command of more than one line."""
         if any("\n" in it for it in commands):
             raise RvlookError("a command must be a single line")
         text = "".join(ended(it) + (MARK + "\n" if is_enclaves(it) else "") for it in commands)
         self.send(text.encode("latin-1", "replace"))
 
     def begin(self, *commands: str) -> None:
-        """Sends commands now whose replies `told` will read."""
-        self.give(*commands)
+        """Sends commands now whose replies `read_replies` will read."""
+        self.queue(*commands)
         try:
             self.pending = self.pending[os.write(self.stdin.fileno(), self.pending[:PIPE]):]
         except (BlockingIOError, BrokenPipeError):
             pass
 
-    def told(self, *commands: str) -> list[list[str]]:
+    def read_replies(self, *commands: str) -> list[list[str]]:
         """Returns the replies to commands that were sent."""
         return [[line.decode("latin-1") for line in self.reply(it)] for it in commands]
 

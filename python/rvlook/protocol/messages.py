@@ -39,15 +39,15 @@ def input_error(reply: str) -> tuple[str, str | None]:
     return INPUT_ERRORS.get(what, ("rvbench has exited", None))
 
 
-def line_error(reply: str, words: Sequence[str]) -> tuple[str, str | None]:
+def line_error(reply: str, tokens: Sequence[str]) -> tuple[str, str | None]:
     """Returns the meaning of an error of a line, and what to write instead, or None."""
     if reply == "error command":
-        return command_error(words)
+        return command_error(tokens)
     if reply == "error operand":
-        return operand_error(words)
+        return operand_error(tokens)
     meanings = {
         "error line": ("a line must have at most 120 bytes, each a tab or printable ASCII", "a shorter line in ASCII"),
-        "error full": ("32 addresses are set, which is the limit", "'%s' to remove one first" % ("unwatch" if words[:1] == ["watch"] else "clear")),
+        "error full": ("32 addresses are set, which is the limit", "'%s' to remove one first" % ("unwatch" if tokens[:1] == ["watch"] else "clear")),
         "error csr": ("no such control and status register", None),
         "error outside": ("the access is outside RAM", "an address from 80000000, or a larger --ram"),
         "error hart": ("no such hart", "--harts 2 with --monitor"),
@@ -55,34 +55,34 @@ def line_error(reply: str, words: Sequence[str]) -> tuple[str, str | None]:
     return meanings.get(reply, ("rvbench rejects it", None))
 
 
-def command_error(words: Sequence[str]) -> tuple[str, str | None]:
+def command_error(tokens: Sequence[str]) -> tuple[str, str | None]:
     """Returns what is wrong with an unknown command, and what to write instead, or None."""
-    word = words[0]
-    if word == "--":
+    token = tokens[0]
+    if token == "--":
         return "a second -- is valid only for `rvbench twin`", None
-    if word.startswith("--"):
-        return "this is a command-line option, not a command", "./rvbench run %s" % " ".join(words)
-    near = [word.lower()] if word.lower() in COMMANDS else get_close_matches(word.lower(), COMMANDS, 1, 0.7)
-    meant = COMMANDS_OF_OTHERS.get(word.lower()) or (near[0] if near else None)
+    if token.startswith("--"):
+        return "this is a command-line option, not a command", "./rvbench run %s" % " ".join(tokens)
+    near = [token.lower()] if token.lower() in COMMANDS else get_close_matches(token.lower(), COMMANDS, 1, 0.7)
+    meant = COMMANDS_OF_OTHERS.get(token.lower()) or (near[0] if near else None)
     if meant is None:
-        return "unknown command '%s'; the commands are %s" % (word, " ".join(COMMANDS)), None
-    return "unknown command '%s'; did you mean '%s'?" % (word, meant), "%s %s" % (meant, COMMANDS[meant].letters)
+        return "unknown command '%s'; the commands are %s" % (token, " ".join(COMMANDS)), None
+    return "unknown command '%s'; did you mean '%s'?" % (token, meant), "%s %s" % (meant, COMMANDS[meant].letters)
 
 
-def operand_error(words: Sequence[str]) -> tuple[str, str | None]:
+def operand_error(tokens: Sequence[str]) -> tuple[str, str | None]:
     """Returns what is wrong with the operands of a command, and what to write instead, or None."""
-    name, operands = words[0], words[1:]
+    name, operands = tokens[0], tokens[1:]
     command = COMMANDS[name]
-    comment = next((place for place, word in enumerate(operands) if word.startswith("#")), None)
+    comment = next((place for place, token in enumerate(operands) if token.startswith("#")), None)
     if comment is not None:
-        return "a comment must be on a line of its own", " ".join(words[:comment + 1])
+        return "a comment must be on a line of its own", " ".join(tokens[:comment + 1])
     if len(operands) != len(command.forms):
         return count_text(name, len(command.forms), len(operands)), (name + " " + command.letters).strip()
-    for place, (word, form) in enumerate(zip(operands, command.forms)):
-        if not is_form(word, form):
-            better = rewritten(word, form)
+    for place, (token, form) in enumerate(zip(operands, command.forms)):
+        if not is_form(token, form):
+            better = rewritten(token, form)
             fixed = [*operands[:place], better, *operands[place + 1:]] if better else None
-            return "'%s' is not %s" % (word, form.value), " ".join([name, *fixed]) if fixed else None
+            return "'%s' is not %s" % (token, form.value), " ".join([name, *fixed]) if fixed else None
     return "invalid operands of %s" % name, name + " " + command.letters
 
 

@@ -128,10 +128,10 @@ class Tracer:
     def events(self) -> Iterator[Command | Step | End]:
         """Yields Command, Step and End in the order of the run. Two benches follow the first one, which reports each pc: one decodes the next
         instruction, the other reads the register that it writes."""
-        with self.run.replay() as reader, self.run.replay() as teller:
+        with self.run.replay() as decoder, self.run.replay() as reader:
             for item in self.run.stretches():
                 if isinstance(item, Line):
-                    if item.word == "setreg":
+                    if item.command == "setreg":
                         self.harts[self.hart].registers = None
                     self.hart = self.hart if item.hart is None else item.hart
                     if not item.hidden and self.position + 1 >= self.first:
@@ -139,7 +139,7 @@ class Tracer:
                 elif isinstance(item, End):
                     yield item
                 else:
-                    yield from self.steps(reader, teller, item)
+                    yield from self.steps(decoder, reader, item)
                     if self.last is not None and self.position >= self.last:
                         yield self.cut()
                         return
@@ -149,7 +149,7 @@ class Tracer:
         place = self.harts[self.hart].place
         return End(self.position if self.last is None else self.last, "limit", place.pc, place.mode, place.world)
 
-    def steps(self, reader: Replay, teller: Replay, stretch: Stretch) -> Iterator[Step]:
+    def steps(self, decoder: Replay, reader: Replay, stretch: Stretch) -> Iterator[Step]:
         """Yields the wanted steps of a stretch; raises Unfinished if the registers do not agree."""
         rans = RAN_FIELDS.findall(stretch.data)
         end = stretch.first + stretch.count - 1
@@ -161,8 +161,8 @@ class Tracer:
         if begin > stretch.first:
             hart.place, hart.registers = self.place_of(rans[begin - stretch.first - 1]), None
         rans = rans[begin - stretch.first:stop - stretch.first + 1]
-        instructions = self.instructions(reader, hart, begin, rans)
-        replies = self.registers(teller, hart, begin, rans, instructions)
+        instructions = self.instructions(decoder, hart, begin, rans)
+        replies = self.registers(reader, hart, begin, rans, instructions)
         for number, done in enumerate(map(Done, rans, instructions), begin):
             yield self.step(number, stretch.hart, hart, done, replies)
         kept = [line.split(b"=")[1].decode() for line in (next(replies) for _ in range(REGISTERS - 1))]
@@ -175,33 +175,33 @@ class Tracer:
         """Brings a replay to before a step."""
         replay.bench.ask(*(replay.lines_to(begin - 1) + replay.lines_up_to_next() or ["reg 0"]))
 
-    def instructions(self, reader: Replay, hart: Hart, begin: int, rans: Sequence[RanFields]) -> list[Instruction | None]:
+    def instructions(self, decoder: Replay, hart: Hart, begin: int, rans: Sequence[RanFields]) -> list[Instruction | None]:
         """Returns the instruction at pc before each of these steps."""
-        self.begin(reader, begin)
+        self.begin(decoder, begin)
         pcs = [hart.place.pc.encode()] + [ran[0] for ran in rans[:-1]]
-        block = reader.bench.block(b"".join([b"dis %s\nstep 1\n" % pc for pc in pcs]), 2 * len(rans))
-        reader.lines_to(begin - 1 + len(rans))
+        block = decoder.bench.block(b"".join([b"dis %s\nstep 1\n" % pc for pc in pcs]), 2 * len(rans))
+        decoder.lines_to(begin - 1 + len(rans))
         return [instruction_of(line) for line in block.split(b"\n")[:-1:2]]
 
-    def registers(self, teller: Replay, hart: Hart, begin: int, rans: Sequence[RanFields],
+    def registers(self, reader: Replay, hart: Hart, begin: int, rans: Sequence[RanFields],
                   instructions: Sequence[Instruction | None]) -> Iterator[bytes]:
         """Returns the replies of these steps: each with what it may have changed, and all registers after the last."""
-        self.begin(teller, begin)
+        self.begin(reader, begin)
         if hart.registers is None:
-            hart.registers = [line.split("=")[1] for line in teller.bench.ask("regs")[0][:32]]
-        asked, count = [], REGISTERS
+            hart.registers = [line.split("=")[1] for line in reader.bench.ask("regs")[0][:32]]
+        queries, count = [], REGISTERS
         for ran, instruction in zip(rans, instructions):
             if ran[3] != NO_TRAP:
-                asked.append(STEP_AND_ALL)
+                queries.append(STEP_AND_ALL)
                 count += 1 + REGISTERS
             elif instruction is not None and instruction.writes:
-                asked.append(STEP_AND[instruction.writes])
+                queries.append(STEP_AND[instruction.writes])
                 count += 2
             else:
-                asked.append(STEP)
+                queries.append(STEP)
                 count += 1
-        block = teller.bench.block(b"".join(asked) + b"regs\n", count)
-        teller.lines_to(begin - 1 + len(rans))
+        block = reader.bench.block(b"".join(queries) + b"regs\n", count)
+        reader.lines_to(begin - 1 + len(rans))
         return iter(block.split(b"\n"))
 
     def step(self, number: int, hart_number: int, hart: Hart, done: Done, replies: Iterator[bytes]) -> Step:
@@ -260,12 +260,12 @@ def call_of(world: str, registers: Sequence[int], after: Sequence[int]) -> CallM
     call = names.call_of(registers)
     if call is None:
         return None
-    words = dict(zip(names.ARGUMENTS[call], registers[10:15]))
+    arguments = dict(zip(names.ARGUMENTS[call], registers[10:15]))
     slot: int | None
     if world != "host":
         slot = int(world[1:])
     elif call is names.Call.create:
         slot = after[11] if after[10] == 0 else None
     else:
-        slot = words.get("slot")
-    return CallMade(call, words, slot if slot is not None and slot <= names.LAST_SLOT else None)
+        slot = arguments.get("slot")
+    return CallMade(call, arguments, slot if slot is not None and slot <= names.LAST_SLOT else None)
