@@ -44,7 +44,7 @@ class Case:
 
 
 def asm(name, text):
-    """Returns a case: a text and its words, or its error."""
+    """Adds a case: a text and its words, or its error."""
     answer = assembled(text)
     if isinstance(answer, tuple):
         Case("asm", name, text, "rvbench: line %d fault %d\n" % answer, 1)

@@ -315,7 +315,7 @@ def in_company():
 
 
 def printed_company():
-    """Prints the table of company() as constants."""
+    """Returns the table of company() as constants."""
     lines = ["//! Files with two faults each. Written by tests/generators/elf.py.", "",
              "/// An ELF file of three segments, which loads; those with faults are made of it.",
              "pub(crate) const FILE: [u8; %d] = [" % len(THREE)]

@@ -1,13 +1,13 @@
 #!/usr/bin/env python3
-"""Makes the cases of two harts, harts_*: races of every two calls, one on each hart; hart and sched at their
-borders, of two harts, of one, and of two benches; what each hart has of its own and what both share; a host beside an enclave that runs.
+"""Generates the cases of two harts, harts_*: races of every two calls, one on each hart; the boundaries of hart and sched, with two harts, with
+one, and with two benches; private and shared state of the harts; a host concurrent with a running enclave.
 
     python3 -m generators.harts                      writes their digests and samples
     python3 -m generators.harts --check              checks that they are up to date
     python3 -m generators.harts --check-with-llvm    checks each instruction word against llvm-mc
 
-Independent of the code under test: replies are those of the model of monitor_bench.py, and what each call answers is written out
-by hand beside it.
+Independent of the code under test: the replies are those of the model in monitor_bench.py, and must equal the handwritten
+status of each call.
 """
 import sys
 

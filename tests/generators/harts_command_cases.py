@@ -1,4 +1,4 @@
-"""The cases of two harts: hart and sched at their borders, which commands go by the chosen hart, and what each hart has of its own."""
+"""The cases of two harts: the boundaries of hart and sched, commands on the selected hart, and the private state of each hart."""
 from generators.harts_case import CODE_OF, HartsCase, divided
 from generators.monitor_case import worked
 from models.monitor_model import (BAD_STATE, CREATE, DESTROY, EXIT, HOST_ENTRY, MEASURE, NOT_SUPPORTED, NO_ENCLAVE, NO_SLOT, OVERLAP, RESUME,
@@ -14,7 +14,7 @@ MALFORMED = ["hart", "hart 2", "hart 00", "hart 01", "hart 0x1", "hart -1", "har
 # ---- hart and sched
 
 def lines_of(case, missing):
-    """Every malformed line; and of a hart that is missing, where one is."""
+    """Every malformed line, and a missing hart."""
     for line in MALFORMED:
         case.wants(line, "error operand")
     for line in ("Hart 1", "harts 1", "HART 0", "Sched 0", "scheds 0", "sched01"):
@@ -110,7 +110,7 @@ def what_goes_by_the_chosen_hart():
     case.say("break 20", "hart 0", "break 21", "hart 1", "clear 0", "hart 0", "break 21")
 
 
-# ---- what each hart has
+# ---- private state of a hart
 
 def worlds():
     case = HartsCase("own", "each_goes_back_to_its_own_host")
@@ -212,7 +212,7 @@ def traps():
 
 
 def around_a_running_enclave():
-    """The other hart's host loads, stores, fetches, measures and creates at each border of a region whose enclave runs."""
+    """The host of the other hart loads, stores, fetches, measures and creates at each boundary of the region of a running enclave."""
     for runs in (0, 1):
         case = HartsCase("own", "hart_%d_around_what_runs_on_hart_%d" % (1 - runs, runs))
         divided(case)
@@ -266,7 +266,7 @@ def slots():
     case.say("enclaves", "pmp")
 
 
-# ---- worked examples, whose output is written by hand
+# ---- worked examples with handwritten output
 
 def examples():
     first = ["setreg 17 0a454e43", "setreg 16 1", "setreg 10 80020000", "setreg 11 1000", "setreg 14 80020000", "step 1"]

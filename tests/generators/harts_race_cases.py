@@ -1,5 +1,5 @@
-"""Races: every two calls on one slot, region or window, one on each hart, and in each order of their steps. The keeper is an enclave
-of slot 1 that both harts know, and that is entered where both of the two calls are an enclave's."""
+"""Races: every two calls on one slot, region or window, one on each hart, in each order of their steps. The keeper is an enclave in slot 1, which is
+entered if both calls are made by enclaves."""
 from itertools import combinations_with_replacement
 
 from generators.harts_case import HartsCase, divided
@@ -9,7 +9,7 @@ from models.monitor_model import (BAD_ADDRESS, BAD_STATE, CREATE, DESTROY, EXIT,
 BASE, PAGE, WINDOW = 0x80020000, 0x1000, 0x80040000
 KEEPER = BASE + PAGE
 ORDERS = ("01", "10", "0011", "0101")
-REGION = (BASE, PAGE, WINDOW, PAGE, BASE)  # the arguments of the create that makes slot 0
+REGION = (BASE, PAGE, WINDOW, PAGE, BASE)  # the arguments of the create of slot 0
 OF_HOST = {"create": (CREATE, *REGION), "destroy": (DESTROY, 0), "run": (RUN, 0), "resume": (RESUME, 0), "measure": (MEASURE, 0, WINDOW),
            "measure_into": (MEASURE, 1, BASE + 0x100)}
 OF_ENCLAVE = {"stop": (STOP, 7), "exit": (EXIT, 9), "timer": (), "measure_itself": (MEASURE, 0, WINDOW)}
@@ -19,8 +19,7 @@ SHOWN = ("3a0", "3a3", "3b1", "3be", "304")  # entries 0 to 3 and 12 to 15, the 
 
 
 def after(state, act):
-    """By hand: the state of slot 0 after a call of a host that meets it in this state, or in none, and the status. Where an enclave is
-    entered there is no status."""
+    """Returns the expected state of slot 0 after a call of a host in this state of the slot, and the status; none if an enclave is entered."""
     if act == "create":
         return ("Fresh", 0) if state is None else (state, OVERLAP)
     if act == "measure_into":
@@ -35,7 +34,7 @@ def after(state, act):
     return ("Running", None) if is_taken else (state, BAD_STATE)
 
 
-# ---- what comes before a race, and behind it
+# ---- before and after a race
 
 def new_case(name):
     return divided(HartsCase("races", name))
@@ -48,7 +47,7 @@ def create(case, slot, base):
 
 
 def brought(case, state, hart=0):
-    """Slot 0 in a state, or free, and the keeper in slot 1; one that runs does so on this hart."""
+    """Brings slot 0 into a state, or leaves it free, with the keeper in slot 1; a running enclave runs on this hart."""
     case.on(0)
     create(case, 0, BASE)
     if 1 not in case.machine.table:
@@ -64,7 +63,7 @@ def brought(case, state, hart=0):
 
 
 def cleared(case):
-    """Every enclave leaves and is destroyed, but for a keeper that was not entered."""
+    """Exits and destroys every enclave, except a keeper that was not entered."""
     for number, hart in enumerate(case.machine.peers):
         if hart.world is not None:
             case.on(number)
@@ -76,7 +75,7 @@ def cleared(case):
 
 
 def ready(case, hart, *call):
-    """A hart is one step before its call, or before the timer's stop, with ecalls behind it."""
+    """Brings a hart to the step before its call, or before a timer interrupt, with ecalls after it."""
     case.on(hart)
     if call:
         case.ready(*call)
@@ -95,7 +94,7 @@ def shown(case):
 
 
 def race(case, order, acts, *wanted):
-    """Two calls, the first on hart 0; the statuses are by hand, where there is one."""
+    """Makes two calls, the first on hart 0; the statuses are the expected ones."""
     for hart, act in enumerate(acts):
         ready(case, hart, *{**OF_HOST, **OF_ENCLAVE}[act])
     case.say("sched " + order)
@@ -107,7 +106,7 @@ def race(case, order, acts, *wanted):
 
 
 def statuses(state, acts, order):
-    """The statuses of two calls of hosts, by hand, in the order of the harts; none where more than these two steps are done."""
+    """Returns the expected statuses of two calls of hosts, in the order of the harts; none after more than these two steps."""
     told = [None, None]
     for hart in map(int, order if len(order) == 2 else ""):
         state, told[hart] = after(state, acts[hart])
@@ -128,7 +127,7 @@ def of_two_hosts():
 
 
 def of_a_host_and_an_enclave():
-    """The enclave of slot 0 leaves on one hart while the other's host calls."""
+    """The enclave in slot 0 exits on one hart while the host of the other hart makes a call."""
     for i, of_enclave in enumerate(OF_ENCLAVE):
         for j, of_host in enumerate(OF_HOST):
             hart = (i + j) % 2
@@ -159,7 +158,7 @@ def of_two_enclaves():
 
 
 def of_two_creates():
-    """What meets: two regions of other sizes, a region and a window in either way, and two windows, which may."""
+    """Overlaps: two regions of different sizes, a region and a window in either order, and two windows, which are permitted."""
     other = BASE + 4 * PAGE
     pairs = {"a_region_in_a_region": ((BASE, 4 * PAGE, 0, 0, BASE), (BASE + 3 * PAGE, PAGE, 0, 0, BASE + 3 * PAGE), OVERLAP),
              "a_window_on_a_region": ((BASE, PAGE, 0, 0, BASE), (other, PAGE, BASE, PAGE, other), OVERLAP),

@@ -1,4 +1,4 @@
-"""The cases of the debugger over the monitored machine, of images for it, and worked examples whose output is written by hand."""
+"""The cases of the debugger commands over the monitored machine, of images for it, and worked examples with handwritten output."""
 import hashlib
 
 from generators.elf_files import elf, segment
@@ -189,7 +189,7 @@ def images():
     case_of("elf_cut", files["at_its_least_address"][:87].hex(), ["step 1"])
 
 
-# ---- worked examples, of which all is written by hand
+# ---- handwritten worked examples
 
 def ran(pc, world, trap="00000009:00000000"):
     return "ran 1 pc=%08x mode=S world=%s why=done trap=%s\n" % (pc, world, trap)
@@ -279,7 +279,7 @@ def worked_examples():
 
 
 def hostile():
-    """Each from a bench of its own: one enclave, and a second create or another call."""
+    """Each on a separate bench: one enclave, and a second create or another call."""
     usual = {"x16": "1", "x14": "80030000", "x12": "0", "x13": "0"}
     rows = {"a_region_at_the_end_of_addresses": (dict(x10="fffff000", x11="1000"), "fffffffe"),
             "a_region_of_size_0": (dict(x10="80030000", x11="0", x14="1"), "fffffffe"),

@@ -1,5 +1,5 @@
-"""The cases of destroy, run, resume, measure, stop and exit: what each takes and refuses, from the host and from an enclave, and
-what a refused call leaves alone."""
+"""The cases of destroy, run, resume, measure, stop and exit: accepted and refused calls, from the host and from an enclave, and the state that a
+refused call does not change."""
 from generators.monitor_case import Case
 from models.monitor_model import (BAD_ADDRESS, BAD_STATE, CREATE, DESTROY, EXIT, EXITED, KEY, MEASURE, NOT_SUPPORTED, NO_ENCLAVE,
                            RESUME, RUN, STOP, STOPPED)
@@ -8,11 +8,11 @@ from models.privileged_hart import ONES
 BASE, PAGE, PAST = 0x80020000, 0x1000, 0x80100000
 WINDOW = 0x80040000
 NO_SLOTS = [13, 14, 16, 31, 32, 255, 256, 1 << 16, 0x7FFFFFFF, 0x80000000, 0x80000001, 0xFFFFFFF3, ONES]
-STATES = {"Fresh": (), "Stopped": (STOP,), "Exited": (EXIT,)}  # and how an enclave comes to it
+STATES = {"Fresh": (), "Stopped": (STOP,), "Exited": (EXIT,)}  # and how an enclave reaches it
 
 
 def brought(case, slot, state):
-    """An enclave at its own page of the regions, in a state."""
+    """Creates an enclave at its own page of the regions, in a state."""
     case.create(BASE + slot * PAGE, window=(WINDOW, PAGE), wants=slot)
     for function in STATES[state]:
         case.enter(slot)
@@ -87,7 +87,7 @@ def states():
 
 
 def refused_calls():
-    """They change the answer, pc and what every trap changes, and nothing else; in the host and in an enclave."""
+    """Refused calls change only the result, pc and the trap registers, in the host and in an enclave."""
     for world in ("host", "e0"):
         case = Case("states", "a_refused_call_changes_only_its_answer_in_" + world)
         case.create(BASE, window=(WINDOW, PAGE))
@@ -183,7 +183,7 @@ def not_supported():
 # ---- measure
 
 def places(case, slot, refused, taken, marked=()):
-    """An enclave's measurement at addresses of which all 32 bytes are refused or taken; around them nothing changes."""
+    """A measurement written to addresses whose 32 bytes are all refused or all accepted; the bytes around them do not change."""
     for address in refused:
         case.call(MEASURE, slot, address & ONES, wants=(BAD_ADDRESS, 0))
     case.say(*("mem %x 64" % address for address in marked))
@@ -197,7 +197,7 @@ def places(case, slot, refused, taken, marked=()):
 
 
 def borders(first, past):
-    """32 bytes that have a byte of a range, and the nearest that have none."""
+    """Returns 32-byte ranges that overlap a range, and the nearest ones that do not."""
     return ([first - 31, first - 30, first - 16, first - 1, first, first + 1, past - 32, past - 1], [first - 32, past])
 
 
@@ -208,7 +208,7 @@ def measures_of_the_host():
                      0x7FFFFFFF, 0xFFFFFFE0, 0xFFFFFFE1, 0xFFFFFFF0, ONES],
            [PAST - 32, PAST - 33, PAST - 64, PAST - 47], [PAST - 64])
     case = Case("measure", "by_the_host_at_the_monitors_range")
-    case.do(("jal", 0, 0x100))  # from the first bytes behind the range
+    case.do(("jal", 0, 0x100))  # from the first bytes after the range
     case.create(BASE)
     places(case, 0, [0x80000000, 0x80000020, 0x80008000, 0x8000FFE0, 0x8000FFE1, 0x8000FFF0, 0x8000FFFC, 0x8000FFFF],
            [0x80010000, 0x80010001, 0x80010020], [0x8000FFE0])
@@ -261,7 +261,7 @@ def measures_of_an_enclave():
     case.enter(0)
     places(case, 0, [WINDOW, 0x80010100, BASE + PAGE, 0], [BASE + PAGE - 32])
     case = Case("measure", "across_a_region_and_its_window")
-    # each of the bytes may be stored alone, though no access across the border may
+    # each byte alone may be stored, but no access across the boundary
     case.create(BASE, window=(BASE + PAGE, PAGE))
     case.enter(0)
     case.say("access S w 80020ffe 4", "access S w 80020fff 1", "access S w 80021000 1")
@@ -286,7 +286,7 @@ def measures_of_an_enclave():
 
 
 def ecalls_from_user():
-    """They are passed on, whatever the registers are, and are no calls."""
+    """These ecalls are redirected whatever the registers are, and are not calls."""
     for world in ("host", "e0"):
         case = Case("not_supported", "an_ecall_from_u_is_no_call_of_" + world)
         case.create(BASE)

@@ -1,4 +1,4 @@
-"""The cases of what goes on between the worlds: the entries, the switches, the timer, and the traps that are passed on."""
+"""The cases of world switches: the PMP entries, the switches, timer interrupts, and redirected traps."""
 from generators.monitor_case import ECALL, Case
 from models.monitor_model import CREATE, DESTROY, EXIT, EXITED, INTERRUPTED, MEASURE, RESUME, RUN, STOP, STOPPED
 from models.privileged_hart import ONES
@@ -10,7 +10,7 @@ SSTATUS = 0x00080122  # SIE, SPIE, SPP and MXR
 
 
 def asked(case, *borders):
-    """Accesses of S and U on and around borders."""
+    """Accesses of S and U at and around boundaries."""
     for border in borders:
         for mode in "SU":
             for offset, width in ((-4, 4), (-2, 4), (-1, 1), (-1, 2), (0, 1), (0, 4)):
@@ -72,7 +72,7 @@ def layouts():
         case.do(ECALL)  # from U
         case.leave(STOP, 0, STOPPED)
     case = Case("layout", "accesses_that_are_refused")
-    # the host at each border of a region: loads, stores and jumps, each told by the host's own handler
+    # the host at each boundary of a region: loads, stores and jumps, each reported by the handler of the host
     case.write(stvec=0x80011000)
     case.place(0x80011000, "csrrw", 0, 0x141, 30)
     case.place(0x80011004, "sret")
@@ -105,7 +105,7 @@ def layouts():
 # ---- switches
 
 def filled(case, seed):
-    """Each register but those of a call, and what of mode S is switched."""
+    """Each register except those of a call, and the registers of mode S that are exchanged."""
     case.write(stvec=(0x80011000 + seed * 0x100) | 3, sscratch=0x10101010 * (seed & 7) + 1, sepc=0x80010003 + seed * 4,
                scause=0x80000000 + seed, stval=0xDEAD0000 + seed, sstatus=(0x80122, 0x80020, 0x00102, 0x80000, 0x122)[seed % 5])
     for number in [*range(1, 10), *range(12, 16), *range(18, 32)]:
@@ -317,7 +317,7 @@ def timers():
     case.say("step 1")
 
 
-# ---- traps that are passed on
+# ---- redirected traps
 
 FAULTS = {  # a name: the instruction that traps, its cause, and its mtval by the address that x6 holds
     "misaligned_jump": (("jal", 1, 6), 0), "misaligned_jalr": (("jalr", 1, 2, 6), 0), "misaligned_branch": (("beq", 0, 0, 10), 0),
@@ -332,7 +332,7 @@ ALLOWED_IN_S = (("wfi",), ("sfence.vma", 0, 0), ("sfence.vma", 5, 6), ("fence io
 
 
 def forwarded(case, code):
-    """Each of the faults in S and in U, with SIE and SPIE in each way; the handler stands at `code`."""
+    """Each exception in S and in U, with every combination of SIE and SPIE; the handler is at `code`."""
     case.set(6, 0x8000FFFC)
     case.set(7, PAST)
     case.write(stvec=code | 3)
@@ -434,7 +434,7 @@ def forwarding():
                 case.do(ECALL)
                 case.supervisor()
     case = Case("forwarding", "calls_of_the_handler")
-    # a runtime in S serves its application in U: each ecall of U comes to it, and it stops for it
+    # a runtime in S serves its application in U: it handles each ecall of U, and stops
     case.create(BASE, window=(WINDOW, PAGE))
     case.enter(0)
     case.write(stvec=BASE + 0x100)

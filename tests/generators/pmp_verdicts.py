@@ -1,9 +1,9 @@
 #!/usr/bin/env python3
-"""Prints the table of verdicts at the borders of a few sets of PMP entries, for crates/rv_monitor_tests/src/pmp_tests/verdict_table.rt.
+"""Prints the table of verdicts at the boundaries of a few sets of PMP entries, for crates/rv_monitor_tests/src/pmp_tests/verdict_table.rt.
 
     python3 -m generators.pmp_verdicts > crates/rv_monitor_tests/src/pmp_tests/verdict_table.rt && (cd crates/rv_monitor_tests && rt fmt)
 
-Each verdict is worked out byte by byte, in pmp_entries.py.
+pmp_entries.py computes each verdict byte by byte.
 """
 
 
@@ -11,7 +11,7 @@ from models.pmp_entries import NA4, NAPOT, OFF, TOR, Entries, L, R, W, X, napot
 
 KINDS = {"Fetch": "x", "Read": "r", "Write": "w"}
 
-# name, what it shows, the entries {number: (cfg, pmpaddr)}, the borders
+# name, description, the entries {number: (cfg, pmpaddr)}, the boundaries
 SETS = [
     ("NAPOT_IN_TOR", "A NAPOT range inside a TOR range of lower priority.",
      {0: (NAPOT | R | W, napot(0x80000100, 256)), 1: (OFF | R | W | X, 0x80000000 >> 2), 2: (TOR | R | X, 0x80000400 >> 2)},

@@ -1,4 +1,4 @@
-"""The cases of the monitor's calls over two benches: what a call that names, meets or shows the enclave answers in both."""
+"""The cases of monitor calls over two benches: calls that name, overlap or show the enclave."""
 from generators.monitor_case import ECALL
 from models.monitor_model import (BAD_ADDRESS, BAD_REGION, BAD_STATE, DESTROY, EXIT, EXITED, MEASURE, NO_ENCLAVE, OVERLAP, RESUME, RUN,
                            STOP, STOPPED)
@@ -63,7 +63,7 @@ def refusals():
 
 
 def accesses():
-    """The host, and another enclave, at each border of the region."""
+    """The host, and another enclave, at each boundary of the region."""
     case = TwinCase("calls", "accesses_of_the_host")
     stopped(case)
     case.write(stvec=HOST + 0x1800)

@@ -1,5 +1,5 @@
-"""The cases of the debugger's commands over two benches: replies after a: and b:, faults, what is not blind, lines, images, and what
-ends a run."""
+"""The cases of debugger commands over two benches: replies after a: and b:, errors, commands that are not blind, lines, images, and the ends of a
+run."""
 from generators.elf_files import elf, segment, text as image_text
 from generators.monitor_case import ECALL, input_of
 from models.monitor_model import CREATE, DESTROY, EXIT, EXITED, KEY, RESUME, RUN, STOP, STOPPED
@@ -71,7 +71,7 @@ def every_command():
 
 
 def not_blind():
-    """What shows or writes bytes: at each border, of each length."""
+    """Commands that show or write bytes: at each boundary, of each length."""
     case = TwinCase("blind", "at_each_border")
     case.create(BASE, window=(WINDOW, PAGE))
     case.say("mem 80020000 4", "poke 80020010 5", "dis 80020000")
@@ -116,10 +116,10 @@ def not_blind():
     assert case.are_equal()
 
 
-# ---- what ends a run
+# ---- ends of a run
 
 def called(case, function, *arguments, behind=()):
-    """The registers of a call, and its ecall at pc, behind other instructions."""
+    """Sets the registers of a call, and its ecall at pc, after other instructions."""
     for number, word in ((17, KEY), (16, function), *enumerate(arguments, 10)):
         case.set(number, word)
     for i, instruction in enumerate([*behind, ECALL]):
@@ -177,7 +177,7 @@ def ends():
 
 
 def others_enter():
-    """Other enclaves are entered and left, in one command and by many."""
+    """Other enclaves are entered and exited, in one command and in several."""
     case = TwinCase("ends", "not_by_others", slot=1)
     case.create(BASE)
     case.create(BASE + PAGE, window=(WINDOW, PAGE), wants=1)
@@ -256,7 +256,7 @@ def images():
     WholeTwins("images", "text_before_the_size", "abc" + rest, ("--ram", "1000"), starts="rvbench: hex\n", status=1, is_text=False)
 
 
-# ---- worked examples, whose output is written by hand
+# ---- worked examples with handwritten output
 
 def worked_examples():
     first = "7300000073000000\n--\n" + "\n".join(["setreg 17 0a454e43", *FIRST[1:]]) + "\n--\n"

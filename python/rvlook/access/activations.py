@@ -162,7 +162,7 @@ class Activations:
         activation.operations += [operations[n] for n in found]
         activation.operations_at.extend([begin_at + n - first for n in found])
 
-    # ---- its borders
+    # ---- begin and end of an activation
 
     def opened(self, world: str, hart: int, step: int) -> Activation:
         """Returns an activation that begins after a step."""

@@ -73,7 +73,7 @@ class State:
 
 @dataclass(frozen=True)
 class Cause:
-    """What a step did: its name, with the slot, the status and the text of the instruction if they apply."""
+    """The cause of an event: its name, and the slot, the status and the text of the instruction if they apply."""
     name: str
     slot: Optional[int] = None
     status: Optional[str] = None

@@ -33,7 +33,7 @@ class Stack(NamedTuple):
 
 
 class Use(NamedTuple):
-    """What an instruction does with the stack: it stores at an offset from sp, or adds the offset to sp."""
+    """A use of the stack by an instruction: a store at an offset from sp, or an addition of the offset to sp."""
     is_store: bool
     offset: int
 

@@ -135,7 +135,7 @@ def within(addresses: list[int], found: Range) -> list[int]:
 
 
 def covered_functions(touches: Touches, world: str, symbols: Symbols) -> Iterator[tuple[Symbol, int, int]]:
-    """Yields each symbol of which a world executed a part, with its size and the executed bytes."""
+    """Yields each symbol that a world executed at least in part, with its size and the executed bytes."""
     executed = Counter(symbol for symbol in map(symbols.at, touches.executed(world)) if symbol)
     for symbol in sorted(executed, key=lambda it: it.address):
         yield symbol, symbols.size_of(symbol), 4 * executed[symbol]
@@ -176,8 +176,8 @@ MODE = re.compile(rb"mode=([SU])")
 
 
 def refuse_modes(run: Run) -> None:
-    """Refuses a bare run that enters S or U, or that writes a PMP register: who may touch what is then another for each mode, and at one time
-    than at another, and `touch` has one world for all of it."""
+    """Raises UsageError for a bare run that enters S or U, or writes a PMP register. Its access rights depend on the mode and the time, but
+    `touch` shows one world."""
     for item in () if run.setup.monitor else run.stretches():
         found = MODE.search(item.data) if isinstance(item, Stretch) else None
         if isinstance(item, Stretch) and found:
@@ -189,7 +189,7 @@ def refuse_modes(run: Run) -> None:
 
 
 def show_touch(run: Run, symbols: Symbols, printer: Printer) -> None:
-    """Prints the accesses of each world beside what it was permitted."""
+    """Prints the accesses of each world, and what it was permitted to access."""
     refuse_modes(run)
     touches = Touches(run)
     if printer.as_json:

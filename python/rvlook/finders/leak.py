@@ -1,5 +1,5 @@
-"""The subcommand `leak`: compares runs that differ only in a secret of an enclave, by what a host can observe: pc and number of steps,
-addresses of loads and stores, operands of divisions if wanted, results, and the window. After a divergence two runs are compared from where
+"""The subcommand `leak`: compares runs that differ only in a secret of an enclave, in the channels that a host can observe: pc, number of steps,
+addresses of loads and stores, operands of divisions with --strict, results, and the window. After two runs diverge, they are compared from where
 they converge again."""
 from __future__ import annotations
 
@@ -46,7 +46,7 @@ class Observation:
 
 @dataclass(frozen=True)
 class Public:
-    """What may differ: the result, bytes of the window, and what instructions of a range store."""
+    """The permitted differences: the result, bytes of the window, and stores of instructions in a range."""
     answer: bool = False
     ranges: tuple[tuple[int, int], ...] = ()
 

@@ -1,4 +1,4 @@
-"""What distinguishes the final states of `races`, and what is forbidden of them: bytes, registers and the states of enclaves."""
+"""The values that distinguish final states of `races`, and conditions on them: bytes, registers and the states of enclaves."""
 from __future__ import annotations
 
 import operator

@@ -3,7 +3,7 @@ from __future__ import annotations
 
 from typing import Iterable, NamedTuple
 
-LEAST = 4  # bytes of a copy that is told; the whole secret if that is shorter
+LEAST = 4  # bytes of a reported copy; the whole secret if that is shorter
 
 
 class Copy(NamedTuple):

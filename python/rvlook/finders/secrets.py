@@ -1,5 +1,5 @@
-"""The place of a secret: bytes of an enclave's region, poked right after its `create`; bytes of the image, poked at reset; or a register
-when an enclave first comes to a place. And the values that it is given."""
+"""The location and the values of a secret. It is in the region of an enclave, written right after `create`; in the image, written at reset; or in a
+register when an enclave first reaches an address."""
 from __future__ import annotations
 
 import random

@@ -40,8 +40,8 @@ class Inside:
 
 @dataclass(frozen=True)
 class Last:
-    """The step with which the enclave leaves for good, or the last one of the run; its entry of the table; and whether it still runs when
-    --steps ends the run."""
+    """The last step of the enclave, or of the run if it has none; its entry in the enclave table; and whether it was running when --steps ended the
+    run."""
     step: int
     enclave: Enclave
     is_cut: bool = False
@@ -66,7 +66,7 @@ class Outcome:
 
 
 def last_of(run: Run, slot: int) -> Last:
-    """Returns the step after the script with which the enclave leaves for good. Raises Unfinished if there is no enclave."""
+    """Returns the last step of the enclave after the script. Raises Unfinished if there is no enclave."""
     found, end = None, None
     for event in events(run):
         if isinstance(event, End):
@@ -167,13 +167,13 @@ def compare_step(number: int, step: Inside, is_stopped: bool, lines: Sequence[st
 
 
 def visible_part(reply: str) -> object:
-    """Returns what the enclave's own step shows. The place of the host is left out, as another call may have entered the enclave."""
+    """Returns the part of a reply that must be equal: all of it in the enclave, else only world and trap, since the host may be elsewhere."""
     ran = step_of(reply)
     return (ran.world, ran.trap) if ran.world == "host" else reply
 
 
 def finish_of(bench: Bench, enclave: Enclave) -> list[str]:
-    """Reads what the enclave has left: a0 and a1 of the host, its region and its window."""
+    """Reads the final state: a0 and a1 of the host, the region and the window."""
     values = register_values(bench.ask("regs")[0])
     ranges = [(enclave.base, enclave.size), (enclave.window, enclave.window_size)]
     reads = ["mem %x %d" % (base + at, ROW) for base, size in ranges for at in range(0, size, ROW)]

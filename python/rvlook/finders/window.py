@@ -70,8 +70,8 @@ class View:
 
 @dataclass
 class Byte:
-    """A byte of the window in one activation: the instructions that read it last and first before a store of the enclave, that read it again,
-    and that stored to it last; and the values stored."""
+    """A byte of the window in one activation: the last and the first instruction that read it before a store of the enclave, the pairs that reread
+    it, the last one that stored to it, and the stored values."""
     read_at: Optional[int] = None
     input_at: Optional[int] = None
     again: dict[tuple[int, int], bool] = field(default_factory=dict)  # of pairs of instructions

@@ -36,7 +36,7 @@ class Assembly(Unwinder):
                 return self.interrupted(pending, place, handler)
             return self.caller(pending, place) if str(pending.read_register("world")).startswith("e") else None
         except (ValueError, gdb.error):
-            return None  # a register of this frame is not known, or there is none of that name without the bridge
+            return None  # a register of this frame is not known, or there is none of that name without the server
 
     @staticmethod
     def is_function(place: int) -> bool:
@@ -75,7 +75,7 @@ class Assembly(Unwinder):
     def caller(pending: gdb.PendingFrame, place: int) -> gdb.UnwindInfo:
         """Returns the frame of an enclave, with the registers of the host as those of its caller."""
         values = {name: pending.read_register("host_" + name) for name in ["pc", *SAVED]}
-        int(values["pc"])  # which fails where the bridge has found no entry
+        int(values["pc"])  # fails if the server found no entry
         info = pending.create_unwind_info(FrameId(pending.read_register("sp"), gdb.Value(place)))
         for name, value in values.items():
             info.add_saved_register(name, value)
@@ -93,11 +93,11 @@ def name_of(place: int) -> str:
 
 
 def before_monitor() -> None:
-    """Tells the bridge that all is read anew behind a line of `monitor`."""
+    """Announces that gdb reads all registers again after a line of `monitor`."""
     try:
         gdb.execute("maintenance packet QRvlookFresh", to_string=True)
     except gdb.error:
-        pass  # there is no bridge yet, and gdb tells so of the line itself
+        pass  # there is no server yet; gdb reports that for the line itself
 
 
 register_unwinder(None, Assembly(), replace=True)

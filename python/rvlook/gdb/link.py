@@ -16,8 +16,8 @@ NUMBER = re.compile(r"[0-9a-fA-F]{1,16}\Z")
 ESCAPED = re.compile(r"[#$}*]")
 INTERRUPT = b"\x03"
 HUNG_UP = select.POLLHUP | select.POLLERR | getattr(select, "POLLRDHUP", 0)
-OFTEN = 0.2  # seconds after which it is asked whether the debugger has gone
-PATIENCE = 2  # seconds after which a debugger that waits is told that there is still work: lldb waits five for a reply
+OFTEN = 0.2  # seconds between two checks whether the debugger has disconnected
+PATIENCE = 2  # seconds after which a waiting debugger gets a sign of life; lldb waits five for a reply
 
 
 class Gone(Exception):

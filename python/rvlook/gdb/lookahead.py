@@ -15,9 +15,9 @@ if TYPE_CHECKING:
     from rvlook.protocol.timeline import Timeline
 
 RANS = re.compile(RAN.pattern)
-BLOCK = 4096  # steps that are looked through at once
-LONGEST, NO_TRAP = 100, b"trap=-"  # bytes of a reply to `run`, at most; and the end of one that tells of no trap
-RUNS, MOST_QUESTIONS = 256, 16  # runs in one exchange, and what is asked behind each
+BLOCK = 4096  # steps of an exchange
+LONGEST, NO_TRAP = 100, b"trap=-"  # the most bytes of a reply to `run`; the end of a reply without a trap
+RUNS, MOST_QUESTIONS = 256, 16  # runs in one exchange, and queries after each
 
 
 RanState = Tuple[str, str, str, Optional[Trap]]  # pc, mode, world and trap
@@ -85,8 +85,8 @@ def by_turns(timeline: Timeline, stops: Stops, turns: str, count: int) -> Iterat
 
 
 def judged(timeline: Timeline, stops: Stops, hart: int, count: int) -> list[tuple[int, Ran, bool | None]]:
-    """Runs of a hart alone, of so many steps in all at most, in one exchange, each with what decides whether it halts: the steps up to it,
-    its reply, and whether it does, or None where that is to be asked there."""
+    """Runs a hart alone for at most `count` steps, in one exchange of several runs. Returns for each run the steps up to its end, its reply, and
+    whether it halts there, or None if that is not decided."""
     timeline.settle()
     timeline.choose(hart)
     questions = list(stops.questions)[-MOST_QUESTIONS:]
@@ -109,12 +109,12 @@ def ran_of_match(match: re.Match[str]) -> Ran:
 
 
 def state_of(ran: Ran) -> RanState:
-    """Returns what stays the same while a hart does nothing more."""
+    """Returns the state by which a halted hart is detected."""
     return ran.pc, ran.mode, ran.world, ran.trap
 
 
 def ends_of(found: Iterable[tuple[int, int, Ran]]) -> dict[int, RanState] | None:
-    """Returns the state of each hart if no hart does anything more, or None."""
+    """Returns the state of each hart if all harts have halted, or None."""
     last: dict[int, list[RanState]] = {}
     for hart, _, ran in found:
         last.setdefault(hart, []).append(state_of(ran))
@@ -123,8 +123,8 @@ def ends_of(found: Iterable[tuple[int, int, Ran]]) -> dict[int, RanState] | None
     return {hart: states[-1] for hart, states in last.items()}
 
 
-def first_alike(timeline: Timeline, first: int, ends: Mapping[int, RanState]) -> int:
-    """Returns the first step after `first` from which on no hart does anything. `ends` has the state of each hart now."""
+def first_equal(timeline: Timeline, first: int, ends: Mapping[int, RanState]) -> int:
+    """Returns the first step after `first` from which all harts are halted. `ends` has the present state of each hart."""
     end = timeline.position
     with contextlib.closing(timeline.again(block_before(timeline, first, ends))) as ahead:
         since: dict[int, int] = {}
@@ -145,7 +145,7 @@ def first_alike(timeline: Timeline, first: int, ends: Mapping[int, RanState]) ->
 
 
 def block_before(timeline: Timeline, first: int, ends: Mapping[int, RanState]) -> int:
-    """Returns a step shortly before the one that `first_alike` looks for: the end of the last block after which the hart has another state."""
+    """Returns a step shortly before the result of `first_equal`: the end of the last block after which the hart has another state."""
     if len(ends) > 1:
         return first
     (hart, state), = ends.items()

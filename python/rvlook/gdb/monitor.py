@@ -13,7 +13,7 @@ from rvlook.protocol.commands import COMMANDS, Form, is_form, written
 from rvlook.output.escapes import visible
 from rvlook.errors import RvlookError
 from rvlook.gdb.entry import Entry
-from rvlook.gdb.moves import FORGOTTEN
+from rvlook.gdb.moves import DISCARDED
 from rvlook.protocol.names import Call
 from rvlook.protocol.run import run_of
 from rvlook.prompt.session import Session
@@ -53,7 +53,7 @@ class Monitor:
         self.subcommands = tuple(it for it in command_line.names if it not in (*OTHERS, "gdb"))  # over an image
 
     def line(self, text: str) -> str:
-        """Runs a line of `monitor`; returns its output. What `page` reports goes to standard error."""
+        """Runs a line of `monitor`; returns its output. The notes of `page` go to standard error."""
         out, moves = io.StringIO(), self.moves
         before, had_command = (moves.timeline, moves.timeline.changes), moves.timeline.has_command
         errors = contextlib.nullcontext() if "page" in tokens_of(text)[:2] else contextlib.redirect_stderr(out)
@@ -67,7 +67,7 @@ class Monitor:
         if before != (moves.timeline, moves.timeline.changes):
             moves.discard(moves.timeline.position)
             if had_command and moves.timeline is before[0] and not moves.timeline.has_command:
-                out.write(FORGOTTEN % moves.timeline.position + "\n")
+                out.write(DISCARDED % moves.timeline.position + "\n")
             out.write("" if self.refreshes else STALE_IN_LLDB if moves.stops_after_watch else STALE)
         return out.getvalue()
 

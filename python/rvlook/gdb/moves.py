@@ -6,7 +6,7 @@ import time
 from typing import Container, NamedTuple, Sequence, TYPE_CHECKING
 
 from rvlook.protocol import names
-from rvlook.gdb.lookahead import query_steps, by_turns, ends_of, first_alike, judged
+from rvlook.gdb.lookahead import query_steps, by_turns, ends_of, first_equal, judged
 from rvlook.gdb.stops import INTERRUPTED, Halt, Stops, signal_of
 from rvlook.gdb.view import View
 from rvlook.protocol.run import EQUAL, MOST_STEPS
@@ -17,16 +17,16 @@ if TYPE_CHECKING:
     from rvlook.protocol.replies import Ran
     from rvlook.protocol.timeline import Action, Timeline
 
-SCHEDULE = "0" * 32 + "1" * 32  # of two harts, where no other is asked for
-FIRST_RUN, MORE = 1024, 4  # steps of the first part of a continue, and times as many in the next
+SCHEDULE = "0" * 32 + "1" * 32  # the default schedule of two harts
+FIRST_RUN, MORE = 1024, 4  # steps of the first part of a continue, and the factor for the next
 SHORT, LONG = 0.005, 0.02  # seconds: a part that took less is followed by a longer one, one that took more by a shorter one
-MOST_BY_TURNS = 1 << 17  # steps of a part of which each is asked alone, or by turns
-FORGOTTEN = "[the history after step %d is discarded]"
-CAREFUL = 4096  # steps that are done one exchange a turn, behind a stop that was none
+MOST_BY_TURNS = 1 << 17  # the most steps of a part with a reply per step, or with a schedule
+DISCARDED = "[the history after step %d is discarded]"
+CAREFUL = 4096  # steps with one exchange per run, after a stop that turned out to be none
 
 
 class Start(NamedTuple):
-    """Where steps began: the position, and what had been done after it before the debugger went back."""
+    """The start of some steps: the position, and the future there."""
     position: int
     future: list[Action]
 
@@ -41,7 +41,7 @@ class Moves:
         self.follower: Timeline | None = None
         self.careful = 0
         self.notes: list[str] = []
-        self.stops_after_watch = False  # whether a debugger expects to be behind the access that a watch met
+        self.stops_after_watch = False  # whether the debugger expects a watchpoint to halt after the access
 
     def close(self) -> None:
         """Ends all benches."""
@@ -49,7 +49,7 @@ class Moves:
         self.timeline.close()
 
     def discard(self, position: int) -> None:
-        """Ends the other benches at and behind a step: what they did may no longer be what was done."""
+        """Ends the other benches at or after a step, since their history may no longer be valid."""
         for it in [it for it in self.ready if it >= position]:
             self.ready.pop(it).close()
         if self.follower and self.follower.position >= position:
@@ -57,7 +57,7 @@ class Moves:
             self.follower = None
 
     def go(self, position: int) -> None:
-        """Goes to an earlier step, by a bench that is there or near."""
+        """Goes to an earlier step, with a bench that is there or near."""
         if position == self.timeline.position:
             return
         new = self.ready.pop(position, None) or self.followed(position) or self.timeline.again(position)
@@ -68,22 +68,21 @@ class Moves:
         self.discard(position)
 
     def apply(self, lines: Sequence[str]) -> None:
-        """Does commands of the person that change registers or bytes: they are part of what was done, and what had been done behind here
-        is no longer what would come."""
+        """Runs commands of the user that change registers or bytes. They become part of the history, and the future is discarded."""
         self.discard(self.timeline.position)
         had = self.timeline.has_command
         self.timeline.do_all(lines)
         if had and not self.timeline.has_command:
-            self.notes.append(FORGOTTEN % self.timeline.position)
+            self.notes.append(DISCARDED % self.timeline.position)
 
     def show_notes(self) -> None:
-        """Makes the debugger show the notes that were held back."""
+        """Shows the pending notes in the debugger."""
         for note in self.notes:
             self.link.show(note)
         self.notes = []
 
     def redo(self) -> None:
-        """Tells again what was told at this step before one came back."""
+        """Repeats the commands of the future at this step."""
         if self.timeline.redo():
             self.discard(self.timeline.position)
 
@@ -117,7 +116,7 @@ class Moves:
     # one step
 
     def step(self, hart: int, others: Sequence[int], inside: Container[int] = ()) -> Halt:
-        """Does a step of a hart, or as many as are inside a range; the other harts run by the schedule meanwhile."""
+        """Steps a hart once, or while it is inside a range; the other harts run by the schedule meanwhile."""
         last, equal = None, 0
         while True:
             self.redo()
@@ -140,7 +139,7 @@ class Moves:
                 return Halt(hart, signal=INTERRUPTED)
 
     def show_step(self, ran: Ran, before: str) -> None:
-        """Tells the trap of a step, and the world that it went to."""
+        """Shows the trap of a step, and its switch to another world."""
         if ran.trap:
             self.link.show("[%s, %s]" % (names.cause_name(ran.trap.cause), ran.trap.value))
         if ran.world != before:
@@ -149,7 +148,7 @@ class Moves:
     # many steps
 
     def go_on(self, harts: Sequence[int]) -> Halt:
-        """Runs these harts by the schedule, to a stop, to Ctrl-C, or until none does anything more."""
+        """Runs these harts by the schedule, to a stop, to Ctrl-C, or until all have halted."""
         size, by_turns, self.careful = FIRST_RUN, len(harts) > 1 or self.stops.is_single, 0
         while True:
             self.redo()
@@ -171,7 +170,7 @@ class Moves:
                 size = max(FIRST_RUN, size // 2)
 
     def advance(self, turns: str, count: int) -> Halt | None:
-        """Does at most this many steps; returns the halt if there is one before."""
+        """Runs at most `count` steps; returns the halt if there is one before."""
         if len(set(turns)) == 1 and not self.stops.is_single and not self.stops.has_conditions or self.careful > 0:
             self.careful -= count
             return self.exactly(turns, count, LONG)
@@ -214,7 +213,7 @@ class Moves:
         return halt
 
     def end_of(self, harts: Sequence[int], first: int) -> Halt | None:
-        """Returns the halt at the first step after `first` from which on these harts do nothing, or None."""
+        """Returns the halt at the first step after `first` from which these harts are halted, or None."""
         turns = self.turns_of(harts)
         start, worlds = Start(self.timeline.position, list(self.timeline.future)), list(self.timeline.worlds)
         found = query_steps(self.timeline, turns, EQUAL * len(turns), True)
@@ -227,7 +226,7 @@ class Moves:
         ends = ends_of(found)
         if ends is None:
             return None
-        self.go(first_alike(self.timeline, first, ends))
+        self.go(first_equal(self.timeline, first, ends))
         return self.halted(harts, found[-1][0], found[-1][2])
 
     def halted(self, harts: Sequence[int], hart: int, ran: Ran) -> Halt:

@@ -15,10 +15,10 @@ if TYPE_CHECKING:
     from rvlook.protocol.replies import Ran
     from rvlook.protocol.timeline import Action, Steps, Timeline
 
-FIRST_PART, MORE_BACK = 4096, 8  # steps of the first part that is looked through, and times as many in the next
-MOST_BY_TURNS = 1 << 18  # of a part of two harts, or of single steps
-FAR, AHEAD = 200000, 3  # so many steps from reset, so many steps back are played again before they are asked for
-MOST_READY = 6  # benches that wait at earlier steps
+FIRST_PART, MORE_BACK = 4096, 8  # steps of the first part that is searched, and the factor for the next
+MOST_BY_TURNS = 1 << 18  # the most steps of a part with two harts, or of single steps
+FAR, AHEAD = 200000, 3  # the distance from reset from which earlier benches are prepared, and their number
+MOST_READY = 6  # the most benches that wait at earlier steps
 AT_RESET = "replaylog:begin;"
 
 
@@ -35,7 +35,7 @@ class Back:
         self.found: list[tuple[int, Halt]] = []
 
     def discard(self) -> None:
-        """Forgets the stops that were found, as what follows may change."""
+        """Discards the cached stops, since the steps may change."""
         self.key, self.found = None, []
 
     def step(self, hart: int) -> Halt:
@@ -57,13 +57,13 @@ class Back:
         while len(ready) > MOST_READY:
             ready.pop(min(ready)).close()
 
-    def ask_person(self) -> None:
+    def check_interrupt(self) -> None:
         """Raises Interrupted if Ctrl-C came."""
         if self.moves.link.interrupted():
             raise Interrupted
 
     def go(self, hart: int, harts: Sequence[int]) -> Halt:
-        """Goes to the last stop of these harts before here, or stays here where Ctrl-C comes before it is found."""
+        """Goes to the last stop of these harts before here; stays here if Ctrl-C comes before it is found."""
         try:
             return self.go_to_stop(hart, harts)
         except Interrupted:
@@ -82,7 +82,7 @@ class Back:
             first = max(0, self.first - size)
             self.found = self.stops_between(first, self.first, harts) + self.found
             self.first, size = first, size * MORE_BACK if not by_turns_alone else min(size * MORE_BACK, MOST_BY_TURNS)
-            self.ask_person()
+            self.check_interrupt()
         halts = self.before(here)
         if halts:
             position, halt = halts[-1]
@@ -138,7 +138,7 @@ class Back:
     def stops_by_turns(self, ahead: Timeline, steps: Steps) -> Iterator[tuple[int, Halt]]:
         """Yields the stops in steps of the past, with an exchange for each run."""
         for halt in by_turns(ahead, self.moves.stops, steps.turns, steps.count):
-            self.ask_person()
+            self.check_interrupt()
             if halt:
                 yield ahead.position, halt
 
@@ -146,7 +146,7 @@ class Back:
         """Yields the stops in steps of one hart with conditions, with many runs in one exchange."""
         hart, end = int(steps.turns), ahead.position + steps.count
         while ahead.position < end:
-            self.ask_person()
+            self.check_interrupt()
             position = ahead.position
             for done, ran, verdict in judged(ahead, self.moves.stops, hart, min(end - position, MOST_STEPS)):
                 halt = Halt(hart) if verdict else None if verdict is False else self.halt_there(ahead, position + done, hart, ran, "")
@@ -157,7 +157,7 @@ class Back:
         """Yields the stops in steps of the past that are checked one by one, with many steps in one exchange."""
         stops = self.moves.stops
         for at in range(0, steps.count, BLOCK):
-            self.ask_person()
+            self.check_interrupt()
             now = steps_within(steps, at, at + BLOCK)
             position, worlds = ahead.position, list(ahead.worlds)
             for hart, _, ran in query_steps(ahead, now.turns, now.count, True):

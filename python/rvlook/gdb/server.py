@@ -167,7 +167,7 @@ class Server:
                 WORLD: little("%08x" % WORLDS[self.timeline.worlds[self.shown]])}
 
     def changing(self) -> None:
-        """Forgets what was derived from the steps after the present one, as they may change."""
+        """Discards what was derived from later steps, since they may change."""
         self.back.discard()
         self.commands.entry.limit(self.timeline.position)
 
@@ -338,7 +338,7 @@ class Server:
         return "triple:%s;ptrsize:4;endian:little;watchpoint_exceptions_received:after;" % hex_of(TRIPLE)
 
     def set_refresh(self, _: str) -> str:
-        """Replies to QRvlookFresh: the debugger reads everything again after each line of `monitor`."""
+        """Replies to QRvlookFresh: the debugger reads all registers again after each line of `monitor`."""
         self.commands.refreshes = True
         return "OK"
 
@@ -385,7 +385,7 @@ def link_of(setup: Setup, port: int | None) -> Link:
 
 
 def turn_away(listening: socket.socket) -> None:
-    """Tells each that comes to the port that there is a debugger already."""
+    """Closes all further connections to the port."""
     while True:
         listening.accept()[0].close()
         warn("rejected a second connection to the port")

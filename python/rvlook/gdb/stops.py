@@ -1,5 +1,5 @@
-"""Where harts halt under a debugger: breakpoints with conditions, watchpoints by kind of access, and catchpoints. The bench checks its
-breaks and watches; whether they are halts is decided here."""
+"""The stops of a debugger: breakpoints with conditions, watchpoints by kind of access, and catchpoints. rvbench reports its breakpoints and
+watchpoints; this module decides whether they are halts."""
 from __future__ import annotations
 
 import contextlib
@@ -85,7 +85,7 @@ class Stops:
         if timeline.do("break %x" % at)[0] != "ok":
             self.beyond.add(at)
         if conditions:
-            self.holds(timeline, timeline.hart, at)  # what it asks is asked behind each run from then on
+            self.holds(timeline, timeline.hart, at)  # records the queries that decide, which then follow each run
 
     def clear_break(self, timeline: Timeline, kind: str, at: int) -> None:
         """Removes a breakpoint of a kind."""

@@ -62,8 +62,8 @@ def decoded(text: bytes) -> bytes | None:
 
 
 def image_of(path: str, kind: str = "auto") -> Image:
-    """Reads an image. Hexadecimal digits are passed on with the script after their line `--`, if there is one. So is any other text before such
-    a line, whose errors the bench reports. All other bytes are the image itself. Raises RvlookError."""
+    """Reads an image. Hexadecimal digits, and any text before a line `--`, are passed on unchanged; rvbench reports their errors. The lines after
+    `--` are a script. All other bytes are the image itself. Raises RvlookError."""
     data = read_file(path)
     cut = separator_in(data)
     head, rest = (data[:cut.start()], data[cut.end():]) if cut else (data, b"")

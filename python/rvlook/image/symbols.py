@@ -99,7 +99,7 @@ def checked(file: Any, data: bytes) -> Any:
 
 
 def inflated_size(data: bytes) -> int:
-    """Returns how many bytes the zlib stream of a compressed section gives, which stands after its header; at most MOST_INFLATED + 1."""
+    """Returns the size of the zlib stream of a compressed section after decompression, at most MOST_INFLATED + 1; the stream follows a header."""
     for header in (12, 24):  # of ELF; .zdebug has 12 bytes too
         try:
             return len(zlib.decompressobj().decompress(data[header:], MOST_INFLATED + 1))

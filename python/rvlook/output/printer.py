@@ -17,7 +17,7 @@ Json = Union[None, bool, int, float, str, Sequence[Any], Mapping[str, Any]]  # t
 
 
 class Writer(Protocol):
-    """What takes the objects of a run."""
+    """A consumer of the objects of a run."""
 
     def object(self, __kind: str, **members: Json) -> None:
         """Takes an object by its kind and its members."""

@@ -21,9 +21,9 @@ if TYPE_CHECKING:
 GRANULE = 16  # bytes that are touched are kept by so many, which bounds the memory for them
 KINDS = {"r": 0, "w": 1}
 KINDS_OF_ARRAYS = "BHI"
-COMMON = ("stdin", "image", "program.elf")  # names that tell nothing
+COMMON = ("stdin", "image", "program.elf")  # names that do not identify a run
 MAP = ("enclaves", "columns", "rows")
-REFUSED, NO_VALUE = 2, 4  # added to the kind of a touch that trapped, and of one whose value is not told
+REFUSED, NO_VALUE = 2, 4  # added to the kind of an access that trapped, and of one without a value
 LEVEL = 6  # of zlib
 BRANCH = re.compile(r"b|jal ")
 
@@ -169,7 +169,7 @@ class Collector:
             self.labels[name] = address
 
     def source_names(self) -> set[str]:
-        """Returns the names of the files of which a line was executed."""
+        """Returns the names of the files with executed lines."""
         sources = [source for site in self.sites.numbers for source in site[5:7] if source]
         return {source.rsplit(":", 1)[0] for source in sources}
 

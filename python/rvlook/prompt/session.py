@@ -24,7 +24,7 @@ if TYPE_CHECKING:
     from rvlook.protocol.symbols import Symbols
     from rvlook.protocol.timeline import Timeline
 
-CHUNK = 2048  # steps that are looked through at once
+CHUNK = 2048  # steps that are searched at once
 LONGEST_COUNT = 18  # digits of the operand of `back`
 PLACES = (Form.address, Form.value)
 
@@ -38,7 +38,7 @@ OWN = {
 
 
 class Keeper(Protocol):
-    """What has the timeline of a session."""
+    """An owner of the timeline of a session."""
     timeline: Timeline
 
     def go(self, position: int) -> None:
@@ -46,7 +46,7 @@ class Keeper(Protocol):
 
 
 class TimelineKeeper:
-    """A timeline that another one at an earlier step may replace; what had been done after that step is forgotten."""
+    """An owner of a timeline, which it replaces to go back; the history after that step is discarded."""
 
     def __init__(self, timeline: Timeline) -> None:
         self.timeline = timeline
@@ -87,7 +87,7 @@ class Session:
         return "%s%s %s %s> " % (hart, self.timeline.worlds[self.hart], self.timeline.modes[self.hart], name or pc)
 
     def line(self, text: str) -> bool:
-        """Does a line; False where the session ends."""
+        """Runs a line; returns False if the session ends."""
         try:
             return self.done(text)
         except SymbolError as fault:
@@ -184,8 +184,7 @@ class Session:
         self.where()
 
     def until(self, what: str) -> None:
-        """Goes on up to a switch of world or a trap. A second bench, at the same step, goes ahead to find how far it is; where it does not
-        come, nothing is done."""
+        """Runs up to a world switch or a trap. A second bench at the same step first finds the number of steps; without any, nothing is done."""
         if what not in ("switch", "trap"):
             self.print(OWN["until"])
             return

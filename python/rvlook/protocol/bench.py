@@ -19,14 +19,14 @@ from typing import IO, Sequence
 from rvlook.protocol.bench_line import ended, has_reply, is_malformed, tokens_of
 from rvlook.errors import BenchEnded, RvlookError, Unfinished
 
-# Of a clone of the repository in which this package is: finds or builds the program.
+# The script that finds or builds the program, if this package is in a clone of the repository.
 FINDER = os.path.join(os.path.dirname(os.path.abspath(__file__)), "..", "..", "..", "tools", "program")
 PIPE = 1 << 20
 SET_PIPE_SIZE = 1031  # F_SETPIPE_SZ of Linux
 MANY = 500  # lines of reply that are worth a pause, so that they are read together
 PAUSE = 0.001
 COUNTS = {"regs": 33, "pmp": 16}  # lines of reply; one for every other command
-MARK = "reg 0"  # stands behind `enclaves`, whose reply may have no line
+MARK = "reg 0"  # sent after `enclaves`, whose reply may have no line
 MARKED = b"x0=00000000"
 
 

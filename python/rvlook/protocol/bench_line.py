@@ -36,6 +36,6 @@ def ended(line: str) -> str:
 
 
 def lines_of(text: str) -> list[str]:
-    """Returns the lines of a text. What comes after the last line feed is a line if it is not empty, and keeps a carriage return."""
+    """Returns the lines of a text. Text after the last line feed is a line if it is not empty; it keeps a carriage return."""
     *whole, last = text.split("\n")
     return [it[:-1] if it.endswith("\r") else it for it in whole] + ([last] if last else [])

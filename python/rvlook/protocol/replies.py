@@ -12,7 +12,7 @@ STOPS = ("watch", "break")
 
 
 class Place(NamedTuple):
-    """Where a hart is: pc in eight hexadecimal digits, mode and world."""
+    """The position of a hart: pc in eight hexadecimal digits, mode and world."""
     pc: str
     mode: str
     world: str

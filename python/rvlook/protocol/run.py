@@ -18,7 +18,7 @@ from rvlook.protocol.symbols import Symbols
 
 CHUNK = 16384  # single steps in one exchange
 MOST_STEPS = 1000000  # of one command
-STATE_WORDS = ("poke", "setreg", "timer", "hart")  # commands that change what a step does, and are none
+STATE_COMMANDS = ("poke", "setreg", "timer", "hart")  # commands that change the state without a step
 EQUAL = 3  # equal replies (pc, mode, world and trap) after which a hart counts as halted
 SINGLE = b"step 1\n"
 
@@ -32,7 +32,7 @@ class Setup:
     ram: int = 1 << 20
     kind: str = "auto"
     harts: int = 1
-    limit: int = 1000000  # steps behind the script, at most
+    limit: int = 1000000  # the most steps after the script
     symbols: Symbols = field(default_factory=Symbols, compare=False)
 
     @property
@@ -82,7 +82,7 @@ class Line:
     @property
     def changes_state(self) -> bool:
         """Returns whether the command changes what a step does."""
-        return self.command in STATE_WORDS
+        return self.command in STATE_COMMANDS
 
     @property
     def hart(self) -> int | None:
@@ -299,7 +299,7 @@ class Replay:
         return commands
 
     def go(self, step: int) -> str | None:
-        """Goes right behind a step; the reply of the last command, or None."""
+        """Goes right after a step; returns the reply of the last command, or None."""
         commands = self.lines_to(step)
         return self.bench.ask(*commands)[-1][0] if commands else None
 

@@ -38,7 +38,7 @@ class Symbols:
         self.places = defaultdict(set)  # of each name
         for it in symbols:
             self.places[it.name].add(it.address)
-        # What the linker has dropped has lines too, at addresses where there is no memory.
+        # Functions that the linker dropped have lines too, at addresses outside memory.
         self.lines = sorted((it for it in lines if it[0] >= RAM_BASE), key=lambda it: (it[0], it[1] is not None))
         self.line_starts = [address for address, _ in self.lines]
         self.read_inlined = inlined
@@ -104,8 +104,8 @@ class Symbols:
         return "%s, in %s" % (caller, source) if caller and source else source
 
     def address(self, text: str) -> int | None:
-        """Returns the address of a name, a name+offset or hexadecimal digits, or None. Of an ambiguous name, name@place is the first from a
-        place on. Raises SymbolError."""
+        """Returns the address of a name, a name+offset or hexadecimal digits, or None. For an ambiguous name, name@place is the first at or
+        after a place. Raises SymbolError."""
         named, plus, offset = text.partition("+")
         name, at, place = named.partition("@")
         try:

@@ -13,7 +13,7 @@ if TYPE_CHECKING:
     from rvlook.protocol.replies import Ran
     from rvlook.protocol.run import Setup
 
-CHANGING = ("poke", "setreg", "timer")  # commands that are no steps, and change what a step does
+CHANGING = ("poke", "setreg", "timer")  # commands that change the state without a step
 CONTRARY = {"break": "clear", "watch": "unwatch", "clear": "break", "unwatch": "watch"}
 TURNS = 64  # digits of a sched, at most
 
@@ -46,7 +46,7 @@ class Steps:
 
 @dataclass(frozen=True)
 class Change:
-    """A command that changed something and was no step, with the chosen hart."""
+    """A command that changed the state without a step, with the selected hart."""
     hart: int
     line: str
 
@@ -60,7 +60,7 @@ class Change:
         return [self.line]
 
 
-Action = Union[Steps, Change]  # of what was done on a bench
+Action = Union[Steps, Change]  # a part of the history of a bench
 
 
 def rotated(turns: str, count: int) -> str:
@@ -100,16 +100,16 @@ def commands_of(past: Iterable[Action], chosen: int, hart: int) -> Iterator[str]
         yield "hart %d" % hart
 
 
-def are_alike(one: str, other: str, count: int) -> bool:
+def agree(one: str, other: str, count: int) -> bool:
     """Returns whether two schedules agree for a number of steps."""
     period = len(one) * len(other)
     return all(one[n % len(one)] == other[n % len(other)] for n in range(min(count, period)))
 
 
 class Timeline:
-    """A bench after all that is in `past`. `future` is what had been done after that before one went back; it stays as long as the same is done
-    again. `modes` and `worlds` are those of each hart, `stops` the breaks and watches; `changes` counts what may have changed a register or a
-    byte, and `moved`, for each hart, what may have changed its world."""
+    """A bench after the actions in `past`. `future` has the actions that followed before the user went back, as long as the same ones are repeated.
+    `modes` and `worlds` are those of each hart, and `stops` the breakpoints and watchpoints. `changes` counts the actions that may have changed a
+    register or a byte, and `moved`, for each hart, those that may have changed its world."""
 
     def __init__(self, setup: Setup, past: Iterable[Action] = (), hart: int = 0) -> None:
         self.setup = setup
@@ -136,7 +136,7 @@ class Timeline:
         """Ends the bench."""
         self.bench.close()
 
-    # what is given, and read later
+    # queued commands
 
     def follow(self, past: Iterable[Action], hart: int | None = None) -> None:
         """Repeats what was done elsewhere. The replies are read later."""
@@ -165,7 +165,7 @@ class Timeline:
                 self.take(line, hart, reply)
                 left -= {hart} if line.startswith("step") else set(left)
 
-    # what is asked
+    # commands
 
     def ask(self, *commands: str) -> list[list[str]]:
         """Sends commands that change nothing; returns the replies."""
@@ -258,7 +258,7 @@ class Timeline:
         while self.future and it.count:
             head = self.future[0]
             done = min(it.count, head.count) if isinstance(head, Steps) else 0
-            if isinstance(head, Change) or not done or not are_alike(it.turns, head.turns, done):
+            if isinstance(head, Change) or not done or not agree(it.turns, head.turns, done):
                 self.future = []
                 return
             self.future[:1] = [Steps(rotated(head.turns, done), head.count - done)] if done < head.count else []
@@ -309,7 +309,7 @@ class Timeline:
         """Returns whether there is a break at pc."""
         return "break %x" % int(pc, 16) in self.stops
 
-    # whose turn it is
+    # schedules
 
     def turns_of(self, schedule: str) -> str:
         """Returns the schedule from the next step on, also if a hart ran alone meanwhile."""

@@ -92,7 +92,7 @@ class Command(NamedTuple):
     hart: int
     line: str
     replies: tuple[str, ...]
-    given: str  # as it stands in the script
+    given: str  # as in the script
 
 
 class Done(NamedTuple):

@@ -29,8 +29,8 @@ Found = Tuple[Vertex, State, Tuple[Segment, ...]]  # a vertex, a state after it,
 
 @dataclass
 class FinalState:
-    """A final state: how and where each hart ended, the values, the node with the simplest schedule, the schedule of a round from there, the
-    number of orders, the state, and the schedule from the node to it if a hart runs on alone."""
+    """A final state: how and where each hart ended, the values, and the number of schedules that lead to it. `node` has the simplest schedule, and
+    `tail` the schedule from there to `state` if a hart runs on alone. `round` is the schedule of an endless loop from the state."""
     harts: tuple[HartEnd, ...]
     values: tuple[Value, ...]
     node: Node

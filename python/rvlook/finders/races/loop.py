@@ -11,7 +11,7 @@ if TYPE_CHECKING:
 
 
 class Loop(NamedTuple):
-    """What a hart does in an endless loop: whether it accesses memory, whether it changes memory, and its steps."""
+    """An endless loop of a hart: whether it accesses memory, whether it changes memory, and its number of steps."""
     accesses: bool
     changes: bool
     length: int

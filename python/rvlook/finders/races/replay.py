@@ -1,5 +1,5 @@
-"""Replays a final state of `races` on the bench before it is reported, and compares all that the bench shows: registers, control registers,
-modes, worlds, PMP entries, the table of enclaves, and each byte of RAM. Also writes its schedule as an input of the bench."""
+"""Replays a final state of `races` on rvbench before it is reported. Compares registers, control registers, modes, worlds, PMP entries, the enclave
+table, and each byte of RAM. Also writes its schedule as an input of rvbench."""
 from __future__ import annotations
 
 import os
@@ -19,7 +19,7 @@ if TYPE_CHECKING:
     from rvlook.finders.races.machine import Machine, Memory, State
     from rvlook.protocol.bench import Bench
 
-LONGEST_COMMENT = 118  # characters behind `# `
+LONGEST_COMMENT = 118  # characters after `# `
 
 
 class Replays:
@@ -47,7 +47,7 @@ class Replays:
                 self.done(bench, end, commands_of(end.round, machine.count), state)
 
     def done(self, bench: Bench, end: FinalState, commands: Sequence[str], state: State) -> None:
-        """Does commands, and compares what they came to."""
+        """Runs commands, and compares the state after them."""
         machine, chosen, reached = self.machine, 0, {}
         for command, lines in zip(commands, bench.ask(*commands)):
             chosen = int(command[5:]) if command.startswith("hart ") else chosen

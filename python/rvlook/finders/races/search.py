@@ -301,8 +301,8 @@ class Search:
                 yield new
 
     def is_in_part(self, node: Node, hart: int) -> bool:
-        """Returns whether the first switch or timer, which comes here, represents one within `first` and `last`. It may come as well before
-        any of the independent steps up to here, or up to the step of the hart's first move; and in an endless loop each time round."""
+        """Returns whether the first switch or timer interrupt, which is here, represents one within `first` and `last`. It could also come before
+        any of the independent steps around here, and in an endless loop in each round."""
         state, last = node.place.state, node.place.last
         following = self.move(state, hart if last is None else last, node.schedule)
         low, high = node.low, node.cost[3] + (following.dependent.before if following else 0)
@@ -384,8 +384,8 @@ class Search:
         return Move(found, work.done, dependent or DependentStep(work.done, None, None, work.own.world, False), changes)
 
     def looped(self, state: State, work: Work, length: int, first: int, schedule: Schedule) -> Work:
-        """Returns a hart that is in an endless loop where it first comes to the state that represents the loop, and keeps what it does in
-        the loop. So all its states in the loop are one for the search."""
+        """Runs a hart in an endless loop to the state that represents the loop, and records the loop. The search then treats all states of the loop
+        as one."""
         loop, wanted = loop_of(self.machine, work, length, schedule)
         found = first_arrival(self.machine, state, work, wanted, first)
         self.graph.loops[found.kept()._replace(steps=()), work.hart] = loop
@@ -407,8 +407,8 @@ class Search:
         return not shared.isdisjoint(range(look.at, look.at + look.width)) or self.machine.overlaps_region(look.at, look.width)
 
     def is_watched(self, own: Context, look: Look) -> bool:
-        """Returns whether a step of an enclave is dependent because the timer may come and the host not resume it: it stores a part of the
-        outcome, or the steps are limited."""
+        """Returns whether a step of an enclave is dependent because the host may not resume the enclave after a timer interrupt: it stores a part of
+        the outcome, or the steps are limited."""
         if own.world == "host":
             return False
         return bool(self.machine.limit) or look.kind == "w" and not self.watched.isdisjoint(range(look.at, look.at + look.width))
