@@ -26,5 +26,5 @@ def test_case(bench, name):
 
 
 @pytest.mark.parametrize("name", BESIDE)
-def test_case_beside_a_second_hart(bench, name):
+def test_case_with_a_second_hart(bench, name):
     check(bench, BESIDE[name])

@@ -44,7 +44,7 @@ def test_each_subcommand_has_help_with_its_options(help_of, subcommand, form):
 
 
 @pytest.mark.parametrize("words", ["run --ram 65536 --help", "run --harts 2 --help"])
-def test_help_is_given_behind_other_options(help_of, words):
+def test_help_is_printed_after_other_options(help_of, words):
     assert has_line(help_of(*words.split()), "Usage: rvbench run")
 
 

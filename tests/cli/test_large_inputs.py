@@ -68,13 +68,13 @@ def test_long_bytes_are_too_long_for_the_assembler(bench, kind):
 
 
 @pytest.mark.parametrize("kind", ["garbage", "zeros", "digits"])
-def test_each_line_of_a_hostile_script_is_answered(bench, kind):
+def test_each_line_of_a_hostile_script_has_a_reply(bench, kind):
     script, wanted = b"--\n" + stream(kind, BYTES), replies(kind, BYTES)
     assert run(bench, "run", script, 16 * MEBIBYTE) == (wanted, 0)
     assert run(bench, "twin", script, 16 * MEBIBYTE) == (wanted + b"twin no slot\n", 0)
 
 
-def test_a_million_refused_lines_are_answered(bench):
+def test_a_million_refused_lines_have_replies(bench):
     assert run(bench, "run", b"--\n" + stream("refused", 28000000), 16 * MEBIBYTE) == (replies("refused", 28000000), 0)
 
 
@@ -82,7 +82,7 @@ def test_a_line_of_a_million_letters_is_one_malformed_line(bench):
     assert run(bench, "run", b"--\n" + b"a" * 1000000 + b"\nreg 0\n") == (b"error line\nx0=00000000\n", 0)
 
 
-def test_the_bench_goes_on_after_refused_lines(bench):
+def test_the_program_continues_after_refused_lines(bench):
     lines = ["step 1000001", "step 00000001", "reg 32", "reg", "regs 1", "mem 80000000 65", "poke 80000000 100", "csr 0x300",
              "access M r 80000000 3", "timer maybe", "mem 800fffff 2", "re\0g 0", "x" * 1000000, "\t", "# x", "reg 1", "step 1", "reg 1", ""]
     wanted = "error operand\n" * 10 + "error outside\nerror line\nerror line\nx1=00000000\n" + \

@@ -1,4 +1,4 @@
-"""Bare images: what needs the bench's own monitor, or has one world for all modes, is refused in one line."""
+"""Bare images: subcommands that need the monitor, or that do not distinguish modes, are refused in one line."""
 import pytest
 
 from conftest import PROGRAMS, ROOT

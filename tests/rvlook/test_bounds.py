@@ -1,4 +1,4 @@
-"""Inputs without end, and large ones, end in one line, soon and in little memory."""
+"""Endless and large inputs end with one line, soon and in little memory."""
 import time
 
 import pytest
@@ -58,7 +58,7 @@ def test_script_of_too_many_lines_is_refused(bench, image, tmp_path):
     assert b"is too long: it has more than 1000000 lines" in done.errors
 
 
-def test_many_unknown_names_beside_many_symbols_take_little_time():
+def test_many_unknown_names_with_many_symbols_take_little_time():
     from rvlook.protocol.nearest import nearest
     known = ["symbol_number_%d_of_the_program" % it for it in range(60000)]
     began = time.process_time()

@@ -1,5 +1,5 @@
-"""Long work in parts, by GNU parallel as docs/ASK.md has it. Work that is killed and resumed loses nothing, does nothing twice, and has
-together what one run has."""
+"""Long work in parts with GNU parallel, as in docs/ASK.md. Work that is killed and resumed loses nothing, repeats nothing, and has the results of
+one run."""
 import json
 import os
 import shutil
@@ -32,7 +32,7 @@ class Campaign:
         assert (done.returncode, done.stderr) == (0, "")
 
     def kill_after(self, count):
-        """Starts it, and kills it with its jobs after so many have ended."""
+        """Starts the work, and kills it with its jobs after this many have ended."""
         process = subprocess.Popen(self.command, stdout=subprocess.DEVNULL, stderr=subprocess.DEVNULL, env=self.environment, start_new_session=True)
         end = time.monotonic() + 60
         while time.monotonic() < end and len(self.ended()) < count:

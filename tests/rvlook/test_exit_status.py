@@ -1,4 +1,4 @@
-"""Exit statuses: 0 is no finding, 1 a finding, 2 an unusable argument or input, 3 work that was cut short; and the JUnit report."""
+"""Exit statuses: 0 for no findings, 1 for findings, 2 for an unusable argument or input, 3 for incomplete work; and the JUnit report."""
 import signal
 import subprocess
 import xml.etree.ElementTree as ElementTree

@@ -1,4 +1,4 @@
-"""Programs and packages that are missing or broken, and readers that go away: one line on standard error."""
+"""Missing or broken programs and packages, and closed pipes: one line on standard error."""
 import os
 import re
 import subprocess

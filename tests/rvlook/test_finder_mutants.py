@@ -1,4 +1,4 @@
-"""Mutants of the finders and of the reports: each is noticed by a test."""
+"""Mutants of the finders and of the reports: a test detects each."""
 import pytest
 from support.mutants import Mutant, check_noticed, id_of
 
@@ -11,7 +11,7 @@ MUTANTS = (
            "test_stack.py::test_a_frame_below_the_stack_is_found"),
     Mutant("values are dropped if a hart goes on", "finders/races/final_states.py", "if NOT_SEARCHED not in harts and (UNFINISHED not in harts or ENDED in harts):",
            "if RUNS_ON not in harts and UNFINISHED not in harts:",
-           "test_races_endless.py::test_final_states_beside_one_endless_loop_are_those_of_all_orders"),
+           "test_races_endless.py::test_final_states_with_one_endless_loop_are_those_of_all_schedules"),
     Mutant("values between the nodes of an endless loop are dropped", "finders/races/final_states.py", "if len(going) == 1:", "if False:",
            "test_races_endless.py::test_value_that_one_hart_alone_changes_is_reported"),
     Mutant("two harts that go on change the outcome by independent steps", "finders/races/final_states.py", "if found.are_hidden and not search.why_cut:",
@@ -24,7 +24,7 @@ MUTANTS = (
     Mutant("no alarm is set", "finders/races/time_limit.py", "signal.setitimer(signal.ITIMER_REAL, max(", "len((signal.ITIMER_REAL, max(",
            "test_races_endless.py::test_time_limit_holds_in_one_move"),
     Mutant("a hart that was given up is forgotten", "finders/races/search.py", "return not self.why_cut and not any(it.alone or it.unended for it in self.graphs())",
-           "return not self.why_cut", "test_races_endless.py::test_hart_that_counts_for_ever_makes_the_result_not_whole"),
+           "return not self.why_cut", "test_races_endless.py::test_hart_that_counts_forever_makes_the_result_incomplete"),
     Mutant("a limit of steps ends a loop at the state that represents it", "finders/races/search.py", "if length and machine.limit:", "if False:",
            "test_races_endless.py::test_limit_of_steps_ends_an_endless_loop_where_the_limit_is"),
     Mutant("a part of a search has the first round of a loop alone", "finders/races/search.py",
@@ -67,7 +67,7 @@ MUTANTS = (
            "test_exit_status.py::test_refused_line_counts_more_than_a_finding"),
     Mutant("cut_work_ends_with_zero", "output/findings.py", "return UNFINISHED if self.cut else 0", "return 0", "test_exit_status.py::test_leak_that_seconds_cut"),
     Mutant("reduction_ignores_calls_of_the_monitor", "finders/races/search.py", "if self.plain or look.uses_table:",
-           "if self.plain or look.uses_table and look.kind != 'call':", "test_races_orders.py::test_final_states_are_those_of_all_orders[37]"),
+           "if self.plain or look.uses_table and look.kind != 'call':", "test_races_orders.py::test_final_states_are_those_of_all_schedules[37]"),
     Mutant("reduction_ignores_shared_bytes", "finders/races/search.py", "        self.shared |= shared\n        return True", "        return False",
            "test_races.py::test_counter_has_each_value_from_two_to_six"),
     Mutant("merged_states_have_another_table", "finders/races/machine.py", "return State(harts, hosts, self.digest, self.table, steps)",
@@ -81,7 +81,7 @@ MUTANTS = (
     Mutant("search_ends_at_the_first_step_of_the_timer", "finders/races/search.py",
            "for is_timer in (False, True)[:1 + (timers < self.bounds.timers)]:",
            "for is_timer in (False, True)[:1 + (timers < self.bounds.timers and last is None)]:",
-           "test_races_orders.py::test_final_states_are_those_of_all_orders[4]"),
+           "test_races_orders.py::test_final_states_are_those_of_all_schedules[4]"),
     Mutant("window_counts_a_read_after_the_enclave's_own_write", "finders/window.py", "    if byte.stored_at is None:\n        if byte.input_at",
            "    if True:\n        if byte.input_at", "test_golden.py::test_golden[window]"),
     Mutant("window_forgets_bytes_that_were_wiped", "finders/window.py", "theirs.get(at, Byte()).values != byte.values",

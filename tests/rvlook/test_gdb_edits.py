@@ -1,4 +1,4 @@
-"""Edits in `rvlook gdb`: a write is replayed at its step, and forgotten after another write before it; and moves at random."""
+"""Writes in `rvlook gdb`: a write is replayed at its step, and discarded after another write before it; and random moves."""
 import random
 import re
 
@@ -38,13 +38,13 @@ def test_edit_is_forgotten_after_another_one_before_it(debugger):
 
 
 class History:
-    """What was typed, as lines of a script: `done` up to the current step, `future` after it."""
+    """The typed commands as lines of a script: `done` up to the current step, `future` after it."""
 
     def __init__(self, replies):
         self.replies, self.done, self.future = replies, [], []
 
     def state(self):
-        """What `regs` prints after `done`."""
+        """Returns the output of `regs` after `done`."""
         return self.replies(BUG, MONITOR, [*self.done, "regs"])[-33:]
 
     def places(self):

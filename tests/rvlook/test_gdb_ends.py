@@ -1,4 +1,4 @@
-"""How `rvlook gdb` ends: one line on standard error, and no process is left. And how soon Ctrl-C halts a run."""
+"""Ends of `rvlook gdb`: one line on standard error, and no process remains. Also the time in which Ctrl-C halts a run."""
 import os
 import pty
 import re
@@ -179,7 +179,7 @@ def test_terminal_gets_the_command_for_a_debugger(environment):
     (MONITOR, ()), ((*MONITOR, "--harts", "2"), ()), (MONITOR, ("Z2,80020000,4",)), (MONITOR, ("qRcmd," + b"catch trap".hex(),))],
     ids=["one hart", "two harts", "watchpoint", "catchpoint"])
 def test_interrupt_halts_soon(debugger, endless, words, before):
-    """The best of three times counts, for the machine may do other work."""
+    """The best of three times counts, since the machine may be busy."""
     with debugger(endless, words) as client:
         for text in before:
             client.ask(text)

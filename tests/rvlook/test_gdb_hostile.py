@@ -131,7 +131,7 @@ class Port:
         self.process.wait(60)
 
     def monitor(self, line):
-        """What a line of `monitor` shows."""
+        """Returns the output of a line of `monitor`."""
         self.connection.sendall(monitor(line))
         data = b""
         while b"$OK#" not in data and b"$E" not in data:

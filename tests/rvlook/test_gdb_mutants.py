@@ -1,4 +1,4 @@
-"""Mutants of the gdb server: each is noticed by a test."""
+"""Mutants of the gdb server: a test detects each."""
 import pytest
 from support.mutants import Mutant, check_noticed, id_of
 

@@ -83,7 +83,7 @@ def test_packet_that_no_command_of_the_bench_serves_is_refused(debugger, text):
         assert client.ask(text).startswith("E")
 
 
-def test_refusal_is_in_words_and_an_unknown_packet_has_an_empty_answer(debugger):
+def test_refusal_has_a_text_and_an_unknown_packet_an_empty_reply(debugger):
     with debugger(TIMER, MONITOR) as client:
         assert client.ask("P20=00000180") == "E.rvbench cannot write pc"
         assert client.ask("vNothing") == ""

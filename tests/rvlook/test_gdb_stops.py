@@ -1,4 +1,4 @@
-"""Where `rvlook gdb` halts, on and back: each breakpoint, watchpoint, condition and catchpoint against the steps that `trace` shows."""
+"""Halts of `rvlook gdb`, forwards and backwards: each breakpoint, watchpoint, condition and catchpoint against the steps of `trace`."""
 import pytest
 from support.gdb_client import states_of
 
@@ -41,7 +41,7 @@ def stops_of(steps, breaks, watches):
 
 
 def halt_on(client, step, is_watch, states, packets):
-    """A halt on the way on. That of a watchpoint is before the access; like gdb, the client does the access without watchpoints."""
+    """A halt forwards. At a watchpoint it is before the access; like gdb, the client then makes the access without watchpoints."""
     reason, state = client.halt("vCont;c")
     assert (bool(reason), state) == (is_watch, states[step - is_watch]), "on to step %d" % step
     if is_watch:
@@ -53,7 +53,7 @@ def halt_on(client, step, is_watch, states, packets):
 
 
 def halt_back(client, step, is_watch, states):
-    """A halt on the way back. That of a watchpoint is after the access, which is undone then."""
+    """A halt backwards. At a watchpoint it is after the access, which is then undone."""
     reason, state = client.halt("bc")
     assert (bool(reason), state) == (is_watch, states[step]), "back to step %d" % step
     if is_watch:

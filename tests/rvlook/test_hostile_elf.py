@@ -1,4 +1,4 @@
-"""A damaged ELF file ends in one line, or in a run without what cannot be read of it."""
+"""A damaged ELF file causes one line, or a run without the parts that cannot be read."""
 import struct
 import zlib
 

@@ -1,4 +1,4 @@
-"""Names from input files have no effect on a terminal, on the bench or on a form of lines."""
+"""Names from input files have no effect on a terminal, on the program or on a line format."""
 import json
 
 import pytest

@@ -1,13 +1,13 @@
-"""`leak`: the step at which two runs diverge, and which secrets are compared."""
+"""`leak`: the step at which two runs diverge, and the compared secrets."""
 import pytest
 
 SECRET = ("--at", "secret")
-INSIDE, OUTSIDE = "10000000", "00000100"  # offsets of the store: in the window, and far behind it
+INSIDE, OUTSIDE = "10000000", "00000100"  # offsets of the store: in the window, and far after it
 
 
 @pytest.fixture(scope="module")
 def diverged(objects, short_program):
-    """The objects of a pair of which one run traps."""
+    """Returns the objects of a pair in which one run traps."""
     return objects("leak", *short_program("leak_trap"), *SECRET, INSIDE, OUTSIDE)
 
 
@@ -34,7 +34,7 @@ def test_parts_have_the_address(diverged):
 
 
 def test_second_access_after_a_trap_is_compared(objects, short_program):
-    """Both runs trap at the same store, to other addresses, and go on together in the handler, which loads from other addresses too."""
+    """Both runs trap at the same store to different addresses, and continue in the handler, which loads from different addresses too."""
     status, found = objects("leak", *short_program("leak_trap"), *SECRET, OUTSIDE, "00000200")
     assert status == 1 and found[-1]["channels"] == ["pc", "address"]
     assert [it["count"] for it in differences(found, "pc")] == [1]

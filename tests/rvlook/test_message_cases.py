@@ -1,4 +1,4 @@
-"""The table of messages in docs/LOOK.md: each row has a case, which ends with the status of the row and prints its line."""
+"""The table of messages in docs/LOOK.md: the case of each row exits with the status of the row and prints its line."""
 import re
 import tempfile
 from pathlib import Path
@@ -145,7 +145,7 @@ def names_of(cases, status, line):
 
 
 def pattern_of(line):
-    """A row as a pattern: words in capitals stand for anything."""
+    """Returns a row as a regular expression: words in capitals are placeholders."""
     return "".join(".+" if re.fullmatch("[A-Z]{3,}", it) and it not in KEPT else re.escape(it) for it in re.split(r"(\b[A-Z]{3,}(?=\b|_))", line))
 
 

@@ -39,7 +39,7 @@ class Model:
         return found
 
     def end(self, interrupted=None):
-        """The steps of the enclave up to its exit, and what the host has then; the timer rises before one of these steps."""
+        """Returns the steps of the enclave up to its exit, and the registers of the host then; a timer interrupt comes before one of these steps."""
         count, machine, most = 0, self.bench.machine, iter(range(MOST))
         while self.state != "Exited":
             assert next(most, None) is not None, "the enclave of the model does not exit"

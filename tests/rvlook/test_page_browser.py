@@ -1,5 +1,5 @@
-"""The page in a headless Chromium: no script error, its counts, the registers that the bench replies, its keys, its search, the pointer and
-the filters; and a page of a million steps. Needs chromium, chromedriver and python3-selenium."""
+"""The page in a headless Chromium: script errors, counts, registers, keys, search, pointer and filters, and a page of a million steps. Requires
+chromium, chromedriver and python3-selenium."""
 import re
 import shutil
 import time

@@ -1,4 +1,4 @@
-"""The page takes in source files below the folder of the ELF file and of `--sources` alone."""
+"""The page embeds only source files below the folder of the ELF file and below `--sources`."""
 import base64
 import json
 import os
@@ -50,7 +50,7 @@ def test_file_of_the_machine_is_not_taken_in(bench, folder, source):
     assert "source file" not in errors
 
 
-def test_file_beside_the_folder_needs_the_option(bench, folder):
+def test_file_outside_the_folder_needs_the_option(bench, folder):
     path = folder / "other" / "a.c"
     path.write_text(SECRET)
     assert page_of(bench, folder, path)[0] == {}

@@ -1,4 +1,4 @@
-"""Long work on a terminal: its progress is shown there and nowhere else. Work that Ctrl-C or --seconds stops reports what it has."""
+"""Long work on a terminal shows its progress there and nowhere else. Work that Ctrl-C or --seconds stops reports its results so far."""
 import json
 import os
 import pty

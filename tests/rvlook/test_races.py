@@ -33,7 +33,7 @@ KEEPS = "lw x5, 0(x12); li x17, 0x0a454e43; addi x16, x0, 6; ecall; sw x5, 4(x12
 MASKED = """auipc x5, 0; addi x5, x5, 40; csrrw x0, mtvec, x5; addi x6, x0, 128; csrrw x0, mie, x6; addi x10, x0, 1; csrrwi x0, mstatus, 8
 addi x10, x10, 1; csrrwi x0, mstatus, 0; done: jal x0, done; add x11, x10, x0; mret"""
 TAKE_FLAG, GIVE_TURN = "sw x6, 0(x9)", "sw x11, 8(x8)"
-OVERLAP = 0xFFFFFFFC  # what a create of overlapping regions answers
+OVERLAP = 0xFFFFFFFC  # the status of a create of overlapping regions
 COUNT, ENTERED, KEPT = "80011000", "8001100c", "80013000:8"
 
 

@@ -1,5 +1,5 @@
-"""`races` on programs with endless loops: the final states against a model that goes through all orders state by state, the time limit, and
-what is claimed if the search is not whole."""
+"""`races` on programs with endless loops: the final states against a model that enumerates all schedules, the time limit, and the report of an
+incomplete search."""
 import itertools
 import random
 import time
@@ -50,7 +50,7 @@ def random_body(rng):
 
 
 def reported(ends):
-    """The final states of `races` as the model has them."""
+    """Returns the final states of `races` in the form of the model."""
     found = set()
     for it in ends.ends:
         memory, *registers = it.values
@@ -69,13 +69,13 @@ def check(final_states, program, **options):
 
 
 @pytest.mark.parametrize("victim", VICTIMS)
-def test_final_states_beside_each_endless_loop_are_those_of_all_orders(final_states, victim):
+def test_final_states_with_each_endless_loop_are_those_of_all_schedules(final_states, victim):
     for number, body in enumerate(loops()):
         check(final_states, model.linked(VICTIMS[victim], body), plain=number % 8 == 0)
 
 
 @pytest.mark.parametrize("chunk", range(4))
-def test_final_states_of_random_endless_loops_are_those_of_all_orders(final_states, chunk):
+def test_final_states_of_random_endless_loops_are_those_of_all_schedules(final_states, chunk):
     rng = random.Random(chunk)
     for _ in range(30):
         program = model.linked(random_body(rng), random_body(rng))
@@ -83,7 +83,7 @@ def test_final_states_of_random_endless_loops_are_those_of_all_orders(final_stat
         check(final_states, program, plain=True)
 
 
-def test_final_states_beside_one_endless_loop_are_those_of_all_orders(final_states):
+def test_final_states_with_one_endless_loop_are_those_of_all_schedules(final_states):
     check(final_states, model.linked(VICTIMS["one load"], VALUES + [NOP, *STORES, ("jal", 3)]))
 
 
@@ -191,9 +191,9 @@ def test_search_is_bounded_on_the_attacker_after_some_nops(final_states):
         assert search.is_whole(), "%d nops" % nops
 
 
-# ---- what is claimed
+# ---- the report of an incomplete search
 
-def test_hart_that_counts_for_ever_makes_the_result_not_whole(final_states, monkeypatch):
+def test_hart_that_counts_forever_makes_the_result_incomplete(final_states, monkeypatch):
     from rvlook.finders.races import machine as races_machine, search as races
     monkeypatch.setattr(races, "MOST_ALONE", 20)
     monkeypatch.setattr(races_machine, "AHEAD", 64)

@@ -1,4 +1,4 @@
-"""The bench decides which lines it takes: rvlook gives it a malformed line as it is, and reports the reply."""
+"""The program decides which lines are valid: rvlook passes a malformed line on unchanged, and reports the reply."""
 import json
 import subprocess
 
@@ -54,7 +54,7 @@ def test_explain_tells_each_refused_line(bench, script):
     assert numbers == list(range(3, 3 + len(REFUSED)))
 
 
-def test_explain_tells_right_lines_behind_a_refused_comment(bench, script):
+def test_explain_names_the_right_lines_after_a_refused_comment(bench, script):
     output = run(bench, "explain", script("# " + "x" * 119, "reg 5", "stepp 1")).output.decode()
     assert [it for it in output.splitlines() if it.startswith("line ")] == [
         "line 3: # %s   error line" % ("x" * 118), "line 5: stepp 1   error command"]

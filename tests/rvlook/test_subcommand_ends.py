@@ -1,4 +1,4 @@
-"""Each subcommand with an output that fails, one that nobody reads, Ctrl-C, a file that is missing, and one that is no ELF file."""
+"""Each subcommand with a failing output, a closed pipe, Ctrl-C, a missing file, and a file that is not ELF."""
 from pathlib import Path
 
 import pytest

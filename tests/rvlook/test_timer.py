@@ -1,13 +1,13 @@
-"""`timer`: an enclave that ends Stopped, a host that does not resume, and an enclave that comes to another end."""
+"""`timer`: an enclave that ends Stopped, a host that does not resume, and an enclave with another result."""
 import pytest
 
-PATIENCE = ["poke patience+1 00", "poke patience+2 00", "poke patience 0%d"]  # so many interrupts, and the host gives up
+PATIENCE = ["poke patience+1 00", "poke patience+2 00", "poke patience 0%d"]  # interrupts after which the host gives up
 STOPS_ONCE = ["poke stops 01", "poke resumes_value 00"]  # and the host does not resume it
 
 
 @pytest.fixture
 def timer(objects, short_program, tmp_path):
-    """Runs `timer` behind the lines of a script; gives its status and its last object."""
+    """Runs `timer` after the lines of a script; returns its status and its last object."""
     def run(*lines):
         script = tmp_path / "script"
         script.write_text("".join(line + "\n" for line in lines))
@@ -47,13 +47,13 @@ def test_message_says_that_the_host_does_not_resume(rvlook, short_program, tmp_p
                            "timer requires a host that always resumes it\n")
 
 
-def test_enclave_that_answers_the_number_of_interrupts_is_found(timer):
+def test_enclave_that_returns_the_number_of_interrupts_is_found(timer):
     status, found = timer("poke tells_count 01")
     assert (status, found["same"]) == (1, False)
 
 
 def test_enclave_that_stops_with_another_value_is_found(timer):
-    """The host resumes after the value 36 alone: that it does not resume is then the enclave's doing."""
+    """The host resumes only after the value 36, so the enclave is the reason if it does not resume."""
     status, found = timer("poke tells_count 01", "poke stops 01")
     assert (status, found["same"], found["difference"]["expected"]) == (1, False, "x10=00000001 x11=00000024")
 

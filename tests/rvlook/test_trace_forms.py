@@ -43,7 +43,7 @@ sw x5, -4(x2)
 ecall
 mret
 """
-# Forms of the manual, for which objdump has forms of its own.
+# Forms of the manual for which objdump prints others.
 OWN = {"csrrwi zero, mscratch, 3": "csrwi mscratch, 3", "csrrsi zero, mie, 3": "csrsi mie, 3", "csrrci zero, mie, 3": "csrci mie, 3",
        "jalr ra, 4(t0)": "jalr ra, 4(t0)", "addi sp, sp, 1": "addi sp, sp, 1"}
 

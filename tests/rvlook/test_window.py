@@ -1,4 +1,4 @@
-"""`window --at`: copies of parts of the secret, and what may differ."""
+"""`window --at`: copies of parts of the secret, and public bytes."""
 import importlib.util
 
 import pytest

@@ -39,7 +39,7 @@ class Client:
         self.process.stdin.flush()
 
     def answer(self):
-        """Returns the next answer; what is shown before it is kept."""
+        """Returns the next reply; output before it goes to `console`."""
         while True:
             text = b""
             while not text.endswith(b"#"):
@@ -55,12 +55,12 @@ class Client:
             self.console += bytes.fromhex(text[1:].decode()).decode("latin-1")
 
     def ask(self, text):
-        """Returns the answer to a packet."""
+        """Returns the reply to a packet."""
         self.give(packet(text))
         return self.answer()
 
     def monitor(self, line):
-        """Returns what a line of `monitor` prints."""
+        """Returns the output of a line of `monitor`."""
         self.console = ""
         assert self.ask("qRcmd," + line.encode().hex()) == "OK", line
         return self.console
@@ -88,6 +88,6 @@ class Client:
 
 
 def states_of(replies, image, words, count):
-    """Returns what `regs` prints at reset, and after each of so many steps of hart 0."""
+    """Returns the output of `regs` at reset, and after each of this many steps of hart 0."""
     lines = [it for it in replies(image, words, ["regs", *["step 1", "hart 0", "regs"] * count]) if "=" in it[:4]]
     return [lines[33 * number:33 * number + 33] for number in range(count + 1)]

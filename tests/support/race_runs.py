@@ -1,4 +1,4 @@
-"""Runs of `races` for its tests: the outcome that they show, and the status that must come of the final states."""
+"""Runs `races` for its tests: the outcome, and the expected status of the final states."""
 from support.race_programs import DATA, WINDOW
 
 WORDS = ("--monitor", "--harts", "2", "--ram", "196608")
@@ -9,8 +9,8 @@ ENDS = {"ended", "unfinished", "not searched"}  # of a hart: no finding
 
 
 def status_of(found):
-    """The status that objects mean without --forbid: 1 if there is more than one final state, or a hart that does not come to its end; 3 if
-    not all was searched."""
+    """Returns the expected status of objects without --forbid: 1 for more than one final state, or a hart that does not end; 3 for an incomplete
+    search."""
     ends = [it for it in found if it["object"] == "final_state"]
     hows = {hart["how"] for it in ends for hart in it["harts"]}
     return 1 if len(ends) > 1 or hows - ENDS else 3 if "unfinished" in hows or not found[-1]["complete"] else 0
@@ -31,7 +31,7 @@ class Races:
 
 
 def values_of(end):
-    """The values of a final state, as `model_values` has them."""
+    """Returns the values of a final state in the form of `model_values`."""
     values = end["values"]
     registers = tuple(values["%d.%s" % (hart, name)] for hart in (0, 1) for name in REGISTERS.values())
     return (values["%x:16" % DATA], values["%x:16" % WINDOW], tuple(sorted(values["enclaves"].items())), registers,
@@ -39,7 +39,7 @@ def values_of(end):
 
 
 def model_values(harts):
-    """The values of the harts of the model."""
+    """Returns the values of the harts of the model."""
     one = harts[0]
     return (one.part(DATA, 16).hex(), one.part(WINDOW, 16).hex(),
             tuple(sorted(("e%d" % slot, it.state) for slot, it in one.table.items())),
@@ -47,6 +47,6 @@ def model_values(harts):
 
 
 def differences(found, wanted):
-    """The first few final states that differ: what was found, and what is wanted."""
+    """Returns the first few final states that differ: the found and the expected one."""
     keys = [it for it in {**found, **wanted} if found.get(it) != wanted.get(it)]
     return {it: (found.get(it), wanted.get(it)) for it in keys[:2]}

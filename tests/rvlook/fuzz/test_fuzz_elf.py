@@ -1,4 +1,4 @@
-"""Mutated ELF files: each reader of one ends in time, with no error but a RvlookError, and every name that it gives can be printed."""
+"""Mutated ELF files: each reader ends in time, raises only RvlookError, and returns only printable names."""
 import struct
 
 from support.fuzzing import at_most, fuzz
@@ -27,7 +27,7 @@ def mutant(edits):
 
 
 def read(path, data):
-    """Reads all that rvlook reads of an ELF file."""
+    """Reads everything that rvlook reads of an ELF file."""
     from rvlook.errors import RvlookError
     from rvlook.page.sources import files_of
     from rvlook.image.symbols import symbols_of

@@ -1,4 +1,4 @@
-"""Sessions of packets, right ones, mutated ones and noise: a request at their end is answered, and the server ends with the debugger."""
+"""Sessions of valid and mutated packets and noise: a request at the end has a reply, and the server ends with the debugger."""
 import re
 
 from support.fuzzing import fuzz
@@ -25,7 +25,7 @@ sessions = st.lists(packets, min_size=1, max_size=8)
 REGISTERS = re.compile(rb"[0-9a-f]{264}\Z")
 
 
-def test_server_answers_behind_any_session(bench, tmp_path, fuzz_seconds):
+def test_server_replies_after_any_session(bench, tmp_path, fuzz_seconds):
     path = tmp_path / "program.elf"
     path.write_bytes(HELLO)
 
