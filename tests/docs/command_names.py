@@ -42,7 +42,7 @@ def faults():
            "tests/generators/twin_command_cases.py": {it.split()[0] for it in EVERY} | OF_HARTS}
     for place, names in has.items():
         if names != read:
-            yield "%s: lacks %s, has beside %s" % (place, sorted(read - names), sorted(names - read))
+            yield "%s: missing %s, extra %s" % (place, sorted(read - names), sorted(names - read))
     for name in read & set(COMMANDS) & set(FORMS):
         if len(COMMANDS[name].forms) != len(FORMS[name]):
             yield "%s: %d operands in python/rvlook/protocol/commands.py, %d in the model" % (name, len(COMMANDS[name].forms), len(FORMS[name]))
@@ -51,7 +51,7 @@ def faults():
 def main(_arguments):
     """Prints the differences; returns the exit status."""
     found = list(faults())
-    print("\n".join(found) or "the commands are the same in each place")
+    print("\n".join(found) or "all lists of commands agree")
     return 1 if found else 0
 
 

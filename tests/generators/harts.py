@@ -12,7 +12,7 @@ status of each call.
 import sys
 
 from generators import case_files
-from generators import harts_beside_cases
+from generators import harts_concurrent_cases
 from generators import harts_command_cases
 from generators import harts_race_cases
 from generators import harts_twin_cases
@@ -20,7 +20,7 @@ from generators.monitor_case import Case
 
 
 def main(arguments):
-    for topic in (harts_race_cases, harts_command_cases, harts_twin_cases, harts_beside_cases):
+    for topic in (harts_race_cases, harts_command_cases, harts_twin_cases, harts_concurrent_cases):
         topic.parts()
     return case_files.main(arguments, Case.all, Case.words, __doc__)
 

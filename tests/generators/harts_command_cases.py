@@ -279,7 +279,7 @@ def examples():
              ("sched 011", "hart 0 1 pc=80020004 mode=S world=e0 trap=-\nhart 1 2 pc=00000000 mode=S world=host trap=00000005:80020000"),
              ("csr 3a0", "csr 3a0=00001818"), ("csr 3a3", "csr 3a3=1f000000"), ("hart 0", "ok"), ("csr 3a0", "csr 3a0=00001f18"),
              ("csr 3a3", "csr 3a3=00000000")]
-    by_hand("a_destroy_and_a_load_beside_a_running_enclave", "730000007300000083220300", first, made, lines)
+    by_hand("a_destroy_and_a_load_during_a_running_enclave", "730000007300000083220300", first, made, lines)
     called = [("setreg 16 3", "ok"), ("setreg 10 0", "ok"), ("hart 1", "ok"), ("setreg 17 0a454e43", "ok"), ("setreg 16 2", "ok"),
               ("setreg 10 0", "ok")]
     done = "hart 1 1 pc=80010004 mode=S world=host trap=00000009:00000000"

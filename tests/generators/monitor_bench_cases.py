@@ -270,7 +270,7 @@ def worked_examples():
            + "x10=00000001\nx11=00000005\nx5=00000000\nok\nok\n" + ran(BASE + 4, "e0")
            + "x10=00000000\nx11=00000000\nx5=00000077\nok\nok\nok\n" + ran(0x8001000C, "host")
            + "x10=00000000\nx11=00000009\nok\n" + ran(0x80010010, "host") + "x10=fffffff8\n")
-    worked("examples", "a_region_beside_its_window", "7300000073000000",
+    worked("examples", "a_region_adjacent_to_its_window", "7300000073000000",
            CREATE_9 + sets(x12="80021000", x13="1000") + "step 1\n" + sets(x16="3", x10="0") + "step 1\naccess S r 80020ffe 4\n"
            "access S x 80021000 4\naccess S w 80021000 4\naccess S r 80010000 4\naccess S r 8000fffe 4\n",
            OK7 + ran(0x80010004, "host") + "ok\nok\n" + ran(BASE, "e0")

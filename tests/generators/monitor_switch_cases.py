@@ -48,7 +48,7 @@ def layouts():
     case.leave(STOP, 0, STOPPED)
     case.enter(1)
     asked(case, 0x80010000, BASE, BASE + PAGE, BASE + 2 * PAGE, WINDOW, WINDOW + 0x2000)
-    case = Case("layout", "region_beside_its_window")
+    case = Case("layout", "region_adjacent_to_its_window")
     case.create(BASE, window=(BASE + PAGE, PAGE))
     case.create(BASE + 3 * PAGE, window=(BASE + 2 * PAGE, PAGE), wants=1)
     for slot, border in ((0, BASE + PAGE), (1, BASE + 3 * PAGE)):

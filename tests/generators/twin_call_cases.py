@@ -57,7 +57,7 @@ def refusals():
                                        (0x80080000, PAGE, (BASE, 0x20000), OVERLAP), (WINDOW, PAGE, (0, 0), OVERLAP)):
         case.create(base, size, window, entry=base, wants=status)
         case.say("reg 10", "reg 11", "enclaves")
-    case.tell("beside it a region and a window")
+    case.tell("next to it a region and a window")
     case.create(BASE + PAGE, window=(BASE - PAGE, PAGE), wants=2)
     case.say("enclaves", "pmp")
 

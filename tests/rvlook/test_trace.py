@@ -38,7 +38,7 @@ def test_each_step_has_the_reply_and_registers_of_the_bench(results, replies, na
 
 @pytest.mark.parametrize("part", range(SLICES))
 def test_access_of_a_step_is_where_a_watch_stops_a_run(results, replies, part):
-    """A watch on the first and the last byte stops a run at the step, and one on the bytes beside them does not. After the step the memory
+    """A watch on the first and the last byte stops a run at the step, and one on the adjacent bytes does not. After the step the memory
     has the value."""
     image = EXAMPLES / "enclaves" / "refused" / "image"
     steps = [it for it in steps_of(results, image, MONITOR) if it["touch"] and it["touch"]["done"]][:40]

@@ -116,8 +116,8 @@ def ended(case, steps):
     return count
 
 
-def beside(order, runs):
-    case = divided(HartsCase("beside", "order_%s_beside_hart_%d" % (order, runs)))
+def concurrent(order, runs):
+    case = divided(HartsCase("concurrent", "order_%s_enclave_on_hart_%d" % (order, runs)))
     prepared(case, runs)
     steps = played(case, runs, order)
     case.tell("the refused accesses, and what they have loaded; the statuses of the calls")
@@ -143,4 +143,4 @@ def beside(order, runs):
 
 def parts():
     for order, runs in ORDERS:
-        beside(order, runs)
+        concurrent(order, runs)
