@@ -235,7 +235,7 @@ def test_bound_of_preemptions_keeps_the_final_states_that_need_none(final_states
 
 def test_search_without_a_time_limit_is_bounded(final_states, monkeypatch):
     from rvlook.finders.races import search as races
-    monkeypatch.setattr(races, "MOST_PLACES", 3)
+    monkeypatch.setattr(races, "MOST_STATES", 3)
     search, _ = final_states(model.image_of(model.linked(VICTIMS["one load"], VALUES + [NOP, *STORES, ("jal", 3)])), *WATCHED)
     assert search.why_cut == "the limit of 3 states"
     assert not search.is_whole()

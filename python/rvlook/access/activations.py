@@ -98,7 +98,7 @@ class Activations:
     def __init__(self, run: Run, start: int = 0, is_strict: bool = False) -> None:
         self.run, self.start, self.is_strict = run, start, is_strict
         self.code: dict[int, dict[bytes, bytes]] = {}
-        self.places = [(run.pc.encode(), run.mode.encode(), run.world.encode()) for _ in range(run.setup.harts)]
+        self.locations = [(run.pc.encode(), run.mode.encode(), run.world.encode()) for _ in range(run.setup.harts)]
         self.open: list[Activation | None] = [None] * run.setup.harts
         self.numbers: Counter[str] = Counter()
         self.end: End | None = None
@@ -121,11 +121,11 @@ class Activations:
 
     def take(self, stretch: Stretch) -> Iterator[Activation]:
         """Takes the steps of a stretch; yields the activations that end in it."""
-        hart, place = stretch.hart, 0
+        hart, index = stretch.hart, 0
         after = list(zip(*RAN_FIELDS.findall(stretch.data)))
         traps = after.pop()
-        pcs, modes, worlds = ((before, *those[:-1]) for before, those in zip(self.places[hart], after))
-        self.places[hart] = (after[0][-1], after[1][-1], after[2][-1])
+        pcs, modes, worlds = ((before, *those[:-1]) for before, those in zip(self.locations[hart], after))
+        self.locations[hart] = (after[0][-1], after[1][-1], after[2][-1])
         if stretch.first + stretch.count <= self.start:
             self.numbers.update(self.entered(worlds, after[2]))
             return
@@ -133,15 +133,15 @@ class Activations:
         for world, group in itertools.groupby(worlds):
             count = sum(1 for _ in group)
             if world.startswith(b"e"):
-                activation, inside = self.open[hart], range(place, place + count)
+                activation, inside = self.open[hart], range(index, index + count)
                 if activation is None:
-                    activation = self.open[hart] = self.opened(world.decode(), hart, stretch.first + place - 1)
+                    activation = self.open[hart] = self.opened(world.decode(), hart, stretch.first + index - 1)
                     self.code[hart] = {}
                 self.extend(activation, stretch.first, inside, fields, self.operations_in(stretch, fields, inside))
-                if place + count < stretch.count or after[2][-1] != world:
+                if index + count < stretch.count or after[2][-1] != world:
                     self.open[hart] = None
-                    yield self.closed(activation, stretch.first + place + count - 1, int(pcs[place + count - 1], 16))
-            place += count
+                    yield self.closed(activation, stretch.first + index + count - 1, int(pcs[index + count - 1], 16))
+            index += count
         if 0 <= self.offset < stretch.count:
             self.reader.bench.block(b"step %d\n" % (stretch.count - self.offset), 1)
 
@@ -170,7 +170,7 @@ class Activations:
         enclave, before = self.seen(world, step)
         activation = Activation(world, hart, step + 1, self.numbers[world], enclave, before=before)
         activation.table = tuple(map(enclave_of, self.viewer.bench.ask("enclaves")[0]))
-        activation.others = tuple(it[2].decode() for number, it in enumerate(self.places) if number != hart)
+        activation.others = tuple(it[2].decode() for number, it in enumerate(self.locations) if number != hart)
         return activation
 
     def closed(self, activation: Activation, step: int, pc: int | None, ended_by: str | None = None) -> Activation:

@@ -10,7 +10,7 @@ from typing import Iterator, Optional, Sequence, TYPE_CHECKING
 
 from rvlook.protocol import names
 from rvlook.access.ranges import Range, derived_rights, meaning, table_boundaries, verdicts_of
-from rvlook.protocol.replies import Place, enclave_of, register_values, step_of
+from rvlook.protocol.replies import Location, enclave_of, register_values, step_of
 from rvlook.protocol.run import End, Stretch
 
 if TYPE_CHECKING:
@@ -103,7 +103,7 @@ def changed_steps(run: Run) -> Iterator[tuple[int, int] | End]:
         if isinstance(item, End):
             yield item
         elif isinstance(item, Stretch):
-            for number in places_of(CALLED, item.data):
+            for number in matching_lines(CALLED, item.data):
                 yield item.first + number, item.hart
 
 
@@ -121,16 +121,16 @@ def changed_entries(run: Run) -> Iterator[tuple[int, int] | End]:
                 replay.bench.ask(*(replay.lines_to(item.first - 1) + replay.lines_up_to_next() or ["reg 0"]))
                 replay.lines_to(item.first - 1 + item.count)
                 block = replay.bench.block(b"".join([b"dis %s\nstep 1\n" % it for it in pcs]), 2 * item.count)
-                for number in places_of(ENTRY_WRITTEN, block) if CSR_TEXT in block else ():
+                for number in matching_lines(ENTRY_WRITTEN, block) if CSR_TEXT in block else ():
                     yield item.first + number // 2, item.hart
 
 
-def places_of(pattern: re.Pattern[bytes], block: bytes) -> Iterator[int]:
+def matching_lines(pattern: re.Pattern[bytes], block: bytes) -> Iterator[int]:
     """Yields the numbers of the lines that match a pattern, each number at most once."""
-    place = number = 0
+    location = number = 0
     for match in pattern.finditer(block):
-        number += block.count(b"\n", place, match.start())
-        place = match.start()
+        number += block.count(b"\n", location, match.start())
+        location = match.start()
         yield number
 
 
@@ -145,7 +145,7 @@ class Finder:
     def at_reset(self, replay: Replay) -> Event:
         """Returns the event at reset."""
         self.state = self.state_of(replay, [self.run.world] * self.setup.harts)
-        return self.event(0, 0, Cause("reset"), Place(self.run.pc, self.run.mode, self.run.world))
+        return self.event(0, 0, Cause("reset"), Location(self.run.pc, self.run.mode, self.run.world))
 
     def at_step(self, replay: Replay, step: int, hart: int) -> Event | None:
         """Returns the event after a step, or None if nothing has changed."""
@@ -160,7 +160,7 @@ class Finder:
             return None
         old, self.state = self.state, state
         cause = cause_of(ran, old, hart, register_values(before), register_values(after), text)
-        return self.event(step, hart, cause, Place(pc, ran.mode, ran.world))
+        return self.event(step, hart, cause, Location(pc, ran.mode, ran.world))
 
     def state_of(self, replay: Replay | Timeline, worlds: Sequence[str]) -> State:
         """Reads the PMP entries of each hart and the table of enclaves. Queries the access rights only for entries that are new."""
@@ -175,10 +175,10 @@ class Finder:
             bench.ask("hart %d" % replay.hart)
         return State(tuple(entries), tuple(worlds), tuple(enclave_of(line) for line in bench.ask("enclaves")[0]))
 
-    def event(self, step: int, hart: int, cause: Cause, place: Place) -> Event:
-        """Returns the event after step `step`, in the present state. `place` is the pc before the step, and mode and world after it."""
+    def event(self, step: int, hart: int, cause: Cause, location: Location) -> Event:
+        """Returns the event after step `step`, in the present state. `location` is the pc before the step, and mode and world after it."""
         columns = self.columns()
-        return Event(step, hart, cause.name, cause.slot, cause.status, cause.text, *place, self.state.enclaves, columns,
+        return Event(step, hart, cause.name, cause.slot, cause.status, cause.text, *location, self.state.enclaves, columns,
                      tuple(self.rows(columns)))
 
     def columns(self) -> tuple[Column, ...]:

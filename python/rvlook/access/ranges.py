@@ -65,8 +65,8 @@ def verdicts_of(bench: Bench, pmp_lines: Sequence[str], modes: str, ram: int) ->
     lines = ["access %s %s %x 1" % (mode, kind, at) for at in cuts[:-1] for mode, kind in queries]
     replies = [reply[0] for reply in bench.ask(*lines)]
     found = []
-    for place, (first, end) in enumerate(zip(cuts, cuts[1:])):
-        verdicts = replies[place * len(queries):(place + 1) * len(queries)]
+    for index, (first, end) in enumerate(zip(cuts, cuts[1:])):
+        verdicts = replies[index * len(queries):(index + 1) * len(queries)]
         may = {mode: "".join(kind if verdicts[i * 3 + k].startswith("allowed") else "-" for k, kind in enumerate(KINDS))
                for i, mode in enumerate(modes)}
         found.append(Verdicts(Range(first, end), may, tuple(verdicts)))

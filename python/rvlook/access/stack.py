@@ -75,23 +75,23 @@ class Finder:
         self.stacks = stacks
         self.uses: dict[bytes, Use | None] = {}
         self.found: dict[str, Overflow] = {}
-        self.places = [(run.pc.encode(), run.mode.encode(), run.world.encode())] * run.setup.harts
+        self.locations = [(run.pc.encode(), run.mode.encode(), run.world.encode())] * run.setup.harts
 
     def take(self, replay: Replay, stretch: Stretch) -> None:
         """Checks steps of one hart, one after another."""
         after = RAN.findall(stretch.data)
-        places = [self.places[stretch.hart], *after[:-1]]
-        self.places[stretch.hart] = after[-1]
+        locations = [self.locations[stretch.hart], *after[:-1]]
+        self.locations[stretch.hart] = after[-1]
         begin(replay, stretch)
-        self.read_instructions(replay, {pc for pc, _, _ in places})
-        steps = [at for at, (pc, _, _) in enumerate(places) if self.uses[pc]]
+        self.read_instructions(replay, {pc for pc, _, _ in locations})
+        steps = [at for at, (pc, _, _) in enumerate(locations) if self.uses[pc]]
         for at, sp in zip(steps, stack_pointers(replay, stretch, steps)):
-            pc, mode, world = (it.decode() for it in places[at])
+            pc, mode, world = (it.decode() for it in locations[at])
             self.check(stretch, at, (pc, world, kind_of(world, mode)), sp)
 
-    def check(self, stretch: Stretch, at: int, place: tuple[str, str, str | None], sp: int) -> None:
+    def check(self, stretch: Stretch, at: int, location: tuple[str, str, str | None], sp: int) -> None:
         """Checks one step that uses the stack."""
-        pc, world, kind = place
+        pc, world, kind = location
         if kind is None or kind in self.found or kind not in self.stacks:
             return
         use = self.uses[pc.encode()]

@@ -113,10 +113,10 @@ class Comparison:
         x = y = 0
         while x < len(one.pcs) and y < len(two.pcs):
             same = common_length(one, x, two, y)
-            for place in range(bisect_left(one.operations_at, x), bisect_left(one.operations_at, x + same)):
-                other = theirs.get(one.operations_at[place] - x + y)
+            for index in range(bisect_left(one.operations_at, x), bisect_left(one.operations_at, x + same)):
+                other = theirs.get(one.operations_at[index] - x + y)
                 if other is not None:
-                    self.access(one.operations[place], other, one.enclave)
+                    self.access(one.operations[index], other, one.enclave)
             x, y = x + same, y + same
             if x == len(one.pcs) and y == len(two.pcs):
                 return
@@ -149,8 +149,8 @@ class Comparison:
 
     def is_shown(self, it: Operation, enclave: Enclave) -> bool:
         """Returns whether a store is to a byte of the window that may not differ."""
-        places = range(it.address, it.address + it.width)
-        return any(enclave.window <= at < enclave.window + enclave.window_size and not self.public.has(at) for at in places)
+        addresses = range(it.address, it.address + it.width)
+        return any(enclave.window <= at < enclave.window + enclave.window_size and not self.public.has(at) for at in addresses)
 
     def compare_ends(self, one: Activation, two: Activation) -> None:
         """Compares the results and the windows at the end of two activations."""
@@ -165,10 +165,10 @@ class Comparison:
                     self.add("window", (one.last, two.last), ((base + at, bytes([x])), (base + at, bytes([y]))), pc)
 
 
-def operation_at(activation: Activation, place: int) -> Operation | None:
-    """Returns what the step at a place of the activation did, or None."""
-    at = bisect_left(activation.operations_at, place)
-    return activation.operations[at] if activation.operations_at[at:at + 1] == array("I", [place]) else None
+def operation_at(activation: Activation, index: int) -> Operation | None:
+    """Returns the operation of the step at an index of the activation, or None."""
+    at = bisect_left(activation.operations_at, index)
+    return activation.operations[at] if activation.operations_at[at:at + 1] == array("I", [index]) else None
 
 
 def writers_of(one: Activation, two: Activation) -> dict[int, int]:
@@ -200,14 +200,14 @@ def common_length(one: Activation, x: int, two: Activation, y: int) -> int:
 
 def convergence(one: Activation, x: int, two: Activation, y: int) -> tuple[int, int]:
     """Returns where two activations converge: after the fewest steps from x and y; the ends if they do not."""
-    places = defaultdict(list)
+    indices = defaultdict(list)
     for n in range(y, min(y + FAR, len(two.pcs))):
-        places[two.pcs[n]].append(n)
+        indices[two.pcs[n]].append(n)
     best = None
     for m in range(x, min(x + FAR, len(one.pcs))):
         if best and m - x > best[0]:
             break
-        for n in places.get(one.pcs[m], ()):
+        for n in indices.get(one.pcs[m], ()):
             cost = m - x + n - y
             if cost and (best is None or cost < best[0]) and one.pcs[m:m + SAME] == two.pcs[n:n + SAME]:
                 best = cost, m, n

@@ -136,10 +136,10 @@ def outcome_of(text: str, symbols: Symbols, harts: int) -> Observed:
         return Slot(text, int(text[1:]))
     if dot and hart in map(str, range(harts)) and register in names.NUMBER_OF:
         return Register(text, int(hart), names.NUMBER_OF[register])
-    place, _, count = text.partition(":")
-    at, symbol = symbols.address(place), symbols.by_name.get(place)
+    name, _, count = text.partition(":")
+    at, symbol = symbols.address(name), symbols.by_name.get(name)
     if at is None:
-        raise RvlookError("invalid --outcome: %s (expected PLACE[:BYTES], HART.REGISTER, enclaves, or e0 to e12)" % no_symbol(place, symbols))
+        raise RvlookError("invalid --outcome: %s (expected PLACE[:BYTES], HART.REGISTER, enclaves, or e0 to e12)" % no_symbol(name, symbols))
     if count and not count.isdigit():
         raise RvlookError("invalid --outcome: the number of bytes must be decimal, not '%s'" % count)
     return Bytes(text, at, int(count or (symbol and symbol.size) or WORD_BYTES))

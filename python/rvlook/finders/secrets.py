@@ -41,7 +41,7 @@ class Secret:
         """Returns the commands that set the secret."""
         if self.register:
             return ["hart %d" % self.hart] * bool(self.hart) + ["setreg %d %x" % (self.register, int.from_bytes(self.bytes, "little"))]
-        return ["poke %x %02x" % (self.at + place, value) for place, value in enumerate(self.bytes)]
+        return ["poke %x %02x" % (self.at + offset, value) for offset, value in enumerate(self.bytes)]
 
     def with_bytes(self, value: Bytes) -> Secret:
         """Returns the secret with another value."""
@@ -58,7 +58,7 @@ class Secret:
             return b"".join(bytes_of(reply[0]) for reply in replay.bench.ask(*reads))
 
     def text(self) -> str:
-        """Returns the place of the secret: a register or an address."""
+        """Returns the location of the secret: a register or an address."""
         return names.abi_name(self.register) if self.register else "%08x" % self.at
 
 
@@ -72,11 +72,11 @@ def created(run: Run, slot: int) -> Event:
 
 def place_and_size(text: str, symbols: Symbols) -> tuple[int, int | None]:
     """Parses PLACE or PLACE:BYTES into an address and a number of bytes, None if it is not known. Raises RvlookError."""
-    place, _, count = text.partition(":")
-    at = symbols.address(place)
+    name, _, count = text.partition(":")
+    at = symbols.address(name)
     if at is None or count and not count.isdigit():
         raise RvlookError("'%s' is neither a hexadecimal address nor a symbol" % text)
-    symbol = symbols.by_name.get(place)
+    symbol = symbols.by_name.get(name)
     return at, int(count) if count else symbol.size if symbol and symbol.size else None
 
 
@@ -100,7 +100,7 @@ def secret_of(text: str, symbols: Symbols, run: Run, slot: int, size: int | None
 
 
 def register_secret(match: re.Match[str], symbols: Symbols, run: Run, slot: int) -> Secret:
-    """Returns the secret in a register when the enclave first comes to a place; raises Unfinished if it does not."""
+    """Returns the secret in a register when the enclave first reaches an address; raises Unfinished if it does not."""
     pc, _ = place_and_size(match[2], symbols)
     with closing(Activations(run).all()) as every:
         for activation in every:

@@ -172,9 +172,9 @@ def copies_of(activation: Activation, other: Activation | None, secret: Secret, 
     byte."""
     base = activation.enclave.window
     for copy in copies_in(activation.after, secret.bytes):
-        places = range(copy.at, copy.at + copy.size)
-        is_secret = other is None or other.after[places.start:places.stop] != activation.after[places.start:places.stop]
-        yield SecretCopy(copy, is_secret, all(public.has(base + at) or at in writers and public.has(writers[at]) for at in places))
+        indices = range(copy.at, copy.at + copy.size)
+        is_secret = other is None or other.after[indices.start:indices.stop] != activation.after[indices.start:indices.stop]
+        yield SecretCopy(copy, is_secret, all(public.has(base + at) or at in writers and public.has(writers[at]) for at in indices))
 
 
 def show_window(run: Run, symbols: Symbols, printer: Printer, options: Namespace) -> None:

@@ -107,11 +107,11 @@ class Server:
 
     def transfer(self, rest: str) -> str:
         """Replies to qXfer with a part of a document."""
-        kind, _, name, place = rest[1:].split(":")
+        kind, _, name, location = rest[1:].split(":")
         made = {("features", "target.xml"): target_text, ("memory-map", ""): lambda: memory_text(self.setup.ram),
                 ("threads", ""): lambda: threads_text(map(self.hart_text, range(self.setup.harts if self.running else 0)))}
         text = made[kind, name]()
-        first, count = map(number_of, place.split(","))
+        first, count = map(number_of, location.split(","))
         return ("m" if first + count < len(text) else "l") + escaped(text[first:first + count])
 
     def threads(self, _: str) -> str:
@@ -194,17 +194,17 @@ class Server:
 
     def write_memory(self, rest: str) -> str:
         """Replies to M."""
-        place, digits = rest.split(":", 1)
-        return self.write(place, bytes.fromhex(digits))
+        location, digits = rest.split(":", 1)
+        return self.write(location, bytes.fromhex(digits))
 
     def write_binary(self, rest: str) -> str:
         """Replies to X."""
-        place, data = rest.split(":", 1)
-        return self.write(place, unescaped(data).encode("latin-1"))
+        location, data = rest.split(":", 1)
+        return self.write(location, unescaped(data).encode("latin-1"))
 
-    def write(self, place: str, data: bytes) -> str:
+    def write(self, location: str, data: bytes) -> str:
         """Pokes bytes; raises Refused if one is outside RAM."""
-        first, count = map(number_of, place.split(","))
+        first, count = map(number_of, location.split(","))
         if len(data) != count:
             raise Refused("got %d bytes instead of %d" % (len(data), count))
         if count and len(self.moves.view.bytes(first, count)) < count:
@@ -273,9 +273,9 @@ class Server:
         self.moves.redo()
         return self.halted(halt)
 
-    def go_on(self, action: str, place: str) -> str:
+    def go_on(self, action: str, location: str) -> str:
         """Replies to c and s of a debugger without vCont."""
-        if place:
+        if location:
             raise Refused("rvbench cannot write pc")
         return self.resume(";%s:%s" % (action, "-1" if self.moved is None else "%x" % (self.moved + 1)))
 

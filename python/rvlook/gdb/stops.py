@@ -119,12 +119,12 @@ class Stops:
 
     def is_quiet(self, timeline: Timeline) -> Callable[[bytes, int], bool]:
         """Returns a function that checks the replies to runs, as bytes: whether there is certainly no halt after any of them."""
-        places = [b"pc=%s " % it.split()[1].rjust(8, "0").encode() for it in timeline.stops if it.startswith("break")]
-        places += [b"pc=%08x " % at for at in self.beyond]
+        patterns = [b"pc=%s " % it.split()[1].rjust(8, "0").encode() for it in timeline.stops if it.startswith("break")]
+        patterns += [b"pc=%08x " % at for at in self.beyond]
 
         def is_quiet(block: bytes, runs: int) -> bool:
             return block.count(b"why=done") == runs and not (self.caught and block.count(NO_TRAP) < runs) \
-                and not any(it in block for it in places)
+                and not any(it in block for it in patterns)
 
         return is_quiet
 

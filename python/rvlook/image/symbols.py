@@ -169,8 +169,8 @@ def line_programs(dwarf: Any) -> Iterator[tuple[Any, Any]]:
 def file_names(program: Any) -> dict[int, str]:
     """Returns the file names of a line table by number: from 1 up to DWARF 4, from 0 in DWARF 5."""
     first = 0 if program["version"] >= 5 else 1
-    return {first + place: name_of(entry.name.split(b"/")[-1])
-            for place, entry in enumerate(program["file_entry"])}
+    return {first + number: name_of(entry.name.split(b"/")[-1])
+            for number, entry in enumerate(program["file_entry"])}
 
 
 def inlined_calls(file: Any) -> Iterator[Inlined]:
@@ -208,10 +208,10 @@ def entries_of(dwarf: Any, unit: Any) -> Iterator[Any]:
     """Yields the entries of a unit in the order of the file. pyelftools follows sibling references, and does not end if one is circular."""
     from elftools.dwarf.die import DIE
     unit.get_top_DIE()  # which others need to read indirect values
-    place, end = unit.cu_die_offset, unit.cu_offset + unit.size
-    while place < end:
-        entry = DIE(unit, dwarf.debug_info_sec.stream, place)
-        place += entry.size
+    offset, end = unit.cu_die_offset, unit.cu_offset + unit.size
+    while offset < end:
+        entry = DIE(unit, dwarf.debug_info_sec.stream, offset)
+        offset += entry.size
         yield entry
 
 

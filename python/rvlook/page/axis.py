@@ -36,15 +36,15 @@ def outside(first: int, end: int) -> dict[str, Any]:
 
 def cut(first: int, end: int, touched: Sequence[int]) -> Iterator[tuple[int, int, bool]]:
     """Yields the parts of a range: first address, end, and whether it is accessed."""
-    place, at = first, 0
+    start, at = first, 0
     while at < len(touched):
         low = high = touched[at]
         while at < len(touched) and touched[at] - high <= JOINED:
             high, at = touched[at], at + 1
         high = min(high + GRANULE, end)
-        if low > place:
-            yield place, low, False
+        if low > start:
+            yield start, low, False
         yield low, high, True
-        place = high
-    if place < end:
-        yield place, end, False
+        start = high
+    if start < end:
+        yield start, end, False

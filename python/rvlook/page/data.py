@@ -1,5 +1,5 @@
 """Packs the objects of a run for the page: repeated values are numbers in a table, and numbers are columns of bytes. The result is
-compressed by zlib, in base 64: the length of a JSON object in four bytes, little-endian; the object; and the columns, at the places that
+compressed by zlib, in base 64: the length of a JSON object in four bytes, little-endian; the object; and the columns, at the offsets that
 the object names."""
 from __future__ import annotations
 
@@ -50,14 +50,14 @@ class Columns:
         self.bytes = bytearray()
 
     def add(self, numbers: array[int]) -> dict[str, int]:
-        """Appends an array, in little-endian numbers of the least width that is enough; returns its place."""
+        """Appends an array, in little-endian numbers of the least width that is enough; returns its location."""
         largest = max(numbers, default=0)
         narrow = array(next(kind for kind in KINDS_OF_ARRAYS if largest < 256 ** array(kind).itemsize), numbers)
         if sys.byteorder == "big":
             narrow.byteswap()
-        place = {"width": narrow.itemsize, "at": len(self.bytes), "count": len(narrow)}
+        location = {"width": narrow.itemsize, "at": len(self.bytes), "count": len(narrow)}
         self.bytes += narrow.tobytes() + bytes(-len(narrow) * narrow.itemsize % 4)
-        return place
+        return location
 
 
 def compressed(data: Mapping[str, Any], columns: Columns) -> str:

@@ -14,7 +14,7 @@ from rvlook.protocol.lines import resolved
 from rvlook.access.map import Cause, Finder
 from rvlook.access.map_text import print_event
 from rvlook.protocol.nearest import nearest
-from rvlook.protocol.replies import Place, ran_of
+from rvlook.protocol.replies import Location, ran_of
 from rvlook.protocol.run import EQUAL, MOST_STEPS, equal_at_end
 from rvlook.output.printer import Style, place_text
 
@@ -172,7 +172,7 @@ class Session:
         """Prints the present access rights."""
         pc, now = self.pc, self.timeline
         self.finder.state = self.finder.state_of(now, now.worlds)
-        event = self.finder.event(now.position, now.hart, Cause("now"), Place(pc, now.modes[now.hart], now.worlds[now.hart]))
+        event = self.finder.event(now.position, now.hart, Cause("now"), Location(pc, now.modes[now.hart], now.worlds[now.hart]))
         print_event(self.printer, event, self.symbols)
 
     def back(self, count: str = "1") -> None:

@@ -67,7 +67,7 @@ def is_form(token: str, form: Form) -> bool:
 def rewritten(token: str, form: Form, symbols: Symbols | None = None) -> str | None:
     """Returns a word in the syntax of a form if its meaning is clear, else None. It may be an ABI name, the name of a control and status
     register, a symbol, or a number in the other base."""
-    if form is Form.address and symbols and token.split("+")[0].split("@")[0] in symbols.places:
+    if form is Form.address and symbols and token.split("+")[0].split("@")[0] in symbols.addresses_by_name:
         at = symbols.address(token)
         return None if at is None else "%x" % at
     if is_form(token, form):

@@ -34,15 +34,15 @@ def resolved_script(lines: Iterable[ScriptLine], symbols: Symbols) -> tuple[Scri
 def resolved_line(line: ScriptLine, symbols: Symbols) -> ScriptLine:
     """Returns a line of a script in the syntax of the bench; unchanged if a name is ambiguous, as the bench then refuses it."""
     try:
-        return ScriptLine(line.given, line.place, resolved(line.given, symbols))
+        return ScriptLine(line.given, line.location, resolved(line.given, symbols))
     except SymbolError as fault:
-        return ScriptLine(line.given, line.place, line.given, str(fault))
+        return ScriptLine(line.given, line.location, line.given, str(fault))
 
 
 def error_text(line: ScriptLine, reply: str, symbols: Symbols) -> str:
     """Returns the message for a line that the bench refuses."""
     meant = line.refused or meaning(reply, tokens_of(line.given), symbols)
-    return visible_line("%s: %s: %s: %s" % (line.place, line.given[:LONGEST_SHOWN], reply, meant))
+    return visible_line("%s: %s: %s: %s" % (line.location, line.given[:LONGEST_SHOWN], reply, meant))
 
 
 def meaning(reply: str, tokens: Sequence[str], symbols: Symbols) -> str:

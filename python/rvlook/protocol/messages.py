@@ -73,15 +73,15 @@ def operand_error(tokens: Sequence[str]) -> tuple[str, str | None]:
     """Returns what is wrong with the operands of a command, and what to write instead, or None."""
     name, operands = tokens[0], tokens[1:]
     command = COMMANDS[name]
-    comment = next((place for place, token in enumerate(operands) if token.startswith("#")), None)
+    comment = next((index for index, token in enumerate(operands) if token.startswith("#")), None)
     if comment is not None:
         return "a comment must be on a line of its own", " ".join(tokens[:comment + 1])
     if len(operands) != len(command.forms):
         return count_text(name, len(command.forms), len(operands)), (name + " " + command.letters).strip()
-    for place, (token, form) in enumerate(zip(operands, command.forms)):
+    for index, (token, form) in enumerate(zip(operands, command.forms)):
         if not is_form(token, form):
             better = rewritten(token, form)
-            fixed = [*operands[:place], better, *operands[place + 1:]] if better else None
+            fixed = [*operands[:index], better, *operands[index + 1:]] if better else None
             return "'%s' is not %s" % (token, form.value), " ".join([name, *fixed]) if fixed else None
     return "invalid operands of %s" % name, name + " " + command.letters
 

@@ -11,7 +11,7 @@ NO_TRAP = b"-"  # the trap of a step that has none
 STOPS = ("watch", "break")
 
 
-class Place(NamedTuple):
+class Location(NamedTuple):
     """The position of a hart: pc in eight hexadecimal digits, mode and world."""
     pc: str
     mode: str

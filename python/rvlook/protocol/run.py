@@ -251,7 +251,7 @@ class Replay:
     position: int = 0
     hart: int = 0
     bench: Bench = field(init=False)
-    place: int = 0  # in the plan
+    index: int = 0  # in the plan
     inside: int = 0  # of the plan's part there
 
     def __post_init__(self) -> None:
@@ -267,17 +267,17 @@ class Replay:
         """Returns the commands from the present step to right after a step."""
         commands: list[str] = []
         while self.position < step:
-            item = self.run.plan[self.place] if self.place < len(self.run.plan) else Steps(step - self.position)
+            item = self.run.plan[self.index] if self.index < len(self.run.plan) else Steps(step - self.position)
             if isinstance(item, Line):
-                self.place += 1
+                self.index += 1
                 self.take(item, commands)
                 continue
             count = min(item.count - self.inside, step - self.position, MOST_STEPS)
             commands.append("step %d" % count)
             self.position, self.inside = self.position + count, self.inside + count
-            if self.inside >= item.count and self.place < len(self.run.plan):
-                self.place, self.inside = self.place + 1, 0
-            elif self.place >= len(self.run.plan):
+            if self.inside >= item.count and self.index < len(self.run.plan):
+                self.index, self.inside = self.index + 1, 0
+            elif self.index >= len(self.run.plan):
                 self.inside = 0
         return commands
 
@@ -290,12 +290,12 @@ class Replay:
     def lines_up_to_next(self) -> list[str]:
         """Returns the lines of the script before the next step."""
         commands: list[str] = []
-        while self.place < len(self.run.plan):
-            item = self.run.plan[self.place]
+        while self.index < len(self.run.plan):
+            item = self.run.plan[self.index]
             if not isinstance(item, Line):
                 break
             self.take(item, commands)
-            self.place += 1
+            self.index += 1
         return commands
 
     def go(self, step: int) -> str | None:

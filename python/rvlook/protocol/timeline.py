@@ -65,8 +65,8 @@ Action = Union[Steps, Change]  # a part of the history of a bench
 
 def rotated(turns: str, count: int) -> str:
     """Returns a schedule as it continues after some steps."""
-    place = count % len(turns)
-    return turns[place:] + turns[:place]
+    offset = count % len(turns)
+    return turns[offset:] + turns[:offset]
 
 
 def actions_between(past: Iterable[Action], first: int, end: int) -> Iterator[Action]:

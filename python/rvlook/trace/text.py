@@ -174,10 +174,10 @@ class Lines:
         pc, it = int(step.at.pc, 16), step.instruction
         text = it.abi if it else "(not fetched)"
         if it and it.offset is not None:
-            text = text[:text.rindex(" ") + 1] + self.place(step.target if step.target is not None else pc + it.offset)
+            text = text[:text.rindex(" ") + 1] + self.address_text(step.target if step.target is not None else pc + it.offset)
         return Site(short_form(text) if self.is_short else text, self.symbols.function(pc), self.symbols.line(pc))
 
-    def place(self, address: int) -> str:
+    def address_text(self, address: int) -> str:
         """Returns an address as objdump writes it."""
         name = self.symbols.name(address)
         return "%08x <%s>" % (address, name) if name else "%08x" % address
@@ -198,7 +198,7 @@ class Lines:
         if step.touch:
             changed.append(touch_text(step.touch, self.symbols))
         elif step.instruction and step.instruction.is_jalr and step.target is not None:
-            changed.append("to " + self.place(step.target))
+            changed.append("to " + self.address_text(step.target))
         return changed
 
     def aside(self, text: str, style: Style = Style.aside) -> None:

@@ -98,20 +98,20 @@ class FinalStates:
         if self.search.bounds.preemptions is not None:
             graph = counted(graph, self.search.bounds.preemptions)
         found = Components(graph)
-        parts, place_of = found.parts, found.place_of
-        paths = paths_of(graph, parts, place_of)
-        for place, vertices in enumerate(parts):
-            part = Component(self.search, graph, vertices, place_of)
+        parts, component_of = found.parts, found.component_of
+        paths = paths_of(graph, parts, component_of)
+        for index, vertices in enumerate(parts):
+            part = Component(self.search, graph, vertices, component_of)
             harts = part.ended()
             if harts:
-                self.orders += paths[place]
-                yield from self.of_component(part, harts, paths[place])
+                self.orders += paths[index]
+                yield from self.of_component(part, harts, paths[index])
 
     def of_component(self, part: Component, harts: Sequence[str], orders: int) -> Iterator[FinalState]:
         """Yields the final states of a component: one for each set of values, or one if the values are not known."""
         over = tuple(part.over(hart) if how == ENDED else (how, None) for hart, how in enumerate(harts))
         vertex = part.vertices[0]
-        found: dict[tuple[Value, ...], Found] = {(): (vertex, part.graph.nodes[vertex].place.state, ())}
+        found: dict[tuple[Value, ...], Found] = {(): (vertex, part.graph.nodes[vertex].point.state, ())}
         if NOT_SEARCHED not in harts and (UNFINISHED not in harts or ENDED in harts):
             found, is_hidden = part.values(self.outcome)
             self.are_hidden = self.are_hidden or is_hidden
@@ -123,12 +123,12 @@ class FinalStates:
 class Component:
     """A strongly connected component of the graph of orders, its vertices by cost."""
 
-    def __init__(self, search: Search, graph: Graph, vertices: Iterable[Vertex], place_of: Mapping[Vertex, int]) -> None:
+    def __init__(self, search: Search, graph: Graph, vertices: Iterable[Vertex], component_of: Mapping[Vertex, int]) -> None:
         self.search, self.machine, self.graph = search, search.machine, graph
         self.vertices = sorted((it for it in vertices if it in graph.nodes), key=lambda it: graph.nodes[it].cost)
         self.all = set(vertices)
-        self.moves = moves_inside(graph, vertices, place_of) if self.vertices else {}
-        self.state = graph.nodes[self.vertices[0]].place.state if self.vertices else search.machine.start
+        self.moves = moves_inside(graph, vertices, component_of) if self.vertices else {}
+        self.state = graph.nodes[self.vertices[0]].point.state if self.vertices else search.machine.start
 
     def loop(self, hart: int) -> Loop | None:
         """Returns the endless loop of a hart that no other hart can affect, or None."""
@@ -163,7 +163,7 @@ class Component:
     def over(self, hart: int) -> HartEnd:
         """Returns how and where a hart ended. It STAYS if it was expected to end elsewhere."""
         machine, nodes = self.machine, self.graph.nodes
-        pc = min(machine.pc(nodes[it].place.state, hart) for it in self.vertices)
+        pc = min(machine.pc(nodes[it].point.state, hart) for it in self.vertices)
         if hart in self.moves:
             pc = min(pc, *(work.pc for work in self.alone(hart)))
         return (HALTS if machine.ends and not machine.limit and pc not in machine.ends else ENDED), pc
@@ -185,15 +185,15 @@ class Component:
         machine = self.machine
         found: dict[tuple[Value, ...], Found] = {}
         for vertex in self.vertices:
-            state = self.graph.nodes[vertex].place.state
+            state = self.graph.nodes[vertex].point.state
             found.setdefault(values_in(machine, outcome, state), (vertex, state, ()))
         if self.search.is_outcome_visible:
             return found, False
         loops = [it for it in range(machine.count) if it not in self.moves and self.loop(it) and len(self.values_alone(it, outcome)) > 1]
         going = [*self.moves, *loops]
         if len(going) == 1:
-            for values, place in self.values_alone(going[0], outcome).items():
-                found.setdefault(values, place)
+            for values, index in self.values_alone(going[0], outcome).items():
+                found.setdefault(values, index)
         return found, len(going) > 1 and any(self.search.is_hidden(hart) for hart in going)
 
     def values_alone(self, hart: int, outcome: Sequence[Observed]) -> dict[tuple[Value, ...], Found]:
@@ -244,12 +244,12 @@ def find_final_states(search: Search, outcome_of: Callable[[Search], Sequence[Ob
     return found
 
 
-def moves_inside(graph: Graph, part: Iterable[Vertex], place_of: Mapping[Vertex, int]) -> dict[int, list[Move]]:
+def moves_inside(graph: Graph, part: Iterable[Vertex], component_of: Mapping[Vertex, int]) -> dict[int, list[Move]]:
     """Returns the moves of each hart that stay in a component."""
     found = defaultdict(list)
     for vertex in part:
         for target, hart, move, _ in graph.edges.get(vertex, ()):
-            if place_of.get(target) == place_of[vertex]:
+            if component_of.get(target) == component_of[vertex]:
                 found[hart].append(move)
     return found
 
@@ -261,10 +261,10 @@ def counted(graph: Graph, bound: int) -> Graph:
     waiting: list[Vertex] = [start]
     while waiting:
         vertex = waiting.pop()
-        place, came = vertex
-        if place in graph.nodes and vertex not in new.nodes:
-            new.nodes[vertex] = graph.nodes[place]
-            new.edges[vertex] = [((target, came + more), hart, move, more) for target, hart, move, more in graph.edges.get(place, ())
+        index, came = vertex
+        if index in graph.nodes and vertex not in new.nodes:
+            new.nodes[vertex] = graph.nodes[index]
+            new.edges[vertex] = [((target, came + more), hart, move, more) for target, hart, move, more in graph.edges.get(index, ())
                                  if came + more <= bound]
             waiting += [target for target, *_ in new.edges[vertex]]
     return new
@@ -309,7 +309,7 @@ class Components:
         self.stack: list[Vertex] = []
         self.on_stack: set[Vertex] = set()
         self.parts: list[list[Vertex]] = []
-        self.place_of: dict[Vertex, int] = {}
+        self.component_of: dict[Vertex, int] = {}
         for root in list(graph.nodes):
             if root not in self.number:
                 self.walk(root)
@@ -347,20 +347,20 @@ class Components:
             while part[-1] != vertex:
                 part.append(self.stack.pop())
             self.on_stack.difference_update(part)
-            self.place_of.update(dict.fromkeys(part, len(self.parts)))
+            self.component_of.update(dict.fromkeys(part, len(self.parts)))
             self.parts.append(part)
 
 
-def paths_of(graph: Graph, parts: Sequence[Sequence[Vertex]], place_of: Mapping[Vertex, int]) -> dict[int, int]:
+def paths_of(graph: Graph, parts: Sequence[Sequence[Vertex]], component_of: Mapping[Vertex, int]) -> dict[int, int]:
     """Returns for each component the number of paths from the start."""
     if not graph.nodes:
         return {}
     paths, start = defaultdict(int), next(iter(graph.nodes))
-    paths[place_of[start]] = 1
-    for place in range(len(parts) - 1, -1, -1):
-        if paths[place]:
-            for vertex in parts[place]:
+    paths[component_of[start]] = 1
+    for index in range(len(parts) - 1, -1, -1):
+        if paths[index]:
+            for vertex in parts[index]:
                 for target, *_ in graph.edges.get(vertex, ()):
-                    if place_of[target] != place:
-                        paths[place_of[target]] += paths[place]
+                    if component_of[target] != index:
+                        paths[component_of[target]] += paths[index]
     return paths

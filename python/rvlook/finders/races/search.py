@@ -1,6 +1,6 @@
 """The search of `races` over all orders of two harts and all timer interrupts, with partial-order reduction. It switches harts only before
 a dependent step: one that accesses a byte which both harts access and at least one writes, that calls the monitor, or that accesses memory
-which is ever part of a region. The search is repeated as long as more shared bytes are found. Equal places are joined; the simplest way to
+which is ever part of a region. The search is repeated as long as more shared bytes are found. Equal points are joined; the simplest schedule to
 each is found first, by preemptions, timer interrupts, switches and steps."""
 from __future__ import annotations
 
@@ -19,7 +19,7 @@ if TYPE_CHECKING:
     from rvlook.finders.races.machine import Context, Look, Machine, Outcome, Segment, Schedule
     from rvlook.finders.races.loop import Loop
 
-MOST_PLACES = 500000  # states with the hart that stepped last; the search ends there, and is not whole
+MOST_STATES = 500000  # states with the hart that stepped last; the search ends there, and is not whole
 MOST_ALONE = 10000  # moves of one hart in succession; then it is reported as not ended, and the search is not whole
 SEARCH_SHARE = 0.85  # of the time limit; the rest is for the analysis of the graph and for the replays
 
@@ -42,7 +42,7 @@ class Move(NamedTuple):
     changes: bool
 
 
-class Place(NamedTuple):
+class SearchPoint(NamedTuple):
     """A state of the search: the state of the machine, the last hart, the number of timer interrupts, and whether a switch or an interrupt
     has occurred."""
     state: State
@@ -58,26 +58,26 @@ class Origin(NamedTuple):
     is_timer: bool = False
 
 
-Vertex = Tuple[Any, ...]  # a place, or a part of one
+Vertex = Tuple[Any, ...]  # a point, or a part of one
 Edge = Tuple[Vertex, int, Move, int]  # where it leads, the hart, its move, and 1 for a preemption
 Agent = Union[int, Tuple[int, str]]  # a hart, or a hart in a world
 Cost = Tuple[int, int, int, int]  # preemptions, timers, switches and steps
 
 
 class Node:
-    """A place with the way to it. `cost` is that of the whole way. `alone` counts the moves of its hart in succession; `low` is the first step
-    that the next switch may be attributed to."""
-    __slots__ = ("place", "parent", "move", "is_timer", "alone", "cost", "low")
+    """A point with the simplest schedule that leads to it, whose cost is `cost`. `alone` counts the moves of its hart in succession; `low` is the
+    first step that the next switch may be attributed to."""
+    __slots__ = ("point", "parent", "move", "is_timer", "alone", "cost", "low")
 
-    def __init__(self, place: Place, cost: Cost = (0, 0, 0, 0), origin: Origin = Origin(), alone: int = 0, low: int = 0) -> None:
-        self.place, self.cost, self.alone, self.low = place, cost, alone, low
+    def __init__(self, point: SearchPoint, cost: Cost = (0, 0, 0, 0), origin: Origin = Origin(), alone: int = 0, low: int = 0) -> None:
+        self.point, self.cost, self.alone, self.low = point, cost, alone, low
         self.parent, self.move, self.is_timer = origin
 
     @property
     def hart(self) -> int:
         """The hart of the last move; the start has none."""
-        assert self.place.last is not None
-        return self.place.last
+        assert self.point.last is not None
+        return self.point.last
 
     @property
     def last_move(self) -> Move:
@@ -162,7 +162,7 @@ class Bounds(NamedTuple):
 
 class Search:
     """All orders within bounds. `plain` switches harts before each step; `outcome` is what distinguishes final states; `progress`, which may
-    be set, is called with the search at each place."""
+    be set, is called with the search at each point."""
 
     def __init__(self, machine: Machine, bounds: Bounds = Bounds(), plain: bool = False, outcome: Watched = Watched(),
                  limit: TimeLimit = TimeLimit()) -> None:
@@ -183,7 +183,7 @@ class Search:
     def reset(self) -> None:
         """Begins a new round."""
         self.cycles: dict[tuple[State, int], int] = {}
-        self.done: set[Place] = set()
+        self.done: set[SearchPoint] = set()
         self.graph = Graph()
         self.count, self.level, self.waiting = 0, (0, 0), 0
 
@@ -237,11 +237,11 @@ class Search:
     def search(self) -> bool:
         """Searches one round; returns False if more bytes turned out to be shared."""
         order, self.regions = itertools.count(), len(self.machine.regions)
-        start = Node(Place(self.machine.start, None, 0, not self.bounds.is_part))
+        start = Node(SearchPoint(self.machine.start, None, 0, not self.bounds.is_part))
         heap = [(start.cost, next(order), start)]
         while heap:
             cost, _, node = heapq.heappop(heap)
-            if node.place in self.done:
+            if node.point in self.done:
                 continue
             if cost[:2] > self.level:
                 if self.grows():
@@ -249,13 +249,13 @@ class Search:
                 if self.whole is None or self.level >= self.whole:
                     self.whole, self.earlier = self.level, self.graph
                 self.level = cost[:2]
-            self.done.add(node.place)
+            self.done.add(node.point)
             self.graph.nodes.setdefault(self.vertex(node), node)
             self.waiting = len(heap)
             if self.progress:
                 self.progress(self)
-            if len(self.done) >= MOST_PLACES:
-                self.why_cut = "the limit of %d states" % MOST_PLACES
+            if len(self.done) >= MOST_STATES:
+                self.why_cut = "the limit of %d states" % MOST_STATES
                 return True
             for following in self.next_nodes(node):
                 heapq.heappush(heap, (following.cost, next(order), following))
@@ -264,8 +264,8 @@ class Search:
 
     def vertex(self, node: Node) -> Vertex:
         """Returns the vertex of a node in the graph of orders. The last hart does not matter if the preemptions are not bounded."""
-        place = node.place
-        return place if self.bounds.preemptions is not None else (place.state, place.timers, place.begun)
+        point = node.point
+        return point if self.bounds.preemptions is not None else (point.state, point.timers, point.begun)
 
     def edges_of(self, node: Node) -> list[Edge]:
         """Returns the list for the edges of a node; a discarded one if its vertex has edges already."""
@@ -274,7 +274,7 @@ class Search:
 
     def next_nodes(self, node: Node) -> Iterator[Node]:
         """Yields the nodes that follow, with their cost."""
-        state, last, timers, begun = node.place
+        state, last, timers, begun = node.point
         if node.alone > MOST_ALONE:
             self.graph.alone.add((state, node.hart))
             for hart in range(self.machine.count):
@@ -294,7 +294,7 @@ class Search:
                     continue
                 self.count += 1
                 comes = is_switch or is_timer
-                new = Node(Place(move.state, hart, timers + is_timer, begun or comes),
+                new = Node(SearchPoint(move.state, hart, timers + is_timer, begun or comes),
                            (preemptions, cost[1] + is_timer, cost[2] + is_switch, cost[3] + move.steps), Origin(node, move, is_timer),
                            1 if comes else node.alone + 1, cost[3] + move.dependent.before + 1)
                 edges.append((self.vertex(new), hart, move, preemptions - cost[0]))
@@ -303,7 +303,7 @@ class Search:
     def is_in_part(self, node: Node, hart: int) -> bool:
         """Returns whether the first switch or timer interrupt, which is here, represents one within `first` and `last`. It could also come before
         any of the independent steps around here, and in an endless loop in each round."""
-        state, last = node.place.state, node.place.last
+        state, last = node.point.state, node.point.last
         following = self.move(state, hart if last is None else last, node.schedule)
         low, high = node.low, node.cost[3] + (following.dependent.before if following else 0)
         is_late = following is None or high >= self.bounds.first
@@ -442,7 +442,7 @@ class Search:
             state = move.state
             passed.append(passed[-1] + move.steps)
         first = chain[state] if state in chain and move else len(chain)
-        self.cycles.update({(it, hart): passed[-1] - passed[first] if place >= first else 0 for it, place in chain.items()})
+        self.cycles.update({(it, hart): passed[-1] - passed[first] if index >= first else 0 for it, index in chain.items()})
         return bool(self.cycles[runs, hart])
 
 

@@ -36,8 +36,8 @@ def counted(count: int, name: str) -> str:
 class Story:
     """A final state with its text."""
 
-    def __init__(self, end: FinalState, outcome: Sequence[Observed], search: Search, symbols: Symbols, places: Sequence[Set[int | None]]) -> None:
-        self.end, self.outcome, self.search, self.symbols, self.places = end, outcome, search, symbols, places
+    def __init__(self, end: FinalState, outcome: Sequence[Observed], search: Search, symbols: Symbols, end_pcs: Sequence[Set[int | None]]) -> None:
+        self.end, self.outcome, self.search, self.symbols, self.end_pcs = end, outcome, search, symbols, end_pcs
 
     def heading(self) -> str:
         """Returns a final state as a line: its values, and how the harts ended if the values do not show it."""
@@ -46,20 +46,20 @@ class Story:
             if how == UNFINISHED:
                 parts.append("hart %d not finished after %s" % (hart, self.limit(hart)))
             elif how == HALTS:
-                parts.append("hart %d halts at %s, which is not an --end" % (hart, self.place(pc)))
+                parts.append("hart %d halts at %s, which is not an --end" % (hart, self.location(pc)))
             elif how != ENDED:
                 parts.append("hart %d %s" % (hart, HOW_TEXT[how]))
-            elif len(self.places[hart]) > 1:
-                parts.append("hart %d at %s" % (hart, self.place(pc)))
+            elif len(self.end_pcs[hart]) > 1:
+                parts.append("hart %d at %s" % (hart, self.location(pc)))
         return "  ".join(parts) or "all harts ended"
 
     def limit(self, hart: int) -> str:
         """Returns how far a hart was run."""
-        search, state = self.search, self.end.node.place.state
+        search, state = self.search, self.end.node.point.state
         is_alone = any((state, hart) in it.alone for it in search.graphs())
         return "%d transitions alone" % MOST_ALONE if is_alone else counted(search.bounds.steps, "step")
 
-    def place(self, pc: int | None) -> str:
+    def location(self, pc: int | None) -> str:
         """Returns the source line of a pc, its symbol or its address; the pc must be known."""
         assert pc is not None
         return self.symbols.source(pc) or self.symbols.name(pc) or hex8(pc)
@@ -68,7 +68,7 @@ class Story:
         """Returns the moves that lead to the final state, grouped by hart; a timer interrupt begins a group."""
         turns: list[list[Node]] = []
         for it in self.end.node.path():
-            if turns and turns[-1][0].place.last == it.place.last and not it.is_timer:
+            if turns and turns[-1][0].point.last == it.point.last and not it.is_timer:
                 turns[-1].append(it)
             else:
                 turns.append([it])
@@ -79,18 +79,18 @@ class Story:
         turns = self.turns()
         for number, turn in enumerate(turns):
             if turn[0].is_timer:
-                yield "%s before %s" % (timer_text(turn[0].last_move.dependent), self.place(turn[0].last_move.dependent.pc))
+                yield "%s before %s" % (timer_text(turn[0].last_move.dependent), self.location(turn[0].last_move.dependent.pc))
             elif 0 < number < len(turns) - 1:
                 before, after = turns[number - 1], turns[number + 1]
                 steps = [[it.last_move.dependent for it in part] for part in (before, turn, after)]
                 pcs = [[it.pc for it in part if it.pc is not None] for part in steps]
                 if all(pcs) and before[0].hart == after[0].hart != turn[0].hart and not after[0].is_timer:
                     yield "hart %d executes %s between %s and %s of hart %d" % (
-                        turn[0].hart, self.span(pcs[1]), self.place(pcs[0][-1]), self.place(pcs[2][0]), before[0].hart)
+                        turn[0].hart, self.span(pcs[1]), self.location(pcs[0][-1]), self.location(pcs[2][0]), before[0].hart)
 
     def span(self, pcs: Sequence[int]) -> str:
         """Returns the first and the last place of a group."""
-        first, last = self.place(pcs[0]), self.place(pcs[-1])
+        first, last = self.location(pcs[0]), self.location(pcs[-1])
         return first if first == last else "%s to %s" % (first, last)
 
     def access(self, node: Node) -> str:
@@ -197,7 +197,7 @@ def show_races(run: Run, symbols: Symbols, printer: Printer, options: Namespace)
     """Searches all orders, and reports the final states. Raises Unfinished if the program cannot be searched."""
     conditions = [condition_of(it, symbols) for it in options.forbid or ()]
     outcome = outcomes_of(options.outcome, conditions, symbols, run.setup.harts)
-    ends = [place_of(it, symbols) for it in options.end or ()]
+    ends = [address_of(it, symbols) for it in options.end or ()]
     bounds = Bounds(options.preemptions, options.timers, run.setup.limit, options.first, options.last)
     limit = TimeLimit(options.seconds)
     machine = Machine(run, ends, options.limit)
@@ -215,7 +215,7 @@ def show_races(run: Run, symbols: Symbols, printer: Printer, options: Namespace)
         raise KeyboardInterrupt
 
 
-def place_of(text: str, symbols: Symbols) -> int:
+def address_of(text: str, symbols: Symbols) -> int:
     """Returns the address of a place; raises RvlookError."""
     at = symbols.address(text)
     if at is None:
@@ -251,8 +251,8 @@ def print_report(report: Report, printer: Printer, options: Namespace) -> None:
     search, found, conditions = report.search, report.found, report.conditions
     machine, named = search.machine, found.outcome
     replay(search, found, conditions)
-    places = [{pc for it in found.ends for how, pc in it.harts[hart:hart + 1]} for hart in range(machine.count)]
-    stories = report.stories = [Story(it, named, search, report.symbols, places) for it in found.ends]
+    end_pcs = [{pc for it in found.ends for how, pc in it.harts[hart:hart + 1]} for hart in range(machine.count)]
+    stories = report.stories = [Story(it, named, search, report.symbols, end_pcs) for it in found.ends]
     if options.scripts:
         write_scripts(options.scripts, machine, found.ends, named, lambda end: "final state %d: %s" % (
             end.number, stories[end.number - 1].heading()))
