@@ -253,7 +253,7 @@ def touched_text(kind: Kind, it: Touched) -> str:
 def permitted_text(it: Permitted) -> str:
     """Returns a permitted range as a line, with how much of it was used."""
     size = it.range.end - it.range.first
-    used = "  ".join("%s %d" % (kind, it.touched[kind]) for kind in it.kinds if kind != "-") if it.lowest is not None else "nothing"
+    used = "  ".join("%s %d" % (kind, it.touched[kind]) for kind in it.kinds if kind != "-") if it.lowest is not None else "not accessed"
     text = "%08x-%08x %7s  %s  %s" % (it.range.first, it.range.end - 1, names.size_text(size), it.kinds, used)
     if it.what and it.lowest is not None and it.enough < size:
         return "%s  %s, of which %s would be enough" % (text, it.what, names.size_text(it.enough))

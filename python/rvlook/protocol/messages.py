@@ -15,7 +15,7 @@ IMAGE_ERRORS = {
     6: ("the program header table is truncated, damaged, or has more than 64 entries", "a link with PHDRS in the linker script"),
     7: ("a segment extends past the end of the file", "the complete file"),
     8: ("a segment is larger in the file than in memory", "a new copy of the file, which is damaged"),
-    9: ("a segment is outside RAM, or below 80010000 under the monitor",
+    9: ("a part of the image is outside RAM, or below 80010000 under the monitor",
         "a link address of 80000000 or above (80010000 under the monitor), or a larger --ram"),
     10: ("two segments overlap", "disjoint load addresses"),
     11: ("the entry point is misaligned, outside RAM, or in the monitor's range", "ENTRY(_start) with _start in the image")}
@@ -24,7 +24,7 @@ COMMANDS_OF_OTHERS = {
     "si": "step", "stepi": "step", "n": "step", "next": "step", "b": "break", "breakpoint": "break", "delete": "clear", "set": "setreg",
     "write": "poke", "disas": "dis", "disassemble": "dis", "memory": "mem", "watchpoint": "watch", "read": "mem"}
 INPUT_ERRORS = {"too long": ("the image has more than 33554432 bytes", "a smaller image"),
-                "hex": ("a line is not hexadecimal digits; see 'rvlook explain'", None),
+                "hex": ("a line is malformed; see 'rvlook explain'", None),
                 "memory": ("out of memory", "a smaller input"), "read": ("the input cannot be read", "a readable input"),
                 "ram 1": ("--ram must be a multiple of 65536 from 65536 to 16777216", "--ram 1048576"),
                 "ram 2": ("out of memory for the RAM", "a smaller --ram")}
