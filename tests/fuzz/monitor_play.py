@@ -289,8 +289,8 @@ class TwinPlay(Play):
         one, other = ([it[3:] for it in replies if it.startswith(mark)] for mark in ("a: ", "b: "))
         assert one == other, "the replies of the model to %s differ: %s" % (line, replies)
         if live:
-            told = "entered" if self.is_over else replies[0] if replies[0].startswith("error blind") else words[0]
-            self.taken["twin " + told] += 1
+            event = "entered" if self.is_over else replies[0] if replies[0].startswith("error blind") else words[0]
+            self.taken["twin " + event] += 1
         return replies
 
     def drawn_slot(self, *states):
@@ -389,7 +389,7 @@ def cut_short(program, play):
     return play.lines[:high]
 
 
-def told(program, play, seed):
+def report(program, play, seed):
     """Returns the difference with a minimized script."""
     lines = made_small(program, play, cut_short(program, play))
     print("seed %d: the program differs from the model; rvbench %s\n%s" % (
@@ -413,7 +413,7 @@ def main(words):
         given = answer(play, play.lines)
         if given != "".join(reply + "\n" for reply in play.all_replies()):
             failed += 1
-            print("seed %d: the model differs from itself" % seed) if arguments.alone else told(program, play, seed)
+            print("seed %d: the model differs from itself" % seed) if arguments.alone else report(program, play, seed)
         elif arguments.other_hart and play.secret_at and len({answer(play, play.with_secret(number)) for number in range(SECRETS)}) > 1:
             failed += 1
             print("seed %d: a secret of the enclave on hart %d changes the output" % (seed, play.own))

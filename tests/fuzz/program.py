@@ -64,7 +64,7 @@ def smallest(program, words, data):
     return data
 
 
-def told(program, name, words, data):
+def report(program, name, words, data):
     """Returns the difference as a case, and the actual output."""
     data = smallest(program, words, data)
     (right, status), (output, its_status) = fuzz_model.answer(words, data), written(program, words, data)
@@ -79,17 +79,17 @@ def main(arguments):
     for option, default in (("--seed", 1), ("--count", 700), ("--most", 3)):
         parser.add_argument(option, type=int, default=default)
     parser.add_argument("--kind", nargs="+", choices=KINDS, default=list(KINDS))
-    asked = parser.parse_args(arguments)
-    program, counts, failed = os.path.realpath(asked.program), collections.Counter(), 0
-    for i in range(asked.count):
-        kind = asked.kind[i % len(asked.kind)]
-        words, data = drawn(random.Random("%d/%d/%s" % (asked.seed, i, kind)), kind)
+    arguments = parser.parse_args(arguments)
+    program, counts, failed = os.path.realpath(arguments.program), collections.Counter(), 0
+    for i in range(arguments.count):
+        kind = arguments.kind[i % len(arguments.kind)]
+        words, data = drawn(random.Random("%d/%d/%s" % (arguments.seed, i, kind)), kind)
         right, status = fuzz_model.answer(words, data)
         counts["%s %s" % (kind, "refused" if status else "done")] += 1
         if (right, status) != written(program, words, data):
             failed += 1
-            told(program, "seed_%d_%s_%d" % (asked.seed, kind, i), words, data)
-        if failed == asked.most:
+            report(program, "seed_%d_%s_%d" % (arguments.seed, kind, i), words, data)
+        if failed == arguments.most:
             break
     print("; ".join("%s %d" % it for it in sorted(counts.items())))
     print("%d passed, %d failed" % (sum(counts.values()) - failed, failed))

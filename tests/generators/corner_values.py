@@ -28,7 +28,7 @@ class Case:
     topic, all, words = "corner_values", [], {}
 
     def __init__(self, name, registers=None):
-        self.name, self.script, self.replies, self.told = name, [], [], None
+        self.name, self.script, self.replies, self.last_comment = name, [], [], None
         self.image, self.stored, self.regs, self.pc, self.halves = {}, {}, [0] * 32, START, [START, START + HALF]
         Case.all.append(self)
         for number, value in (registers or {}).items():
@@ -53,9 +53,9 @@ class Case:
         if self.pc not in self.stored:
             assert self.image.get(self.pc) in (None, word & 0xFF), "two words at one place"
             self.image.update(enumerate(word.to_bytes(4, "little"), self.pc))
-        if text != self.told:
+        if text != self.last_comment:
             self.script.append("# " + text)
-        self.told, self.pc = text, 0 if trap else (self.pc + 4 if to is None else to) & ONES
+        self.last_comment, self.pc = text, 0 if trap else (self.pc + 4 if to is None else to) & ONES
         self.say("step 1", "ran 1 pc=%08x mode=M world=bare why=done trap=%s" % (self.pc, "%08x:%08x" % trap if trap else "-"))
         if rd is not None:
             self.regs[rd] = value & ONES if rd else 0

@@ -42,7 +42,7 @@ class Case:
     def pc(self):
         return self.bench.machine.pc
 
-    def tell(self, line, *written):
+    def add(self, line, *written):
         """Adds a line of the script, with its reply if that is handwritten."""
         replies = self.bench.replies(line)
         assert not written or replies == list(written), (line, replies)
@@ -51,34 +51,34 @@ class Case:
 
     def go(self, command, count, line=None):
         """Adds steps, and the reason why they end."""
-        self.tell(line or "%s %d" % (command, count))
+        self.add(line or "%s %d" % (command, count))
         return self.replies[-1].split("why=")[1].split(" ")[0]
 
     def run(self, count):
         return self.go("run", count)
 
     def sched(self, digits):
-        self.tell("sched " + digits)
+        self.add("sched " + digits)
 
     def put(self, command, address):
         """Adds break or watch."""
-        self.tell("%s %x" % (command, address))
+        self.add("%s %x" % (command, address))
 
     def take(self, command, address):
         """Adds clear or unwatch."""
         self.put(command, address)
 
     def setreg(self, register, number):
-        self.tell("setreg %d %x" % (register, number))
+        self.add("setreg %d %x" % (register, number))
 
     def poke(self, address, byte):
-        self.tell("poke %x %x" % (address, byte))
+        self.add("poke %x %x" % (address, byte))
 
     def mem(self, address, count):
-        self.tell("mem %x %d" % (address, count))
+        self.add("mem %x %d" % (address, count))
 
     def reg(self, register):
-        self.tell("reg %d" % register)
+        self.add("reg %d" % register)
 
 
 cases = []
@@ -218,7 +218,7 @@ def full_sets():
             case.take(away, AREA + 3 * i)
         case.put(command, AREA + 30)
         case.put(command, AREA + 1)
-        case.tell("%s 0x%08X" % (command, AREA + 1), "ok")
+        case.add("%s 0x%08X" % (command, AREA + 1), "ok")
     case = Case("thirty_two_breaks", [("addi", 1, 1, 1)] * 70)
     for i in order_of:
         case.put("break", START + 8 * i + 4)
@@ -245,8 +245,8 @@ def pokes():
     for address, byte in ((AREA, 0xA5), (AREA, 0), (AREA + 1, 0xFF), (START - 1, 1), (PAST - 1, 0x7F), (PAST, 1), (0, 1),
                           (ONES, 1), (AREA, 0x80)):
         case.poke(address, byte)
-    case.tell("poke 0x%X 0" % (AREA + 2), "ok")
-    case.tell("poke %x aB" % (AREA + 3), "ok")
+    case.add("poke 0x%X 0" % (AREA + 2), "ok")
+    case.add("poke %x aB" % (AREA + 3), "ok")
     case.mem(AREA, 4)
     case.mem(PAST - 1, 1)
     case.run(9)
@@ -255,8 +255,8 @@ def pokes():
     case.poke(START + 2, 0x30)
     case.go("step", 2)
     case.reg(1)
-    case.tell("enclaves")
-    case.tell(" enclaves\t")
+    case.add("enclaves")
+    case.add(" enclaves\t")
 
 
 def one_hart():
@@ -270,14 +270,14 @@ def one_hart():
         case.sched(digits)
         case.reg(1)
     for line, reply in (("hart 0", "ok"), ("hart 1", "error hart"), ("csr f14", "csr f14=00000000"), (" hart\t0 ", "ok")):
-        case.tell(line, reply)
+        case.add(line, reply)
     case.setreg(31, START)
     for line in ("hart", "hart 2", "hart 00", "hart 01", "hart 0x1", "hart -1", "hart 1 1", "hart 1 # x", "hart one", "sched", "sched 2",
                  "sched 12", "sched 0 0", "sched " + "0" * 65, "sched " + "1" * 65, "sched " + "0" * 63 + "2", "sched 0x0", "sched 0,0"):
-        case.tell(line, "error operand")
+        case.add(line, "error operand")
     for line in ("Hart 0", "harts 0", "Sched 0", "sched0", "schedule 0"):
-        case.tell(line, "error command")
-    case.tell("sched 0" + " " * 114, "error line")
+        case.add(line, "error command")
+    case.add("sched 0" + " " * 114, "error line")
     case.sched("0")
     case.run(9)
     case.reg(1)
@@ -289,21 +289,21 @@ def malformed():
     addresses = ["", "0x", "0X0", "x0", "g", "-1", "+1", "123456789", "0x123456789", "0 0", "0,", "pc", "80000000 # x"]
     for command in ("run", "step"):
         for operands in counts:
-            case.tell(("%s %s" % (command, operands)).strip(), "error operand")
+            case.add(("%s %s" % (command, operands)).strip(), "error operand")
     for command in ("break", "clear", "watch", "unwatch"):
         for operands in addresses:
-            case.tell(("%s %s" % (command, operands)).strip(), "error operand")
+            case.add(("%s %s" % (command, operands)).strip(), "error operand")
     for operands in addresses:
-        case.tell(("poke %s 0" % operands).strip(), "error operand")
+        case.add(("poke %s 0" % operands).strip(), "error operand")
     for byte in ("", "100", "001", "0x1", "0x", "g", "-1", "+1", "1 2", "1,", "# x"):
-        case.tell(("poke 80000000 " + byte).strip(), "error operand")
+        case.add(("poke 80000000 " + byte).strip(), "error operand")
     for operands in ("0", "all", "# x"):
-        case.tell("enclaves " + operands, "error operand")
+        case.add("enclaves " + operands, "error operand")
     for line in ("Run 1", "RUN 1", "runs 1", "run1", "Break 0", "breaks", "brk 0", "cont 1", "Clear 0", "clears 0", "Watch 0",
                  "watches", "Unwatch 0", "unWatch 0", "un watch 0", "Poke 0 0", "pokes 0 0", "enclave", "Enclaves", "bare"):
-        case.tell(line, "error command")
+        case.add(line, "error command")
     for line in ("run 1\x00", "run 1\r\r", "break 0\x7f", "# watch 0\x80", "poke" + " " * 117 + "0"):
-        case.tell(line, "error line")
+        case.add(line, "error line")
     # nothing is set, and nothing ran
     case.go("step", 1)
     case.put("break", START)
@@ -322,7 +322,7 @@ def hostile_lines():
             ("dis fffffffe", "error outside"), ("csr 7a0", "error csr"), ("sched 0101", "error hart"), ("--", "error command"),
             ("reg\0 1", "error line"), ("a" * 121, "error line"), ("a" * 120, "error command"), ("#" * 120, None), ("\t", None),
             ("# x", None), ("#\t\x7f", "error line")):
-        case.tell(line, *[reply] if reply else [])
+        case.add(line, *[reply] if reply else [])
         case.run(1)
     case.reg(1)
 

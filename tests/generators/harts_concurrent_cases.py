@@ -53,17 +53,17 @@ def loaded(register, word):
 
 def program():
     """Returns the code of the host: all accesses, with the values loaded from the region in x22; then all calls, with their statuses."""
-    told = [("addi", 5, 0, -1)]
+    code = [("addi", 5, 0, -1)]
     for name, address in accesses():
-        told += loaded(6, address) + [("addi", 7, 0, 0)]
-        told.append((name, 5 if name.startswith("s") else 7, 0, 6))
-        told += [("or", 22, 22, 7)] if is_refused(name, address) else []
-    told += loaded(17, KEY) + loaded(8, KEPT)
+        code += loaded(6, address) + [("addi", 7, 0, 0)]
+        code.append((name, 5 if name.startswith("s") else 7, 0, 6))
+        code += [("or", 22, 22, 7)] if is_refused(name, address) else []
+    code += loaded(17, KEY) + loaded(8, KEPT)
     for (function, *arguments), _ in CALLS:
         for register, word in enumerate([*arguments], 10):
-            told += loaded(register, word)
-        told += loaded(16, function) + [("ecall",), ("sw", 10, 0, 8), ("addi", 8, 8, 4)]
-    return told + [("jal", 0, 0)]
+            code += loaded(register, word)
+        code += loaded(16, function) + [("ecall",), ("sw", 10, 0, 8), ("addi", 8, 8, 4)]
+    return code + [("jal", 0, 0)]
 
 
 def region(count):
@@ -120,13 +120,13 @@ def concurrent(order, runs):
     case = divided(HartsCase("concurrent", "order_%s_enclave_on_hart_%d" % (order, runs)))
     prepared(case, runs)
     steps = played(case, runs, order)
-    case.tell("the refused accesses, and what they have loaded; the statuses of the calls")
+    case.comment("the refused accesses, and what they have loaded; the statuses of the calls")
     case.wants("reg 21", "x21=%08x" % sum(is_refused(*it) for it in accesses()))
     case.wants("reg 22", "x22=00000000")
     for i, (_, status) in enumerate(CALLS):
         case.wants("mem %x 4" % (KEPT + 4 * i), line_of(KEPT + 4 * i, status.to_bytes(4, "little")))
     case.say("enclaves", "pmp")
-    case.tell("all bytes of the region, and what stands on either side, where two regions were zeroed")
+    case.comment("all bytes of the region, and what stands on either side, where two regions were zeroed")
     case.on(runs)
     count = ended(case, steps)
     data = region(count)
@@ -135,7 +135,7 @@ def concurrent(order, runs):
     case.wants("mem %x 64" % (BASE - 64), line_of(BASE - 64, bytes(64)))
     case.wants("mem %x 64" % ABOVE, line_of(ABOVE, bytes(64)))
     case.wants("mem %x 4" % WINDOW, line_of(WINDOW, count.to_bytes(4, "little")))
-    case.tell("it goes on, and stops as ever")
+    case.comment("it goes on, and stops as ever")
     case.say("step %d" % ROUND, "timer on", "step 1")
     case.wants("reg 10", "x10=%08x" % INTERRUPTED)
     case.wants("mem %x 4" % (BASE + 0x100), line_of(BASE + 0x100, (count + 1).to_bytes(4, "little")))

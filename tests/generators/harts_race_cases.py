@@ -13,7 +13,7 @@ REGION = (BASE, PAGE, WINDOW, PAGE, BASE)  # the arguments of the create of slot
 OF_HOST = {"create": (CREATE, *REGION), "destroy": (DESTROY, 0), "run": (RUN, 0), "resume": (RESUME, 0), "measure": (MEASURE, 0, WINDOW),
            "measure_into": (MEASURE, 1, BASE + 0x100)}
 OF_ENCLAVE = {"stop": (STOP, 7), "exit": (EXIT, 9), "timer": (), "measure_itself": (MEASURE, 0, WINDOW)}
-TOLD = {"stop": STOPPED, "exit": EXITED, "timer": INTERRUPTED, "measure_itself": 0}  # a0 of the hart on which it was done
+RESULTS = {"stop": STOPPED, "exit": EXITED, "timer": INTERRUPTED, "measure_itself": 0}  # a0 of the hart on which it was done
 LEFT = {"stop": "Stopped", "exit": "Exited", "timer": "Stopped", "measure_itself": "Running"}
 SHOWN = ("3a0", "3a3", "3b1", "3be", "304")  # entries 0 to 3 and 12 to 15, the places of the region and the window, and mie
 
@@ -107,10 +107,10 @@ def race(case, order, acts, *wanted):
 
 def statuses(state, acts, order):
     """Returns the expected statuses of two calls of hosts, in the order of the harts; none after more than these two steps."""
-    told = [None, None]
+    statuses = [None, None]
     for hart in map(int, order if len(order) == 2 else ""):
-        state, told[hart] = after(state, acts[hart])
-    return told
+        state, statuses[hart] = after(state, acts[hart])
+    return statuses
 
 
 # ---- the pairs
@@ -120,7 +120,7 @@ def of_two_hosts():
         case = new_case("%s_and_%s" % acts)
         for state in (None, "Stopped") if "create" in acts else ("Fresh", "Stopped", "Exited"):
             for order in ORDERS:
-                case.tell("slot 0 is %s: %s" % (state or "free", order))
+                case.comment("slot 0 is %s: %s" % (state or "free", order))
                 brought(case, state)
                 race(case, order, acts, *statuses(state, acts, order))
                 cleared(case)
@@ -134,13 +134,13 @@ def of_a_host_and_an_enclave():
             acts = (of_enclave, of_host) if hart == 0 else (of_host, of_enclave)
             case = new_case("%s_and_%s_of_a_host" % (of_enclave, of_host))
             for order in ORDERS:
-                case.tell("slot 0 runs on hart %d: %s" % (hart, order))
+                case.comment("slot 0 runs on hart %d: %s" % (hart, order))
                 brought(case, "Running", hart)
-                told = [None, None]
+                statuses = [None, None]
                 if len(order) == 2:
                     met = "Running" if order[0] != str(hart) else LEFT[of_enclave]
-                    told[hart], told[1 - hart] = TOLD[of_enclave], after(met, of_host)[1]
-                race(case, order, acts, *told)
+                    statuses[hart], statuses[1 - hart] = RESULTS[of_enclave], after(met, of_host)[1]
+                race(case, order, acts, *statuses)
                 cleared(case)
 
 
@@ -149,11 +149,11 @@ def of_two_enclaves():
     for acts in combinations_with_replacement(OF_ENCLAVE, 2):
         case = new_case("%s_and_%s_of_enclaves" % acts)
         for order in ORDERS:
-            case.tell("slot 0 runs on hart 0, slot 1 on hart 1: " + order)
+            case.comment("slot 0 runs on hart 0, slot 1 on hart 1: " + order)
             brought(case, "Running", 0)
             case.on(1)
             case.enter(1)
-            race(case, order, acts, *((TOLD[it] for it in acts) if len(order) == 2 else ()))
+            race(case, order, acts, *((RESULTS[it] for it in acts) if len(order) == 2 else ()))
             cleared(case)
 
 
@@ -168,12 +168,12 @@ def of_two_creates():
     for name, (first, second, status) in pairs.items():
         case = new_case("creates_of_" + name)
         for order in ORDERS:
-            case.tell(order)
+            case.comment(order)
             for hart, arguments in enumerate((first, second)):
                 ready(case, hart, CREATE, *arguments)
             case.say("sched " + order)
-            told = [hart.regs[10] for hart in case.machine.peers]
-            assert len(order) > 2 or told == ([0, status] if order == "01" else [status, 0]), (name, order, told)
+            statuses = [hart.regs[10] for hart in case.machine.peers]
+            assert len(order) > 2 or statuses == ([0, status] if order == "01" else [status, 0]), (name, order, statuses)
             shown(case)
             cleared(case)
             if 1 in case.machine.table:

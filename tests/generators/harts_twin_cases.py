@@ -144,8 +144,8 @@ def examples():
     text = "\n".join(["7300000073000000", "--", *FIRST, "--", "hart 1", "setreg 17 0a454e43", "setreg 16 2", "setreg 10 0", "sched 01", ""])
     first = "ok\n" * 5 + "ran 1 pc=80010004 mode=S world=host why=done trap=00000009:00000000\n"
     replies = ["hart 0 1 pc=80010008 mode=S world=host trap=00000009:00000000", "hart 1 1 pc=80010004 mode=S world=host trap=00000009:00000000"]
-    told = "a: ok\nb: ok\n" * 4 + "".join(mark + it + "\n" for mark in ("a: ", "b: ") for it in replies) + "twin end 5\n"
-    WholeTwins("", "a_create_and_a_destroy", text, ("--harts", "2"), starts=first + told, ends=told).topic = "harts_twin"
+    ending = "a: ok\nb: ok\n" * 4 + "".join(mark + it + "\n" for mark in ("a: ", "b: ") for it in replies) + "twin end 5\n"
+    WholeTwins("", "a_create_and_a_destroy", text, ("--harts", "2"), starts=first + ending, ends=ending).topic = "harts_twin"
 
 
 def parts():

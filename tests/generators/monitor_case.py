@@ -65,7 +65,7 @@ class Case:
         assert given == list(replies), (self.name, line, given, replies)
         self.replies += given
 
-    def tell(self, text):
+    def comment(self, text):
         self.script.append("# " + text)
 
     def on(self, hart):

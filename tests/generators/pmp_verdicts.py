@@ -69,8 +69,8 @@ def main():
                 width_name = {1: "Byte", 2: "Half", 4: "Word"}[width]
                 for mode in "US"[turn % 2], "M":
                     verdict, i = written.verdict(mode, KINDS[access], address, width)
-                    told = verdict if i is None else f"{verdict}({i})"
-                    rows.append(f"    ({mode}, {access}, {hexadecimal(address)}, {width_name}, {told}),")
+                    shown = verdict if i is None else f"{verdict}({i})"
+                    rows.append(f"    ({mode}, {access}, {hexadecimal(address)}, {width_name}, {shown}),")
         print()
         print(f"/// {shows} Each entry is its number, cfg byte and pmpaddr.")
         print(f"pub(crate) const {name}_ENTRIES: [(u8, u8, u32); {len(entries)}] = [")

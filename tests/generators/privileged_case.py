@@ -9,7 +9,7 @@ class Case:
     all, words = [], {}
 
     def __init__(self, topic, name):
-        self.topic, self.name, self.hart, self.script, self.replies, self.told = topic, name, Hart(), [], [], None
+        self.topic, self.name, self.hart, self.script, self.replies, self.last_comment = topic, name, Hart(), [], [], None
         Case.all.append(self)
 
     def files(self):
@@ -59,11 +59,11 @@ class Case:
         assert self.hart.memory.get(address, instruction) == instruction, "two instructions at one place"
         self.hart.memory[address] = instruction
 
-    def tell(self, text):
+    def comment(self, text):
         """Adds a comment unless it repeats the last one."""
-        if text != self.told:
+        if text != self.last_comment:
             self.script.append("# " + text)
-        self.told = text
+        self.last_comment = text
 
     def run(self, *instructions):
         """Steps over instructions in one command, each written at the pc of its step; None steps over the present instruction. Returns the last
@@ -72,7 +72,7 @@ class Case:
         for instruction in instructions:
             if instruction:
                 self.place(self.hart.pc, *instruction)
-                self.tell(assemble(*instruction)[0])
+                self.comment(assemble(*instruction)[0])
             last = self.hart.step() or last
         trap = "%08x:%08x" % (last.cause, last.tval) if last else "-"
         self.say("step %d" % len(instructions), "ran %d pc=%08x mode=%s world=bare why=done trap=%s" % (

@@ -20,7 +20,7 @@ def calls():
         case = TwinCase("calls", "of_one_that_is_" + state)
         brought(case, state)
         case.apart()
-        case.tell("its measurement is no secret")
+        case.comment("its measurement is no secret")
         case.call(MEASURE, 0, WINDOW, wants=(0, 0))
         case.say("mem 80040000 32", "enclaves", "pmp")
         for function in (RUN, RESUME):
@@ -57,7 +57,7 @@ def refusals():
                                        (0x80080000, PAGE, (BASE, 0x20000), OVERLAP), (WINDOW, PAGE, (0, 0), OVERLAP)):
         case.create(base, size, window, entry=base, wants=status)
         case.say("reg 10", "reg 11", "enclaves")
-    case.tell("next to it a region and a window")
+    case.comment("next to it a region and a window")
     case.create(BASE + PAGE, window=(BASE - PAGE, PAGE), wants=2)
     case.say("enclaves", "pmp")
 

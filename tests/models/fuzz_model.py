@@ -27,5 +27,5 @@ def answer(words, data):
     """Returns the expected output as bytes, and the status."""
     jobs = {"asm": of_asm, "dis": of_dis}
     text = data.decode("latin-1")
-    told, status = jobs[words[0]](text) if words[0] in jobs else monitor_bench.wanted(text, words)
-    return told.encode("latin-1"), status
+    output, status = jobs[words[0]](text) if words[0] in jobs else monitor_bench.wanted(text, words)
+    return output.encode("latin-1"), status

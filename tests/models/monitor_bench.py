@@ -184,11 +184,11 @@ class Bench:
     def do_sched(self, digits):
         order = [self.hart_of(digit) for digit in digits]  # before any step
         traps = [(hart, self.step_of(hart)) for hart in order]
-        told = []
+        output = []
         for number, hart in enumerate(self.harts):
             last = next((trap for stepped, trap in reversed(traps) if stepped is hart and trap), None)
-            told.append("hart %d %d pc=%08x mode=%s world=%s trap=%s" % (number, order.count(hart), *self.place_of(hart), shown(last)))
-        return told
+            output.append("hart %d %d pc=%08x mode=%s world=%s trap=%s" % (number, order.count(hart), *self.place_of(hart), shown(last)))
+        return output
 
     def put_into(self, addresses, text):
         address = int(text, 16)
@@ -322,11 +322,11 @@ class Twins:
             return [fault.args[0]], False
         if not words or not self.is_blind(words):
             return ["error blind"] if words else [], False
-        told = [mark + reply for mark, bench in (("a: ", self.one), ("b: ", self.other)) for reply in bench.answers(words)]
+        output = [mark + reply for mark, bench in (("a: ", self.one), ("b: ", self.other)) for reply in bench.answers(words)]
         self.count += 1
         if self.slot in self.one.entered | self.other.entered:
             return ["twin entered %d" % self.count], True
-        return told, False
+        return output, False
 
 
 def twin_output(text, slot=0, **setup):
@@ -337,18 +337,18 @@ def twin_output(text, slot=0, **setup):
         bench = Bench(image_of(image), **setup)
     except Fault as fault:
         return fault.args[0] + "\n", 1
-    told = [reply for line in first for reply in bench.replies(line)]
+    output = [reply for line in first for reply in bench.replies(line)]
     twins = Twins(bench, slot)
     if not twins.is_apart:
-        return "".join(it + "\n" for it in [*told, "twin no slot"]), 0
+        return "".join(it + "\n" for it in [*output, "twin no slot"]), 0
     for line in second:
         replies, is_last = twins.replies(line)
-        told += replies
+        output += replies
         if is_last:
             break
     else:
-        told.append("twin end %d" % twins.count)
-    return "".join(it + "\n" for it in told), 0
+        output.append("twin end %d" % twins.count)
+    return "".join(it + "\n" for it in output), 0
 
 
 # ---- the arguments

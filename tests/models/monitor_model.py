@@ -148,10 +148,10 @@ class Monitored(HartInMemory):
         enclave.state = "Running"
         self.load_context(enclave.context)
 
-    def leave_enclave(self, state, context, told, value):
+    def leave_enclave(self, state, context, status, value):
         enclave = self.table[self.world]
         enclave.state, enclave.context, self.world = state, context, None
-        self.host.regs[10:12] = [told, value]
+        self.host.regs[10:12] = [status, value]
         self.load_context(self.host)
 
     # ---- changes without a step
