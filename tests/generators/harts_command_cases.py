@@ -67,7 +67,7 @@ def at_reset():
         case.say("regs", "pmp", "enclaves", *("csr " + number for number in ("f14", "100", "300", "304", "305", "341", "344", "b00", "b02")))
         case.say("access S r 80010000 4", "access S r 8000fffc 4")
     assert case.machine.regs == [0] * 10 + [1] + [0] * 21
-    case.comment("mhartid is refused to each, whatever its number")
+    case.comment("mhartid is refused on each hart")
     case.say("sched 01")
     case = HartsCase("commands", "mhartid_is_no_register_of_s")
     case.place(HOST_ENTRY, "csrrs", 5, 0xF14, 0)
@@ -89,7 +89,7 @@ def what_goes_by_the_chosen_hart():
                        "S r 8000fffe 4", "M r 80020000 4", "U r 80100000 1"):
             case.say("access " + access)
         case.say("timer on", "csr 344", "timer off", "csr 344")
-    case.comment("memory and enclaves are common")
+    case.comment("memory and the enclave table are shared")
     for hart in (0, 1):
         case.on(hart)
         case.say("poke %x %x" % (WINDOW, hart + 1), "mem %x 4" % WINDOW, "dis %x" % WINDOW, "mem %x 4" % BASE, "enclaves")
@@ -102,7 +102,7 @@ def what_goes_by_the_chosen_hart():
         case.on(hart)
         case.set(6, WINDOW)
     case.say("break 80010008", "watch 80040001")
-    case.comment("sched asks neither; run looks at the stepped hart's pc and its accesses alone")
+    case.comment("sched ignores both; run checks only the pc and the accesses of its own hart")
     case.say("sched 0101", "run 9", "run 9", "hart 0", "run 9", "run 9", "hart 1", "clear 80010008", "run 9", "run 9", "hart 0",
              "run 9", "unwatch 80040001", "run 9", "sched 0110", "break 80010008", "step 9", "hart 1", "step 9")
     for i in range(31):
@@ -138,7 +138,7 @@ def worlds():
     case.say("pmp", "csr 304")
     case.leave(EXIT, 0x22, 0)
     case.say("regs", "csr 140", "csr 105", "pmp", "enclaves")
-    case.comment("hart 0 resumes what ran on hart 1, and hart 1 has nothing of it")
+    case.comment("hart 0 resumes the enclave of hart 1; the registers of hart 1 do not change")
     case.enter(1, RESUME)
     case.say("regs", "csr 140", "pmp", "enclaves")
     case.on(1)
@@ -178,7 +178,7 @@ def timers():
     case.enter(0)
     case.on(1)
     case.enter(1)
-    case.comment("hart 1 is interrupted at its first step, hart 0 never")
+    case.comment("the timer interrupts hart 1 at its first step, hart 0 never")
     case.say("sched 0101", "csr 344", "reg 10", "reg 11", "regs", "enclaves")
     case.on(0)
     case.say("csr 344", "reg 7", "timer on")

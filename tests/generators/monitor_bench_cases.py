@@ -17,7 +17,7 @@ HOST = 0x80010000
 def several_steps():
     case = Case("debugger", "steps_that_enter_and_leave")
     case.create(BASE)
-    case.comment("the enclave's words: two additions, and a stop")
+    case.comment("the code of the enclave: two additions, and a stop")
     for i, instruction in enumerate((("addi", 16, 0, STOP), ("lui", 17, KEY + 0x800 >> 12),
                                      ("addi", 17, 17, KEY - (KEY + 0x800 & ~0xFFF)), ("addi", 10, 0, 42), ECALL,
                                      ("addi", 10, 10, 1), ("jal", 0, -20))):
@@ -30,7 +30,7 @@ def several_steps():
     assert "world=host" in case.say("step 5")
     case.say("reg 5", "reg 6", "reg 10", "reg 11", "enclaves")
     case.is_now(x10=STOPPED, x11=42, x5=1, x6=42)
-    case.comment("all of it in one command, and the last trap of it")
+    case.comment("all of it in one command, with its last trap")
     for i, instruction in enumerate((("addi", 10, 0, 0), ("addi", 16, 0, RESUME), ECALL, ("addi", 5, 10, 0), ("jal", 0, -16))):
         case.place(case.machine.pc + 4 * i, *instruction)
     for count in (3, 1, 11, 12, 100, 1000):
@@ -48,7 +48,7 @@ def several_steps():
     case.set(17, KEY)
     case.set(16, RUN)
     case.set(10, 0)
-    case.comment("at the enclave's entry, behind the host's call, and where the enclave goes on")
+    case.comment("at the entry of the enclave, after the call of the host, and where the enclave continues")
     case.say("break 80020000", "run 9")
     case.is_now(world="e0", pc=BASE)
     case.say("break %x" % (host + 4), "run 2")
@@ -60,7 +60,7 @@ def several_steps():
     case.set(16, STOP)
     case.set(17, KEY)
     case.say("run 20", "enclaves", "regs")
-    case.comment("step looks at no break")
+    case.comment("step ignores breakpoints")
     case.say("break 8002000c", "break %x" % (host + 4), "step 9")
 
 
@@ -77,7 +77,7 @@ def watches():
 
     called(MEASURE, 0, WINDOW)
     case.say("mem 80040000 32")
-    case.comment("but its own accesses are seen in every world")
+    case.comment("but the accesses of the hart hit it in every world")
     case.set(6, WINDOW)
     case.place(case.machine.pc, "sw", 6, 28, 6)
     assert "why=watch:8004001f" in case.say("run 1")
@@ -90,7 +90,7 @@ def watches():
     assert "why=watch:80020400" in case.say("run 9")
     called(MEASURE, 0, BASE + 0x400)
     case.say("mem 80020400 32")
-    case.comment("an access that is refused is none")
+    case.comment("a refused access hits none")
     case.say("watch 80010000", "watch 80010003")
     case.set(6, HOST)
     case.write(stvec=BASE + 0x80)
@@ -100,11 +100,11 @@ def watches():
     called(STOP, 1)
     called(DESTROY, 0)
     case.say("mem 80020400 4", "mem 80020ffc 4")
-    case.comment("nor is a poke, nor a create, whose bytes are measured")
+    case.comment("neither does a poke, nor a create, which reads the bytes")
     case.say("poke 80020000 1")
     case.create(BASE)
     case.say("enclaves")
-    case.comment("one run that enters an enclave and ends at its store")
+    case.comment("a run that enters an enclave and ends at its store")
     case.create(BASE + PAGE, window=(WINDOW, PAGE), wants=1)
     case.place(BASE + PAGE, "sh", 13, 30, 12)
     for number, word in ((17, KEY), (16, RUN), (10, 1)):

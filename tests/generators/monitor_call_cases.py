@@ -26,7 +26,7 @@ def states():
         brought(case, 0, state)
         for function in (RUN, RESUME, DESTROY):
             taken = {RUN: state == "Fresh", RESUME: state == "Stopped", DESTROY: True}[function]
-            case.comment("%d of one that is %s" % (function, state))
+            case.comment("call %d of an enclave that is %s" % (function, state))
             case.call(MEASURE, 0, WINDOW, wants=(0, 0))
             if function == DESTROY:
                 case.call(DESTROY, 0, wants=(0, 0))
@@ -75,7 +75,7 @@ def states():
     case.say("enclaves")
     case = Case("states", "in_company")
     brought(case, 0, "Exited")
-    case.comment("NotSupported, NoEnclave, BadState, BadAddress: the first is answered")
+    case.comment("NotSupported, NoEnclave, BadState, BadAddress: the first one is the status")
     for function in (DESTROY, RUN, RESUME, MEASURE):
         for slot in (0, 1, 13):
             case.call(function, slot, 0, key=KEY - 1, wants=(NOT_SUPPORTED, 0))
@@ -131,12 +131,12 @@ def destroys():
     for slot in (1, 3):
         case.call(DESTROY, slot, wants=(0, 0))
         case.say("enclaves", "pmp", *("mem %x 8" % (BASE + at * PAGE) for at in range(4)))
-    case.comment("its region is the host's again: a load of zeros, a store, a fetch")
+    case.comment("the host can access its region again: a load of zeros, a store, a fetch")
     case.set(6, BASE + PAGE)
     case.do(("lw", 5, 0, 6), ("sw", 6, 4, 6), ("lw", 7, 4, 6))
     case.say("reg 5", "reg 7")
     case.set(6, BASE)
-    case.comment("that of a live one is not")
+    case.comment("not that of a live enclave")
     case.say("access S r 80020000 4", "access S r 80021000 4", "access S x 80021000 4", "access S w 80023ffc 4",
              "access S r 80022000 1")
     case = Case("destroy", "a_slot_that_is_used_again")
@@ -172,7 +172,7 @@ def not_supported():
                 case.call(function, slot, WINDOW, wants=(NOT_SUPPORTED, 0))
         case.say("regs", "enclaves", "pmp", "mem 80040000 32", "csr 304")
         case.trapped()
-        case.comment("and its own are")
+        case.comment("its own calls are accepted")
         case.call(MEASURE, 0, WINDOW, wants=(0, 0))
         if world == "enclave":
             case.leave(EXIT, 2, EXITED)
@@ -220,10 +220,10 @@ def measures_of_the_host():
         for of in (0, 1):
             refused, taken = borders(first, past)
             places(case, of, refused, taken, [first - 32, past - 32])
-    case.comment("between two regions that lie less than 32 bytes apart there is no place; here they lie side by side")
+    case.comment("no valid address between two regions less than 32 bytes apart; here they are adjacent")
     case.create(BASE + PAGE, wants=2)
     places(case, 2, [BASE + PAGE - 32, BASE + PAGE - 16, BASE + PAGE], [BASE + 2 * PAGE], [BASE + PAGE - 32])
-    case.comment("a region that is no longer live")
+    case.comment("the region of a destroyed enclave")
     case.call(DESTROY, 0, wants=(0, 0))
     places(case, 1, [BASE + PAGE - 31, BASE + PAGE - 16, BASE + PAGE], [BASE - 16, BASE, BASE + PAGE - 32], [BASE + PAGE - 32])
     case = Case("measure", "by_the_host_into_windows")
@@ -245,7 +245,7 @@ def measures_of_an_enclave():
     case.create(BASE, window=(WINDOW, PAGE))
     case.create(BASE + PAGE, window=(WINDOW + PAGE, PAGE), wants=1)
     case.enter(0)
-    case.comment("of itself, whatever a0 is; the region's first bytes are its code")
+    case.comment("of itself, for any a0; the region begins with its code")
     for a0 in (0, 1, 2, 12, 13, ONES):
         places(case, a0, [], [BASE + 0x400 + 64 * (a0 % 16), WINDOW + 64 * (a0 % 16)])
     region_refused = [BASE - 32, BASE - 31, BASE - 1, BASE + PAGE - 31, BASE + PAGE - 16, BASE + PAGE - 1, BASE + PAGE]
@@ -272,7 +272,7 @@ def measures_of_an_enclave():
     case.create(BASE)
     case.enter(0)
     places(case, 0, [], [BASE + 4])
-    case.comment("the next word that is fetched is one of the measurement")
+    case.comment("the next fetch is a word of the measurement")
     case.say("step 1")
     case.trapped()
     case = Case("measure", "into_the_window_of_another")

@@ -79,7 +79,7 @@ def windows():
     case = Case("create", "no_window_has_any_base")
     for base in (0, 1, ONES, 0x80000000, BASE, 0x7FFFFFFF, 0x80040001, PAST):
         fresh(case, *region[:2], window=(base, 0))
-    case.comment("and it is handed over as 0 and 0")
+    case.comment("it is passed to the enclave as 0 and 0")
     case.create(BASE, window=(ONES, 0))
     case.enter(0)
     case.say("reg 10", "reg 11", "reg 12", "reg 13", "pmp")
@@ -126,7 +126,7 @@ def overlaps():
         case.create(base, size, wants=OVERLAP)
     for slot, (base, size) in enumerate(((0x80043000, PAGE), (0x80048000, PAGE), (0x80040000, 0x2000), (0x80080000, 0x80000)), 1):
         case.create(base, size, wants=slot)
-    case.comment("a region that is no longer live is met by none")
+    case.comment("the region of a destroyed enclave overlaps nothing")
     case.call(DESTROY, 0, wants=(0, 0))
     case.create(0x80045000, wants=0)
     case.create(0x80044000, 0x4000, wants=OVERLAP)
@@ -170,7 +170,7 @@ def entries():
             case.create(base, size, entry=entry & ONES, wants=BAD_ENTRY)
         for entry in (base, base + 4, base + size // 2, base + size - 4):
             fresh(case, base, size, entry=entry)
-    case.comment("an entry in the window is in no region")
+    case.comment("an entry in the window is not in the region")
     case.create(BASE, window=(BASE + PAGE, PAGE), entry=BASE + PAGE, wants=BAD_ENTRY)
     case.create(BASE, entry=BASE + PAGE - 4)
     case.enter(0)
@@ -186,7 +186,7 @@ def slots():
     case.create(0x8004D000, wants=NO_SLOT)
     case.create(0x8004D000, window=(0x80060000, PAGE), wants=NO_SLOT)
     case.say("enclaves", "pmp")
-    case.comment("the lowest free slot is taken, whatever was freed first")
+    case.comment("the lowest free slot is used, in any order of destruction")
     for slot in (5, 12, 2, 9, 0):
         case.call(DESTROY, slot, wants=(0, 0))
     case.say("pmp")
@@ -215,7 +215,7 @@ def company():
     case.create(*good, over, entry, wants=OVERLAP)
     case.create(*good, entry=entry, wants=BAD_ENTRY)
     case.say("enclaves")
-    case.comment("and with no slot left")
+    case.comment("without a free slot")
     for slot in range(13):
         case.create(0x80080000 + slot * PAGE, wants=slot)
     case.create(*bad_region, bad_window, entry, wants=BAD_REGION)
@@ -271,7 +271,7 @@ def measurements():
         digest = measured(case, BASE)
         assert digest != before
         before = digest
-        case.comment("it is written into memory as it is shown")
+        case.comment("memory has the measurement that enclaves shows")
         case.call(MEASURE, 0, 0x80040000, wants=(0, 0))
         assert case.say("mem 80040000 32").replace(" ", "")[9:] == digest
         case.call(DESTROY, 0, wants=(0, 0))
@@ -285,7 +285,7 @@ def measurements():
         digests.add(measured(case, base, size, window, entry))
         case.call(DESTROY, 0, wants=(0, 0))
     assert len(digests) == 9
-    case.comment("and no window is measured as 0 and 0, whatever its base")
+    case.comment("no window is measured as 0 and 0, for any base")
     assert measured(case, BASE, window=(0x80040000, 0)) in digests
     case = Case("measurement", "is_taken_at_create")
     case.poke(BASE, b"\x73\x00\x00\x00\x73")
@@ -299,11 +299,11 @@ def measurements():
     case.say("enclaves")
     case.call(MEASURE, 0, 0x80041000, wants=(0, 0))
     assert case.say("mem 80041000 32").replace(" ", "")[9:] == digest
-    case.comment("a second enclave of the same bytes at another place has another one")
+    case.comment("an enclave with the same bytes at another address has another measurement")
     case.poke(BASE + PAGE, b"\x73\x00\x00\x00\x73")
     assert measured(case, BASE + PAGE, window=(0x80040000, PAGE)) != digest
     case.call(DESTROY, 1, wants=(0, 0))
-    case.comment("and after a destroy it is that of zeros")
+    case.comment("after a destroy it is that of zeros")
     case.call(DESTROY, 0, wants=(0, 0))
     zeros = measured(case, BASE, window=(0x80040000, PAGE))
     assert zeros != digest

@@ -20,7 +20,7 @@ def calls():
         case = TwinCase("calls", "of_one_that_is_" + state)
         brought(case, state)
         case.apart()
-        case.comment("its measurement is no secret")
+        case.comment("its measurement is not secret")
         case.call(MEASURE, 0, WINDOW, wants=(0, 0))
         case.say("mem 80040000 32", "enclaves", "pmp")
         for function in (RUN, RESUME):

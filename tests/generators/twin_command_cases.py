@@ -39,14 +39,14 @@ def every_command():
     case.create(BASE)
     case.say("fly", "reg 32", "mem 7fffffff 1")
     case.apart()
-    case.comment("a fault of the line: once, and not counted")
+    case.comment("an error of the line: printed once, not counted")
     for line, fault in (("fly", "command"), ("STEP 1", "command"), ("-- 1", "command"), ("reg", "operand"), ("reg 32", "operand"),
                         ("step 0", "operand"), ("mem 80020000 0", "operand"), ("mem 80020000 65", "operand"), ("poke 80020000 100", "operand"),
                         ("dis", "operand"), ("dis 800200000", "operand"), ("\x01", "line"), ("#" * 121, "line"), ("reg 0\x7f", "line")):
         case.wants(line, "error " + fault)
     case.wants("--", "error command")
     assert case.twins.count == 0
-    case.comment("a fault of the command: of both, and counted")
+    case.comment("an error of the command: printed by both, counted")
     for line, fault in (("mem 7fffffff 1", "outside"), ("mem 80100000 1", "outside"), ("mem ffffffc0 64", "outside"),
                         ("mem ffffffff 64", "outside"), ("poke 7fffffff 1", "outside"), ("dis 800ffffd", "outside"),
                         ("csr 7a0", "csr"), ("csr 7b0", "csr")):
@@ -94,7 +94,7 @@ def not_blind():
         case.wants(line, "error blind")
     for line in ("mem 80100000 1", "dis 80100000", "poke 80100000 1", "mem ffffffff 64"):
         case.both(line, "error outside")
-    case.comment("another enclave is the same in both")
+    case.comment("another enclave is equal in both")
     case.say("mem 80020000 4", "poke 80020000 77", "mem 80020000 4", "dis 80020ffc", "poke 80020fff 0")
     case = TwinCase("blind", "of_a_region_that_is_all_that_is_left")
     case.create(0x80080000, 0x80000)
@@ -109,7 +109,7 @@ def not_blind():
     assert case.are_equal()
     case.say("mem 80020000 64", "mem 80020100 4", "poke 80020000 99", "dis 80020000")
     case.create(0x80030000)
-    case.comment("the slot has another region now")
+    case.comment("the slot now has another region")
     case.say("mem 80020000 4", "poke 80020000 0")
     for line in ("mem 80030000 4", "poke 80030fff 0", "dis 8002fffd"):
         case.wants(line, "error blind")
