@@ -52,8 +52,8 @@ def world(text: str) -> str:
     return text
 
 
-def image_options(parser: ArgumentParser) -> None:
-    """Adds the options of the image and its run."""
+def image_options(parser: ArgumentParser, has_json: bool = True) -> None:
+    """Adds the options of the image and its run; without `has_json`, --json is parsed but not in the help."""
     parser.add_argument("image", metavar="IMAGE", help="an ELF file, raw bytes, or a hex image, which may be followed by -- and a script")
     parser.add_argument("--script", metavar="FILE", help="run the commands in FILE first; their steps are shown too")
     parser.add_argument("--monitor", action="store_true", default=None, help="run the image under the monitor (default: decided by the image)")
@@ -63,7 +63,8 @@ def image_options(parser: ArgumentParser) -> None:
     parser.add_argument("--harts", type=int, choices=(1, 2), default=1, help="set the number of harts; 2 requires --monitor (default: 1)")
     parser.add_argument("--symbols", metavar="FILE", help="read symbols from an ELF file or from the output of nm (default: from the image)")
     parser.add_argument("--steps", metavar="N", type=count, default=1000000, help="run at most N steps after the script (default: 1000000)")
-    parser.add_argument("--json", action="store_true", help="print one JSON object per line (see docs/LOOK.md)")
+    parser.add_argument("--json", action="store_true",
+                        help="print one JSON object per line (see docs/LOOK.md)" if has_json else argparse.SUPPRESS)
     parser.set_defaults(opened=None)
 
 

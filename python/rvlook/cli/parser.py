@@ -41,7 +41,7 @@ NAMES = ("map", "trace", "touch", "window", "leak", "timer", "races", "measure",
 def add_subcommand(subparsers: Any, name: str, do: Callable[[Namespace], None], about: str, *more: Callable[[ArgumentParser], None]) -> Parser:
     """Adds a subcommand over an image; each function of `more` adds options."""
     parser = subparsers.add_parser(name, help=about, description=about + ".")
-    image_options(parser)
+    image_options(parser, name not in ("page", "gdb"))
     for options in more:
         options(parser)
     parser.set_defaults(do=do, subcommand=name)
