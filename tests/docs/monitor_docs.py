@@ -1,9 +1,8 @@
 #!/usr/bin/env python3
 """python3 -m docs.monitor_docs --check: checks the commands and replies that docs/MONITOR.md, docs/AUTHORS.md, docs/COMMANDS.md and
 examples/attacks/README.md quote from the examples. A quoted part begins with the name of its example, such as `# examples/enclaves/adds`.
-Its lines are in the example's script in the same order, each with the reply of the model in monitor_bench.py and possibly a comment. Of a reply
-with several lines only the first is quoted; for `sched` all are, separated by ` / `. If the example has two benches, a reply of both has no
-mark.
+Its lines are in the example's script in the same order, each with the reply of the model in monitor_bench.py and possibly a comment. A quote
+has only the first line of a reply, or for `sched` all lines, separated by ` / `. If the example has two benches, a reply of both has no mark.
 """
 import os
 import re

@@ -63,9 +63,9 @@ def looks(file):
 
 
 ROWS_HEAD = """\
-# Changes of an ELF file, each row one file. The lines with = have the file in hexadecimal. In the others stand the number of the
-# fault that is answered, or 0 where the file loads, and the changes: new bytes in hexadecimal from a place on, and with cut
-# the number of bytes that are left at last. Written by tests/generators/elf.py.
+# Mutations of an ELF file, one mutated file per row. Rows that start with = are the original file in hexadecimal. Each other row is
+# the number of the expected error (0: the file loads), then the changes: OFFSET=BYTES replaces bytes, in hexadecimal, and
+# cut=LENGTH truncates the file to that many bytes. Written by tests/generators/elf.py.
 """
 
 

@@ -1,4 +1,4 @@
-"""Files for the cases of messages: images, scripts and listings, each of which causes one message."""
+"""Creates files for the cases of messages: images, scripts and listings that each cause one message."""
 from support.hostile import named
 
 IMAGES = "tests/rvlook/images"

@@ -188,7 +188,7 @@ class Search:
         self.count, self.level, self.waiting = 0, (0, 0), 0
 
     def run(self) -> Search:
-        """Runs rounds of the search until no more shared bytes are found, or the time limit is reached."""
+        """Repeats the search until a round finds no new shared bytes, or until the time limit."""
         try:
             with self.limit.until(SEARCH_SHARE):
                 self.run_rounds()
@@ -199,7 +199,7 @@ class Search:
         return self
 
     def run_rounds(self) -> None:
-        """Runs rounds of the search until one finds no more shared bytes."""
+        """Repeats the search until a round finds no new shared bytes."""
         is_done = False
         while not is_done:
             self.rounds += 1
