@@ -7,7 +7,7 @@ from cli.cases import all_cases, with_second_hart
 
 SECONDS = 60
 CASES = all_cases()
-BESIDE = with_second_hart(CASES)
+CONCURRENT = with_second_hart(CASES)
 
 
 def check(program, case):
@@ -25,6 +25,6 @@ def test_case(bench, name):
     check(bench, CASES[name])
 
 
-@pytest.mark.parametrize("name", BESIDE)
+@pytest.mark.parametrize("name", CONCURRENT)
 def test_case_with_a_second_hart(bench, name):
-    check(bench, BESIDE[name])
+    check(bench, CONCURRENT[name])

@@ -105,7 +105,7 @@ def csr_names():
         "0xc00", "0xb03", "0xb9f", "0x323", "0x33f", "0x7a0", "-0", "00768", "0x0")])
 
 
-def borders():
+def boundaries():
     """The smallest and the largest number of each statement, and some between them."""
     lines = []
     for name, (forms, limits) in STATEMENTS.items():
@@ -119,7 +119,7 @@ def borders():
         for text in [str(number) for number in numbers] + ["0x%x" % number for number in numbers if number >= 0]:
             given = {"based": text + "(x2)", "csr": "mstatus", "register": "x1"}
             lines.append(name + " " + ", ".join(given.get(form.__name__, text) for form in forms))
-    asm_lines("borders", lines)
+    asm_lines("boundaries", lines)
 
 
 def numbers():
@@ -333,7 +333,7 @@ def texts_for_llvm():
 
 
 def main(arguments):
-    for part in (worked_out_by_hand, every_statement, register_names, csr_names, borders, numbers, values_of_li, sets_of_fence,
+    for part in (worked_out_by_hand, every_statement, register_names, csr_names, boundaries, numbers, values_of_li, sets_of_fence,
                  labels, lines,
                  faults, each_row, fences, what_is_no_instruction, csr_words, never_shortened, images):
         part()

@@ -94,7 +94,7 @@ def numbers(seed):
 
 # ---- runs that a watchpoint ends
 
-def each_border():
+def each_boundary():
     """Each access at each alignment, with a watchpoint on each byte from one before it to one after it."""
     for name in ACCESSES:
         case = Case("watch_%s" % name, [(name, 5, 0, 8), BACK])
@@ -357,7 +357,7 @@ def long_scripts():
                 case.run(1 + next(chance) % 20)
 
 
-each_border()
+each_boundary()
 lowest_of_many()
 fetches()
 refused()

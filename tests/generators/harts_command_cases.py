@@ -27,7 +27,7 @@ def lines_of(case, missing):
         case.wants(line, "error hart")
 
 
-def borders():
+def boundaries():
     case = HartsCase("commands", "malformed_lines")
     lines_of(case, ())
     case.say("regs", "hart 1", "regs", "csr f14", "csr b00")
@@ -226,9 +226,9 @@ def around_a_running_enclave():
         case.write(stvec=handler)
         case.place(handler, "csrrw", 0, 0x141, 30)
         case.place(handler + 4, "sret")
-        for border in (BASE, BASE + PAGE):
+        for boundary in (BASE, BASE + PAGE):
             for name, offset in (("lw", -4), ("lw", -2), ("lb", -1), ("lb", 0), ("sw", -2), ("sb", -1), ("sb", 0), ("sh", -2)):
-                case.set(6, border + offset)
+                case.set(6, boundary + offset)
                 case.set(30, case.machine.pc + 4)
                 case.place(case.machine.pc, name, 7, 0, 6)
                 case.say("sched %d%d" % (1 - runs, runs))
@@ -297,5 +297,5 @@ def by_hand(name, image, script, replies, lines):
 
 
 def parts():
-    for part in (borders, at_reset, what_goes_by_the_chosen_hart, worlds, timers, traps, around_a_running_enclave, slots, examples):
+    for part in (boundaries, at_reset, what_goes_by_the_chosen_hart, worlds, timers, traps, around_a_running_enclave, slots, examples):
         part()

@@ -33,9 +33,9 @@ CALLS = (((CREATE, BASE, PAGE, 0, 0, BASE), OVERLAP), ((CREATE, BASE, 2 * PAGE, 
 
 def accesses():
     """Returns the names and addresses of all accesses."""
-    for border in (BASE, ABOVE):
+    for boundary in (BASE, ABOVE):
         for name, width in WIDTHS.items():
-            yield from ((name, border - before) for before in range(width, -1, -1))
+            yield from ((name, boundary - before) for before in range(width, -1, -1))
     yield from ((name, address) for address in INSIDE for name in WIDTHS)
 
 

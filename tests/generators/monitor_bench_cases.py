@@ -214,7 +214,7 @@ def digest_of(base, size, window, entry, data):
 
 
 def worked_examples():
-    worked("examples", "create_and_an_access_across_the_border", "7300000083220300",
+    worked("examples", "create_and_an_access_across_the_boundary", "7300000083220300",
            CREATE_9 + "step 1\naccess S r 8001fffe 4\nsetreg 6 8001fffe\nstep 1\ncsr 141\ncsr 142\ncsr 143\n",
            OK5 + ran(0x80010004, "host") + "denied partial 1\nok\n" + ran(0, "host", "00000005:8001fffe")
            + "csr 141=80010004\ncsr 142=00000005\ncsr 143=8001fffe\n")

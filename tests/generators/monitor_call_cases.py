@@ -60,7 +60,7 @@ def states():
     for function in (DESTROY, RUN, RESUME, MEASURE):
         case.call(function, 0, WINDOW, wants=(NO_ENCLAVE, 0))
     case.say("enclaves", "mem 80040000 32")
-    case = Case("states", "slots_at_their_border")
+    case = Case("states", "slots_at_their_boundary")
     for slot in range(13):
         case.create(BASE + slot * PAGE, wants=slot)
     for function in (DESTROY, RUN, RESUME, MEASURE):
@@ -196,7 +196,7 @@ def places(case, slot, refused, taken, marked=()):
         assert case.machine.part(address, 32) == digest
 
 
-def borders(first, past):
+def boundaries(first, past):
     """Returns 32-byte ranges that overlap a range, and the nearest ones that do not."""
     return ([first - 31, first - 30, first - 16, first - 1, first, first + 1, past - 32, past - 1], [first - 32, past])
 
@@ -218,7 +218,7 @@ def measures_of_the_host():
     case.create(BASE + 4 * PAGE, 0x4000, wants=1)
     for slot, (first, past) in enumerate(((BASE, BASE + PAGE), (BASE + 0x4000, BASE + 0x8000))):
         for of in (0, 1):
-            refused, taken = borders(first, past)
+            refused, taken = boundaries(first, past)
             places(case, of, refused, taken, [first - 32, past - 32])
     case.comment("no valid address between two regions less than 32 bytes apart; here they are adjacent")
     case.create(BASE + PAGE, wants=2)

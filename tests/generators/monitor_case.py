@@ -158,12 +158,12 @@ class Case:
         assert self.machine.world == slot, self.name
         self.is_now()
 
-    def leave(self, function, value=0, told=None):
+    def leave(self, function, value=0, error=None):
         """Makes a stop or an exit."""
         self.call(function, value)
         assert self.machine.world is None, self.name
         self.say("reg 10", "reg 11")
-        assert told is None or self.machine.regs[10:12] == [told, value], self.name
+        assert error is None or self.machine.regs[10:12] == [error, value], self.name
 
     def is_now(self, **wanted):
         """Compares the present state of the model with expected values: pc, mode, registers by number."""

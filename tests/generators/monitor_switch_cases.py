@@ -9,13 +9,13 @@ LOOP = ("addi", 5, 5, 1), ("jal", 0, -4)
 SSTATUS = 0x00080122  # SIE, SPIE, SPP and MXR
 
 
-def asked(case, *borders):
+def asked(case, *boundaries):
     """Accesses of S and U at and around boundaries."""
-    for border in borders:
+    for boundary in boundaries:
         for mode in "SU":
             for offset, width in ((-4, 4), (-2, 4), (-1, 1), (-1, 2), (0, 1), (0, 4)):
                 for kind in "rwx":
-                    case.say("access %s %s %x %d" % (mode, kind, border + offset, width))
+                    case.say("access %s %s %x %d" % (mode, kind, boundary + offset, width))
 
 
 # ---- the entries
@@ -51,7 +51,7 @@ def layouts():
     case = Case("layout", "region_adjacent_to_its_window")
     case.create(BASE, window=(BASE + PAGE, PAGE))
     case.create(BASE + 3 * PAGE, window=(BASE + 2 * PAGE, PAGE), wants=1)
-    for slot, border in ((0, BASE + PAGE), (1, BASE + 3 * PAGE)):
+    for slot, boundary in ((0, BASE + PAGE), (1, BASE + 3 * PAGE)):
         case.enter(slot)
         asked(case, BASE, BASE + PAGE, BASE + 2 * PAGE, BASE + 3 * PAGE, BASE + 4 * PAGE)
         case.write(stvec=case.machine.pc + 0x200)
@@ -61,10 +61,10 @@ def layouts():
             for offset, name in ((-4, "sw"), (-3, "sw"), (-2, "lw"), (-1, "sw"), (0, "sw"), (-1, "lhu"), (-1, "sb"), (0, "sb"),
                                  (-1, "lb")):
                 back = case.machine.pc
-                case.set(6, border + offset)
+                case.set(6, boundary + offset)
                 case.set(7, 0x01020304)
                 case.do((name, 7, 0, 6))
-                case.say("mem %x 12" % (border - 4), "reg 7")
+                case.say("mem %x 12" % (boundary - 4), "reg 7")
                 if case.machine.pc != back + 4:
                     case.trapped()
                     case.write(sepc=back + 4)
@@ -78,20 +78,20 @@ def layouts():
     case.place(0x80011004, "sret")
     case.poke(BASE, b"\x13\x00\x00\x00\x13")
     case.create(BASE)
-    for border in (BASE, BASE + PAGE, 0x80010000, PAST):
+    for boundary in (BASE, BASE + PAGE, 0x80010000, PAST):
         for name, width in (("lw", 4), ("sw", 4), ("lh", 2), ("sb", 1)):
             for offset in (-4, -2, -1, 0, 1):
-                if border == 0x80010000 and offset >= 0 and name[0] == "s":
+                if boundary == 0x80010000 and offset >= 0 and name[0] == "s":
                     continue  # the host's code
-                case.set(6, border + offset)
+                case.set(6, boundary + offset)
                 case.set(7, 0xA5A5A5A5)
                 case.set(30, case.machine.pc + 4)
                 case.do((name, 7, 0, 6))
                 if case.machine.pc == 0x80011000:
                     case.trapped()
                     case.say("step 2")
-        if border < PAST:
-            case.say("mem %x 8" % (border - 4))
+        if boundary < PAST:
+            case.say("mem %x 8" % (boundary - 4))
     for target in (BASE, BASE + 4, BASE + PAGE - 4, 0x80000000, 0x8000FFFC, PAST, 0):
         case.set(6, target)
         case.set(30, case.machine.pc + 4)

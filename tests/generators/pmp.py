@@ -38,7 +38,7 @@ SETS = {
         {3: (OFF, word(AREA + 0x44)), 4: (TOR | X, word(AREA + 0x4C)), 5: (TOR | R | W, word(AREA + 0x50)),
          15: (NAPOT | R, napot(AREA, 0x80))},
         [AREA, AREA + 0x44, AREA + 0x4C, AREA + 0x50, AREA + 0x80]),
-    "na4_at_a_border": (
+    "na4_at_a_boundary": (
         {1: (OFF, word(AREA)), 2: (TOR | R, word(AREA + 0x200)), 3: (NA4 | R | W, word(AREA + 0x200)),
          4: (NA4 | X, word(AREA + 0x204))},
         [AREA, AREA + 0x200, AREA + 0x204, AREA + 0x208]),
@@ -91,21 +91,21 @@ def written(case, entries):
         case.write(**{"pmpcfg%d" % number: sum(entries.get(4 * number + i, (0, 0))[0] << 8 * i for i in range(4))})
 
 
-def asked(case, borders):
+def asked(case, boundaries):
     """Checks every mode, kind and width at every boundary."""
-    for border in borders:
+    for boundary in boundaries:
         for offset, width in PLACES:
             for kind in "rwx":
                 for mode in MODES:
-                    case.access(mode, kind, border + offset & ONES, width)
+                    case.access(mode, kind, boundary + offset & ONES, width)
 
 
 def verdicts():
-    for name, (entries, borders) in (SETS | MORE_SETS).items():
+    for name, (entries, boundaries) in (SETS | MORE_SETS).items():
         case = Case("pmp", "verdicts_of_" + name)
         written(case, entries)
         case.pmp()
-        asked(case, borders)
+        asked(case, boundaries)
     case = Case("pmp", "verdicts_at_reset")
     case.pmp()
     asked(case, [START, AREA, PAST])
@@ -114,9 +114,9 @@ def verdicts():
         size = 8 << k
         base = AREA // size * size
         case.write(pmpaddr0=napot(base, size), pmpcfg0=NAPOT | R)
-        for border in [border for border in (base, base + size) if START <= border <= PAST] + [AREA]:
+        for boundary in [boundary for boundary in (base, base + size) if START <= boundary <= PAST] + [AREA]:
             for offset in (-4, -2, 0):
-                case.access(U, "r", border + offset, 4)
+                case.access(U, "r", boundary + offset, 4)
         case.show(PMPADDR[0])
     case = Case("pmp", "outside_comes_before_the_entries")
     for cfg in (0, NAPOT | R | W | X, L | NAPOT | R | W | X):
@@ -269,29 +269,29 @@ def registers_below_m():
         case.pmp()
 
 
-def filled(case, borders):
+def filled(case, boundaries):
     """Stores distinct bytes on both sides of the boundaries, in mode M before any entry is written."""
-    for i, border in enumerate(borders):
+    for i, boundary in enumerate(boundaries):
         for offset in (-4, 0):
-            if border + offset < PAST:
-                case.set(6, border + offset)
+            if boundary + offset < PAST:
+                case.set(6, boundary + offset)
                 case.set(7, 0xF1E2D3C4 ^ 0x01010101 * (16 * i + offset & 0xFF))
                 case.run(("sw", 7, 0, 6))
 
 
-def shown(case, border):
-    first = min(border - 4, PAST - 8)
+def shown(case, boundary):
+    first = min(boundary - 4, PAST - 8)
     case.mem(first, 8)
 
 
-def loaded_and_stored(case, borders, mstatus=None):
+def loaded_and_stored(case, boundaries, mstatus=None):
     """Makes each load and store across each boundary; shows the bytes after each store, and the registers of each trap. In mode M mstatus may be
     written before each."""
-    for i, border in enumerate(borders):
+    for i, boundary in enumerate(boundaries):
         for name in (*(("lb", "lhu"), ("lbu", "lh"))[i % 2], "lw", "sb", "sh", "sw"):
             width = WIDTH[name[1]]
             for offset in range(-width, 1):
-                case.set(6, border + offset)
+                case.set(6, boundary + offset)
                 if name in named("load"):
                     case.set(5, 0x11111111)
                 else:
@@ -305,28 +305,28 @@ def loaded_and_stored(case, borders, mstatus=None):
                 if name in named("load"):
                     case.reg(5)
                 else:
-                    shown(case, border)
+                    shown(case, boundary)
 
 
 def accesses():
-    for name, (entries, borders) in SETS.items():
+    for name, (entries, boundaries) in SETS.items():
         for mode in MODES:
             case = Returning("pmp", "%s_in_%s" % (name, LETTER[mode].lower()))
-            filled(case, borders)
+            filled(case, boundaries)
             written(case, {0: CODE} | entries)
             case.to(mode)
-            loaded_and_stored(case, borders)
+            loaded_and_stored(case, boundaries)
 
 
 def under_mprv():
     """From mode M in the previous mode, while the code may be fetched in M alone; without MPRV, that mode is nothing."""
     for name in ("napot_in_tor", "locked_entries_bind_m", "two_entries_side_by_side"):
-        entries, borders = SETS[name]
+        entries, boundaries = SETS[name]
         for mode in MODES:
             case = Returning("pmp", "%s_by_m_under_mprv_in_%s" % (name, LETTER[mode].lower()))
-            filled(case, borders)
+            filled(case, boundaries)
             written(case, entries)
-            loaded_and_stored(case, borders[:3], MPRV | mode << 11)
+            loaded_and_stored(case, boundaries[:3], MPRV | mode << 11)
     case = Returning("pmp", "previous_mode_without_mprv")
     filled(case, [AREA])
     written(case, {3: (NAPOT | R, napot(AREA, 8))})
@@ -352,16 +352,16 @@ def fetched(case, address):
 
 
 def fetches():
-    for name, (entries, borders) in SETS.items():
+    for name, (entries, boundaries) in SETS.items():
         for mode in MODES:
             case = Returning("pmp", "%s_fetched_in_%s" % (name, LETTER[mode].lower()))
             written(case, {0: CODE} | entries)
             case.to(mode)
-            for border in borders:
+            for boundary in boundaries:
                 for offset in (-8, -4, 0, 4):
-                    fetched(case, border + offset)
+                    fetched(case, boundary + offset)
     for mode in MODES:
-        case = Case("pmp", "code_runs_to_a_border_in_" + LETTER[mode].lower())
+        case = Case("pmp", "code_runs_to_a_boundary_in_" + LETTER[mode].lower())
         count = 24  # words of code
         end = START + 4 * count
         cfg = L if mode == M else 0

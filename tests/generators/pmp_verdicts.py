@@ -56,12 +56,12 @@ def main():
     print("use rv_pmp::Mode::{M, S, U};")
     print("use rv_word::Width::{Byte, Half, Word};")
     turn = 0
-    for name, shows, entries, borders in SETS:
+    for name, shows, entries, boundaries in SETS:
         written = Entries(entries)
         rows = []
-        for border in borders:
+        for boundary in boundaries:
             for offset, width in [(-4, 4), (-3, 4), (-1, 4), (0, 4), (-2, 2), (-1, 2), (0, 2), (-1, 1), (0, 1), (2, 4), (3, 2)]:
-                address = border + offset
+                address = boundary + offset
                 if not 0 <= address < 1 << 32:
                     continue
                 access = list(KINDS)[turn % 3]

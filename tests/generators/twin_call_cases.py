@@ -70,10 +70,10 @@ def accesses():
     case.place(HOST + 0x1800, "csrrw", 0, 0x141, 30)
     case.place(HOST + 0x1804, "sret")
     case.apart()
-    for border in (BASE, BASE + PAGE):
+    for boundary in (BASE, BASE + PAGE):
         for name in ("lw", "lh", "lb", "sw", "sh", "sb"):
             for offset in range(-4, 4):
-                case.set(6, border + offset)
+                case.set(6, boundary + offset)
                 case.set(7, 0x5A5A5A5A)
                 case.set(30, case.machine.pc + 4)
                 case.do((name, 7, 0, 6))

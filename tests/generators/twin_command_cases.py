@@ -72,12 +72,12 @@ def every_command():
 
 def not_blind():
     """Commands that show or write bytes: at each boundary, of each length."""
-    case = TwinCase("blind", "at_each_border")
+    case = TwinCase("blind", "at_each_boundary")
     case.create(BASE, window=(WINDOW, PAGE))
     case.say("mem 80020000 4", "poke 80020010 5", "dis 80020000")
     case.apart()
-    for border, inside in ((BASE, 0), (BASE + PAGE, -1)):
-        for at in range(border - 4, border + 4):
+    for boundary, inside in ((BASE, 0), (BASE + PAGE, -1)):
+        for at in range(boundary - 4, boundary + 4):
             for command, length in (("mem %x 1", 1), ("mem %x 3", 3), ("dis %x", 4), ("poke %x 5a", 1)):
                 is_blind = at + length <= BASE or at >= BASE + PAGE
                 assert is_blind or case.given(command % at) == ["error blind"]
