@@ -1,10 +1,10 @@
 #!/usr/bin/env python3
-"""python3 -m docs.laws_docs --check: tells whether what docs/LAWS.md and docs/PROMISES.md name stands where they say.
+"""python3 -m docs.laws_docs --check: checks the names in docs/LAWS.md and docs/PROMISES.md against the sources.
 
-Of LAWS: the files, definitions, functions and clauses of each law are there, those before a file's name in that file; a clause is one of
-the functions named before it, also in the table; and each definition is part of what one of the functions of that law promises. Of
-PROMISES: the definitions in parentheses are part of the contract of some function; and in the table of refusals each clause and
-definition is of each call of its row.
+LAWS: the files, definitions, functions and clauses of each law exist, and a name before a file name is in that file. A clause belongs to one of
+the functions named before it, in the text and in the table. Each definition is part of the contract of one of the functions of its law.
+PROMISES: each definition in parentheses is part of the contract of some function. In the table of refusals each clause and definition belongs
+to each call of its row.
 """
 import os
 import re
@@ -20,13 +20,13 @@ class Sources:
         self.functions, self.definitions, self.wrong, self.count = functions(), definitions(), [], 0
 
     def of_name(self, name, crates=(), owner=None):
-        """The functions that a page calls so; a name alone may be of the type that was named before it."""
+        """Returns the functions that a page names so; a bare name may belong to the type that was named before it."""
         names = {name} | ({f"{owner}::{name}"} if owner and "::" not in name else set())
         found = [it for it in self.functions if it.names & names and (not crates or it.crate in crates)]
         return found or [it for it in self.functions if it.names & names]
 
     def all_of(self, names, crates=()):
-        """The functions of a list of names, each name with its own; what none has is wrong."""
+        """Returns the functions of each name in a list; a name without a function is an error."""
         owner = None
         for name in names:
             found = self.of_name(name, crates, owner)
@@ -50,7 +50,7 @@ def names_in(text):
 
 
 def check_places(sources, carried, defined):
-    """The names right before a file's name stand in that file."""
+    """Checks that the names before a file name are in that file."""
     for names, path in re.findall(rf"({NAMES})(?: of `\w+`)? \(`([\w/]+\.antt)`\)", defined):
         for name in names_in(names):
             sources.ask(name in defined_in(os.path.join(ROOT, "crates", path)), f"LAWS: {name} is not in {path}")
@@ -60,7 +60,7 @@ def check_places(sources, carried, defined):
 
 
 def check_law(sources, section):
-    """A part of LAWS: what it defines and which calls carry it."""
+    """Checks a section of LAWS: its definitions, and the calls that carry the law."""
     items = {kind: " ".join(text.split()) for kind, text in re.findall(r"^- (Definition|Contract): ((?:.+\n)(?:  .+\n)*)", section, re.M)}
     if not items:
         return
@@ -82,7 +82,7 @@ def check_law(sources, section):
 
 
 def check_table(sources, page):
-    """The table of LAWS: in each cell functions, and then clauses of theirs."""
+    """Checks the table of LAWS: each cell has functions, then clauses of these functions."""
     rows = [line.split("|")[2:-1] for line in page.split("\n## ")[0].splitlines() if line.startswith("| ") and "`" in line]
     for cell in [it for row in rows for it in row if "`" in it]:
         names = names_in(re.sub(r" of `\w+`", "", cell))
@@ -91,7 +91,7 @@ def check_table(sources, page):
 
 
 def check_refusals(sources, page):
-    """The table of refusals of PROMISES: each clause, and each definition in parentheses, is of each call of the row."""
+    """Checks the table of refusals of PROMISES: each clause and definition belongs to each call of its row."""
     for line in re.findall(r"^\| `.*$", page, re.M):
         cells = line.split("|")[1:-1]
         if len(cells) != 4 or "every other call" in cells[0]:
@@ -105,7 +105,7 @@ def check_refusals(sources, page):
 
 
 def check_promises(sources, page):
-    """The definitions that PROMISES names in parentheses are part of some contract."""
+    """Checks that the definitions in parentheses in PROMISES are part of some contract."""
     part = rests_on("\n".join(it.contract for it in sources.functions), sources.definitions)
     words = {word for _, path in files_of("src", ".rt") for word in re.findall(r"\w+", text_of(path))}
     for name in sorted(set(re.findall(r"\(`(\w+)`", page))):
