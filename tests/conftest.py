@@ -1,4 +1,4 @@
-"""Fixtures that the tests share: how rvlook is run, and the programs that it is run on.
+"""Shared fixtures: they run rvlook and the program, and provide test programs.
 
 `RVBENCH` names the built program. `RVLOOK` names another copy of the script `rvlook`, such as a mutant. A test program is
 a folder of `tests/rvlook/programs`: its C sources, and the image and the symbols that
@@ -30,7 +30,7 @@ atexit.register(shutil.rmtree, JOINED, ignore_errors=True)
 
 @lru_cache(maxsize=None)
 def input_of(folder):
-    """The input of an example in one file: `stdin`, or a joined file of the image and the script."""
+    """Returns the path of the input of an example: `stdin`, or a file that joins the image and the script."""
     if (folder / "stdin").exists():
         return folder / "stdin"
     path = JOINED / ("%s_%s" % (folder.parent.name, folder.name))
@@ -40,13 +40,13 @@ def input_of(folder):
 
 def pytest_addoption(parser):
     """Adds the options of this suite."""
-    parser.addoption("--update-golden", action="store_true", help="write the golden files of rvlook anew")
-    parser.addoption("--all-orders", action="store_true", help="compare races with all orders of more programs, which takes minutes")
-    parser.addoption("--fuzz-seconds", type=float, default=0, help="how long each fuzzer of tests/rvlook/fuzz runs (a few examples)")
+    parser.addoption("--update-golden", action="store_true", help="rewrite the golden files of rvlook")
+    parser.addoption("--all-orders", action="store_true", help="compare races with all schedules of more programs, which takes minutes")
+    parser.addoption("--fuzz-seconds", type=float, default=0, help="run each fuzzer of tests/rvlook/fuzz for this long (default: a few examples)")
 
 
 def pytest_configure(config):
-    """Gives all workers one folder for the generated cases, which the first one that needs it fills."""
+    """Creates one folder for the generated cases of all workers; the first one that needs it fills it."""
     if not os.environ.get("MADE_CASES"):
         os.environ["MADE_CASES"] = tempfile.mkdtemp(prefix="rvbench-cases-")
         config.add_cleanup(lambda: shutil.rmtree(os.environ["MADE_CASES"], ignore_errors=True))
@@ -54,22 +54,22 @@ def pytest_configure(config):
 
 @pytest.fixture
 def fuzz_seconds(request):
-    """How long a fuzzer runs; 0 for a few examples with a fixed seed."""
+    """Returns the seconds of a fuzzer; 0 for a few examples with a fixed seed."""
     return request.config.getoption("--fuzz-seconds")
 
 
 @pytest.fixture(scope="session")
 def bench():
-    """The path of the built program."""
+    """Returns the path of the built program."""
     path = os.environ.get("RVBENCH") or str(ROOT / "crates" / "rvbench" / "out" / "rvbench")
     if not os.access(path, os.X_OK):
-        pytest.fail("RVBENCH names no program, and none is built")
+        pytest.fail("there is no built program; set RVBENCH, or run ./prove")
     return path
 
 
 @pytest.fixture(scope="session")
 def rvlook(bench):
-    """Runs `./rvlook` with these arguments in the root of the repository; gives its `CompletedProcess`, with text."""
+    """Runs `./rvlook` with these arguments in the root of the repository; returns its `CompletedProcess`, with text."""
     def run(*arguments, timeout=SECONDS, stdin="", env=None, cwd=ROOT):
         environment = {**os.environ, "RVBENCH": bench, "TERM": "dumb", **(env or {})}
         return subprocess.run([str(RVLOOK), *map(str, arguments)], cwd=cwd, input=stdin, capture_output=True, text=True, errors="replace",
@@ -79,7 +79,7 @@ def rvlook(bench):
 
 @pytest.fixture(scope="session")
 def objects(rvlook):
-    """Runs a subcommand with `--json`; gives its status and its objects."""
+    """Runs a subcommand with `--json`; returns its status and its objects."""
     def run(*arguments, **options):
         done = rvlook(*arguments, "--json", **options)
         return done.returncode, [json.loads(line) for line in done.stdout.splitlines()]
@@ -88,7 +88,7 @@ def objects(rvlook):
 
 @pytest.fixture(scope="session")
 def results(objects):
-    """The same, of a subcommand that must end with a status; gives its objects."""
+    """Runs a subcommand that must end with a status; returns its objects."""
     def run(*arguments, status=0, **options):
         ended, found = objects(*arguments, **options)
         assert ended == status, "rvlook %s ends with status %d" % (" ".join(map(str, arguments)), ended)
@@ -98,7 +98,7 @@ def results(objects):
 
 @pytest.fixture(scope="session")
 def replies(bench):
-    """Runs the lines of a script on the bench alone, after the image of an input; gives the lines of reply."""
+    """Runs the lines of a script directly on the program, after the image of an input; returns the reply lines."""
     def run(image, words, script):
         text = Path(ROOT, image).read_text(encoding="ascii").split("--\n")[0] + "--\n" + "\n".join(script) + "\n"
         done = subprocess.run([bench, "run", *words], input=text, capture_output=True, text=True, check=True, timeout=SECONDS)
@@ -108,7 +108,7 @@ def replies(bench):
 
 @pytest.fixture(scope="session")
 def debugger(bench):
-    """Starts `rvlook gdb` on an image with these words; gives a client of it, to be used with `with`."""
+    """Starts `rvlook gdb` on an image with these arguments; returns a client, a context manager."""
     from support.gdb_client import Client
     environment = {**os.environ, "RVBENCH": bench, "TERM": "dumb"}
     return lambda image, words=(), **options: Client([RVLOOK, "gdb", *words, image], ROOT, environment, **options)
@@ -116,7 +116,7 @@ def debugger(bench):
 
 @pytest.fixture(scope="session")
 def program():
-    """The kept image of a test program, with its symbols: arguments for a subcommand."""
+    """Returns the stored image of a test program with its symbols, as arguments of a subcommand."""
     def arguments(name):
         folder = PROGRAMS / name
         return [str(folder / "image"), "--monitor", "--symbols", str(folder / "symbols")]
@@ -125,13 +125,13 @@ def program():
 
 @pytest.fixture(scope="session")
 def short_program(program):
-    """The same for a program that ends within 2000 steps: on an unproved program it is faster not to look further."""
+    """Returns the same for a program that ends within 2000 steps, which saves time with an unproved program."""
     return lambda name: [*program(name), "--steps", "2000"]
 
 
 @pytest.fixture(scope="session")
 def built(tmp_path_factory):
-    """The ELF file that `build` makes of a test program now; skips the test if no compiler is installed."""
+    """Builds the ELF file of a test program; skips the test if no compiler is installed."""
     if not (shutil.which("clang") and shutil.which("ld.lld")) and not shutil.which("riscv64-unknown-elf-gcc"):
         pytest.skip("no compiler for RISC-V is installed")
 
@@ -146,11 +146,11 @@ def built(tmp_path_factory):
 
 @pytest.fixture(scope="session")
 def final_states(bench):
-    """Searches all orders of two harts in this process; gives the search and its final states. Arguments: the bytes of a raw image, the
-    outcome as `--outcome` has it, and members of `Bounds`; `plain` without partial-order reduction, `limit` and `seconds` as the options."""
+    """Searches all schedules of two harts in this process; returns the search and its final states. The arguments are the bytes of a raw image, the
+    outcome as in `--outcome`, members of `Bounds`, `plain` for no partial-order reduction, and `limit` and `seconds` as in the options."""
     os.environ["RVBENCH"] = bench
     from rvlook.finders import outcomes
-    from rvlook.finders.races import ends, machine as machines, search as searches, time_limit
+    from rvlook.finders.races import final_states as states, machine as machines, search as searches, time_limit
     from rvlook.image import symbols
     from rvlook.image.files import Image, digits_of
     from rvlook.protocol import run
@@ -161,7 +161,7 @@ def final_states(bench):
         machine = machines.Machine(types.SimpleNamespace(setup=setup), (), limit)
         try:
             search = searches.Search(machine, searches.Bounds(**bounds), plain, outcomes.watched_of(outcome), time_limit.TimeLimit(seconds))
-            return search, ends.search_ends(search, lambda _: outcome)
+            return search, states.find_final_states(search, lambda _: outcome)
         finally:
             machine.close()
     return found

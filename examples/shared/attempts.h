@@ -1,8 +1,8 @@
-/* A host's attempts at memory that it may not reach: each tells the cause of its trap, as host.s keeps it, or NO_TRAP. */
+/* Attempts of a host to access memory that is denied to it. Each returns the cause of its trap, which host.s stores, or NO_TRAP. */
 #ifndef MONITOR_ATTEMPTS_H
 #define MONITOR_ATTEMPTS_H
 
-/* Cause 0 is a trap as any other, that of a jump to no multiple of 4. */
+/* Cause 0 is a trap too: a jump to a misaligned address. */
 enum trap_cause { MISALIGNED_FETCH = 0, FETCH_FAULT = 1, LOAD_FAULT = 5, STORE_FAULT = 7, NO_TRAP = -1 };
 
 extern volatile struct {

@@ -1,5 +1,5 @@
-/* The calls of the monitor, for freestanding C on RV32IM in mode S. A call is an ecall with a7 = 0a454e43 and a6 = its number;
-   a0 to a4 are its arguments, a0 and a1 its answer, and every other register is kept. docs/MONITOR.md tells what each does. */
+/* The monitor calls, for freestanding C on RV32IM in mode S. A call is an ecall with a7 = 0a454e43 and its number in a6. Its
+   arguments are in a0 to a4, its results in a0 and a1. All other registers are preserved. docs/MONITOR.md describes the calls. */
 #ifndef MONITOR_CALLS_H
 #define MONITOR_CALLS_H
 
@@ -10,21 +10,21 @@ enum monitor_function {
     MONITOR_EXIT = 7
 };
 
-/* What a0 tells: ffffffff is -1, and so on. */
+/* The status in a0: ffffffff is -1, and so on. */
 enum monitor_status {
     DONE = 0,
-    NOT_SUPPORTED = -1, /* no such call, or the other world's */
-    BAD_REGION = -2,    /* size, alignment or place of the region */
-    BAD_WINDOW = -3,    /* the same of the window */
-    OVERLAP = -4,       /* with the monitor's range, a live region, or a window */
-    BAD_ENTRY = -5,     /* no multiple of 4, or not in the region */
-    NO_SLOT = -6,       /* thirteen enclaves live */
-    NO_ENCLAVE = -7,    /* the slot is over 12 or not live */
-    BAD_STATE = -8,     /* not in a state that the call takes */
-    BAD_ADDRESS = -9    /* the caller may not store all 32 bytes */
+    NOT_SUPPORTED = -1, /* no such call in this world */
+    BAD_REGION = -2,    /* size, alignment or address of the region */
+    BAD_WINDOW = -3,    /* the same for the window */
+    OVERLAP = -4,       /* with the range of the monitor, a live region, or a window */
+    BAD_ENTRY = -5,     /* misaligned, or not in the region */
+    NO_SLOT = -6,       /* thirteen enclaves are live */
+    NO_ENCLAVE = -7,    /* the slot is above 12 or not live */
+    BAD_STATE = -8,     /* the call does not accept this state */
+    BAD_ADDRESS = -9    /* the caller cannot store all 32 bytes */
 };
 
-/* Why an enclave that was run or resumed has left: a0 of such a call that is not refused. */
+/* Why an enclave returned to the host: a0 of a run or resume that is not refused. */
 enum monitor_left { EXITED = 0, STOPPED = 1, INTERRUPTED = 2 };
 
 struct monitor_answer {
@@ -32,7 +32,7 @@ struct monitor_answer {
     unsigned value; /* a1 */
 };
 
-/* The ecall of a call with up to two arguments. */
+/* Makes a call with up to two arguments. */
 static inline struct monitor_answer monitor_call(enum monitor_function function, unsigned first, unsigned second)
 {
     register unsigned a0 __asm__("a0") = first;
@@ -45,8 +45,8 @@ static inline struct monitor_answer monitor_call(enum monitor_function function,
 
 /* ---- for a host */
 
-/* A region of so many bytes becomes an enclave, with a window of so many bytes, or none where that is 0. The value is its
-   slot. */
+/* Creates an enclave from a region of `size` bytes, with a window of `window_size` bytes, or none if that is 0. The value is
+   its slot. */
 static inline struct monitor_answer enclave_create(unsigned base, unsigned size, unsigned window, unsigned window_size,
                                                    unsigned entry)
 {
@@ -61,25 +61,25 @@ static inline struct monitor_answer enclave_create(unsigned base, unsigned size,
     return (struct monitor_answer){(int)a0, a1};
 }
 
-/* Its region is zeroed, and the slot is free. Not of one that runs. */
+/* Destroys an enclave that does not run: zeroes its region, and frees its slot. */
 static inline struct monitor_answer enclave_destroy(unsigned slot)
 {
     return monitor_call(MONITOR_DESTROY, slot, 0);
 }
 
-/* A fresh enclave is entered. When it leaves, the status is EXITED, STOPPED or INTERRUPTED, and the value its own, or 0. */
+/* Enters a Fresh enclave. The status is then EXITED, STOPPED or INTERRUPTED, and the value that of the enclave, or 0. */
 static inline struct monitor_answer enclave_run(unsigned slot)
 {
     return monitor_call(MONITOR_RUN, slot, 0);
 }
 
-/* The same of one that stopped or was interrupted: it goes on where it was. */
+/* Resumes an enclave that stopped or was interrupted. */
 static inline struct monitor_answer enclave_resume(unsigned slot)
 {
     return monitor_call(MONITOR_RESUME, slot, 0);
 }
 
-/* The 32 bytes of its measurement are put at an address. */
+/* Writes the 32 bytes of its measurement to an address. */
 static inline struct monitor_answer enclave_measure(unsigned slot, unsigned address)
 {
     return monitor_call(MONITOR_MEASURE, slot, address);
@@ -87,19 +87,19 @@ static inline struct monitor_answer enclave_measure(unsigned slot, unsigned addr
 
 /* ---- for the runtime of an enclave, which runs in S */
 
-/* The 32 bytes of its own measurement are put at an address. */
+/* Writes the 32 bytes of its own measurement to an address. */
 static inline struct monitor_answer runtime_measure(unsigned address)
 {
     return monitor_call(MONITOR_MEASURE, 0, address);
 }
 
-/* The host goes on with this value. Once it resumes the enclave, the call is done. */
+/* Returns to the host with a value. The call returns when the host resumes the enclave. */
 static inline void runtime_stop(unsigned value)
 {
     (void)monitor_call(MONITOR_STOP, value, 0);
 }
 
-/* The host goes on with this value, and the enclave never again. */
+/* Returns to the host with a value, and ends the enclave. */
 __attribute__((noreturn)) static inline void runtime_exit(unsigned value)
 {
     (void)monitor_call(MONITOR_EXIT, value, 0);

@@ -1,4 +1,4 @@
-# Where the host begins, in mode S: its stack, its traps, main; and then it stays.
+# The start of the host in mode S: it sets its stack and its trap handler, calls main, and halts.
         .section .text.start, "ax"
         .globl  _start
 _start: la      sp, host_stack_top
@@ -7,8 +7,8 @@ _start: la      sp, host_stack_top
         call    main
 halt:   j       halt
 
-# A trap of the host is kept, and the host goes on behind the instruction; or, where a fetch was refused, where the call that led
-# there returns to. t0 and t1 are lost.
+# Stores cause and value of a trap, and continues after the instruction; after a fetch access fault at the return address of the
+# call that led there. Overwrites t0 and t1.
         .balign 4
 trapped:
         la      t1, trap
@@ -19,7 +19,7 @@ trapped:
         csrr    t0, sepc
         addi    t0, t0, 4
         lw      t1, 0(t1)
-        addi    t1, t1, -1      # the cause of a refused fetch is 1
+        addi    t1, t1, -1      # 1 is a fetch access fault
         bnez    t1, back
         mv      t0, ra
 back:   csrw    sepc, t0

@@ -1,8 +1,8 @@
-/* The enclave and its window, as link.ld has placed them: each begins at a multiple of its size, which is 4096 bytes at least. */
+/* The region and the window of the enclave, as placed by link.ld. Each begins at a multiple of its size, which is at least 4096. */
 #ifndef MONITOR_MEMORY_H
 #define MONITOR_MEMORY_H
 
-/* GCC stores a word byte by byte where it knows no better of the address; the other hart may then see a part of it. */
+/* GCC stores a word byte by byte if it does not know the alignment; the other hart may then see a part of the word. */
 #if defined(__GNUC__) && !defined(__clang__)
 #define AT_A_PAGE __attribute__((aligned(4096)))
 #else

@@ -1,5 +1,5 @@
-# Where an enclave begins, in mode S: its stack, its traps, runtime(base, size, window, window size); and then application(what
-# runtime answered), in mode U.
+# The start of an enclave in mode S: it sets its stack and its trap handler, calls runtime(base, size, window, window size), and
+# then application(result of runtime) in mode U.
         .section .text.start, "ax"
         .globl  enclave_entry
 enclave_entry:
@@ -7,7 +7,7 @@ enclave_entry:
         la      t0, trapped
         csrw    stvec, t0
         call    runtime
-        csrw    sscratch, sp    # the runtime's stack, for traps of the application
+        csrw    sscratch, sp    # the stack of the runtime, for traps of the application
         la      t0, in_user_mode
         csrw    sepc, t0
         csrw    sstatus, zero   # SPP is 0: sret goes to U
@@ -15,11 +15,11 @@ enclave_entry:
         sret
 in_user_mode:
         call    application
-        li      a1, 0           # service 0: the application is done, with the value in a0
+        li      a1, 0           # service 0: the application has returned the value in a0
         ecall
 
-# A trap of the application: what it may expect to find again is kept on the runtime's stack, and served(value, service) is called
-# with its a0 and a1. What that answers is the application's a0, behind its ecall.
+# Handles a trap of the application: saves its caller-saved registers on the stack of the runtime, and calls served(value, service)
+# with its a0 and a1. The result is a0 of the application, which continues after its ecall.
         .balign 4
 trapped:
         csrrw   sp, sscratch, sp

@@ -1,4 +1,4 @@
-/* What an application asks of its runtime: an ecall with the service in a1 and a value in a0. */
+/* Calls from an application to its runtime: an ecall with the service in a1 and a value in a0. */
 #ifndef MONITOR_SERVICES_H
 #define MONITOR_SERVICES_H
 

@@ -1,4 +1,4 @@
-/* What a compiler may call for a copy or a comparison. Build gives it to the host and to the enclave, to each its own, if it has none. */
+/* Functions that a compiler may call to copy or compare. examples/build links a copy into the host or the enclave if it has none. */
 typedef __SIZE_TYPE__ size_t;
 
 void *memcpy(void *to, const void *from, size_t size)

@@ -6,57 +6,57 @@ import sys
 from typing import NoReturn, Sequence
 
 from rvlook.cli.parser import perform, read
-from rvlook.errors import UNFINISHED, Fault
+from rvlook.errors import UNFINISHED, RvlookError, error
 
-INTERRUPTED, CLOSED = 130, 141  # as a shell tells the signals SIGINT and SIGPIPE
+INTERRUPTED, CLOSED = 130, 141  # the exit statuses of a shell for SIGINT and SIGPIPE
 
 
-def told(line: str, status: int) -> int:
-    """Prints one line to standard error; returns the status."""
-    print("rvlook: " + line, file=sys.stderr)
+def fail(line: str, status: int) -> int:
+    """Prints an error; returns the status."""
+    error(line)
     return status
 
 
-def main(words: Sequence[str]) -> int:
-    """Runs rvlook with the arguments `words`; returns the exit status. Prints every error in one line."""
+def main(arguments: Sequence[str]) -> int:
+    """Runs rvlook with these arguments; returns the exit status. Prints every error in one line."""
     take_all_characters()
     try:
-        return ended(words)
+        return status_of(arguments)
     except KeyboardInterrupt:
-        return told("stopped", INTERRUPTED)
+        return fail("interrupted", INTERRUPTED)
     except BrokenPipeError:
         drop_output()
-        return told("who reads the output has gone", CLOSED)
-    except OSError as error:
+        return fail("broken pipe", CLOSED)
+    except OSError as fault:
         drop_output()
-        return told("the output fails: %s" % error.strerror, UNFINISHED)
+        return fail("cannot write the output: %s" % fault.strerror, UNFINISHED)
 
 
-def ended(words: Sequence[str]) -> int:
+def status_of(arguments: Sequence[str]) -> int:
     """Runs a subcommand whose output can be written; returns the exit status."""
     if sys.stdout is None:
-        return told("there is no standard output", UNFINISHED)
+        return fail("standard output is closed", UNFINISHED)
     try:
-        status = perform(read(words))
+        status = perform(read(arguments))
         sys.stdout.flush()
         return status
-    except Fault as fault:
-        sys.stdout.flush()  # what was found before it
-        return told(str(fault), fault.status)
-    except SystemExit as end:  # behind a help text
+    except RvlookError as fault:
+        sys.stdout.flush()  # the results so far come before the error
+        return fail(str(fault), fault.status)
+    except SystemExit as end:  # after a help text
         sys.stdout.flush()
         return end.code if isinstance(end.code, int) else 0
 
 
 def take_all_characters() -> None:
-    """Makes the standard streams accept any bytes, also those that the encoding of the locale lacks."""
+    """Makes the standard streams accept any bytes, even those that the encoding of the locale lacks."""
     for stream, errors in ((sys.stdin, "surrogateescape"), (sys.stdout, "backslashreplace"), (sys.stderr, "backslashreplace")):
         if hasattr(stream, "reconfigure"):
             stream.reconfigure(errors=errors)
 
 
 def drop_output() -> None:
-    """Sends the rest of the output to /dev/null, so that Python does not report the error again when it exits."""
+    """Sends the rest of the output to /dev/null, so that Python does not report the same error again when it exits."""
     os.dup2(os.open(os.devnull, os.O_WRONLY), sys.stdout.fileno())
 
 

@@ -1,4 +1,4 @@
-// The stream of ChaCha20 (RFC 8439), added to 1,024 bytes, for ever.
+// Encrypts 1,024 bytes by ChaCha20 (RFC 8439), forever.
 #include <stdint.h>
 
 static uint32_t key[16] = {0x61707865, 0x3320646e, 0x79622d32, 0x6b206574};

@@ -1,4 +1,4 @@
-// The blocks of SHA-256 (FIPS 180-4) over 1,024 bytes, which change with what comes out, for ever.
+// Hashes 1,024 bytes by SHA-256 (FIPS 180-4), and mixes the result into them, forever.
 #include <stdint.h>
 
 static const uint32_t constants[64] = {

@@ -1,4 +1,4 @@
-/* A program of this folder: code first, from the first address of RAM on, data behind it, the stack below 80010000. */
+/* A program of this folder: code from the first address of RAM, then data; the stack ends at 80010000. */
 ENTRY(_start)
 SECTIONS {
   . = 0x80000000;

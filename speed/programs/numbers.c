@@ -1,4 +1,4 @@
-// Powers of numbers of 512 bits modulo another, by Montgomery's products, for ever.
+// Computes modular powers of 512-bit numbers by Montgomery multiplication, forever.
 #include <stdint.h>
 
 enum { WORDS = 16 };
@@ -22,7 +22,7 @@ static void subtract(number *a, const number *b) {
   }
 }
 
-// The product of two numbers, divided by 2 to the number of their bits.
+// Montgomery product: the product of two numbers, divided by 2 to the number of their bits.
 static void multiply(number *to, const number *a, const number *b, uint32_t inverse) {
   uint32_t sum[WORDS + 2] = {0};
   for (int i = 0; i < WORDS; i++) {

@@ -1,4 +1,4 @@
-# Where a program of this folder begins: it has a stack, and does its work for ever.
+# The start of a program of this folder: sets the stack, and calls the work forever.
 .section .text.start, "ax"
 .globl _start
 _start:

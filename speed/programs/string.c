@@ -1,4 +1,4 @@
-// What the compiler calls for copies and zeros.
+// Functions that the compiler calls to copy and to clear memory.
 #include <stddef.h>
 
 void *memcpy(void *to, const void *from, size_t size) {

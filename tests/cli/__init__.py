@@ -1,1 +1,1 @@
-"""Tests of the built program by its command line."""
+"""Tests of the built program through its command line."""

@@ -1,5 +1,5 @@
-"""The command-line cases: those that are written by hand, a file for each topic in `tests/cases`; those that `tests/generators` writes, of which
-`tests/cases/digests` has a line for each topic; and the examples that have an input and an output."""
+"""The command-line cases. Handwritten topics are files in `tests/cases`. `tests/generators` writes the other topics, each with a line in
+`tests/cases/digests`. Examples with an input and an output are cases too."""
 import fcntl
 import hashlib
 import os
@@ -18,16 +18,16 @@ NAMES_A_HART = re.compile(rb"^[ \t]*(hart|sched)\b", re.M)
 
 
 class Stale(Exception):
-    """A generator writes other cases than those whose digest is kept."""
+    """A generator wrote cases whose digest differs from the stored one."""
 
 
 def written_by_hand():
-    """The names of the topics that are written by hand."""
+    """Returns the names of the handwritten topics."""
     return {it.name[:-len(".cases")] for it in CASES.glob("*.cases")}
 
 
 def generated():
-    """The generated topics, each with the SHA-256 of its text and the name of its generator."""
+    """Returns the SHA-256 and the generator of each generated topic."""
     lines = (CASES / "digests").read_text(encoding="ascii").splitlines()
     return {line.split()[0]: tuple(line.split()[2:]) for line in lines}
 
@@ -48,7 +48,7 @@ def generate(folder):
 
 
 def text_of(topic):
-    """The text of a topic."""
+    """Returns the text of a topic."""
     digest, script = generated().get(topic, (None, None))
     if digest is None:
         return (CASES / (topic + ".cases")).read_bytes().decode("ascii")
@@ -62,23 +62,23 @@ def text_of(topic):
 
 @lru_cache(maxsize=None)
 def cases_of(topic):
-    """The cases of a topic, by their names TOPIC/CASE."""
+    """Returns the cases of a topic by name, TOPIC/CASE."""
     return {"%s/%s" % (topic, it.name): it for it in read(text_of(topic))}
 
 
 def case(name):
-    """The case with the name TOPIC/CASE."""
+    """Returns the case with the name TOPIC/CASE."""
     return cases_of(name.split("/")[0])[name]
 
 
 def example_input(folder):
-    """The input of an example: `stdin`, or the image and the script behind it."""
+    """Returns the input of an example: `stdin`, or the image followed by the script."""
     stdin = folder / "stdin"
     return stdin.read_bytes() if stdin.exists() else (folder / "image").read_bytes() + (folder / "script").read_bytes()
 
 
 def examples():
-    """The examples with an input and an output; their arguments are in a file, one a line."""
+    """Returns the examples with an input and an output as cases; a file has their arguments, one per line."""
     found = {}
     for stdout in sorted(EXAMPLES.glob("**/stdout")):
         folder = stdout.parent
@@ -89,7 +89,7 @@ def examples():
 
 
 def all_cases():
-    """All cases by their names."""
+    """Returns all cases by name."""
     found = examples()
     for topic in sorted(written_by_hand() | set(generated())):
         found.update(cases_of(topic))
@@ -97,7 +97,7 @@ def all_cases():
 
 
 def with_second_hart(cases):
-    """The monitored cases that name no hart, with a second hart that does nothing: no reply changes."""
+    """Returns the monitored cases that name no hart, with a second hart that does nothing; no reply changes."""
     found = {}
     for name, it in cases.items():
         is_monitored = it.words[:1] == [b"twin"] or it.words[:1] == [b"run"] and b"--monitor" in it.words

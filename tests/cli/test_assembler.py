@@ -1,4 +1,4 @@
-"""The assembler and the disassembler: texts that are refused, round trips, and texts of the largest size."""
+"""The assembler and the disassembler: rejected texts, round trips, and texts of the largest size."""
 import re
 import subprocess
 from pathlib import Path
@@ -14,7 +14,7 @@ LETTERS = "abcdefghijklmnopqrstuvwxyz0123456789"
 
 
 def answer(program, subcommand, data):
-    """The output and the status, within 20 seconds."""
+    """Runs the program for at most 20 seconds; returns the output and the status."""
     done = subprocess.run([program, subcommand], input=data, stdout=subprocess.PIPE, timeout=20, check=False)
     return done.stdout, done.returncode
 
@@ -28,7 +28,7 @@ def unescaped(text):
 
 
 def refused_texts():
-    """Each refused text, with its line and the number of its error."""
+    """Yields each rejected text with the line and the number of its error."""
     for line in REFUSED.read_text(encoding="latin-1").split("\n"):
         if line and not line.startswith("#"):
             number, fault, text = line.split(" ", 2)
@@ -89,7 +89,7 @@ def test_texts_of_the_largest_size(bench, name):
 
 
 def labels(count):
-    """So many labels of five letters and digits, all different."""
+    """Returns distinct labels of five letters and digits."""
     found = []
     for number in range(count):
         name, rest = "", number

@@ -1,4 +1,4 @@
-"""`examples/build`: what it builds by either compiler, what it refuses, the stacks that it reports, and hostile source folders."""
+"""`examples/build`: its results with either compiler, its errors, the stacks that it reports, and hostile source folders."""
 import os
 import re
 import shutil
@@ -43,7 +43,7 @@ unsigned application(volatile unsigned *window)
 
 
 def build(*arguments, command=BUILD, cwd=ROOT, compiler="--clang", **env):
-    """Runs `build`; gives its `CompletedProcess`."""
+    """Runs `build`; returns its `CompletedProcess`."""
     return subprocess.run([str(command), compiler, *map(str, arguments)], cwd=cwd, capture_output=True, text=True, timeout=120,
                           env={**os.environ, **env}, check=False)
 
@@ -62,7 +62,7 @@ def is_clang_14():
 
 
 def write_application(folder, text, host=None):
-    """Gives the folder another application, and a region of 8 KiB; `host` is a text before the host's source."""
+    """Writes another application into the folder, with a region of 8 KiB; `host` is text before the source of the host."""
     (folder / "application.c").write_text(text)
     (folder / "link.ld").write_text(LINK.read_text().replace("80020000, LENGTH = 4K", "80020000, LENGTH = 8K"))
     if host:
@@ -70,12 +70,12 @@ def write_application(folder, text, host=None):
 
 
 def address_of(folder, name):
-    """The address of a symbol in the listing, as text."""
+    """Returns the address of a symbol in the listing, as text."""
     return re.search("^([0-9a-f]{8})  %s$" % name, (folder / "symbols").read_text(), re.M)[1]
 
 
 def last_reply(program, folder, *commands):
-    """The last line of a run of the folder's image up to where the host halts."""
+    """Runs the image of the folder until the host halts; returns the last line of the output."""
     script = "--\nbreak %s\nrun 1000000\n%s\n" % (address_of(folder, "halt"), "\n".join(commands))
     done = subprocess.run([program, "run", "--monitor"], input=(folder / "image").read_text() + script, capture_output=True, text=True, check=True)
     return done.stdout.splitlines()[-1]
@@ -96,7 +96,7 @@ def test_the_stored_images_are_what_clang_14_builds(tmp_path, name):
 def test_an_enclave_that_uses_a_function_of_the_host_is_refused(folder, compiler):
     write_application(folder, COPYING.replace("memcpy", "copied"), MEMCPY.replace("memcpy", "copied"))
     done = build(folder, compiler=compiler)
-    assert (done.returncode, done.stderr) == (1, "build: the enclave uses what only the host has, and may not reach: copied\n")
+    assert (done.returncode, done.stderr) == (1, "build: error: the enclave uses functions that only the host has: copied\n")
 
 
 @pytest.mark.parametrize("compiler", COMPILERS)
@@ -105,9 +105,9 @@ def test_an_enclave_that_is_too_large_is_refused(folder, compiler):
     done = build(folder, compiler=compiler)
     first, second, third = done.stderr.splitlines()
     assert done.returncode == 1
-    assert re.fullmatch(r"build: REGION of %s is too small by \d+ bytes" % LINK, first)
-    assert second == "  a region or window has a power of two of bytes, 4096 at least, and begins at a multiple of its size"
-    assert third == "  cp %s %s, and there give REGION a larger LENGTH" % (LINK, folder)
+    assert re.fullmatch(r"build: error: REGION of %s is too small by \d+ bytes" % LINK, first)
+    assert second == "  the size of a region or window is a power of two, at least 4096; its address is a multiple of its size"
+    assert third == "  copy %s to %s, and increase the LENGTH of REGION" % (LINK, folder)
 
 
 @pytest.mark.parametrize("compiler", COMPILERS)
@@ -116,7 +116,7 @@ def test_a_function_that_no_source_has_is_reported(folder, compiler):
     (folder / "application.c").write_text("unsigned long long __udivdi3(unsigned long long, unsigned long long);\n" + text)
     done = build(folder, compiler=compiler)
     assert done.returncode == 1
-    assert done.stderr.startswith("build: no source has what is used: __udivdi3\n  memcpy, memmove, memset and memcmp are given;")
+    assert done.stderr.startswith("build: error: undefined functions: __udivdi3\n  memcpy, memmove, memset and memcmp are provided;")
 
 
 @pytest.mark.parametrize("compiler", COMPILERS)
@@ -162,14 +162,14 @@ def test_the_hmac_is_right_by_either_compiler(bench, tmp_path, compiler):
 def test_a_folder_that_is_not_there_is_refused(tmp_path):
     done = build(tmp_path / "nowhere")
     assert done.returncode == 1
-    assert done.stderr == "build: there is no folder %s, and none of that name in examples\n" % (tmp_path / "nowhere")
+    assert done.stderr == "build: error: no folder '%s', neither here nor in examples\n" % (tmp_path / "nowhere")
 
 
 @with_clang
 def test_each_stack_is_reported(folder):
     done = build(folder)
     assert done.returncode == 0, done.stderr
-    assert done.stdout == "build: bytes of stack: host 65216, application 3264, runtime 512\n"
+    assert done.stdout == "build: stack sizes in bytes: host 65216, application 3264, runtime 512\n"
     assert done.stderr == ""
 
 
@@ -179,14 +179,14 @@ def test_a_small_stack_is_a_warning(tmp_path):
     shutil.copytree(PROGRAMS / "stack_overflow", path)
     done = build(path)
     assert done.returncode == 0
-    assert done.stderr == ("build: warning: the application has 352 bytes of stack, fewer than 1024: "
-                           "give REGION of link.ld a larger LENGTH\n")
+    assert done.stderr == ("build: warning: the application has 352 bytes of stack, fewer than 1024; "
+                           "increase the LENGTH of REGION in link.ld\n")
     assert build("--stack", "300", path).stderr == ""
 
 
 @with_clang
 def test_a_response_file_of_the_compiler_is_a_source(folder):
-    """`@a.c` would hand its words, such as -fplugin=./p.so, to the compiler."""
+    """As a response file, `@a.c` would pass options such as -fplugin=./p.so to the compiler."""
     (folder / "@a.c").write_text("-fplugin=./planted.so\n")
     done = build(folder)
     assert done.returncode != 0
@@ -262,4 +262,4 @@ def test_a_source_that_is_no_regular_file_is_refused(folder):
     os.mkfifo(folder / "pipe.c")
     done = build(folder)
     assert done.returncode == 1
-    assert done.stderr == "build: pipe.c is no regular file\n"
+    assert done.stderr == "build: error: 'pipe.c' is not a regular file\n"

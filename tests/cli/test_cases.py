@@ -1,4 +1,4 @@
-"""The command-line cases: the program writes exactly the wanted bytes and ends with the wanted status."""
+"""The command-line cases: the program writes exactly the expected bytes and exits with the expected status."""
 import subprocess
 
 import pytest
@@ -7,7 +7,7 @@ from cli.cases import all_cases, with_second_hart
 
 SECONDS = 60
 CASES = all_cases()
-BESIDE = with_second_hart(CASES)
+CONCURRENT = with_second_hart(CASES)
 
 
 def check(program, case):
@@ -25,6 +25,6 @@ def test_case(bench, name):
     check(bench, CASES[name])
 
 
-@pytest.mark.parametrize("name", BESIDE)
-def test_case_beside_a_second_hart(bench, name):
-    check(bench, BESIDE[name])
+@pytest.mark.parametrize("name", CONCURRENT)
+def test_case_with_a_second_hart(bench, name):
+    check(bench, CONCURRENT[name])

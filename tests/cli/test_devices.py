@@ -1,4 +1,4 @@
-"""Devices that fail: an input that is a folder or closed, and an output that is full or closed."""
+"""Failing devices: an input that is a directory or closed, and an output that is full or closed."""
 import os
 import subprocess
 

@@ -1,4 +1,4 @@
-"""The examples: their sources give their images, and the model gives their outputs."""
+"""The examples: each image is built from its sources, and the model produces the stored output."""
 import subprocess
 
 import pytest

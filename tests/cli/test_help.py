@@ -1,4 +1,4 @@
-"""Help: the text of the command line, on standard output and with status 0. The examples in it run as they are."""
+"""Help texts: on standard output, with status 0. The examples in them run unchanged."""
 import re
 import subprocess
 
@@ -14,7 +14,7 @@ ENTRIES = ("step", "run", "break", "watch", "reg", "csr", "mem", "dis", "pmp,", 
 
 @pytest.fixture
 def help_of(bench):
-    """The help that these arguments ask for; nothing is written elsewhere."""
+    """Returns the help for these arguments; nothing else is written."""
     def text(*words):
         done = subprocess.run([bench, *words], stdin=subprocess.DEVNULL, capture_output=True, text=True, timeout=60, check=False)
         assert (done.returncode, done.stderr) == (0, "")
@@ -44,7 +44,7 @@ def test_each_subcommand_has_help_with_its_options(help_of, subcommand, form):
 
 
 @pytest.mark.parametrize("words", ["run --ram 65536 --help", "run --harts 2 --help"])
-def test_help_is_given_behind_other_options(help_of, words):
+def test_help_is_printed_after_other_options(help_of, words):
     assert has_line(help_of(*words.split()), "Usage: rvbench run")
 
 

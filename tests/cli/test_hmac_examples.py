@@ -1,4 +1,4 @@
-"""The codes and the measurement that the HMAC examples show are those of Python's hmac and hashlib."""
+"""The codes and the measurement in the HMAC examples match those of Python's hmac and hashlib."""
 import hashlib
 import hmac
 import os
@@ -20,18 +20,18 @@ def text_of(*names):
 
 
 def key():
-    """The key, a letter an element, in the application's source."""
+    """Returns the key in the source of the application, one letter per element."""
     row = re.search(r"key\[KEY_SIZE\] = \{(.*?)\};", text_of("hmac", "application.c"), re.S)
     return "".join(re.findall("'(.)'", row[1])).encode()
 
 
 def messages(name):
-    """What the host of an example asks for: the text in its source between the quotes of what it copies."""
+    """Returns the message of an example's host: the string literal that its source copies."""
     return [it.encode() for it in re.findall(r'[{ ]"([^"]+)"[,}\[]', text_of(name, "host.c"))]
 
 
 def measurement(name):
-    """The digest that create records, of the region as the image has it."""
+    """Returns the digest that create records for the region in the image."""
     image = image_of(cut_at(lines_of(text_of(name, "image") + text_of(name, "script")))[0])
     bytes_of_ram = loaded(image, "auto", RAM, True)[0]
     region = bytes(bytes_of_ram[REGION - RAM_BASE:REGION - RAM_BASE + REGION_SIZE])

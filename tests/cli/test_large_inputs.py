@@ -1,4 +1,4 @@
-"""Inputs that are too long to be kept as files: they are answered within seconds and in little memory."""
+"""Inputs that are too long to store as files: they are processed within seconds and in little memory."""
 import os
 import random
 import resource
@@ -20,12 +20,12 @@ BLOCKS = {"garbage": random.Random(1).randbytes(MEBIBYTE - 1) + b"\n", "zeros": 
 
 
 def stream(kind, length):
-    """At least so many bytes of a kind."""
+    """Returns an input of a kind with at least this many bytes."""
     return BLOCKS[kind] * -(-length // len(BLOCKS[kind]))
 
 
 def replies(kind, length):
-    """The replies of a bench to such a script."""
+    """Returns the expected replies to such a script."""
     if kind == "zeros":
         return b"error line\n"
     found = []
@@ -38,20 +38,20 @@ def replies(kind, length):
 
 
 def run(program, words, data, most=None):
-    """The output and the status. If `most` is given, the address space of the program is limited to so many bytes."""
+    """Runs the program; returns the output and the status. `most` limits its address space, in bytes."""
     limit = (lambda: resource.setrlimit(resource.RLIMIT_AS, (most, most))) if most else None
     done = subprocess.run([program, *words.split()], input=data, stdout=subprocess.PIPE, timeout=60, check=False, preexec_fn=limit)
     return done.stdout, done.returncode
 
 
 def image(count):
-    """The text of an image of so many bytes 11, and a script that shows the last byte of RAM."""
+    """Returns the text of an image of bytes 11, and a script that shows the last byte of RAM."""
     whole, rest = divmod(count - 1, 60)
     return (b"11" * 60 + b"\n") * whole + b"11" * (rest + 1) + SCRIPT
 
 
 def elf_image(size, count):
-    """The text of an ELF file whose one segment has so many bytes at the first byte of RAM, with `count` bytes after the headers."""
+    """Returns the text of an ELF file with one segment at the first byte of RAM and `count` bytes after the headers."""
     digits = int(size).to_bytes(4, "little").hex().encode()
     header = b"7f454c460101010000000000000000000200f3000100000000000080340000000000000000000000340020000100280000000000\n"
     return header + b"01000000540000000000008000000080" + digits + digits + b"0500000004000000\n" + image(count)
@@ -68,13 +68,13 @@ def test_long_bytes_are_too_long_for_the_assembler(bench, kind):
 
 
 @pytest.mark.parametrize("kind", ["garbage", "zeros", "digits"])
-def test_each_line_of_a_hostile_script_is_answered(bench, kind):
+def test_each_line_of_a_hostile_script_has_a_reply(bench, kind):
     script, wanted = b"--\n" + stream(kind, BYTES), replies(kind, BYTES)
     assert run(bench, "run", script, 16 * MEBIBYTE) == (wanted, 0)
     assert run(bench, "twin", script, 16 * MEBIBYTE) == (wanted + b"twin no slot\n", 0)
 
 
-def test_a_million_refused_lines_are_answered(bench):
+def test_a_million_refused_lines_have_replies(bench):
     assert run(bench, "run", b"--\n" + stream("refused", 28000000), 16 * MEBIBYTE) == (replies("refused", 28000000), 0)
 
 
@@ -82,7 +82,7 @@ def test_a_line_of_a_million_letters_is_one_malformed_line(bench):
     assert run(bench, "run", b"--\n" + b"a" * 1000000 + b"\nreg 0\n") == (b"error line\nx0=00000000\n", 0)
 
 
-def test_the_bench_goes_on_after_refused_lines(bench):
+def test_the_program_continues_after_refused_lines(bench):
     lines = ["step 1000001", "step 00000001", "reg 32", "reg", "regs 1", "mem 80000000 65", "poke 80000000 100", "csr 0x300",
              "access M r 80000000 3", "timer maybe", "mem 800fffff 2", "re\0g 0", "x" * 1000000, "\t", "# x", "reg 1", "step 1", "reg 1", ""]
     wanted = "error operand\n" * 10 + "error outside\nerror line\nerror line\nx1=00000000\n" + \
@@ -95,7 +95,7 @@ def test_a_long_script_takes_little_time_and_memory(bench):
     wanted = b"ran 1 pc=80000000 mode=M world=bare why=done trap=-\n" * 200000
     assert run(bench, "run", script, 16 * MEBIBYTE) == (wanted, 0)
     seconds = []
-    for _ in range(5):  # the best of five, since the machine may have other work
+    for _ in range(5):  # the best of five, since the machine may be busy
         begin = time.monotonic()
         run(bench, "run", script)
         seconds.append(time.monotonic() - begin)

@@ -1,5 +1,5 @@
-"""Each allocation refused in turn, by a library that is preloaded into the program: the answer is that no memory was found, with nothing before
-it, or it is the right answer, whole."""
+"""A preloaded library refuses each allocation in turn. The program then either reports that it is out of memory, with no output before that,
+or writes the complete correct output."""
 import os
 import re
 import shutil
@@ -11,12 +11,12 @@ import pytest
 from cli.cases import EXAMPLES, case, example_input
 
 LIBRARY = Path(__file__).with_name("refuse_allocation.c")
-IN_A_ROW = 50  # runs with the right answer, after which no further allocation is refused
+IN_A_ROW = 50  # runs with the correct output, after which no further allocation is refused
 NO_MEMORY, RAM, LINE = "rvbench: memory", "rvbench: ram 2", "rvbench: line N fault 8"
 
 
 def compiler():
-    """The C compiler: the one that CC names, the kit's, or the system's."""
+    """Returns the C compiler: that of CC, of the kit, or of the system."""
     if os.environ.get("CC"):
         return [os.environ["CC"]]
     page = subprocess.run(["rt", "doc"], capture_output=True, text=True, check=False).stdout.strip() if shutil.which("rt") else ""
@@ -37,7 +37,7 @@ def run(program, words, data, **environment):
 
 
 def answers_in_turn(program, library, words, data, wanted):
-    """The answers to refused allocations, each kind once, in the order in which they first occur."""
+    """Returns the distinct outputs under refused allocations, in the order in which they first occur."""
     found, at, right = [], 0, 0
     while right < IN_A_ROW:
         at += 1

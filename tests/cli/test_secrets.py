@@ -16,7 +16,7 @@ SEED, SECRETS, POKES = 7, 6, 16
 
 
 def parts_of(name):
-    """The first part of the input, the lines after it that do not access the enclave, its region, and the arguments."""
+    """Returns the first part of the input, the lines after it that do not access the enclave, its region, and the arguments."""
     words = text_of(name, "words").split()
     image, scripts = cut_at(lines_of(input_of(name)))
     first, second = cut_at(scripts)
@@ -46,7 +46,7 @@ def output(program, words, lines):
 
 
 def outputs_of_twin(program, name, chance):
-    """The outputs of an attack by `twin`: with each secret, and with a line that shows a byte of it."""
+    """Returns the outputs of an attack by `twin`: with each secret, and with a line that shows a byte of it."""
     front, rest, region, words = parts_of(name)
     assert len(rest) > 3
     secrets = [pokes(chance, region) for _ in range(SECRETS)]
@@ -56,13 +56,13 @@ def outputs_of_twin(program, name, chance):
 
 
 def another(chance, line):
-    """Another byte in the place of a poke, another word in that of a setreg."""
+    """Returns the line with another byte if it is a poke, or another word if it is a setreg."""
     word, place, value = line.split()
     return f"{word} {place} {chance.getrandbits(4 * len(value)):0{len(value)}x}"
 
 
 def outputs_of_secret(program, name, chance):
-    """The same of an attack on an enclave that runs on the other hart."""
+    """Returns the same for an attack on an enclave that runs on the other hart."""
     front, secret, behind = (it if isinstance(it, list) else it.splitlines() for it in parts_of_secret(input_of(name)))
     words = text_of(name, "words").split()
     secrets = [[another(chance, line) for line in secret] for _ in range(SECRETS)]

@@ -1,6 +1,6 @@
 #!/usr/bin/env python3
-"""The commands of a script, as each place has them that names them all: those that the bench reads (rv_script), docs/COMMANDS.md, the
-help of `run`, the model of tests/models, rvlook, and the script of the twin cases. A command that one of them lacks is told.
+"""Checks that all lists of script commands agree: those of rv_script, docs/COMMANDS.md, the help of `run`, the model in tests/models, rvlook,
+and the script of the twin cases. Reports each command that a list lacks.
 
     python3 -m docs.command_names --check
 """
@@ -25,33 +25,33 @@ def text(path):
 
 
 def of_page(part):
-    """The commands in backquotes of a part of the page."""
+    """Returns the commands in backquotes of a part of the page."""
     return {it.split()[0]: it.split()[1:] for it in re.findall(r"`([^`]+)`", part)}
 
 
 def faults():
-    """For each place what it lacks, and what it has beside."""
+    """Returns for each list the missing and the extra commands."""
     read = set(re.findall(r'\("(\w+)", Keyword::', text(READ)))
     rows = re.search(r"^\| command \| operands \| reply \|\n\|[-|]+\n((?:\|.*\n)+)", text(PAGE), re.M)[1]
     page = of_page("".join(row.split("|")[1] for row in rows.splitlines()))
     meant = of_page(re.search(r"^\| of the selected hart \|.*\n\|[-|]+\n(.*)", text(PAGE), re.M)[1])
-    told = re.search(r'const FIRST_SCRIPT: &str =.*?Commands of a script(.*?)";', text(HELP), re.S)[1]
-    helped = {word for line in told.splitlines()[1:] for word in re.findall(r"(?:^|, )([a-z]+)", re.split(" {2}", line.strip())[0])}
+    listed = re.search(r'const FIRST_SCRIPT: &str =.*?Commands of a script(.*?)";', text(HELP), re.S)[1]
+    helped = {word for line in listed.splitlines()[1:] for word in re.findall(r"(?:^|, )([a-z]+)", re.split(" {2}", line.strip())[0])}
     has = {PAGE: set(page), PAGE + ": the selected hart": set(meant) | {"hart"}, HELP: helped,
            "tests/models/monitor_bench.py": set(FORMS), "python/rvlook/protocol/commands.py": set(COMMANDS),
            "tests/generators/twin_command_cases.py": {it.split()[0] for it in EVERY} | OF_HARTS}
     for place, names in has.items():
         if names != read:
-            yield "%s: lacks %s, has beside %s" % (place, sorted(read - names), sorted(names - read))
+            yield "%s: missing %s, extra %s" % (place, sorted(read - names), sorted(names - read))
     for name in read & set(COMMANDS) & set(FORMS):
         if len(COMMANDS[name].forms) != len(FORMS[name]):
             yield "%s: %d operands in python/rvlook/protocol/commands.py, %d in the model" % (name, len(COMMANDS[name].forms), len(FORMS[name]))
 
 
 def main(_arguments):
-    """Prints what differs; the status."""
+    """Prints the differences; returns the exit status."""
     found = list(faults())
-    print("\n".join(found) or "the commands are the same in each place")
+    print("\n".join(found) or "all lists of commands agree")
     return 1 if found else 0
 
 

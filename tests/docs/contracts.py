@@ -1,4 +1,4 @@
-"""The functions of the crates with the clauses of their contracts, and the definitions that a contract rests on, read from the sources."""
+"""Reads the functions of the crates with the clauses of their contracts, and the definitions that a contract uses, from the sources."""
 import os
 import re
 
@@ -15,7 +15,7 @@ def text_of(path):
 
 
 def files_of(folder, ending):
-    """The files of the crates' folders of this name: the crate, and the path."""
+    """Yields the files of the crates' folders of this name, as pairs of the crate and the path."""
     for crate in sorted(os.listdir(os.path.join(ROOT, "crates"))):
         for here, _, names in sorted(os.walk(os.path.join(ROOT, "crates", crate, folder))):
             for name in sorted(names):
@@ -24,8 +24,8 @@ def files_of(folder, ending):
 
 
 class Function:
-    """A function: its crate, its names as a page may have them, the names of its clauses, and the text of its contract. The fields of a
-    record that a clause states are clauses too."""
+    """A function: its crate, the names that a page may use, the names of its clauses, and the text of its contract. The fields of a record that a
+    clause states are clauses too."""
 
     def __init__(self, crate, path, owner, head, known):
         name = head.group(2)
@@ -40,7 +40,7 @@ class Function:
 
 
 def functions():
-    """All functions of the crates' sources, those of a trait among them."""
+    """Returns all functions of the crates' sources, including those of traits."""
     found, known = [], definitions()
     for crate, path in files_of("src", ".rt"):
         text = text_of(path)
@@ -52,7 +52,7 @@ def functions():
 
 
 def definitions():
-    """The definitions in specs/, each name with the texts of those that have it."""
+    """Returns the texts of the definitions in specs/, by name."""
     found = {}
     for _, path in files_of("specs", ".antt"):
         text = re.sub(r"^use .*$|^ *--.*$", "", text_of(path), flags=re.M)
@@ -63,12 +63,12 @@ def definitions():
 
 
 def defined_in(path):
-    """The names that a definition file defines."""
+    """Returns the names that a definition file defines."""
     return {it.group(1) for it in DEFINITION.finditer(text_of(path))}
 
 
 def rests_on(contracts, known):
-    """The names of the definitions that these contracts are made of, and those that they are made of."""
+    """Returns the names of the definitions that these contracts use, directly or indirectly."""
     left, seen = [contracts], set()
     while left:
         for name in set(re.findall(r"[\w◌-]+", left.pop())) & known.keys() - seen:

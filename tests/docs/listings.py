@@ -1,7 +1,6 @@
 #!/usr/bin/env python3
-"""python3 -m docs.listings --check: tells where a register, an instruction or a call of the monitor that a definition lists is
-missing, or is another, in a list that no proof compares with it: those of the tests, of ./rvlook, of the examples and of the pages;
-and where a count of instructions is another.
+"""python3 -m docs.listings --check: compares the lists of registers, instructions and monitor calls in the definitions with those that no proof
+checks: in the tests, rvlook, the examples and the documentation. Also checks the numbers of instructions in the documentation.
 """
 import os
 import re
@@ -17,7 +16,7 @@ WORLDS = {"Host": "the host", "(Enclave k)": "an enclave"}
 NUMBERS = "no one two three four five six seven eight nine ten eleven twelve".split()
 CALL_TESTS = ("generators/monitor_call_cases", "generators/harts_race_cases", "generators/twin_call_cases", "fuzz/inputs", "fuzz/monitor_play")
 
-# Registers that count on without a name of their own in ./rvlook and the assembler: counters of events, and what they count.
+# Registers without a name in rvlook and the assembler: the event counters and their selectors.
 COUNTED = re.compile(r"mhpm")
 
 
@@ -27,7 +26,7 @@ def text_of(name):
 
 
 def registers():
-    """The number of each control and status register, with its name."""
+    """Returns the name of each control and status register, by number."""
     table, found = text_of("crates/rv_state/specs/CsrTable.antt"), {}
     for number, name in re.findall(r'\bcsr 0x(\w+) \(codes "(\w+)"\)', table):
         found[int(number, 16)] = name
@@ -39,12 +38,12 @@ def registers():
 
 
 def instructions():
-    """The name of each instruction."""
+    """Returns the names of the instructions."""
     return set(re.findall(r'\blisted \(codes "([\w.]+)"\)', text_of("crates/rv_encoding/specs/Listing.antt")))
 
 
 def calls():
-    """The number of each call of the monitor, the worlds that each is of, and the status of each refusal."""
+    """Returns the number of each monitor call, the worlds that may make it, and the status of each refusal."""
     text = text_of("crates/rv_enclaves/specs/Calls.antt")
     numbers = {name: int(number) for name, number in re.findall(r"^call_number (\w+) = (\d+)$", text, re.M)}
     rows = re.findall(r"^is_offered (Host|\(Enclave k\)) (\w+) = (true|false)$", text, re.M)
@@ -55,7 +54,7 @@ def calls():
 
 
 def refusals():
-    """The refusals of each call in their order, and the files of their rows."""
+    """Returns the refusals of each call in order, and the files of their rows."""
     folder, rows, files = "crates/rv_enclaves/specs/", {}, {}
     for name in sorted(os.listdir(os.path.join(ROOT, folder))):
         for table, body in re.findall(r"^(\w+_refusals) [^:=\n]*=((?:.*\n)(?:    .*\n)*)", text_of(folder + name), re.M):
@@ -65,14 +64,14 @@ def refusals():
 
 
 def numbers_of_row(cell):
-    """The numbers that a row of the page's table of registers is of."""
+    """Returns the numbers in a row of the table of registers."""
     for part in cell.split(", "):
         ends = [int(end, 16) for end in part.split(" to ")]
         yield from range(ends[0], ends[-1] + 1)
 
 
-def registers_told():
-    """Each list of registers, with the numbers that it has."""
+def register_lists():
+    """Returns the numbers in each list of registers."""
     asm = text_of("crates/rv_asm/specs/CsrNames.antt").split("named_csrs =", 1)[1].split("\n\n", 1)[0]
     rows = re.findall(r"^\| ([0-9A-F]{3}(?:(?: to |, )[0-9A-F]{3})*) \| ", text_of("docs/ISA.md"), re.M)
     return {
@@ -84,9 +83,9 @@ def registers_told():
 
 
 def of_registers():
-    """What is missing or too much in lists of registers."""
+    """Yields the missing and the extra entries of the lists of registers."""
     known = registers()
-    for place, has in registers_told().items():
+    for place, has in register_lists().items():
         lacks_counted = place.startswith(("named", "CSRS"))
         for number, name in known.items():
             if number not in has and not (lacks_counted and COUNTED.match(name)):
@@ -98,13 +97,13 @@ def of_registers():
 
 
 def operations():
-    """How many operations rv_hart does at once."""
+    """Returns the number of fast operations of rv_hart."""
     variants = text_of("crates/rv_hart/src/decoded.rt").split("enum Operation {\n", 1)[1].split("\n}", 1)[0]
     return len(set(re.findall(r"^    (\w+),$", variants, re.M)) - {"Invalid", "Other"})
 
 
 def of_instructions():
-    """What is missing or too much in lists of instructions, and counts of them that are another."""
+    """Yields the missing and the extra entries of the lists of instructions, and wrong numbers of them."""
     known = instructions()
     model = {it.split()[0] for it in [*instruction_words.ROWS, *instruction_words.WHOLE]} - {".word", "fence.tso"}
     page = set(re.findall(r"`([a-z][\w.]*)\b[^`]*`", text_of("docs/ISA.md").split("## Instructions", 1)[1].split("\n\n", 2)[1]))
@@ -126,19 +125,19 @@ def of_instructions():
 
 
 def constant(name):
-    """The name of a constant of C, and of the models, for a refusal."""
+    """Returns the name of the constant for a refusal in C and in the models."""
     return re.sub(r"(?<!^)(?=[A-Z])", "_", name).upper()
 
 
 def of_calls():
-    """What is missing or another in lists of the monitor's calls."""
+    """Yields the missing and the different entries of the lists of monitor calls."""
     numbers, worlds, _ = calls()
     header, page = text_of("examples/shared/calls.h"), text_of("docs/MONITOR.md")
     if {it.name: it.value for it in names.Call} != numbers or {it.name for it in names.ARGUMENTS} != set(numbers):
         yield "Call or ARGUMENTS of python/rvlook/protocol/names.py has other calls"
-    told = {"the host": monitor_model.OF_HOST, "an enclave": monitor_model.OF_ENCLAVE}
+    senders = {"the host": monitor_model.OF_HOST, "an enclave": monitor_model.OF_ENCLAVE}
     for name, number in numbers.items():
-        if {world for world, of_world in told.items() if number in of_world} != worlds[name] or getattr(monitor_model, name.upper(), 0) != number:
+        if {world for world, of_world in senders.items() if number in of_world} != worlds[name] or getattr(monitor_model, name.upper(), 0) != number:
             yield f"tests/models/monitor_model.py lacks {name}, or has it of another world"
         if f"MONITOR_{name.upper()} = {number}" not in header or header.count(f"MONITOR_{name.upper()}") == 1:
             yield f"examples/shared/calls.h lacks {name}, or its function"
@@ -152,7 +151,7 @@ def of_calls():
 
 
 def of_refusals():
-    """What is missing or another in lists of the refusals of calls, and of their statuses."""
+    """Yields the missing and the different entries of the lists of refusals and their statuses."""
     statuses, (of_call, files) = calls()[2], refusals()
     header, page, laws = text_of("examples/shared/calls.h"), text_of("docs/MONITOR.md"), text_of("docs/LAWS.md")
     if {name: number for number, name in names.STATUSES.items()} != statuses:
@@ -169,9 +168,9 @@ def of_refusals():
 
 
 def main(_arguments):
-    told = [*of_registers(), *of_instructions(), *of_calls(), *of_refusals()]
-    print("\n".join(told))
-    return 1 if told else 0
+    found = [*of_registers(), *of_instructions(), *of_calls(), *of_refusals()]
+    print("\n".join(found))
+    return 1 if found else 0
 
 
 if __name__ == "__main__":

@@ -1,9 +1,8 @@
 #!/usr/bin/env python3
-"""python3 -m docs.monitor_docs --check: tells whether the lines of commands and replies in docs/MONITOR.md, docs/AUTHORS.md,
-docs/COMMANDS.md and examples/attacks/README.md are those of the examples that they name. A part of them begins with the name of its
-example, as `# examples/enclaves/adds`; its lines stand in that order in the example's script, each with the reply of the model of
-monitor_bench.py, and perhaps a comment. Of a reply of more lines the first stands there, of `sched` all, with ` / ` between them. Where the
-example is one of two benches, a reply that both give stands without its mark.
+"""python3 -m docs.monitor_docs --check: checks the commands and replies that docs/MONITOR.md, docs/AUTHORS.md, docs/COMMANDS.md and
+examples/attacks/README.md quote from the examples. A quoted part begins with the name of its example, such as `# examples/enclaves/adds`.
+Its lines are in the example's script in the same order, each with the reply of the model in monitor_bench.py and possibly a comment. A quote
+has only the first line of a reply, or for `sched` all lines, separated by ` / `. If the example has two benches, a reply of both has no mark.
 """
 import os
 import re
@@ -21,35 +20,35 @@ def text_of(*names):
 
 
 def session_of(name):
-    """Each command of the example's script with what is told of its reply, of both where there are two benches."""
+    """Returns each command of the example's script with the quoted form of its reply, from both benches if there are two."""
     image, script = cut_at(lines_of(text_of(name, "image") + text_of(name, "script")))
     first, second = cut_at(script)
     words = text_of(name, "words").split()
     setup = setup_of(words)
     slot = setup.pop("slot", 0)
     bench = Bench(image_of(image), **setup)
-    session = [(line, told(line, bench.replies(line))) for line in first]
+    session = [(line, quoted(line, bench.replies(line))) for line in first]
     twins = Twins(bench, slot) if words[0] == "twin" else None
     for line in second:
         replies = twins.replies(line)[0]
         marked = [it[3:] for it in replies if it.startswith("a: ")]
-        session.append((line, told(line, marked or replies)))
+        session.append((line, quoted(line, marked or replies)))
     return session
 
 
-def told(line, replies):
-    """What of the replies stands on a page."""
+def quoted(line, replies):
+    """Returns the form in which a page quotes replies."""
     return " / ".join(replies if line.startswith("sched") else replies[:1])
 
 
 def parts_of(text):
-    """The name of each part's example, and its lines."""
+    """Yields the name of the example of each quoted part, and its lines."""
     for part in re.findall(r"^    # (examples/[\w/]+)\n((?:    .+\n)+)", text, re.M):
         yield part[0], [line.split(" # ")[0].strip() for line in part[1].splitlines()]
 
 
-def is_told(line, said):
-    """Whether a line of the page is a command and its reply."""
+def is_quote_of(line, said):
+    """Returns whether a line of the page is a command with its reply."""
     command, reply = said
     words = line.split()
     count = len(FORMS.get(words[0], ())) + 1
@@ -57,13 +56,13 @@ def is_told(line, said):
 
 
 def missing(text):
-    """The lines that are in no such place, and how many lines there are."""
+    """Returns the lines that no example has, and the number of all lines."""
     wrong, count = [], 0
     for name, lines in parts_of(text):
         session = iter(session_of(name))
         for line in lines:
             count += 1
-            if not any(is_told(line, said) for said in session):
+            if not any(is_quote_of(line, said) for said in session):
                 wrong.append("%s: %s" % (name, line))
                 break
     return wrong, count

@@ -1,6 +1,6 @@
 #!/usr/bin/env python3
-"""python3 -m docs.names --check: reports public definitions that have the name of another one without a reason below, and reasons for names
-that are defined once. Definitions of caches (specs/Cache) are left out, since no manual has them.
+"""python3 -m docs.names --check: reports public definitions that share a name without a reason in REASONS, and reasons for names that are used
+once. Definitions of caches (specs/Cache) are left out, since no manual has them.
 """
 import collections
 import importlib.machinery
@@ -21,7 +21,7 @@ REASONS = {
 
 
 def twice():
-    """Returns the names that more than one public definition has, with the files."""
+    """Returns the names of more than one public definition, with the files."""
     loader = importlib.machinery.SourceFileLoader("definitions", os.path.join(ROOT, "tools", "definitions"))
     module = importlib.util.module_from_spec(importlib.util.spec_from_loader("definitions", loader))
     loader.exec_module(module)
@@ -35,10 +35,10 @@ def twice():
 
 def main(_arguments):
     found = twice()
-    told = [f"{name} is defined in {' and '.join(paths)}" for name, paths in found.items() if name not in REASONS]
-    told += [f"{name} is defined once, and has a reason here" for name in REASONS if name not in found]
-    print("\n".join(told))
-    return 1 if told else 0
+    errors = [f"{name} is defined in {' and '.join(paths)}" for name, paths in found.items() if name not in REASONS]
+    errors += [f"{name} is defined once, but has a reason here" for name in REASONS if name not in found]
+    print("\n".join(errors))
+    return 1 if errors else 0
 
 
 if __name__ == "__main__":

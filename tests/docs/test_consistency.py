@@ -1,4 +1,4 @@
-"""Lists that no proof compares: the pages, the tests and rvlook name the same commands, instructions, registers, calls and laws."""
+"""Lists that no proof compares: the documentation, the tests and rvlook name the same commands, instructions, registers, calls and laws."""
 import importlib
 import subprocess
 

@@ -1,8 +1,8 @@
-"""The commands of README.md and of the tutorial work in a fresh clone, in their order.
+"""The commands of README.md and of the tutorial work in a fresh clone, in order.
 
-A block of indented lines is run by bash in the clone. Each command ends with status 0, or with 1 if it is one of rvlook that may find something. The text below a line with `$` is what it prints, with a line
-`...` for what is left out. ./check and ./prove take long, and are left out, as are installations and the sessions of a debugger, which
-the tests of gdb type.
+bash runs each block of indented lines in the clone. Each command exits with status 0, or 1 if it is a subcommand of rvlook that reports
+findings. The text below a line with `$` is its output; a line `...` matches any lines. ./check, ./prove, installations and debugger sessions
+are skipped; the tests of gdb run the sessions.
 """
 import os
 import re
@@ -22,7 +22,7 @@ SECONDS = 900  # for a block: the unproved program is slow, and a machine may ha
 
 
 def blocks(text):
-    """Each block's commands, and for those with `$` what they write; None for the others."""
+    """Yields the commands of each block with their expected output, None for a command without `$`."""
     for block in BLOCK.findall(text):
         lines = [line[4:] for line in block.rstrip("\n").split("\n")]
         plain = []
@@ -33,24 +33,24 @@ def blocks(text):
                 continue
             if any(plain):
                 yield "\n".join(plain), None
-            plain, told = [], []
+            plain, output = [], []
             while lines and not lines[0].startswith("$ "):
-                told.append(lines.pop(0))
-            yield line[2:], "\n".join(told).rstrip("\n").split("\n")
+                output.append(lines.pop(0))
+            yield line[2:], "\n".join(output).rstrip("\n").split("\n")
         script = "\n".join(it for it in plain if not it.startswith(LEFT_OUT))
         if script.strip() and SESSION not in script:
             yield script, None
 
 
-def is_told(lines, wanted):
-    """Whether lines are those that are wanted, with `...` for any."""
+def matches(lines, wanted):
+    """Returns whether lines are the expected ones, where `...` matches any lines."""
     pattern = "".join("(?:.*\n)*?" if it == "..." else re.escape(it.rstrip()) + "\n" for it in wanted)
     return re.fullmatch(pattern, "".join(it.rstrip() + "\n" for it in lines)) is not None
 
 
 @pytest.fixture
 def clone(tmp_path):
-    """A fresh clone, as the tree is committed or changed here."""
+    """A fresh clone of the present tree, with its uncommitted changes."""
     folder = tmp_path / "rvbench"
     command = ["git", "ls-files", "-z", "--cached", "--others", "--exclude-standard"]
     listed = subprocess.run(command, cwd=ROOT, capture_output=True, check=True).stdout.decode()
@@ -62,7 +62,7 @@ def clone(tmp_path):
 
 
 def check_page(clone, page):
-    """Runs the blocks of a page in their order."""
+    """Runs the blocks of a page in order."""
     environment = {name: value for name, value in os.environ.items() if name != "RVBENCH"}
     count = 0
     for script, wanted in blocks((clone / page).read_text(encoding="utf-8")):
@@ -71,7 +71,7 @@ def check_page(clone, page):
         done = subprocess.run(["bash", "-e", "-c", script], cwd=clone, capture_output=True, text=True, env=environment, timeout=SECONDS,
                               check=False)
         assert done.returncode == 0, (script, done.stderr[-400:])
-        assert wanted is None or is_told(done.stdout.rstrip("\n").split("\n"), wanted), (script, done.stdout)
+        assert wanted is None or matches(done.stdout.rstrip("\n").split("\n"), wanted), (script, done.stdout)
     assert count > 4
 
 

@@ -1,4 +1,4 @@
-"""Runs of ./rvlook in the pages, below each line that begins with `$`: the command prints the lines below it, where `...` stands for any."""
+"""Quoted runs of ./rvlook in the documentation: a command after `$` prints the lines below it, where `...` matches any lines."""
 import os
 import re
 import subprocess
@@ -12,7 +12,7 @@ PART = re.compile(r"^    \$ (.*\./rvlook.*)\n((?:    (?!\$ ).*\n|\n(?=    (?!\$ 
 
 
 def parts_of(text):
-    """Each command, and the lines below it."""
+    """Yields each command with the lines below it."""
     for command, below in PART.findall(text):
         yield command, "".join(line[4:] if line.strip() else "\n" for line in below.splitlines(True)).rstrip("\n").split("\n")
 

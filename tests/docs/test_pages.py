@@ -23,7 +23,7 @@ def anchors(page):
 
 
 def prose(page):
-    """The lines of a page outside of code blocks, without code spans."""
+    """Yields the lines of a page outside code blocks, without code spans."""
     lines, is_code = [], False
     for line in page.read_text(encoding="utf-8").split("\n"):
         if line.startswith("```"):

@@ -1,7 +1,7 @@
-"""Quoted runs: the text below each line of a page that begins with `$` is what that line prints.
+"""Quoted runs: the text below a command after `$` is the output of that command.
 
-`$RVBENCH` stands for ./rvbench. Of ./rvlook a page may quote parts, in their order, with a line `...` for what is left out. Lines about the
-enclave that a page has made before, ../my_enclave, are tested by test_doc_commands.py.
+`./rvbench` is replaced by the built program. The output of ./rvlook may be quoted in parts, with a line `...` between them.
+test_doc_commands.py tests the commands on the enclave ../my_enclave that a page has built before.
 """
 import os
 import re
@@ -16,7 +16,7 @@ SECONDS = 60
 
 
 def runs_of(text):
-    """Each line of a shell, and the lines below it, without the blanks before them."""
+    """Yields each command with the lines below it, without their indentation."""
     lines, at = text.split("\n"), 0
     while at < len(lines):
         match = re.match(r"( +)\$ (.*)", lines[at])
@@ -30,7 +30,7 @@ def runs_of(text):
 
 
 def is_quoted(program, command, wanted):
-    """Whether a command prints these lines."""
+    """Returns whether a command prints these lines."""
     words = command.replace("./rvbench", '"$RVBENCH"')
     ran = subprocess.run(["bash", "-c", words], cwd=ROOT, capture_output=True, text=True, timeout=SECONDS, check=False,
                          env={**os.environ, "RVBENCH": program, "TERM": "dumb"})

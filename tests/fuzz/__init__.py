@@ -1,1 +1,1 @@
-"""Fuzzers of the program: random inputs whose answers the reference models give."""
+"""Fuzzers of the program: random inputs with the expected output of the reference models."""

@@ -1,6 +1,6 @@
-"""Random inputs for the program, of eight kinds: image texts, scripts of a bench alone, programs that write their own code, ELF files,
-assembler texts, images to disassemble, and scripts of the monitored bench and of two, of one hart and of two. Each is made from a generator of random numbers, and is the program's
-words and the bytes of its input. Nothing of the bench that is tested is used.
+"""Random inputs for the program, of eight kinds: image texts, scripts of a bare bench, self-modifying programs, ELF files, assembler texts, images to
+disassemble, and scripts of one and of two monitored benches, with one hart and with two. Each input has arguments and bytes, and is made from a
+random number generator. Independent of the code under test.
 """
 import re
 
@@ -16,7 +16,7 @@ from models.privileged_hart import KEPT, MEPC, MSTATUS, MTVEC, PMPADDR, PMPCFG
 
 BLANKS = ("", "", "", "", " ", "\t", "  ", " \t ")
 ENDS = ("\n",) * 12 + ("\r\n",) * 3 + ("\r\r\n", "", " \n")
-LONG = re.compile(rb"(?:step|run)[ \t]+0*[1-9][0-9]{3,}")  # more steps than a model does in time
+LONG = re.compile(rb"(?:step|run)[ \t]+0*[1-9][0-9]{3,}")  # more steps than a model can make in time
 SIZES = (65536, 65536, 131072, 196608)
 
 
@@ -27,7 +27,7 @@ def chance(rng, part):
 # ---- bytes and lines
 
 def spoilt(rng, data):
-    """The bytes with a few of them changed, taken out, put in, or doubled."""
+    """Returns the bytes with a few of them changed, removed, inserted, or duplicated."""
     for _ in range(rng.choice((1, 1, 1, 2, 3))):
         at, size = rng.randrange(len(data) + 1), rng.choice((1, 1, 1, 2, 5, 20))
         new = rng.choice((bytes([rng.randrange(256)]), bytes([rng.choice(b" \t\r\n-#,():x0919afAF\x00\x7e\x7f\x80\xff")]),
@@ -37,7 +37,7 @@ def spoilt(rng, data):
 
 
 def in_lines(rng, digits):
-    """An image's text of these digits, in lines of random lengths."""
+    """Returns the text of an image of these digits, in lines of random lengths."""
     lines = []
     while digits:
         size = rng.choice((8, 8, 8, 64, 120, 2, 2 * rng.randrange(1, 61)))
@@ -50,12 +50,12 @@ def in_lines(rng, digits):
 
 
 def joined(image, lines, end="\n"):
-    """The input of an image's text and a script, as bytes."""
+    """Returns the input of an image text and a script, as bytes."""
     return (image + "--\n" + "".join(line + "\n" for line in lines[:-1]) + "".join(line + end for line in lines[-1:])).encode("latin-1")
 
 
 def options(rng, is_bare=False):
-    """Words of `run`, most often good ones."""
+    """Returns arguments of `run`, mostly valid ones."""
     words = ["run", "--ram", str(rng.choice(SIZES))]
     if chance(rng, 0.03):
         words[2] = str(rng.choice((0, 1, 65535, 65537, 1000, 16777216 + 65536, ONES)))
@@ -71,19 +71,19 @@ def options(rng, is_bare=False):
 # ---- commands
 
 def address(rng, size=65536):
-    """Most often one near a border of RAM or of the code."""
+    """Returns an address, mostly near a boundary of RAM or of the code."""
     near = rng.choice((*[START + 4 * rng.randrange(24)] * 3, START, *[START + 0x100] * 2, START + 0x200, START + size,
                        START + 0x10000, 0, ONES))
     return near + rng.choice((0, 0, 0, 1, 2, 3, 4, 8, -1, -2, -3, -4, -64, -63)) & ONES
 
 
 def number(rng, text):
-    """A number as text, sometimes in another form."""
+    """Returns a number as text, sometimes in another form."""
     return rng.choice((text,) * 60 + ("0" + text, "0x" + text, "-" + text, text + "0", text + " ", "+" + text, text.upper()))
 
 
 def operand(rng, form, name, place):
-    """Text for the form of an operand of a command."""
+    """Returns text for the form of an operand of a command."""
     if name in LIMITS and LIMITS[name][0] == place:
         _, least, most = LIMITS[name]
         most = min(most, 64)
@@ -104,7 +104,7 @@ def operand(rng, form, name, place):
 
 
 def command(rng):
-    """A line of a script."""
+    """Returns a line of a script."""
     name = rng.choice((*FORMS, "step", "step", "run", "run", "setreg", "poke", "csr", "access", "timer"))
     words = [name, *(operand(rng, form, name, place) for place, form in enumerate(FORMS[name]))]
     line = rng.choice((" ", " ", " ", " ", "\t", "  ")).join(words)
@@ -116,7 +116,7 @@ def command(rng):
 # ---- instructions
 
 def instruction(rng):
-    """A word that most often spells an instruction, with registers and places that meet."""
+    """Returns a word that mostly encodes an instruction, with overlapping registers and addresses."""
     if chance(rng, 0.06):
         return rng.choice((rng.getrandbits(32), 0, ONES, *(WHOLE.values())))
     if chance(rng, 0.12):
@@ -135,12 +135,12 @@ def instruction(rng):
 
 
 def written(number_of, register_of):
-    """The word that writes a register to a control and status register."""
+    """Returns the instruction that writes a register to a control and status register."""
     return assemble("csrrw", 0, number_of, register_of)[1]
 
 
 def protected(rng):
-    """Code and registers that set some of the PMP entries and mtvec, and then go to another mode; and where that goes."""
+    """Returns code and registers that set some PMP entries and mtvec, and then enter another mode; and the address of that."""
     code, lines = [], []
     for _ in range(rng.randrange(1, 4)):
         base = START + rng.choice((0, 0x100, 0x200, 0x80, 4 * rng.randrange(80)))
@@ -163,7 +163,7 @@ def digits_of(words):
 # ---- the kinds
 
 def image(rng):
-    """A text of an image, often faulty, and few commands."""
+    """Returns the text of an image, often malformed, and a few commands."""
     text = in_lines(rng, digits_of([instruction(rng) for _ in range(rng.randrange(8))]) + rng.choice(("", "", "13", "1300", "abc")))
     script = [rng.choice(("step 1", "mem 80000000 8", "mem 80010000 16", "regs", "reg 1")) for _ in range(rng.randrange(4))]
     data = joined(text, script, rng.choice(ENDS))
@@ -171,7 +171,7 @@ def image(rng):
 
 
 def script(rng):
-    """A script of a bench alone, over random code."""
+    """Returns a script of a bare bench over random code."""
     first, lines = protected(rng) if chance(rng, 0.6) else ([], [])
     text = in_lines(rng, digits_of(first + [instruction(rng) for _ in range(rng.randrange(1, 40))]))
     lines += ["setreg %d %x" % (i, rng.choice((address(rng), rng.getrandbits(32), rng.choice((0, 1, 7, 0x1F, ONES, 1 << 31)))))
@@ -184,7 +184,7 @@ def script(rng):
 
 
 def code(rng):
-    """A program that stores into its own line of code, the next, and one that is remembered in the same place; and runs of it."""
+    """Returns a program that stores into its own cache line, the next one, and one of the same set; and runs of it."""
     other = START + rng.choice((0x100, 0x3F00, 0x2000, 4 * rng.randrange(32), 0xF8))
     pool = [lambda: assemble(rng.choice(("sw", "sw", "sh", "sb")), rng.choice((3, 4, 5)), rng.choice((0, 0, 4, -4, 8, 1, 2)), rng.choice((1, 2)))[1],
             lambda: assemble("addi", rng.choice((1, 5, 5, 0)), rng.choice((1, 5)), rng.choice((4, -4, 1)))[1],
@@ -217,7 +217,7 @@ def segments_of(rng, size):
 
 
 def elf_file(rng):
-    """An ELF file, changed or cut, and commands that show what it has loaded."""
+    """Returns an ELF file, changed or truncated, and commands that show the loaded bytes."""
     words = options(rng)
     size = int(words[2])
     entry = rng.choice((START, START, START + 0x10000, address(rng, size)))
@@ -232,7 +232,7 @@ def elf_file(rng):
 
 
 def good_operand(rng, form, limits, names):
-    """Text that is most often right for the form of an operand of a statement."""
+    """Returns text that is mostly valid for the form of an operand of a statement."""
     least, most = limits or (0, 1)
     value = rng.choice((0, 2, 4, least, most, rng.randint(least, most))) & (~1 if most % 2 == 0 else -1)
     choices = {register: rng.choice((*X_NAMES, *ABI_NAMES)), csr: rng.choice((*CSRS, "0x%x" % rng.randrange(4096))),
@@ -242,7 +242,7 @@ def good_operand(rng, form, limits, names):
 
 
 def any_operand(rng, form, limits, names):
-    """Text for the form of an operand of a statement, right or wrong."""
+    """Returns text for the form of an operand of a statement, valid or not."""
     least, most = limits or (0, 1)
     value = rng.choice((0, 1, 2, 4, 8, -1, -4, least, most, most + 1, least - 1, rng.randint(least, most), rng.randint(least, most) & ~1))
     shown = rng.choice((str(value),) * 5 + (hex(value & ONES), hex(value), "0%d" % value, "%d " % value, "-0", "0x", "+1"))
@@ -265,7 +265,7 @@ def statement(rng, names, is_good):
 
 
 def asm(rng):
-    """An assembler text: mostly right statements and labels, so that most faults stand alone."""
+    """Returns an assembler text: mostly valid statements and labels, so that most errors occur alone."""
     names = rng.sample(("a", "b", "loop", "_x", ".L1", "x1", "end_of.it9", "nop", "c" * 32), rng.randrange(1, 6))
     left, lines, worst = list(names), [], rng.choice((0, 0, 0, 0.1, 0.5))
     for _ in range(rng.randrange(1, 14)):
@@ -280,7 +280,7 @@ def asm(rng):
 
 
 def dis(rng):
-    """An image to disassemble: instructions, some with a bit changed, and random words."""
+    """Returns an image to disassemble: instructions, some with a changed bit, and random words."""
     words = [instruction(rng) ^ (1 << rng.randrange(32) if chance(rng, 0.3) else 0) if chance(rng, 0.8) else rng.getrandbits(32)
              for _ in range(rng.choice((1, 2, 5, 20, 60)))]
     text = in_lines(rng, digits_of(words)) + rng.choice(("",) * 8 + ("--\n", "--\nabc\n", "13\n", " --\t\n9300\n", "-- x\n"))
@@ -289,8 +289,8 @@ def dis(rng):
 
 
 class Scenes:
-    """Lines for a monitored bench: calls, an enclave's steps, and what shows them. What lives and runs, and where, is only guessed.
-    `worlds` are those of the harts, and the lines are of one of these."""
+    """Lines for a monitored bench: calls, steps of an enclave, and commands that show them. The states of enclaves are only guessed. `worlds` has the
+    worlds of the harts; the lines are for one hart."""
 
     def __init__(self, rng, harts=1):
         self.rng, self.lines, self.states, self.regions, self.is_keyed = rng, [], {}, {}, set()
@@ -308,18 +308,18 @@ class Scenes:
         self.worlds[self.hart] = slot
 
     def go_on(self, hart):
-        """The lines are of this hart."""
+        """Selects the hart of the following lines."""
         self.lines += ["hart %d" % hart] * (self.hart != hart)
         self.hart = hart
 
     def step(self):
-        """One step of the hart, and perhaps some of another."""
+        """Makes a step of the hart, and possibly some of another."""
         here, other = str(self.hart), str(1 - self.hart)
         is_raced = len(self.worlds) > 1 and chance(self.rng, 0.4)
         return "sched " + self.rng.choice((here + other, other + here, here + here + other, here)) if is_raced else "step 1"
 
     def call(self, function, *arguments):
-        """An ecall with these registers; an enclave needs the key once."""
+        """Makes an ecall with these registers; an enclave sets the key once."""
         rng = self.rng
         if self.world is not None and self.world not in self.is_keyed:
             self.is_keyed |= {self.world} if chance(rng, 0.95) else set()
@@ -380,7 +380,7 @@ class Scenes:
 
 
 def staged(rng, is_twin):
-    """Scenes over an image of ecalls, and others of an image that is random."""
+    """Returns scripts over an image of ecalls, and over a random image."""
     code, harts = [0x73 if chance(rng, 0.97) else instruction(rng) for _ in range(60)], rng.choice((1, 1, 2, 2))
     scenes = Scenes(rng, harts).turns(rng.choice((4, 8, 12)))
     if is_twin:
@@ -398,7 +398,7 @@ def staged(rng, is_twin):
 
 
 def played(rng, kind):
-    """A script that is made while a model answers it, and perhaps lines of it taken out, doubled or put in."""
+    """Returns a script that is made while a model replies, possibly with removed, duplicated or inserted lines."""
     play = kind(rng.getrandbits(48), rng.choice((8, 16, 30, 60)), rng.choice((1, 2)))
     lines = list(play.lines)
     for _ in range(rng.choice((0, 0, 0, 1, 2, 5))):
@@ -421,7 +421,7 @@ KINDS = {"image": image, "script": script, "code": code, "elf": elf_file, "asm":
 
 
 def drawn(rng, kind):
-    """The words and the input of this kind."""
+    """Returns the arguments and the input of this kind."""
     while True:
         words, data = KINDS[kind](rng)
         if not LONG.search(data):

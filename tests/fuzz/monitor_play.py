@@ -1,16 +1,16 @@
 #!/usr/bin/env python3
-"""Plays the monitored machine at random: long scripts of calls, steps, pokes, registers and timer lines, which the program must
-answer as the model of monitor_bench.py does. Regions and windows come from a small pool, so that several enclaves live, run,
-stop, exit and are destroyed in one script; the code of all worlds is ecalls, accesses, returns, jumps and illegal words. With
---harts 2 the harts take turns, and race. With --twin the script is cut in two, and its second part goes to two benches that differ in
-one enclave, which must answer alike. With --beside it is cut in two where an enclave runs on one of two harts: there one secret after another
-is put into its region and its registers, and the second part, which is of the other hart, must be answered the same whichever it is.
+"""Fuzzes the monitored machine: long random scripts of calls, steps, pokes, registers and timer lines, whose replies must equal those of the model in
+monitor_bench.py. Regions and windows come from a small pool, so that several enclaves run, stop, exit and are destroyed in one script. The code
+of all worlds consists of ecalls, accesses, returns, jumps and illegal words. With --harts 2 both harts run, and race. With --twin the second part
+of the script goes to two benches that differ in one enclave, whose replies must be equal. With --other-hart the script is split while an enclave runs
+on one of two harts. Each of several secrets is then written to its region and its registers, and the replies to the second part, for the other
+hart, must be the same for all secrets.
 
-    python3 -m fuzz.monitor_play PROGRAM [--twin | --beside] [--harts H] [--seed S] [--count N] [--lines L]
-                                                                                                  N scripts of L lines, from this seed on
-    python3 -m fuzz.monitor_play --alone ..                                                         plays the model alone
+    python3 -m fuzz.monitor_play PROGRAM [--twin | --other-hart] [--harts H] [--seed S] [--count N] [--lines L]
+                                                                                                  N scripts of L lines, from this seed
+    python3 -m fuzz.monitor_play --alone ..                                                         runs the model only
 
-Where a reply differs, the script is made as small as it gets and printed, with both replies. The last line counts the scripts.
+If a reply differs, the script is minimized and printed with both replies. The last line counts the scripts.
 """
 import argparse
 import collections
@@ -44,7 +44,7 @@ SHOWN = [*CSRS, "mstatus", "mie", "mip", "mepc", "mcause", "mtval", "mtvec", "mc
 
 
 class Play:
-    """A script that is made while the model answers it. `taken` counts what happened on the way, `words` are the program's."""
+    """A script that is made while the model replies. `taken` counts the events, `words` has the arguments of the program."""
 
     def __init__(self, seed, count, harts=1):
         self.rng, self.options = random.Random(seed), ["--ram", str(MEMORY)] + ["--harts", str(harts)] * (harts > 1)
@@ -61,7 +61,7 @@ class Play:
             self.say("regs", "enclaves", "pmp", *("csr %x" % NUMBER[name] for name in SHOWN))
 
     def play(self, count):
-        """Turns until there are so many lines."""
+        """Adds actions until there are this many lines."""
         while len(self.lines) < count and not self.is_stuck():
             self.turn()
 
@@ -74,12 +74,12 @@ class Play:
         return self.bench.harts
 
     def on(self, hart):
-        """From now on the lines are of this hart."""
+        """Selects the hart of the following lines."""
         if self.machine is not self.harts[hart]:
             self.say("hart %d" % hart)
 
     def say(self, *lines):
-        """Lines, and what each changes of the enclaves."""
+        """Adds lines, and counts their effects on the enclaves."""
         self.lines += lines
         for line in lines:
             states = {slot: it.state for slot, it in self.machine.table.items()}
@@ -90,23 +90,23 @@ class Play:
             self.taken["both in enclaves"] += len(self.harts) > 1 and all(hart.world is not None for hart in self.harts)
 
     def given(self, line):
-        """The replies of the model."""
+        """Returns the replies of the model."""
         return self.bench.replies(line)
 
     def all_replies(self):
         return self.replies
 
     def is_stuck(self):
-        """Whether no hart has more than traps to come."""
+        """Returns whether every hart can only trap."""
         return all(map(self.is_nowhere, self.harts))
 
     @staticmethod
     def is_nowhere(hart):
-        """Whether the host on it is nowhere, and so is its handler."""
+        """Returns whether the host on the hart and its handler are outside code."""
         places = hart.pc, hart.reading(NUMBER["stvec"]) & ~3
         return hart.world is None and not any(hart.is_done(S, "x", place, 4) for place in places)
 
-    # ---- what is drawn
+    # ---- random choices
 
     def address(self):
         rng = self.rng
@@ -121,11 +121,11 @@ class Play:
         return rng.choice([self.address(), self.address(), rng.randrange(16), rng.choice(SIZES), rng.getrandbits(32)])
 
     def code(self):
-        """A word of the code of any world."""
+        """Returns a word of code for any world."""
         rng, reg = self.rng, self.rng.randrange(32)
         kind = rng.choices(range(9), (2, 6, 6, 2, 3, 3, 2, 1, 1))[0]
         csr = NUMBER[rng.choice(CSRS if rng.random() < 0.2 else CSRS[1:])]  # stvec seldom
-        at = rng.choice((5, 6, 7, 8, 9, 10, 10, 12, 12))  # a0 and a2 are an enclave's region and window, at first
+        at = rng.choice((5, 6, 7, 8, 9, 10, 10, 12, 12))  # a0 and a2 are the region and the window of an enclave at its start
         texts = [("ecall",), (rng.choice(("lb", "lh", "lw", "lbu", "lhu")), reg, rng.choice((0, -1, 1, 2, -4, 4)), at),
                  (rng.choice(("sb", "sh", "sw")), reg, rng.choice((0, -1, 1, 2, -4, 4)), at), ("sret",),
                  ("jal", rng.choice((0, 1)), 4 * rng.randrange(-8, 12)), ("addi", rng.randrange(32), at, rng.randrange(-8, 9)),
@@ -146,17 +146,17 @@ class Play:
                 self.say("poke %x %x" % (address + i, byte))
 
     def drawn_slot(self, *states):
-        """Most often one in these states."""
+        """Returns a slot, mostly in one of these states."""
         fitting = [slot for slot, it in self.machine.table.items() if it.state in states]
         return self.rng.choice(fitting) if fitting and self.rng.random() < 0.85 else self.rng.choice([*range(15), ONES])
 
     def call(self):
-        """A call, which is stepped."""
+        """Makes a call, and steps it."""
         self.ready()
         self.say("%s %d" % (self.rng.choice(("step", "run")), self.rng.choice((1, 1, 1, 1, 2, 3))))
 
     def ready(self):
-        """The registers of a call, and most often an ecall at pc in S."""
+        """Sets the registers of a call, and mostly an ecall at pc in S."""
         rng, host = self.rng, self.machine.world is None
         function = rng.choices(*((CREATE, DESTROY, RUN, RESUME, MEASURE, STOP, 0), (5, 2, 4, 4, 2, 1, 1)) if host
                                else ((MEASURE, STOP, EXIT, RUN, 8), (3, 4, 2, 1, 1)))[0]
@@ -177,18 +177,18 @@ class Play:
         if rng.random() < 0.95:
             self.put(self.machine.pc, 0x73)
         if function == CREATE and self.machine.is_inside(arguments[4], 64) and rng.random() < 0.7:
-            # its traps come back to its entry
+            # its traps return to its entry
             handled = [assemble("auipc", 13, 0)[1], assemble("csrrw", 0, NUMBER["stvec"], 13)[1]]
             for i, word in enumerate([*handled, *(self.code() for _ in range(rng.randrange(4)))]):
                 self.put(arguments[4] + 4 * i, word)
 
     def sched(self):
-        """Steps of either hart."""
+        """Makes steps of either hart."""
         digits = "".join(self.rng.choices("01", k=self.rng.choice((1, 2, 2, 2, 3, 4, 4, 5, 8, 20, 64))))
         self.say("sched " + (digits if len(self.harts) > 1 else digits.replace("1", "0")))
 
     def race(self):
-        """A call of each hart, in one sched."""
+        """Makes a call of each hart, in one sched."""
         for hart in self.rng.sample(range(len(self.harts)), len(self.harts)):
             self.on(hart)
             self.ready()
@@ -200,7 +200,7 @@ class Play:
         return self.say("%s %d" % (self.rng.choice(("step", "run")), self.rng.choice((1, 1, 1, 2, 2, 3, 5, 20))))
 
     def recode(self):
-        """New code where the world goes on, or would after a trap, or anywhere."""
+        """Writes new code where the world continues, or would after a trap, or anywhere."""
         places = [*[self.machine.pc] * 4, self.machine.reading(NUMBER["stvec"]) & ~3, self.machine.reading(NUMBER["sepc"]),
                   HANDLER, self.address() & ~3]
         place = self.rng.choice(places)
@@ -228,7 +228,7 @@ class Play:
             ["access %s %s %x %s" % (rng.choice("SU"), rng.choice("rwx"), self.address(), rng.choice("124")) for _ in range(4)])))
 
     def rescue(self):
-        """A world that is nowhere, or in U, is brought back where that can be: by the timer, or by new code."""
+        """Brings a world that is outside code, or in U, back by the timer or by new code if possible."""
         machine = self.machine
         if machine.world is not None:
             self.say("timer on", "step 1")
@@ -238,12 +238,12 @@ class Play:
             self.taken["rescued"] += 1
 
     def choose(self):
-        """The hart of the next turn, which is not nowhere."""
+        """Returns the hart of the next action, whose world is in code."""
         if len(self.harts) > 1 and (self.rng.random() < 0.25 or self.is_nowhere(self.machine)):
             self.on(self.rng.choice([i for i, hart in enumerate(self.harts) if not self.is_nowhere(hart)]))
 
     def turn(self):
-        """One of the turns, and often what a switch, or else a call, has left."""
+        """Makes one of the actions, and often shows the state after a switch or a call."""
         self.choose()
         machine = self.machine
         world, mode, can_go_on = machine.world, machine.mode, machine.is_done(machine.mode, "x", machine.pc, 4)
@@ -259,7 +259,7 @@ class Play:
 
 
 class TwinPlay(Play):
-    """A quarter of the script is answered by one bench, the rest by two."""
+    """One bench replies to a quarter of the script, two benches to the rest."""
     twins, slot, is_over = None, None, False
 
     def play(self, count):
@@ -289,12 +289,12 @@ class TwinPlay(Play):
         one, other = ([it[3:] for it in replies if it.startswith(mark)] for mark in ("a: ", "b: "))
         assert one == other, "the replies of the model to %s differ: %s" % (line, replies)
         if live:
-            told = "entered" if self.is_over else replies[0] if replies[0].startswith("error blind") else words[0]
-            self.taken["twin " + told] += 1
+            event = "entered" if self.is_over else replies[0] if replies[0].startswith("error blind") else words[0]
+            self.taken["twin " + event] += 1
         return replies
 
     def drawn_slot(self, *states):
-        """Seldom the one in which the benches differ, where it would be entered."""
+        """Returns a slot, seldom the one in which the benches differ if it would be entered."""
         drawn = [super(TwinPlay, self).drawn_slot(*states) for _ in range(4)]
         return next((it for it in drawn if it != self.slot or len(states) != 1), drawn[0])
 
@@ -302,9 +302,9 @@ class TwinPlay(Play):
         return self.replies + ([] if self.is_over else ["twin end %d" % self.twins.count])
 
 
-class BesidePlay(Play):
-    """After a quarter of the script an enclave runs on one hart, and the rest of it names no byte of its region, and neither steps nor shows
-    that hart."""
+class OtherHartPlay(Play):
+    """After a quarter of the script an enclave runs on one hart; the rest accesses no byte of its region, and neither steps nor shows that
+    hart."""
     own, region, secret_at = None, None, None
 
     def __init__(self, seed, count, harts=2):
@@ -317,7 +317,7 @@ class BesidePlay(Play):
             if fitting or self.is_stuck():
                 break
             self.turn()
-        self.taken["beside" if fitting else "none beside"] += 1
+        self.taken["other hart" if fitting else "no other hart"] += 1
         if fitting:
             own = self.rng.choice(fitting)
             self.on(own)
@@ -330,7 +330,7 @@ class BesidePlay(Play):
         passing = lines if self.own is None else [*filter(self.passes_by, lines)]
         super().say(*passing)
         if self.own is not None:
-            self.taken.update("beside " + line.split()[0] for line in passing)
+            self.taken.update("other hart " + line.split()[0] for line in passing)
 
     def passes_by(self, line):
         word, *arguments = line.split()
@@ -341,23 +341,23 @@ class BesidePlay(Play):
         return word != "sched" and line != "hart %d" % self.own
 
     def with_secret(self, number):
-        """The script with a secret in it: as many lines for each number."""
+        """Returns the script with a secret: the number of lines is the same for each secret."""
         rng, (base, size) = random.Random(number), self.region
         secret = ["poke %x %x" % (base + rng.randrange(size), rng.randrange(256)) for _ in range(24)]
         secret += ["setreg %d %x" % (reg, rng.getrandbits(32)) for reg in range(1, 32)]
         return self.lines[:self.secret_at] + secret + self.lines[self.secret_at:]
 
 
-# ---- the program beside the model
+# ---- the program against the model
 
 def answered(program, play, lines):
-    """What the program writes."""
+    """Returns the output of the program."""
     ran = subprocess.run([program, *play.words], input=input_of(play.image.hex(), lines).encode(), stdout=subprocess.PIPE, timeout=600)
     return ran.stdout.decode("latin-1")
 
 
 def right(play, lines):
-    """What it must write."""
+    """Returns the expected output."""
     return wanted(input_of(play.image.hex(), lines), play.words)[0]
 
 
@@ -366,7 +366,7 @@ def differs(program, play, lines):
 
 
 def made_small(program, play, lines):
-    """The lines without those that the difference does not need: halves first, then ever smaller parts."""
+    """Minimizes the lines of a difference: removes halves first, then smaller and smaller parts."""
     size = len(lines)
     while size:
         at = 0
@@ -381,7 +381,7 @@ def made_small(program, play, lines):
 
 
 def cut_short(program, play):
-    """The fewest lines from the first on that are answered otherwise."""
+    """Returns the shortest prefix of the lines with a different reply."""
     low, high = 0, len(play.lines)
     while low < high:
         middle = (low + high) // 2
@@ -389,8 +389,8 @@ def cut_short(program, play):
     return play.lines[:high]
 
 
-def told(program, play, seed):
-    """The difference, by a script that is as small as it gets."""
+def report(program, play, seed):
+    """Returns the difference with a minimized script."""
     lines = made_small(program, play, cut_short(program, play))
     print("seed %d: the program differs from the model; rvbench %s\n%s" % (
         seed, " ".join(play.words), input_of(play.image.hex(), lines)))
@@ -400,25 +400,25 @@ def told(program, play, seed):
 def main(words):
     parser = argparse.ArgumentParser()
     parser.add_argument("program", nargs="?")
-    for option in ("--twin", "--beside", "--alone"):
+    for option in ("--twin", "--other-hart", "--alone"):
         parser.add_argument(option, action="store_true")
     for option, default in (("--seed", 1), ("--count", 4), ("--lines", 1500), ("--harts", 1)):
         parser.add_argument(option, type=int, default=default)
-    asked = parser.parse_args(words)
-    taken, failed, program = collections.Counter(), 0, None if asked.alone else os.path.realpath(asked.program)
-    for seed in range(asked.seed, asked.seed + asked.count):
-        play = (TwinPlay if asked.twin else BesidePlay if asked.beside else Play)(seed, asked.lines, asked.harts)
+    arguments = parser.parse_args(words)
+    taken, failed, program = collections.Counter(), 0, None if arguments.alone else os.path.realpath(arguments.program)
+    for seed in range(arguments.seed, arguments.seed + arguments.count):
+        play = (TwinPlay if arguments.twin else OtherHartPlay if arguments.other_hart else Play)(seed, arguments.lines, arguments.harts)
         taken.update(play.taken)
-        answer = right if asked.alone else functools.partial(answered, program)
+        answer = right if arguments.alone else functools.partial(answered, program)
         given = answer(play, play.lines)
         if given != "".join(reply + "\n" for reply in play.all_replies()):
             failed += 1
-            print("seed %d: the model differs from itself" % seed) if asked.alone else told(program, play, seed)
-        elif asked.beside and play.secret_at and len({answer(play, play.with_secret(number)) for number in range(SECRETS)}) > 1:
+            print("seed %d: the model differs from itself" % seed) if arguments.alone else report(program, play, seed)
+        elif arguments.other_hart and play.secret_at and len({answer(play, play.with_secret(number)) for number in range(SECRETS)}) > 1:
             failed += 1
             print("seed %d: a secret of the enclave on hart %d changes the output" % (seed, play.own))
     print("; ".join("%s %d" % it for it in sorted(taken.items())))
-    print("%d passed, %d failed" % (asked.count - failed, failed))
+    print("%d passed, %d failed" % (arguments.count - failed, failed))
     return 1 if failed else 0
 
 

@@ -1,11 +1,11 @@
 #!/usr/bin/env python3
-"""Gives the program random inputs, and asks of each that it writes what the models of these tests write: image texts, scripts,
-ELF files, assembler texts, images to disassemble, and scripts of a monitored bench and of two.
+"""Fuzzes the program, and compares its output with the reference models: image texts, scripts, ELF files, assembler texts, images to disassemble,
+and scripts of one and of two monitored benches.
 
-    python3 -m fuzz.program PROGRAM [--seed S] [--count N] [--kind K..] [--most D]    N inputs, in turn of each kind, or of the kinds K
+    python3 -m fuzz.program PROGRAM [--seed S] [--count N] [--kind K..] [--most D]    N inputs of all kinds in turn, or of the kinds K
 
-The inputs of a seed are always the same. Where the program differs, the input is made small, and printed as a case of
-case_format.py with what must be written, and behind it what was written. After D differences it ends. The last line counts.
+The inputs of a seed are always the same. If the output differs, the input is minimized and printed as a case in the format of case_format.py
+with the expected output, followed by the actual output. After D differences the fuzzer ends. The last line has the counts.
 """
 import argparse
 import collections
@@ -23,7 +23,7 @@ SECONDS, TRIES = 30, 2000
 
 
 def written(program, words, data):
-    """The program's output, and its status, which is no number where it did not end."""
+    """Runs the program; returns its output and its status, which is not a number if it did not end."""
     try:
         ran = subprocess.run([program, *words], input=data, stdout=subprocess.PIPE, timeout=SECONDS)
     except subprocess.TimeoutExpired:
@@ -36,7 +36,7 @@ def differs(program, words, data):
 
 
 def made_small(parts, is_needed):
-    """The parts without those that the difference does not need: halves first, then ever smaller parts, from each place; so many
+    """Minimizes the parts of a difference: removes halves first, then smaller and smaller parts, at each position; with a limit of
     tries."""
     size, tries = 1 << len(parts).bit_length(), 0
     while size and tries < TRIES:
@@ -52,7 +52,7 @@ def made_small(parts, is_needed):
 
 
 def smallest(program, words, data):
-    """An input that still differs: lines are taken out, and then bytes."""
+    """Minimizes an input that differs: removes lines, then bytes."""
     def is_needed(rest):
         return differs(program, words, rest)
 
@@ -64,8 +64,8 @@ def smallest(program, words, data):
     return data
 
 
-def told(program, name, words, data):
-    """The difference as a case, and what the program writes."""
+def report(program, name, words, data):
+    """Returns the difference as a case, and the actual output."""
     data = smallest(program, words, data)
     (right, status), (output, its_status) = fuzz_model.answer(words, data), written(program, words, data)
     case = case_format.Case(name, [word.encode() for word in words], data, right, status)
@@ -79,17 +79,17 @@ def main(arguments):
     for option, default in (("--seed", 1), ("--count", 700), ("--most", 3)):
         parser.add_argument(option, type=int, default=default)
     parser.add_argument("--kind", nargs="+", choices=KINDS, default=list(KINDS))
-    asked = parser.parse_args(arguments)
-    program, counts, failed = os.path.realpath(asked.program), collections.Counter(), 0
-    for i in range(asked.count):
-        kind = asked.kind[i % len(asked.kind)]
-        words, data = drawn(random.Random("%d/%d/%s" % (asked.seed, i, kind)), kind)
+    arguments = parser.parse_args(arguments)
+    program, counts, failed = os.path.realpath(arguments.program), collections.Counter(), 0
+    for i in range(arguments.count):
+        kind = arguments.kind[i % len(arguments.kind)]
+        words, data = drawn(random.Random("%d/%d/%s" % (arguments.seed, i, kind)), kind)
         right, status = fuzz_model.answer(words, data)
         counts["%s %s" % (kind, "refused" if status else "done")] += 1
         if (right, status) != written(program, words, data):
             failed += 1
-            told(program, "seed_%d_%s_%d" % (asked.seed, kind, i), words, data)
-        if failed == asked.most:
+            report(program, "seed_%d_%s_%d" % (arguments.seed, kind, i), words, data)
+        if failed == arguments.most:
             break
     print("; ".join("%s %d" % it for it in sorted(counts.items())))
     print("%d passed, %d failed" % (sum(counts.values()) - failed, failed))

@@ -1,4 +1,4 @@
-"""Mutated ELF files, of which `mutated_images` has a line each: the program refuses each with its error, or loads it."""
+"""Mutated ELF files, one per line of `mutated_images`: the program refuses each with its error, or loads it."""
 import subprocess
 from pathlib import Path
 
@@ -6,7 +6,7 @@ ROWS = Path(__file__).with_name("mutated_images")
 
 
 def mutated(digits, edits):
-    """The file's digits with new bytes at places, and cut to a length."""
+    """Returns the digits of the file with changed bytes, truncated to a length."""
     for edit in edits:
         place, new = edit.split("=")
         if place == "cut":

@@ -1,4 +1,4 @@
-"""Random inputs of fixed seeds get the answers of the reference models, and planted differences are found."""
+"""Random inputs of fixed seeds give the output of the reference models, and planted differences are found."""
 import re
 import stat
 
@@ -10,8 +10,8 @@ STATES = ("free to Fresh", "Fresh to Running", "Running to Stopped", "Stopped to
           "Stopped to free", "Exited to free")
 TWINS = ("twin no slot", "twin entered", "twin error blind", "twin step", "twin mem", "twin access", "twin enclaves", "Stopped to free")
 BOTH = ("both in enclaves", "called where it runs elsewhere")
-BESIDE = ("beside", "beside step", "beside run", "beside regs", "beside csr", "beside access", "beside enclaves", "beside pmp", "beside setreg",
-          "called where it runs elsewhere")
+OTHER_HART = ("other hart", *("other hart " + it for it in ("step", "run", "regs", "csr", "access", "enclaves", "pmp", "setreg")),
+              "called where it runs elsewhere")
 
 
 @pytest.mark.parametrize("arguments", ["--seed 1 --count 480", "--seed 3 --count 120 --kind code", "--seed 2 --count 20 --kind monitor twin"])
@@ -33,10 +33,10 @@ def test_a_planted_difference_is_found_by_a_small_input(bench, tmp_path, capsys,
 
 @pytest.mark.parametrize("arguments, events", [
     ("--count 8", STATES), ("--twin --count 24", TWINS), ("--harts 2 --count 12", STATES + BOTH),
-    ("--twin --harts 2 --count 32", TWINS + ("twin hart", "twin sched") + BOTH), ("--beside --count 24", BESIDE)])
-def test_the_monitor_is_played_at_random(bench, capsys, arguments, events):
+    ("--twin --harts 2 --count 32", TWINS + ("twin hart", "twin sched") + BOTH), ("--other-hart --count 24", OTHER_HART)])
+def test_random_scripts_of_the_monitor(bench, capsys, arguments, events):
     status = monitor_play.main([bench, "--seed", "1", *arguments.split()])
-    told = capsys.readouterr().out
-    assert status == 0, told
+    output = capsys.readouterr().out
+    assert status == 0, output
     for event in events:
-        assert re.search(event + " [1-9]", told), event
+        assert re.search(event + " [1-9]", output), event

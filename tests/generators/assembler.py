@@ -1,12 +1,11 @@
 #!/usr/bin/env python3
-"""Makes the cases of asm and dis: every statement, operand and border, labels and lines, and the text of every
-kind of word.
+"""Generates the cases of asm and dis: every statement, operand and boundary value, labels and lines, and the text of every kind of word.
 
-    python3 -m generators.assembler                      writes their digests and samples anew
-    python3 -m generators.assembler --check              tells whether they are what this script writes, and refused_texts as it says
-    python3 -m generators.assembler --check-with-llvm    tells whether llvm-mc gives the same word for each statement
+    python3 -m generators.assembler                      writes their digests and samples
+    python3 -m generators.assembler --check              checks that they are up to date, and refused_texts against the model
+    python3 -m generators.assembler --check-with-llvm    checks the word of each statement against llvm-mc
 
-Nothing here comes from the bench: the assembler and the disassembler that the cases follow are in assembly_model.py.
+Independent of the code under test: the reference assembler and disassembler are in assembly_model.py.
 """
 import os
 import random
@@ -45,7 +44,7 @@ class Case:
 
 
 def asm(name, text):
-    """A text and its words, or its fault."""
+    """Adds a case: a text and its words, or its error."""
     answer = assembled(text)
     if isinstance(answer, tuple):
         Case("asm", name, text, "rvbench: line %d fault %d\n" % answer, 1)
@@ -58,7 +57,7 @@ def asm_lines(name, statements):
 
 
 def dis(name, words, image=None):
-    """Words, or an image of these words that is written in another way, and their texts."""
+    """Returns a case: words, or another form of their image, and their texts."""
     Case("dis", name, bytes_in_memory(words) if image is None else image,
          "".join("%08x %s\n" % (word, disassembled(word)) for word in words))
 
@@ -70,7 +69,7 @@ def dis_refused(name, image):
 # ---- asm
 
 def every_statement():
-    """Each mnemonic with several operands; register numbers that differ in every bit stand at every place."""
+    """Each mnemonic with several operands; register numbers that differ in every bit are used in every position."""
     statements = []
     for d, a, b, n in ((1, 2, 3, 4), (31, 0, 21, -4), (10, 21, 31, 30), (0, 31, 10, 0)):
         statements += ["%s x%d, %d" % (name, d, abs(n)) for name in ("lui", "auipc")]
@@ -106,8 +105,8 @@ def csr_names():
         "0xc00", "0xb03", "0xb9f", "0x323", "0x33f", "0x7a0", "-0", "00768", "0x0")])
 
 
-def borders():
-    """The least and the greatest number of each statement, and some between them."""
+def boundaries():
+    """The smallest and the largest number of each statement, and some between them."""
     lines = []
     for name, (forms, limits) in STATEMENTS.items():
         if limits is None or name in ("li", ".word"):
@@ -120,7 +119,7 @@ def borders():
         for text in [str(number) for number in numbers] + ["0x%x" % number for number in numbers if number >= 0]:
             given = {"based": text + "(x2)", "csr": "mstatus", "register": "x1"}
             lines.append(name + " " + ", ".join(given.get(form.__name__, text) for form in forms))
-    asm_lines("borders", lines)
+    asm_lines("boundaries", lines)
 
 
 def numbers():
@@ -133,7 +132,7 @@ def numbers():
 
 
 def values_of_li():
-    """Each border of the two forms, written without a sign, with one, and in hexadecimal."""
+    """Each boundary of the two forms, without a sign, with a sign, and in hexadecimal."""
     asm_lines("values_of_li", ["li x5, " + text for value in CORNERS for text in (
         str(value), "0x%x" % value, "0x%08X" % value, str(signed(value, 32)))])
     asm_lines("values_of_li_below_zero", ["li x5, %d" % value for value in (
@@ -195,7 +194,7 @@ def lines():
 
 
 def faults():
-    """One text of each fault; refused_texts has all others."""
+    """One text for each error; refused_texts has all others."""
     for name, text in (("fault_1", "a : nop\n"), ("fault_2", "j a\n"), ("fault_3", "addi x1, x2\n"),
                        ("fault_4", "beq x1, x2, 3\n"), ("fault_5", "jal x0, far\n"), ("fault_6", "a: nop\na: nop\n"),
                        ("fault_2_before_6", "a: nop\na: nop\nj a\n")):
@@ -205,7 +204,7 @@ def faults():
 # ---- dis
 
 def spelled(name, rng):
-    """A word of a row, its other bits as they come."""
+    """Returns a word of a row with arbitrary other bits."""
     if name in WHOLE:
         return WHOLE[name]
     mask, match = (0x707F, 0x0F) if name == "fence" else (CUTS[ROWS[name][0]][0], MATCHES[name])
@@ -253,7 +252,7 @@ def csr_words():
 
 
 def never_shortened():
-    """What other disassemblers shorten: pseudo-instructions, link registers, immediates of 0."""
+    """Instructions that other disassemblers abbreviate: pseudoinstructions, link registers, immediates of 0."""
     dis("nothing_is_shortened", assembled("\n".join((
         "addi x0, x0, 0", "jalr x0, 0(x1)", "jalr x0, 0(x5)", "jalr x1, 0(x5)", "jal x0, 0", "jal x1, 8", "lui x1, 0",
         "lui x1, 1048575", "auipc x0, 0", "auipc x1, 4096", "addi x1, x2, 0", "addi x1, x0, 5", "xori x1, x2, -1",
@@ -285,20 +284,20 @@ def images():
         dis_refused(name, image)
 
 
-# ---- what was written by hand
+# ---- handwritten texts
 
 ESCAPE = re.compile(r"\\(0[0-7]{1,3}|x[0-9a-f]{2}|.)")
 LETTERS = {"n": "\n", "t": "\t", "r": "\r", "v": "\v", "f": "\f"}
 
 
 def unescaped(text):
-    """A text as printf's %b writes it."""
+    """Returns a text as printf's %b writes it."""
     return ESCAPE.sub(lambda found: LETTERS.get(found[1]) or chr(int(found[1].lstrip("x"), 8 if found[1][0] == "0" else 16)),
                       text)
 
 
 def wrongly_refused():
-    """The lines of refused_texts that the model answers otherwise, and how many there are."""
+    """Returns the lines of refused_texts on which the model differs, and the number of all lines."""
     with open(REFUSED) as file:
         rows = [line.rstrip("\n").split(" ", 2) for line in file if not line.startswith("# ")]
     return [text for line, fault, text in rows if assembled(unescaped(text)) != (int(line), int(fault))], len(rows)
@@ -324,7 +323,7 @@ def worked_out_by_hand():
 
 
 def texts_for_llvm():
-    """Each statement of the cases that LLVM's assembler has in this form, by its canonical text."""
+    """Returns each statement of the cases that LLVM's assembler accepts, by its canonical text."""
     words = {word for case in Case.all if case.topic == "dis" and not case.status
              for word in (int(line.split(" ")[0], 16) for line in case.wanted.splitlines())}
     words |= {int.from_bytes(bytes.fromhex(line), "little") for case in Case.all if case.topic == "asm" and not case.status
@@ -334,7 +333,7 @@ def texts_for_llvm():
 
 
 def main(arguments):
-    for part in (worked_out_by_hand, every_statement, register_names, csr_names, borders, numbers, values_of_li, sets_of_fence,
+    for part in (worked_out_by_hand, every_statement, register_names, csr_names, boundaries, numbers, values_of_li, sets_of_fence,
                  labels, lines,
                  faults, each_row, fences, what_is_no_instruction, csr_words, never_shortened, images):
         part()

@@ -1,15 +1,13 @@
 #!/usr/bin/env python3
-"""Builds the attacks of examples/attacks, and examples/programs/race: victim.s, or runner.s where no twin is run, and behind it a folder's
-attack.s, or the folder's program.s, are assembled by assembly_model.py to the folder's image and listing, the image is put before the
-script of its stdin, and the model of monitor_bench.py writes its stdout. Where the script has a secret, a second input, other, has another
-one: each byte and word of it is the complement.
+"""Builds the attacks of examples/attacks, and examples/programs/race. assembly_model.py assembles victim.s (runner.s without twin) and the
+attack.s of a folder, or its program.s, into the image and the listing of the folder. The stdin of the folder is the image and the script, and the
+model of monitor_bench.py writes its stdout. If the script has a secret, a second input `other` has its complement.
 
     python3 -m generators.attacks            builds all of them
-    python3 -m generators.attacks --check    tells whether they are as it builds them, and whether each attack fails: both benches answer
-                                           each line alike, both secrets have the same output, or the enclave that runs comes to its end
-                                           and has counted to 32
+    python3 -m generators.attacks --check    checks that they are up to date and that each attack fails: both benches reply the same to each
+                                           line, both secrets give the same output, or the running enclave exits after it counted to 32
 
-Nothing here comes from the bench.
+Independent of the code under test.
 """
 import os
 import sys
@@ -52,7 +50,7 @@ def has_secret(name):
 
 
 def parts_of_secret(stdin):
-    """What stands before the lines of the secret, these, and what stands behind them, which begins with a comment."""
+    """Splits a script into the lines before the secret, those of the secret, and those after it, which begin with a comment."""
     front, rest = stdin.split(SECRET, 1)
     comment, rest = rest.split("\n", 1)
     secret, behind = rest.split("#", 1)
@@ -60,7 +58,7 @@ def parts_of_secret(stdin):
 
 
 def complement(line):
-    """A poke of the complement of its byte, or a setreg of that of its word."""
+    """Returns a poke or a setreg of the complement."""
     word, place, value = line.split()
     return f"{word} {place} " + ("%02x" % (0xFF - int(value, 16)) if word == "poke" else "%08x" % (0xFFFFFFFF - int(value, 16)))
 
@@ -71,18 +69,18 @@ def other_of(stdin):
 
 
 def image_of_words(words):
-    """The text of an image of these words."""
+    """Returns the text of an image of these words."""
     digits = "".join(word.to_bytes(4, "little").hex() for word in words)
     return "".join(digits[at:at + DIGITS] + "\n" for at in range(0, len(digits), DIGITS))
 
 
 def input_of(name):
-    """The input of the bench: the image, and the script behind it."""
+    """Returns the input of rvbench: the image, then the script."""
     return text_of(name, "image") + text_of(name, "script")
 
 
 def built(name):
-    """The texts of a folder's files, by their names."""
+    """Returns the texts of the files of a folder, by name."""
     words = assembled(source_of(name))
     assert isinstance(words, list), (name, words)
     image = image_of_words(words)
@@ -92,18 +90,18 @@ def built(name):
 
 
 def are_alike(stdout):
-    """Whether the replies of the two benches are the same, and there are some."""
+    """Returns whether the replies of the two benches are equal, and there are any."""
     one, other = ([it[3:] for it in stdout.splitlines() if it.startswith(mark)] for mark in ("a: ", "b: "))
     return one == other != []
 
 
 def has_counted(stdout):
-    """Whether the last that is shown is the exit of the enclave, with 32."""
+    """Returns whether the last reply shows the exit of the enclave with 32."""
     return stdout.endswith("\nx10=00000000\nx11=00000020\n")
 
 
 def fault_of(name):
-    """How an attack did not fail, or nothing."""
+    """Returns why an attack did not fail, or an empty text."""
     stdout = text_of(name, "stdout")
     if name == RACE:
         return ""

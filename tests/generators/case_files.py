@@ -1,7 +1,6 @@
-"""The cases that a script computes. A case has a topic, a name, and texts under the keys stdin, stdout and perhaps args (one word a
-line) and status, a character a byte; all cases of its topic are the script's. What is kept of a topic is a line of cases/digests (its
-name, how many cases, the SHA-256 of the text of all, the script) and a sample in cases/samples that a reader can look through:
-cases come back in a second, and tests/run_cases has the script write them.
+"""Files of generated cases. A case has a topic, a name, and texts under the keys stdin, stdout and optionally args (one argument per line) and
+status, with one character per byte. One script generates all cases of a topic. The repository stores a line of cases/digests for each topic
+(its name, the number of cases, the SHA-256 of their text, the script) and a readable sample in cases/samples. The tests generate the cases.
 """
 import hashlib
 import os
@@ -16,20 +15,20 @@ SAMPLED, SHOWN = 3, 16  # cases of a topic, and lines of each part
 
 
 def stdin(image, script):
-    """The input of words at their addresses from 80000000 on, and of a script."""
+    """Returns the input of an image of words by address, from 80000000, and of a script."""
     data = bytes(image.get(a, 0) for a in range(0x80000000, max(image, default=0) + 1)).hex()
     return "\n".join([data[i:i + 120] for i in range(0, len(data), 120)] + ["--"] + script) + "\n"
 
 
 def computed(case):
-    """A script's case in the form of the files."""
+    """Returns a case in the format of the files."""
     texts = {key: text.encode("latin-1") for key, text in case.files().items()}
     words = texts.get("args", b"").split(b"\n")[:-1]
     return case_format.Case(case.name, words, texts["stdin"], texts["stdout"], int(texts.get("status", b"0")))
 
 
 def files_of(cases):
-    """The cases of each topic, in the form of the files."""
+    """Returns the cases of each topic in the format of the files."""
     topics = {}
     for case in cases:
         topics.setdefault(case.topic, []).append(computed(case))
@@ -45,12 +44,12 @@ def text_of_all(part):
 
 
 def digest_of(topic, part):
-    """The topic's line in cases/digests."""
+    """Returns the line of a topic in cases/digests."""
     return "%s %d %s %s\n" % (topic, len(part), hashlib.sha256(text_of_all(part).encode("ascii")).hexdigest(), script())
 
 
 def sample_of(part):
-    """Cases that lie evenly in the topic, the first lines of each part of them."""
+    """Returns a sample: evenly spaced cases of the topic, with the first lines of each part."""
     step = max(1, len(part) // SAMPLED)
     comment = "A sample of what tests/generators/%s writes: %d of %d cases, at most %d lines of input and of output of each."
     chosen = part[::step][:SAMPLED]
@@ -71,7 +70,7 @@ def sample_of(part):
 
 
 def kept_of(topics):
-    """The files that are kept, by their paths below cases, with their texts; the digests of other scripts' topics stay."""
+    """Returns the texts of the stored files by path below cases; digests of other scripts are unchanged."""
     lines = {line.split()[0]: line for line in (text_of(DIGESTS) or "").splitlines(True)}
     lines = {topic: line for topic, line in lines.items() if line.split()[3] != script()}
     lines.update({topic: digest_of(topic, part) for topic, part in topics.items()})
@@ -80,7 +79,7 @@ def kept_of(topics):
 
 
 def differing(files):
-    """The files that are missing or of other bytes."""
+    """Returns the files that are missing or differ."""
     return [name for name, text in files.items() if text_of(os.path.join(CASES, name)) != text]
 
 
@@ -99,7 +98,7 @@ def text_of(path):
 
 
 def main(arguments, cases, words, usage):
-    """What the script was asked for, and its status. Words of instructions stand by their texts, for --check-with-llvm."""
+    """Runs the command line of a generator; returns the exit status. `words` has the instruction words by text, for --check-with-llvm."""
     topics = files_of(cases)
     if arguments[:1] == ["--into"] and len(arguments) == 2:
         write(arguments[1], {topic + ".cases": text_of_all(part) for topic, part in topics.items()})

@@ -1,16 +1,15 @@
 #!/usr/bin/env python3
-"""Makes the cases of corner_values: a case for each instruction of RV32IM, with all pairs of corner values, and
-one for each trap that it takes in mode M, since nothing goes on after a trap: there is no memory at 0. The instructions of
-Zicsr and the other privileged ones are in csr_table.py and traps.py.
+"""Generates the cases of corner_values: for each instruction of RV32IM one with all pairs of corner values, and one for each of its traps
+in mode M. A trap ends a case, since there is no memory at 0. csr_table.py and traps.py have the instructions of Zicsr and the other
+privileged ones.
 
-    python3 -m generators.corner_values                      writes its digest and sample anew
-    python3 -m generators.corner_values --check              tells whether they are what this script writes
-    python3 -m generators.corner_values --check-with-llvm    tells whether llvm-mc gives the same word for each assembly text
+    python3 -m generators.corner_values                      writes its digest and sample
+    python3 -m generators.corner_values --check              checks that they are up to date
+    python3 -m generators.corner_values --check-with-llvm    checks each instruction word against llvm-mc
 
-Nothing here comes from the bench. Results are computed by the formulas of instruction_results.py, and cut to 32 bits at the end;
-where an instruction goes, which bytes it loads and stores, and what it traps with, is written out for each group below. Words are
-put together by instruction_words.py, from the manual's tables; llvm-mc agrees on all of them but for a fence with reserved fields,
-which it cannot spell.
+Independent of the code under test. instruction_results.py computes the results, which are then cut to 32 bits. The next pc, the accessed
+bytes and the traps of each group are written out below. instruction_words.py encodes the instructions by the tables of the manual. llvm-mc
+agrees on all of them except a fence with reserved fields, which it cannot express.
 """
 import sys
 
@@ -18,18 +17,18 @@ from generators import case_files
 from models.instruction_results import RESULT, TAKEN
 from models.instruction_words import WHOLE, assemble, named
 
-START, PAST, ONES = 0x80000000, 0x80100000, 0xFFFFFFFF  # the first byte of RAM, the first one behind it, all ones
+START, PAST, ONES = 0x80000000, 0x80100000, 0xFFFFFFFF  # the first byte of RAM, the first one after it, all ones
 CORNERS = [0, 1, 2, 0x12345678, 0x7FFFFFFF, 0x80000000, ONES]
 IMMEDIATES = [0, 1, -1, 2047, -2048]
-HALF = 0x100  # bytes of code from START on, and then as many again, so that jumps go forwards and backwards
+HALF = 0x100  # bytes of code from START, twice, so that jumps go forwards and backwards
 
 
 class Case:
-    """One case: the bytes of its image, its script with the replies, and registers, pc and bytes as they are by then."""
+    """A case: the bytes of its image, its script with the replies, and the present registers, pc and bytes."""
     topic, all, words = "corner_values", [], {}
 
     def __init__(self, name, registers=None):
-        self.name, self.script, self.replies, self.told = name, [], [], None
+        self.name, self.script, self.replies, self.last_comment = name, [], [], None
         self.image, self.stored, self.regs, self.pc, self.halves = {}, {}, [0] * 32, START, [START, START + HALF]
         Case.all.append(self)
         for number, value in (registers or {}).items():
@@ -48,15 +47,15 @@ class Case:
         return self.stored.get(address, self.image.get(address, 0))
 
     def step(self, *instruction, rd=None, value=0, to=None, trap=None):
-        """The instruction at pc writes value to rd and goes on at `to`, or behind itself; or it traps."""
+        """Executes the instruction at pc: it writes `value` to rd and continues at `to` or after itself, or it traps."""
         text, word = assemble(*instruction)
         Case.words[text] = word
         if self.pc not in self.stored:
             assert self.image.get(self.pc) in (None, word & 0xFF), "two words at one place"
             self.image.update(enumerate(word.to_bytes(4, "little"), self.pc))
-        if text != self.told:
+        if text != self.last_comment:
             self.script.append("# " + text)
-        self.told, self.pc = text, 0 if trap else (self.pc + 4 if to is None else to) & ONES
+        self.last_comment, self.pc = text, 0 if trap else (self.pc + 4 if to is None else to) & ONES
         self.say("step 1", "ran 1 pc=%08x mode=M world=bare why=done trap=%s" % (self.pc, "%08x:%08x" % trap if trap else "-"))
         if rd is not None:
             self.regs[rd] = value & ONES if rd else 0
@@ -68,7 +67,7 @@ class Case:
         self.step(name, rs2, offset, rs1)
 
     def place(self, address, *instruction):
-        """A word far behind the image, by sw."""
+        """Stores a word far after the image by sw."""
         self.set(5, address)
         self.set(6, assemble(*instruction)[1])
         self.store("sw", 6, 0, 5)
@@ -84,7 +83,7 @@ class Case:
         self.say("regs", *("x%d=%08x" % pair for pair in enumerate(self.regs)), "pc=%08x" % self.pc)
 
     def other_half(self):
-        """Where the code goes on in the half in which pc is not."""
+        """Returns where the code continues in the half in which pc is not."""
         here = int(self.pc >= START + HALF)
         self.halves[here] = self.pc + 4
         return self.halves[1 - here]
@@ -94,7 +93,7 @@ class Case:
 
 
 def trap(name, registers, instruction, cause, tval):
-    """An instruction that traps: no register changes, and no byte at either end of RAM."""
+    """Adds an instruction that traps: no register and no byte at either end of RAM changes."""
     case = Case(name, registers)
     case.step(*instruction, trap=(cause, tval & ONES))
     case.registers()
@@ -146,7 +145,7 @@ def branches():
             case.set(rs2, b)
             target = case.other_half()
             case.step(name, rs1, rs2, target - case.pc, to=target if TAKEN[name](a, b) else None)
-        case.step(name, 1, 2, 6)  # where a branch does not go may be misaligned
+        case.step(name, 1, 2, 6)  # the target of an untaken branch may be misaligned
         case.step(name, 1, 2, -2)
 
 

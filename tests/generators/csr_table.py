@@ -1,12 +1,11 @@
 #!/usr/bin/env python3
-"""Makes the cases of csr_table: what each number of a control and status register reads, what a write leaves, and
-which accesses are illegal, from each mode.
+"""Generates the cases of csr_table: the value that each CSR number reads, the effect of a write, and the illegal accesses, from each mode.
 
-    python3 -m generators.csr_table                      writes its digest and sample anew
-    python3 -m generators.csr_table --check              tells whether they are what this script writes
-    python3 -m generators.csr_table --check-with-llvm    tells whether llvm-mc gives the same word for each assembly text
+    python3 -m generators.csr_table                      writes its digest and sample
+    python3 -m generators.csr_table --check              checks that they are up to date
+    python3 -m generators.csr_table --check-with-llvm    checks each instruction word against llvm-mc
 
-Nothing here comes from the bench: the table and the hart that the cases follow are in privileged_hart.py.
+Independent of the code under test: the reference table and hart are in privileged_hart.py.
 """
 import sys
 
@@ -25,7 +24,7 @@ READ_ONLY = [number for number in KEPT if number >> 10 == 3]
 
 
 class Accesses(Returning):
-    """A case that accesses registers in every mode, and goes on behind those accesses that trap."""
+    """A case that accesses registers in every mode, and continues after accesses that trap."""
 
     def __init__(self, name):
         super().__init__("csr_table", name)
@@ -38,7 +37,7 @@ def readings():
 
 
 def writings():
-    """Each register that can be written, in mode M, by csrrw, which shows what it read before."""
+    """Each writable register, in mode M, by csrrw, which shows the old value."""
     for part, first, last in (("supervisor", 0x100, 0x1FF), ("machine_set_up", 0x300, 0x31F), ("events", 0x320, 0x33F),
                               ("machine_traps", 0x340, 0x34F), ("counters", 0xB00, 0xB1F), ("upper_halves", 0xB80, 0xB9F)):
         case = Case("csr_table", "writing_" + part)
@@ -48,7 +47,7 @@ def writings():
                 case.run(("csrrw", 5, number, 6))
                 case.reg(5)
                 case.show(number)
-    case = Case("csr_table", "writing_pmp")  # the locks are those of pmp.py
+    case = Case("csr_table", "writing_pmp")  # pmp.py has the locks
     for number in [*PMPCFG, *PMPADDR]:
         for word in PATTERNS:
             case.set(6, word & (0x7F7F7F7F if number in PMPCFG else ONES))
@@ -76,7 +75,7 @@ def writings():
 
 
 def setting_and_clearing():
-    """What the six instructions write, and what they read, over registers that keep all bits, some, and none."""
+    """The values that the six instructions write and read, for registers that store all bits, some, and none."""
     words = [0, ONES, 0x0F0F3C5A, 0x00000222]
     for name in named("csr") + named("csr_number"):
         case = Case("csr_table", name + "_words")
@@ -96,7 +95,7 @@ def setting_and_clearing():
 
 
 def reading_and_writing():
-    """Who reads, who writes and who traps, by rd, by the source, and by the kind of the register."""
+    """Which instructions read, write and trap, by rd, source, and kind of the register."""
     for name in named("csr") + named("csr_number"):
         case = Accesses(name + "_with_x0_or_0")
         case.set(6, 0)
@@ -113,7 +112,7 @@ def reading_and_writing():
 
 
 def modes():
-    """Each register that there is, and some that are not, read and written from each mode."""
+    """Each existing register, and some that do not exist, read and written from each mode."""
     for letter, mode in (("m", M), ("s", S), ("u", U)):
         case = Accesses("read_in_" + letter)
         case.to(mode)

@@ -1,14 +1,13 @@
 #!/usr/bin/env python3
-"""Makes the cases of debugger: where runs end by watches and breaks at each border of an access, what is asked
-first, sets of 32 addresses and one more, poke, hart and sched of the one hart, every malformed line of these commands, and long
-scripts of them.
+"""Generates the cases of debugger: runs that breakpoints and watchpoints end at each boundary of an access, their order, sets of 32 and 33
+addresses, poke, hart and sched with one hart, every malformed line of these commands, and long scripts of them.
 
-    python3 -m generators.debugger                      writes its digest and sample anew
-    python3 -m generators.debugger --check              tells whether they are what this script writes
-    python3 -m generators.debugger --check-with-llvm    tells whether llvm-mc gives the same word for each assembly text
+    python3 -m generators.debugger                      writes its digest and sample
+    python3 -m generators.debugger --check              checks that they are up to date
+    python3 -m generators.debugger --check-with-llvm    checks each instruction word against llvm-mc
 
-Nothing here comes from the bench: replies are those of the model of monitor_bench.py, over a bare hart. Where a reply is written here, by
-hand, the model gives the same.
+Independent of the code under test: the replies are those of the model in monitor_bench.py, over a bare hart. A handwritten
+reply must equal that of the model.
 """
 import sys
 
@@ -17,15 +16,15 @@ from models.instruction_words import assemble, named
 from models.monitor_bench import Bench
 
 START, PAST, ONES = 0x80000000, 0x80100000, 0xFFFFFFFF
-AREA = START + 0x2000  # data, behind the code
+AREA = START + 0x2000  # data, after the code
 WIDTH = {"b": 1, "h": 2, "w": 4}
 ACCESSES = named("load") + named("store")
 MOST = 32  # addresses in a set
-words = {}  # those of all instructions, by their texts
+words = {}  # the words of all instructions, by text
 
 
 class Case:
-    """A bench of a program in mode M, what it is told and what the model answers."""
+    """A bench with a program in mode M: its input, and the replies of the model."""
 
     def __init__(self, name, program):
         self.topic, self.name, self.image, self.lines, self.replies = "debugger", name, {}, [], []
@@ -43,43 +42,43 @@ class Case:
     def pc(self):
         return self.bench.machine.pc
 
-    def tell(self, line, *written):
-        """A line of the script, and the reply where it is written by hand."""
+    def add(self, line, *written):
+        """Adds a line of the script, with its reply if that is handwritten."""
         replies = self.bench.replies(line)
         assert not written or replies == list(written), (line, replies)
         self.lines.append(line)
         self.replies += replies
 
     def go(self, command, count, line=None):
-        """Steps, and why they ended."""
-        self.tell(line or "%s %d" % (command, count))
+        """Adds steps, and the reason why they end."""
+        self.add(line or "%s %d" % (command, count))
         return self.replies[-1].split("why=")[1].split(" ")[0]
 
     def run(self, count):
         return self.go("run", count)
 
     def sched(self, digits):
-        self.tell("sched " + digits)
+        self.add("sched " + digits)
 
     def put(self, command, address):
-        """break or watch."""
-        self.tell("%s %x" % (command, address))
+        """Adds break or watch."""
+        self.add("%s %x" % (command, address))
 
     def take(self, command, address):
-        """clear or unwatch."""
+        """Adds clear or unwatch."""
         self.put(command, address)
 
     def setreg(self, register, number):
-        self.tell("setreg %d %x" % (register, number))
+        self.add("setreg %d %x" % (register, number))
 
     def poke(self, address, byte):
-        self.tell("poke %x %x" % (address, byte))
+        self.add("poke %x %x" % (address, byte))
 
     def mem(self, address, count):
-        self.tell("mem %x %d" % (address, count))
+        self.add("mem %x %d" % (address, count))
 
     def reg(self, register):
-        self.tell("reg %d" % register)
+        self.add("reg %d" % register)
 
 
 cases = []
@@ -87,16 +86,16 @@ BACK = ("jalr", 0, 0, 31)  # to the address in x31
 
 
 def numbers(seed):
-    """Numbers that look like chance and are the same everywhere."""
+    """Yields pseudorandom numbers that are the same on every platform."""
     while True:
         seed = seed * 6364136223846793005 + 1442695040888963407 & (1 << 64) - 1
         yield seed >> 33
 
 
-# ---- where a watch ends a run
+# ---- runs that a watchpoint ends
 
-def each_border():
-    """Each access at each alignment, with each byte from one before it to one behind it watched alone."""
+def each_boundary():
+    """Each access at each alignment, with a watchpoint on each byte from one before it to one after it."""
     for name in ACCESSES:
         case = Case("watch_%s" % name, [(name, 5, 0, 8), BACK])
         case.setreg(31, START)
@@ -113,7 +112,7 @@ def each_border():
 
 
 def lowest_of_many():
-    """Watches that are set in any order: the lowest that was accessed is told, and none that was not."""
+    """Watchpoints in any order: the lowest accessed one is reported, and none that was not accessed."""
     case = Case("lowest_watch", [("sw", 5, 0, 8), ("lh", 6, 1, 8), ("lbu", 7, 3, 8), BACK])
     case.setreg(31, START)
     case.setreg(8, AREA)
@@ -128,7 +127,7 @@ def lowest_of_many():
 
 
 def fetches():
-    """A byte that is only fetched is watched in vain, and one that is stored into the code is not."""
+    """A fetch hits no watchpoint; a store into the code does."""
     case = Case("watch_on_code", [("addi", 1, 1, 1), ("sb", 5, 0, 8), ("ecall",)])
     for address in range(START, START + 12):
         case.put("watch", address)
@@ -140,7 +139,7 @@ def fetches():
 
 
 def refused():
-    """An access that is refused hits no watch, on no byte of it."""
+    """An access that traps hits no watchpoint on any of its bytes."""
     for name, address in (("load_below_ram", START - 2), ("load_behind_ram", PAST - 2), ("load_round_the_end", ONES - 1)):
         case = Case(name, [("lw", 5, 0, 8), BACK])
         case.setreg(8, address)
@@ -158,7 +157,7 @@ def refused():
         case.run(9)
 
 
-# ---- what is asked first
+# ---- order of the checks
 
 def order():
     loop = [("addi", 1, 1, 1), ("sb", 1, 0, 8), BACK]
@@ -166,7 +165,7 @@ def order():
     case.setreg(8, AREA)
     case.setreg(31, START)
     case.put("break", START)
-    for count in (1, 2, 3, 4):  # begins at the break, and is not held there
+    for count in (1, 2, 3, 4):  # starts at the breakpoint, and does not stop there
         case.run(count)
         case.run(3)
     case.put("break", START + 8)
@@ -184,7 +183,7 @@ def order():
 
 
 def breaks_on_the_way():
-    """A break behind a jump that is not met, at an address of no instruction, and at the place of a handler."""
+    """Breakpoints that a jump skips, at an address without an instruction, and at a handler."""
     case = Case("break_places", [("jal", 1, 8), ("addi", 2, 2, 1), ("addi", 3, 3, 1), ("ecall",)])
     for address in (START + 4, START + 2, START + 9, START + 11):
         case.put("break", address)
@@ -219,7 +218,7 @@ def full_sets():
             case.take(away, AREA + 3 * i)
         case.put(command, AREA + 30)
         case.put(command, AREA + 1)
-        case.tell("%s 0x%08X" % (command, AREA + 1), "ok")
+        case.add("%s 0x%08X" % (command, AREA + 1), "ok")
     case = Case("thirty_two_breaks", [("addi", 1, 1, 1)] * 70)
     for i in order_of:
         case.put("break", START + 8 * i + 4)
@@ -246,8 +245,8 @@ def pokes():
     for address, byte in ((AREA, 0xA5), (AREA, 0), (AREA + 1, 0xFF), (START - 1, 1), (PAST - 1, 0x7F), (PAST, 1), (0, 1),
                           (ONES, 1), (AREA, 0x80)):
         case.poke(address, byte)
-    case.tell("poke 0x%X 0" % (AREA + 2), "ok")
-    case.tell("poke %x aB" % (AREA + 3), "ok")
+    case.add("poke 0x%X 0" % (AREA + 2), "ok")
+    case.add("poke %x aB" % (AREA + 3), "ok")
     case.mem(AREA, 4)
     case.mem(PAST - 1, 1)
     case.run(9)
@@ -256,12 +255,12 @@ def pokes():
     case.poke(START + 2, 0x30)
     case.go("step", 2)
     case.reg(1)
-    case.tell("enclaves")
-    case.tell(" enclaves\t")
+    case.add("enclaves")
+    case.add(" enclaves\t")
 
 
 def one_hart():
-    """hart and sched of the hart that there is, and of one that there is not: then no step is done, not even an earlier digit's."""
+    """hart and sched with the existing hart and with a missing one: then no step is made, not even that of an earlier digit."""
     case = Case("one_hart", [("addi", 1, 1, 1), ("sw", 1, 0, 8), ("ecall",), BACK])
     case.setreg(31, START)
     case.setreg(8, AREA)
@@ -271,14 +270,14 @@ def one_hart():
         case.sched(digits)
         case.reg(1)
     for line, reply in (("hart 0", "ok"), ("hart 1", "error hart"), ("csr f14", "csr f14=00000000"), (" hart\t0 ", "ok")):
-        case.tell(line, reply)
+        case.add(line, reply)
     case.setreg(31, START)
     for line in ("hart", "hart 2", "hart 00", "hart 01", "hart 0x1", "hart -1", "hart 1 1", "hart 1 # x", "hart one", "sched", "sched 2",
                  "sched 12", "sched 0 0", "sched " + "0" * 65, "sched " + "1" * 65, "sched " + "0" * 63 + "2", "sched 0x0", "sched 0,0"):
-        case.tell(line, "error operand")
+        case.add(line, "error operand")
     for line in ("Hart 0", "harts 0", "Sched 0", "sched0", "schedule 0"):
-        case.tell(line, "error command")
-    case.tell("sched 0" + " " * 114, "error line")
+        case.add(line, "error command")
+    case.add("sched 0" + " " * 114, "error line")
     case.sched("0")
     case.run(9)
     case.reg(1)
@@ -290,29 +289,29 @@ def malformed():
     addresses = ["", "0x", "0X0", "x0", "g", "-1", "+1", "123456789", "0x123456789", "0 0", "0,", "pc", "80000000 # x"]
     for command in ("run", "step"):
         for operands in counts:
-            case.tell(("%s %s" % (command, operands)).strip(), "error operand")
+            case.add(("%s %s" % (command, operands)).strip(), "error operand")
     for command in ("break", "clear", "watch", "unwatch"):
         for operands in addresses:
-            case.tell(("%s %s" % (command, operands)).strip(), "error operand")
+            case.add(("%s %s" % (command, operands)).strip(), "error operand")
     for operands in addresses:
-        case.tell(("poke %s 0" % operands).strip(), "error operand")
+        case.add(("poke %s 0" % operands).strip(), "error operand")
     for byte in ("", "100", "001", "0x1", "0x", "g", "-1", "+1", "1 2", "1,", "# x"):
-        case.tell(("poke 80000000 " + byte).strip(), "error operand")
+        case.add(("poke 80000000 " + byte).strip(), "error operand")
     for operands in ("0", "all", "# x"):
-        case.tell("enclaves " + operands, "error operand")
+        case.add("enclaves " + operands, "error operand")
     for line in ("Run 1", "RUN 1", "runs 1", "run1", "Break 0", "breaks", "brk 0", "cont 1", "Clear 0", "clears 0", "Watch 0",
                  "watches", "Unwatch 0", "unWatch 0", "un watch 0", "Poke 0 0", "pokes 0 0", "enclave", "Enclaves", "bare"):
-        case.tell(line, "error command")
+        case.add(line, "error command")
     for line in ("run 1\x00", "run 1\r\r", "break 0\x7f", "# watch 0\x80", "poke" + " " * 117 + "0"):
-        case.tell(line, "error line")
-    # nothing of it is set, and nothing ran
+        case.add(line, "error line")
+    # nothing is set, and nothing ran
     case.go("step", 1)
     case.put("break", START)
     case.go("run", 2, "run" + " " * 116 + "2")
 
 
 def hostile_lines():
-    """Lines that are nearly commands, of all kinds: the script goes on behind each."""
+    """Almost valid commands of all kinds: the script continues after each."""
     case = Case("hostile_lines", [("addi", 1, 1, 1), BACK])
     case.setreg(31, START)
     for line, reply in (
@@ -323,13 +322,13 @@ def hostile_lines():
             ("dis fffffffe", "error outside"), ("csr 7a0", "error csr"), ("sched 0101", "error hart"), ("--", "error command"),
             ("reg\0 1", "error line"), ("a" * 121, "error line"), ("a" * 120, "error command"), ("#" * 120, None), ("\t", None),
             ("# x", None), ("#\t\x7f", "error line")):
-        case.tell(line, *[reply] if reply else [])
+        case.add(line, *[reply] if reply else [])
         case.run(1)
     case.reg(1)
 
 
 def long_scripts():
-    """A loop of accesses whose base moves, under a script that looks like chance."""
+    """A loop of accesses with a moving base, under a pseudorandom script."""
     for seed in range(1, 7):
         case = Case("long_script_%d" % seed, [("lw", 5, 0, 8), ("sh", 5, 6, 8), ("lb", 6, 9, 8), ("addi", 8, 8, 1), ("sb", 6, 0, 8),
                                               ("lhu", 7, 2, 8), BACK])
@@ -358,7 +357,7 @@ def long_scripts():
                 case.run(1 + next(chance) % 20)
 
 
-each_border()
+each_boundary()
 lowest_of_many()
 fetches()
 refused()

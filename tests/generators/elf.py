@@ -1,15 +1,15 @@
 #!/usr/bin/env python3
-"""Makes the cases of elf_header, elf_cut, elf_segments, elf_entry, elf_loaded, elf_company, elf_kind and elf_mutated,
-and tests/fuzz/mutated_images: each fault of an ELF file, alone and in company, the borders of each field, a file that is cut to each
-length, what is loaded where, and what is not looked at.
+"""Generates the cases of elf_header, elf_cut, elf_segments, elf_entry, elf_loaded, elf_company, elf_kind and elf_mutated, and
+tests/fuzz/mutated_images: each fault of an ELF file, alone and with others, the boundaries of each field, a file truncated to each length, the
+loaded bytes, and the fields that are ignored.
 
-    python3 -m generators.elf                      writes them anew
-    python3 -m generators.elf --check              tells whether they are what this script writes
-    python3 -m generators.elf --check-with-llvm    tells whether llvm-mc gives the same word for the instruction in them
+    python3 -m generators.elf                      writes them
+    python3 -m generators.elf --check              checks that they are up to date
+    python3 -m generators.elf --check-with-llvm    checks the instruction in them against llvm-mc
     python3 -m generators.elf --company            prints the files with two faults as constants, for a test of the loader
 
-Nothing here comes from the bench: which faults a file has and what it loads is worked out in elf_model.py. Where a case is
-made for a fault, its number stands here too, and both must agree.
+Independent of the code under test: elf_model.py computes the faults of a file and the bytes that it loads. A case for a
+fault states its number, which must agree with the model.
 """
 import os
 import sys
@@ -40,7 +40,7 @@ class Case:
 
 
 def case(topic, name, file, fault, script=SHOWN, kind=None, ram=None):
-    """A file that has this fault as its least one, or loads where that is 0."""
+    """Adds a file whose lowest fault is this one, or that loads if it is 0."""
     options = (["--kind", kind] if kind else []) + (["--ram", str(ram)] if ram else [])
     there = answer(file, kind or "auto", ram or RAM)
     assert there == fault or not fault and not isinstance(there, int), (topic, name, there, fault)
@@ -50,7 +50,7 @@ def case(topic, name, file, fault, script=SHOWN, kind=None, ram=None):
 
 
 def changes(topic, fault, name, values, file=GOOD, **options):
-    """A case for each value of a header's field."""
+    """Adds a case for each value of a header field."""
     for value in values:
         case(topic, "e_%s_%x" % (name, value), with_fields(file, **{name: value}), fault, **options)
 
@@ -58,7 +58,7 @@ def changes(topic, fault, name, values, file=GOOD, **options):
 # ---- the header
 
 def worked_out_by_hand():
-    """The file that the others are changes of, and what some of its bytes, changed, are answered by."""
+    """The base file, and the faults after a change of some of its bytes."""
     assert GOOD.hex() == (
         "7f454c460101010000000000000000000200f3000100000000000080340000000000000000000000340020000100280000000000"
         "0100000054000000000000800000008004000000080000000500000004000000" "9300f0ff")
@@ -77,7 +77,7 @@ def headers():
     changes("elf_header", 5, "machine", (0, 62, 242, 244, 0x1F3, 0xF300))
     changes("elf_header", 6, "phnum", (2, 65, 0x100, 0xFFFF))
     changes("elf_header", 6, "phentsize", (0, 31, 33, 64, 0x120, 0x2000, 0xFFFF))
-    # the table of GOOD would end a byte past the file's end, or far past it, or with a sum that wraps to a place in it
+    # the table of GOOD would end a byte or more past the end of the file, or at a sum that wraps into the file
     changes("elf_header", 6, "phoff", (len(GOOD) - 31, len(GOOD), 0x80000000, ONES - 31, ONES - 30, ONES - 15, ONES))
     many = [segment(START, CODE, 8)] + [segment(0, b"", type=0)] * 64
     case("elf_header", "table_of_64", elf(*many[:64]), 0)
@@ -100,7 +100,7 @@ def headers():
     case("elf_header", "e_phnum_0_in_52_bytes", with_fields(GOOD[:HEADER], phnum=0), 0, SHOWN + ("csr 341",))
 
 
-# ---- the file cut, and words of it that are all ones
+# ---- truncated files, and words of all ones
 
 def cuts():
     for size in range(len(GOOD) + 1):
@@ -121,7 +121,7 @@ def segments():
         case("elf_segments", name, file, 0, script or SHOWN, **options)
 
     size = len(GOOD)
-    # 7: the file part and the file's end; sums that wrap to a place in the file; with p_memsz 0 too
+    # 7: the file part and the end of the file; sums that wrap into the file; also with p_memsz 0
     for name, words in (
             ("file_part_a_byte_past_the_file", {"filesz": 5}), ("file_part_behind_the_file", {"offset": size, "filesz": 1}),
             ("offset_of_all_ones", {"offset": ONES, "filesz": 1}), ("file_part_that_wraps", {"offset": ONES - 3, "filesz": 8}),
@@ -154,7 +154,7 @@ def segments():
               "mem %x 4" % (START + ram - 4), "step 1", "csr 341", ram=ram)
         refused("byte_behind_a_ram_of_%d" % ram, 9, elf(segment(START + ram, b"\x22")), ram=ram)
     refused("last_byte_of_a_larger_ram", 9, elf(segment(START + 16777215, b"\x22")))
-    # no memory at all: any address
+    # no memory: any address
     for paddr in (0, START - 1, END, ONES):
         loads("no_memory_at_%x" % paddr, elf(segment(paddr, b"", 0), segment(START, CODE, 8)))
 
@@ -170,7 +170,7 @@ def overlaps():
             if one != other or not order:
                 parts = [segment(paddr, b"\x11" * min(4, memsz), memsz) for paddr, memsz in pair]
                 case("elf_segments", "share_" + name + order, elf(*parts), 10)
-    # of many, with others between them, and only where there is no file part
+    # among many, with others between them, and only without a file part
     apart = [segment(START + 8 * i, CODE) for i in range(64)]
     for first, second in ((0, 63), (31, 32), (62, 63)):
         parts = list(apart)
@@ -179,7 +179,7 @@ def overlaps():
     case("elf_segments", "share_zeros_alone", elf(segment(low, CODE, 16), segment(low + 15, b"", 1)), 10)
     case("elf_segments", "share_a_byte_around_an_empty_one",
          elf(segment(low, CODE, 17), segment(low + 16, b"", 0), segment(middle, CODE)), 10)
-    # side by side in either order, an empty one between and within, and headers of other types over all
+    # adjacent in either order, an empty one between and inside, and headers of other types over all
     for name, parts in (("rising", (low, middle, high)), ("falling", (high, middle, low))):
         case("elf_segments", "side_by_side_" + name, elf(
             *[segment(paddr, bytes([paddr & 0xFC] * 4), {low: 16, middle: 8, high: 4}[paddr]) for paddr in parts],
@@ -198,7 +198,7 @@ def entries():
     last = elf(segment(START, CODE, 8), segment(END - 4, CODE), entry=END - 4)
     case("elf_entry", "last_four_bytes", last, 0, ("step 1", "reg 1"))
     case("elf_entry", "last_four_bytes_of_65536", elf(segment(START + 65532, CODE), entry=START + 65532), 0, ram=65536)
-    # in no segment, in the zeros of one, in one behind the first
+    # in no segment, in the zeros of one, in a segment after the first
     script = ("step 1", "csr 341", "reg 1")
     case("elf_entry", "in_no_segment", with_fields(GOOD, entry=START + 0x1000), 0, script)
     case("elf_entry", "in_the_zeros_of_a_segment", with_fields(GOOD, entry=START + 4), 0, script)
@@ -209,7 +209,7 @@ def entries():
 # ---- what is loaded
 
 def loaded():
-    """Segments in falling order, at odd addresses, with zeros behind, with shared bytes of the file, and what lies between."""
+    """Segments in descending order, at odd addresses, with trailing zeros, with shared bytes of the file, and the bytes between them."""
     parts = [segment(START + 0x90, bytes(range(0x40, 0x48)), 0x10), segment(START + 0x61, b"\x51\x52\x53", 7),
              segment(START + 0x40, b"", 0x20), segment(START + 0x24, b"\x61\x62\x63\x64\x65"), segment(START, CODE, 0x20),
              segment(START + 0xC0, b"", offset=0, filesz=HEADER, memsz=HEADER + 4),
@@ -220,7 +220,7 @@ def loaded():
         many = [segment(START + 12 * i, CODE if i == 0 else bytes([4 * i, i, 0xFF - i]), 8) for i in numbers]
         case("elf_loaded", "sixty_four_segments_" + name, elf(*many, tail=b"\xee" * 8), 0,
              ["mem %x 64" % (START + 64 * i) for i in range(13)] + ["step 1"])
-    # the zeros of one end where another begins, in either order of the headers; bytes of the file follow both
+    # the zeros of one end at the start of another, in either order of the headers; bytes of the file follow both
     pair = [segment(START + 8, b"\x21\x22", 8), segment(START + 16, b"\x31\x32\x33", 4), segment(START, CODE, 8)]
     for name, parts in (("behind", pair), ("before", pair[::-1])):
         case("elf_loaded", "zeros_up_to_a_neighbour_" + name, elf(*parts, tail=b"\xee" * 8), 0, ("mem 80000000 32", "step 1"))
@@ -233,7 +233,7 @@ def loaded():
 
 
 def not_looked_at():
-    """Fields with wild values, one by one and all together; headers of all other types."""
+    """Ignored fields with arbitrary values, one by one and all together; headers of all other types."""
     wild = {"ident_rest": (1 << 72) - 1, "version": ONES, "shoff": ONES, "flags": ONES, "ehsize": 0, "shentsize": 0xFFFF,
             "shnum": 0xFFFF, "shstrndx": 0xFFFF}
     for name, value in wild.items():
@@ -251,10 +251,10 @@ def not_looked_at():
     case("elf_loaded", "all_wild", with_fields(file, **wild), 0, ("mem 80000000 32", "step 1"))
 
 
-# ---- faults in company
+# ---- several faults
 
 THREE = elf(*[segment(START + 0x10 * i, CODE, 8) for i in range(3)])
-# what gives the file THREE a fault: new bytes at places. 7 to 9 in the first program header or, as the lesser one, in the last
+# changes that give the file THREE a fault: new bytes by offset. 7 to 9 are in the first program header or, for the lower fault, in the last
 ALONE = {2: (0, b"\x7e"), 3: (4, b"\x02"), 4: (16, b"\x03"), 5: (18, b"\x3e"), 6: (44, b"\x04"),
          10: (place_of(1, "paddr"), b"\x02"), 11: (24, b"\x02")}
 IN_HEADER = {7: ("offset", b"\xff\xff\xff\xff"), 8: ("memsz", b"\x03"), 9: ("paddr", b"\xf0\xff\xff\x7f")}
@@ -268,18 +268,17 @@ def change(fault, number):
 
 
 def company():
-    """Pairs of faults, the length of a file that has both, and the changes of THREE that make it so.
+    """Yields pairs of faults, the length of a file that has both, and the changes of THREE that cause them.
 
-    Any two of 2 to 11 can meet, with no third one. A file under 52 bytes has fault 1; of the others it has those whose fields are
-    among its bytes. 7 to 9 need a program header, which such a file has only within its header, and 10 needs two, which it
-    can not have.
+    Any two of 2 to 11 can occur together without a third one. A file under 52 bytes has fault 1 and those faults whose fields it contains.
+    Faults 7 to 9 require a program header, which such a file can have only inside its header. Fault 10 requires two, which it cannot have.
     """
     none = [(44, b"\x00")]  # no table
-    within = [(28, b"\x06"), (44, b"\x01")]  # a table of one header at place 6, as in table_within_the_header
+    within = [(28, b"\x06"), (44, b"\x01")]  # a table of one header at offset 6, as in table_within_the_header
     pairs = [(1, other, 51, none + [ALONE[other]]) for other in (2, 3, 4, 5)]
     pairs += [(1, 6, 51, []),
               (1, 7, 51, within + [(10, b"\xff\xff\xff\xff"), (20, b"\x00\x80\x01")]),  # the file's byte ffffffff
-              (1, 8, 51, within + [(20, b"\x00\x80"), (24, b"\x08")]),  # 80000 bytes where there are 68000, which is 7 too
+              (1, 8, 51, within + [(20, b"\x00\x80"), (24, b"\x08")]),  # 80000 bytes instead of 68000, which causes 7 too
               (1, 9, 51, within + [(20, b"\x00\x00")]),  # memory at 000000f3
               (1, 11, 51, none + [ALONE[11]])]
     return pairs + [(one, other, len(THREE), [change(one, 2), change(other, 0)])
@@ -301,7 +300,7 @@ def in_company():
         case("elf_company", "%d_and_%d" % (one, other), file, one, kind="elf")
         if one > 2:
             assert answer(file, "auto", RAM) == one
-    # all faults but the first, then one less each time; in one header those that can meet there
+    # all faults except the first, then one fewer each time; in one header those that can occur together there
     for least in range(2, 12):
         edits = [change(fault, 2 if fault in (7, 9) else 0) for fault in range(least, 12)]
         file = changed(len(THREE), edits)
@@ -316,7 +315,7 @@ def in_company():
 
 
 def printed_company():
-    """The table of company() as constants."""
+    """Returns the table of company() as constants."""
     lines = ["//! Files with two faults each. Written by tests/generators/elf.py.", "",
              "/// An ELF file of three segments, which loads; those with faults are made of it.",
              "pub(crate) const FILE: [u8; %d] = [" % len(THREE)]

@@ -1,4 +1,4 @@
-"""ELF files as bytes, made of program headers and fields, and changed at places; for the cases of elf.py."""
+"""Builds ELF files from program headers and fields, and changes bytes of them, for the cases of elf.py."""
 from models.elf_model import FIELDS, HEADER, LOAD, MAGIC, PROGRAM_HEADER, START, WORDS
 
 CODE = bytes.fromhex("9300f0ff")  # addi x1, x0, -1
@@ -19,13 +19,13 @@ def program_header(**words):
 
 
 def segment(paddr, data=CODE, memsz=None, **words):
-    """The words of a program header, and the bytes that the file has for it, whose place is known once the file is made."""
+    """A program header: its words, and its bytes in the file, whose offset is set when the file is built."""
     filesz = words.get("filesz", len(data))
     return {"paddr": paddr, "filesz": filesz, "memsz": filesz if memsz is None else memsz, **words}, data
 
 
 def elf(*segments, tail=b"", **fields):
-    """Header, table, the bytes of each segment, and what stands behind them."""
+    """Returns a file: header, table, the bytes of each segment, and trailing bytes."""
     table, data = b"", b""
     for words, its_bytes in segments:
         table += program_header(**{"offset": HEADER + len(segments) * PROGRAM_HEADER + len(data), **words})
@@ -45,18 +45,18 @@ def with_fields(file, **fields):
 
 
 def place_of(number, word):
-    """Where a word of a program header stands, in a file whose table follows its header."""
+    """Returns the offset of a word of a program header, in a file whose table follows its header."""
     return HEADER + number * PROGRAM_HEADER + 4 * WORDS.index(word)
 
 
 def with_words(file, number=0, **words):
-    """The file with these words in a program header."""
+    """Returns the file with these words in a program header."""
     for word, value in words.items():
         file = with_bytes(file, place_of(number, word), value.to_bytes(4, "little"))
     return file
 
 
 def text(file):
-    """The image's lines: the header, and then up to 32 bytes in each, as program headers have."""
+    """Returns the lines of the image: the header, then 32 bytes per line, the size of a program header."""
     cuts = [0, *range(HEADER, len(file), PROGRAM_HEADER), len(file)] if len(file) > HEADER else [0, len(file)]
     return "".join(file[low:high].hex() + "\n" for low, high in zip(cuts, cuts[1:]) if low < high)

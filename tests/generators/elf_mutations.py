@@ -1,6 +1,4 @@
-"""An ELF file of five program headers whose fields are changed at random, by a fixed choice: the rows of mutated_images, and
-files for cases of elf.py.
-"""
+"""Mutates the fields of an ELF file with five program headers, with a fixed seed: the rows of mutated_images, and files for cases of elf.py."""
 import random
 
 from generators.elf_files import CODE, elf, place_of, segment, text, with_bytes
@@ -24,7 +22,7 @@ WORD_VALUES = {
 
 
 def mutation(chosen):
-    """One change of MUTATED: a place, and new bytes."""
+    """Returns a change of MUTATED: an offset, and new bytes."""
     if chosen.random() < 0.3:
         name = chosen.choice(sorted(VALUES))
         place, size = FIELDS[name]
@@ -34,7 +32,7 @@ def mutation(chosen):
 
 
 def mutated():
-    """Pairs of a length and changes of MUTATED, no file twice, with its least fault, or what it loads; a fixed choice."""
+    """Yields pairs of a length and changes of MUTATED without duplicates, each with its lowest fault or its loaded bytes; with a fixed seed."""
     chosen, seen, counts, found = random.Random(32), {MUTATED}, {}, []
     while len(found) < 360:
         edits = [mutation(chosen) for _ in range(chosen.choice((1, 2, 2, 3, 4)))]
@@ -54,7 +52,7 @@ def mutated():
 
 
 def looks(file):
-    """Commands that show each segment with what lies before and behind it."""
+    """Returns commands that show each segment with the bytes before and after it."""
     for words in program_headers(file):
         if words["type"] == LOAD and words["memsz"]:
             low, high = max(words["paddr"] - 8, START), min(words["paddr"] + words["memsz"] + 8, END)
@@ -65,9 +63,9 @@ def looks(file):
 
 
 ROWS_HEAD = """\
-# Changes of an ELF file, each row one file. The lines with = have the file in hexadecimal. In the others stand the number of the
-# fault that is answered, or 0 where the file loads, and the changes: new bytes in hexadecimal from a place on, and with cut
-# the number of bytes that are left at last. Written by tests/generators/elf.py.
+# Mutations of an ELF file, one mutated file per row. Rows that start with = are the original file in hexadecimal. Each other row is
+# the number of the expected error (0: the file loads), then the changes: OFFSET=BYTES replaces bytes, in hexadecimal, and
+# cut=LENGTH truncates the file to that many bytes. Written by tests/generators/elf.py.
 """
 
 

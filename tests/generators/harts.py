@@ -1,18 +1,18 @@
 #!/usr/bin/env python3
-"""Makes the cases of two harts, harts_*: races of every two calls, one on each hart; hart and sched at their
-borders, of two harts, of one, and of two benches; what each hart has of its own and what both share; a host beside an enclave that runs.
+"""Generates the cases of two harts, harts_*: races of every two calls, one on each hart; the boundaries of hart and sched, with two harts, with
+one, and with two benches; private and shared state of the harts; a host concurrent with a running enclave.
 
-    python3 -m generators.harts                      writes their digests and samples anew
-    python3 -m generators.harts --check              tells whether they are what this script writes
-    python3 -m generators.harts --check-with-llvm    tells whether llvm-mc gives the same word for each assembly text
+    python3 -m generators.harts                      writes their digests and samples
+    python3 -m generators.harts --check              checks that they are up to date
+    python3 -m generators.harts --check-with-llvm    checks each instruction word against llvm-mc
 
-Nothing here comes from the bench: replies are those of the model of monitor_bench.py, and what each call answers is written out
-by hand beside it.
+Independent of the code under test: the replies are those of the model in monitor_bench.py, and must equal the handwritten
+status of each call.
 """
 import sys
 
 from generators import case_files
-from generators import harts_beside_cases
+from generators import harts_concurrent_cases
 from generators import harts_command_cases
 from generators import harts_race_cases
 from generators import harts_twin_cases
@@ -20,7 +20,7 @@ from generators.monitor_case import Case
 
 
 def main(arguments):
-    for topic in (harts_race_cases, harts_command_cases, harts_twin_cases, harts_beside_cases):
+    for topic in (harts_race_cases, harts_command_cases, harts_twin_cases, harts_concurrent_cases):
         topic.parts()
     return case_files.main(arguments, Case.all, Case.words, __doc__)
 

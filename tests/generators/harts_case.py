@@ -1,13 +1,13 @@
-"""A case of two harts: as those of one bench or of two benches, under --harts."""
+"""A case of two harts: like those of one bench or of two benches, with --harts."""
 from generators.monitor_case import Case
 from models.monitor_model import HOST_ENTRY
 from generators.twin_case import TwinCase
 
-CODE_OF = (HOST_ENTRY + 4, HOST_ENTRY + 0x400)  # where each hart's host goes on, once they are divided
+CODE_OF = (HOST_ENTRY + 4, HOST_ENTRY + 0x400)  # where the host of each hart continues after they separate
 
 
 def divided(case):
-    """From their common first instruction each hart goes to code of its own."""
+    """Sends each hart from the common first instruction to code of its own."""
     case.place(HOST_ENTRY, "jalr", 0, 0, 31)
     for hart, start in enumerate(CODE_OF):
         case.on(hart)

@@ -1,4 +1,4 @@
-"""The cases of two harts: hart and sched at their borders, which commands go by the chosen hart, and what each hart has of its own."""
+"""The cases of two harts: the boundaries of hart and sched, commands on the selected hart, and the private state of each hart."""
 from generators.harts_case import CODE_OF, HartsCase, divided
 from generators.monitor_case import worked
 from models.monitor_model import (BAD_STATE, CREATE, DESTROY, EXIT, HOST_ENTRY, MEASURE, NOT_SUPPORTED, NO_ENCLAVE, NO_SLOT, OVERLAP, RESUME,
@@ -14,7 +14,7 @@ MALFORMED = ["hart", "hart 2", "hart 00", "hart 01", "hart 0x1", "hart -1", "har
 # ---- hart and sched
 
 def lines_of(case, missing):
-    """Every malformed line; and of a hart that is missing, where one is."""
+    """Every malformed line, and a missing hart."""
     for line in MALFORMED:
         case.wants(line, "error operand")
     for line in ("Hart 1", "harts 1", "HART 0", "Sched 0", "scheds 0", "sched01"):
@@ -27,7 +27,7 @@ def lines_of(case, missing):
         case.wants(line, "error hart")
 
 
-def borders():
+def boundaries():
     case = HartsCase("commands", "malformed_lines")
     lines_of(case, ())
     case.say("regs", "hart 1", "regs", "csr f14", "csr b00")
@@ -67,7 +67,7 @@ def at_reset():
         case.say("regs", "pmp", "enclaves", *("csr " + number for number in ("f14", "100", "300", "304", "305", "341", "344", "b00", "b02")))
         case.say("access S r 80010000 4", "access S r 8000fffc 4")
     assert case.machine.regs == [0] * 10 + [1] + [0] * 21
-    case.tell("mhartid is refused to each, whatever its number")
+    case.comment("mhartid is refused on each hart")
     case.say("sched 01")
     case = HartsCase("commands", "mhartid_is_no_register_of_s")
     case.place(HOST_ENTRY, "csrrs", 5, 0xF14, 0)
@@ -89,7 +89,7 @@ def what_goes_by_the_chosen_hart():
                        "S r 8000fffe 4", "M r 80020000 4", "U r 80100000 1"):
             case.say("access " + access)
         case.say("timer on", "csr 344", "timer off", "csr 344")
-    case.tell("memory and enclaves are common")
+    case.comment("memory and the enclave table are shared")
     for hart in (0, 1):
         case.on(hart)
         case.say("poke %x %x" % (WINDOW, hart + 1), "mem %x 4" % WINDOW, "dis %x" % WINDOW, "mem %x 4" % BASE, "enclaves")
@@ -102,7 +102,7 @@ def what_goes_by_the_chosen_hart():
         case.on(hart)
         case.set(6, WINDOW)
     case.say("break 80010008", "watch 80040001")
-    case.tell("sched asks neither; run looks at the stepped hart's pc and its accesses alone")
+    case.comment("sched ignores both; run checks only the pc and the accesses of its own hart")
     case.say("sched 0101", "run 9", "run 9", "hart 0", "run 9", "run 9", "hart 1", "clear 80010008", "run 9", "run 9", "hart 0",
              "run 9", "unwatch 80040001", "run 9", "sched 0110", "break 80010008", "step 9", "hart 1", "step 9")
     for i in range(31):
@@ -110,7 +110,7 @@ def what_goes_by_the_chosen_hart():
     case.say("break 20", "hart 0", "break 21", "hart 1", "clear 0", "hart 0", "break 21")
 
 
-# ---- what each hart has
+# ---- private state of a hart
 
 def worlds():
     case = HartsCase("own", "each_goes_back_to_its_own_host")
@@ -130,7 +130,7 @@ def worlds():
         case.say("regs", "csr 140", "csr 105", "pmp", "csr 304")
         for number in (5, 9):
             case.set(number, 0xE0 * (hart + 1) + number)
-    case.tell("the enclave of hart 1 stops, that of hart 0 exits")
+    case.comment("the enclave of hart 1 stops, that of hart 0 exits")
     case.on(1)
     case.leave(STOP, 0x11, 1)
     case.say("regs", "csr 140", "csr 105", "pmp")
@@ -138,7 +138,7 @@ def worlds():
     case.say("pmp", "csr 304")
     case.leave(EXIT, 0x22, 0)
     case.say("regs", "csr 140", "csr 105", "pmp", "enclaves")
-    case.tell("hart 0 resumes what ran on hart 1, and hart 1 has nothing of it")
+    case.comment("hart 0 resumes the enclave of hart 1; the registers of hart 1 do not change")
     case.enter(1, RESUME)
     case.say("regs", "csr 140", "pmp", "enclaves")
     case.on(1)
@@ -178,7 +178,7 @@ def timers():
     case.enter(0)
     case.on(1)
     case.enter(1)
-    case.tell("hart 1 is interrupted at its first step, hart 0 never")
+    case.comment("the timer interrupts hart 1 at its first step, hart 0 never")
     case.say("sched 0101", "csr 344", "reg 10", "reg 11", "regs", "enclaves")
     case.on(0)
     case.say("csr 344", "reg 7", "timer on")
@@ -212,7 +212,7 @@ def traps():
 
 
 def around_a_running_enclave():
-    """The other hart's host loads, stores, fetches, measures and creates at each border of a region whose enclave runs."""
+    """The host of the other hart loads, stores, fetches, measures and creates at each boundary of the region of a running enclave."""
     for runs in (0, 1):
         case = HartsCase("own", "hart_%d_around_what_runs_on_hart_%d" % (1 - runs, runs))
         divided(case)
@@ -226,9 +226,9 @@ def around_a_running_enclave():
         case.write(stvec=handler)
         case.place(handler, "csrrw", 0, 0x141, 30)
         case.place(handler + 4, "sret")
-        for border in (BASE, BASE + PAGE):
+        for boundary in (BASE, BASE + PAGE):
             for name, offset in (("lw", -4), ("lw", -2), ("lb", -1), ("lb", 0), ("sw", -2), ("sb", -1), ("sb", 0), ("sh", -2)):
-                case.set(6, border + offset)
+                case.set(6, boundary + offset)
                 case.set(30, case.machine.pc + 4)
                 case.place(case.machine.pc, name, 7, 0, 6)
                 case.say("sched %d%d" % (1 - runs, runs))
@@ -266,7 +266,7 @@ def slots():
     case.say("enclaves", "pmp")
 
 
-# ---- worked examples, whose output is written by hand
+# ---- worked examples with handwritten output
 
 def examples():
     first = ["setreg 17 0a454e43", "setreg 16 1", "setreg 10 80020000", "setreg 11 1000", "setreg 14 80020000", "step 1"]
@@ -279,7 +279,7 @@ def examples():
              ("sched 011", "hart 0 1 pc=80020004 mode=S world=e0 trap=-\nhart 1 2 pc=00000000 mode=S world=host trap=00000005:80020000"),
              ("csr 3a0", "csr 3a0=00001818"), ("csr 3a3", "csr 3a3=1f000000"), ("hart 0", "ok"), ("csr 3a0", "csr 3a0=00001f18"),
              ("csr 3a3", "csr 3a3=00000000")]
-    by_hand("a_destroy_and_a_load_beside_a_running_enclave", "730000007300000083220300", first, made, lines)
+    by_hand("a_destroy_and_a_load_during_a_running_enclave", "730000007300000083220300", first, made, lines)
     called = [("setreg 16 3", "ok"), ("setreg 10 0", "ok"), ("hart 1", "ok"), ("setreg 17 0a454e43", "ok"), ("setreg 16 2", "ok"),
               ("setreg 10 0", "ok")]
     done = "hart 1 1 pc=80010004 mode=S world=host trap=00000009:00000000"
@@ -297,5 +297,5 @@ def by_hand(name, image, script, replies, lines):
 
 
 def parts():
-    for part in (borders, at_reset, what_goes_by_the_chosen_hart, worlds, timers, traps, around_a_running_enclave, slots, examples):
+    for part in (boundaries, at_reset, what_goes_by_the_chosen_hart, worlds, timers, traps, around_a_running_enclave, slots, examples):
         part()

@@ -1,5 +1,5 @@
-"""Races: every two calls on one slot, region or window, one on each hart, and in each order of their steps. The keeper is an enclave
-of slot 1 that both harts know, and that is entered where both of the two calls are an enclave's."""
+"""Races: every two calls on one slot, region or window, one on each hart, in each order of their steps. The keeper is an enclave in slot 1, which is
+entered if both calls are made by enclaves."""
 from itertools import combinations_with_replacement
 
 from generators.harts_case import HartsCase, divided
@@ -9,18 +9,17 @@ from models.monitor_model import (BAD_ADDRESS, BAD_STATE, CREATE, DESTROY, EXIT,
 BASE, PAGE, WINDOW = 0x80020000, 0x1000, 0x80040000
 KEEPER = BASE + PAGE
 ORDERS = ("01", "10", "0011", "0101")
-REGION = (BASE, PAGE, WINDOW, PAGE, BASE)  # the arguments of the create that makes slot 0
+REGION = (BASE, PAGE, WINDOW, PAGE, BASE)  # the arguments of the create of slot 0
 OF_HOST = {"create": (CREATE, *REGION), "destroy": (DESTROY, 0), "run": (RUN, 0), "resume": (RESUME, 0), "measure": (MEASURE, 0, WINDOW),
            "measure_into": (MEASURE, 1, BASE + 0x100)}
 OF_ENCLAVE = {"stop": (STOP, 7), "exit": (EXIT, 9), "timer": (), "measure_itself": (MEASURE, 0, WINDOW)}
-TOLD = {"stop": STOPPED, "exit": EXITED, "timer": INTERRUPTED, "measure_itself": 0}  # a0 of the hart on which it was done
+RESULTS = {"stop": STOPPED, "exit": EXITED, "timer": INTERRUPTED, "measure_itself": 0}  # a0 of the hart on which it was done
 LEFT = {"stop": "Stopped", "exit": "Exited", "timer": "Stopped", "measure_itself": "Running"}
 SHOWN = ("3a0", "3a3", "3b1", "3be", "304")  # entries 0 to 3 and 12 to 15, the places of the region and the window, and mie
 
 
 def after(state, act):
-    """By hand: the state of slot 0 after a call of a host that meets it in this state, or in none, and the status. Where an enclave is
-    entered there is no status."""
+    """Returns the expected state of slot 0 after a call of a host in this state of the slot, and the status; none if an enclave is entered."""
     if act == "create":
         return ("Fresh", 0) if state is None else (state, OVERLAP)
     if act == "measure_into":
@@ -35,7 +34,7 @@ def after(state, act):
     return ("Running", None) if is_taken else (state, BAD_STATE)
 
 
-# ---- what comes before a race, and behind it
+# ---- before and after a race
 
 def new_case(name):
     return divided(HartsCase("races", name))
@@ -48,7 +47,7 @@ def create(case, slot, base):
 
 
 def brought(case, state, hart=0):
-    """Slot 0 in a state, or free, and the keeper in slot 1; one that runs does so on this hart."""
+    """Brings slot 0 into a state, or leaves it free, with the keeper in slot 1; a running enclave runs on this hart."""
     case.on(0)
     create(case, 0, BASE)
     if 1 not in case.machine.table:
@@ -64,7 +63,7 @@ def brought(case, state, hart=0):
 
 
 def cleared(case):
-    """Every enclave leaves and is destroyed, but for a keeper that was not entered."""
+    """Exits and destroys every enclave, except a keeper that was not entered."""
     for number, hart in enumerate(case.machine.peers):
         if hart.world is not None:
             case.on(number)
@@ -76,7 +75,7 @@ def cleared(case):
 
 
 def ready(case, hart, *call):
-    """A hart is one step before its call, or before the timer's stop, with ecalls behind it."""
+    """Brings a hart to the step before its call, or before a timer interrupt, with ecalls after it."""
     case.on(hart)
     if call:
         case.ready(*call)
@@ -95,7 +94,7 @@ def shown(case):
 
 
 def race(case, order, acts, *wanted):
-    """Two calls, the first on hart 0; the statuses are by hand, where there is one."""
+    """Makes two calls, the first on hart 0; the statuses are the expected ones."""
     for hart, act in enumerate(acts):
         ready(case, hart, *{**OF_HOST, **OF_ENCLAVE}[act])
     case.say("sched " + order)
@@ -107,11 +106,11 @@ def race(case, order, acts, *wanted):
 
 
 def statuses(state, acts, order):
-    """The statuses of two calls of hosts, by hand, in the order of the harts; none where more than these two steps are done."""
-    told = [None, None]
+    """Returns the expected statuses of two calls of hosts, in the order of the harts; none after more than these two steps."""
+    statuses = [None, None]
     for hart in map(int, order if len(order) == 2 else ""):
-        state, told[hart] = after(state, acts[hart])
-    return told
+        state, statuses[hart] = after(state, acts[hart])
+    return statuses
 
 
 # ---- the pairs
@@ -121,27 +120,27 @@ def of_two_hosts():
         case = new_case("%s_and_%s" % acts)
         for state in (None, "Stopped") if "create" in acts else ("Fresh", "Stopped", "Exited"):
             for order in ORDERS:
-                case.tell("slot 0 is %s: %s" % (state or "free", order))
+                case.comment("slot 0 is %s: %s" % (state or "free", order))
                 brought(case, state)
                 race(case, order, acts, *statuses(state, acts, order))
                 cleared(case)
 
 
 def of_a_host_and_an_enclave():
-    """The enclave of slot 0 leaves on one hart while the other's host calls."""
+    """The enclave in slot 0 exits on one hart while the host of the other hart makes a call."""
     for i, of_enclave in enumerate(OF_ENCLAVE):
         for j, of_host in enumerate(OF_HOST):
             hart = (i + j) % 2
             acts = (of_enclave, of_host) if hart == 0 else (of_host, of_enclave)
             case = new_case("%s_and_%s_of_a_host" % (of_enclave, of_host))
             for order in ORDERS:
-                case.tell("slot 0 runs on hart %d: %s" % (hart, order))
+                case.comment("slot 0 runs on hart %d: %s" % (hart, order))
                 brought(case, "Running", hart)
-                told = [None, None]
+                statuses = [None, None]
                 if len(order) == 2:
                     met = "Running" if order[0] != str(hart) else LEFT[of_enclave]
-                    told[hart], told[1 - hart] = TOLD[of_enclave], after(met, of_host)[1]
-                race(case, order, acts, *told)
+                    statuses[hart], statuses[1 - hart] = RESULTS[of_enclave], after(met, of_host)[1]
+                race(case, order, acts, *statuses)
                 cleared(case)
 
 
@@ -150,16 +149,16 @@ def of_two_enclaves():
     for acts in combinations_with_replacement(OF_ENCLAVE, 2):
         case = new_case("%s_and_%s_of_enclaves" % acts)
         for order in ORDERS:
-            case.tell("slot 0 runs on hart 0, slot 1 on hart 1: " + order)
+            case.comment("slot 0 runs on hart 0, slot 1 on hart 1: " + order)
             brought(case, "Running", 0)
             case.on(1)
             case.enter(1)
-            race(case, order, acts, *((TOLD[it] for it in acts) if len(order) == 2 else ()))
+            race(case, order, acts, *((RESULTS[it] for it in acts) if len(order) == 2 else ()))
             cleared(case)
 
 
 def of_two_creates():
-    """What meets: two regions of other sizes, a region and a window in either way, and two windows, which may."""
+    """Overlaps: two regions of different sizes, a region and a window in either order, and two windows, which are permitted."""
     other = BASE + 4 * PAGE
     pairs = {"a_region_in_a_region": ((BASE, 4 * PAGE, 0, 0, BASE), (BASE + 3 * PAGE, PAGE, 0, 0, BASE + 3 * PAGE), OVERLAP),
              "a_window_on_a_region": ((BASE, PAGE, 0, 0, BASE), (other, PAGE, BASE, PAGE, other), OVERLAP),
@@ -169,12 +168,12 @@ def of_two_creates():
     for name, (first, second, status) in pairs.items():
         case = new_case("creates_of_" + name)
         for order in ORDERS:
-            case.tell(order)
+            case.comment(order)
             for hart, arguments in enumerate((first, second)):
                 ready(case, hart, CREATE, *arguments)
             case.say("sched " + order)
-            told = [hart.regs[10] for hart in case.machine.peers]
-            assert len(order) > 2 or told == ([0, status] if order == "01" else [status, 0]), (name, order, told)
+            statuses = [hart.regs[10] for hart in case.machine.peers]
+            assert len(order) > 2 or statuses == ([0, status] if order == "01" else [status, 0]), (name, order, statuses)
             shown(case)
             cleared(case)
             if 1 in case.machine.table:

@@ -1,5 +1,5 @@
-"""The cases of two benches of two harts that differ in one enclave: what ends a run on either hart, where there is no such enclave, and
-every command and call of the other hart around it."""
+"""The cases of two benches with two harts that differ in one enclave: the end of a run on either hart, missing enclaves, and every command and call
+of the other hart around it."""
 from generators.harts_case import HartsTwinCase, divided
 from models.monitor_model import BAD_ADDRESS, BAD_STATE, CREATE, DESTROY, MEASURE, OVERLAP, RESUME, RUN, STOP, STOPPED
 from generators.twin_case import WholeTwins
@@ -92,7 +92,7 @@ def commands():
 
 
 def calls():
-    """Of the other hart, around an enclave that has stopped on hart 0."""
+    """Calls of the other hart around an enclave that has stopped on hart 0."""
     case = divided(HartsTwinCase("calls_of_the_other_hart"))
     stopped(case)
     case.apart()
@@ -123,7 +123,7 @@ def calls():
 
 
 def races():
-    """Destroy of it on one hart beside each call of the other."""
+    """A destroy of the enclave on one hart, concurrent with each call of the other hart."""
     for order in ("01", "10"):
         for name, call, hart in (("create", (CREATE, BASE, PAGE, 0, 0, BASE), 0), ("measure", (MEASURE, 0, WINDOW), 1),
                                  ("destroy", (DESTROY, 0), 0), ("run", (RUN, 0), 1)):
@@ -144,8 +144,8 @@ def examples():
     text = "\n".join(["7300000073000000", "--", *FIRST, "--", "hart 1", "setreg 17 0a454e43", "setreg 16 2", "setreg 10 0", "sched 01", ""])
     first = "ok\n" * 5 + "ran 1 pc=80010004 mode=S world=host why=done trap=00000009:00000000\n"
     replies = ["hart 0 1 pc=80010008 mode=S world=host trap=00000009:00000000", "hart 1 1 pc=80010004 mode=S world=host trap=00000009:00000000"]
-    told = "a: ok\nb: ok\n" * 4 + "".join(mark + it + "\n" for mark in ("a: ", "b: ") for it in replies) + "twin end 5\n"
-    WholeTwins("", "a_create_and_a_destroy", text, ("--harts", "2"), starts=first + told, ends=told).topic = "harts_twin"
+    ending = "a: ok\nb: ok\n" * 4 + "".join(mark + it + "\n" for mark in ("a: ", "b: ") for it in replies) + "twin end 5\n"
+    WholeTwins("", "a_create_and_a_destroy", text, ("--harts", "2"), starts=first + ending, ends=ending).topic = "harts_twin"
 
 
 def parts():

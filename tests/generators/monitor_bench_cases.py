@@ -1,4 +1,4 @@
-"""The cases of the debugger over the monitored machine, of images for it, and worked examples whose output is written by hand."""
+"""The cases of the debugger commands over the monitored machine, of images for it, and worked examples with handwritten output."""
 import hashlib
 
 from generators.elf_files import elf, segment
@@ -17,7 +17,7 @@ HOST = 0x80010000
 def several_steps():
     case = Case("debugger", "steps_that_enter_and_leave")
     case.create(BASE)
-    case.tell("the enclave's words: two additions, and a stop")
+    case.comment("the code of the enclave: two additions, and a stop")
     for i, instruction in enumerate((("addi", 16, 0, STOP), ("lui", 17, KEY + 0x800 >> 12),
                                      ("addi", 17, 17, KEY - (KEY + 0x800 & ~0xFFF)), ("addi", 10, 0, 42), ECALL,
                                      ("addi", 10, 10, 1), ("jal", 0, -20))):
@@ -30,7 +30,7 @@ def several_steps():
     assert "world=host" in case.say("step 5")
     case.say("reg 5", "reg 6", "reg 10", "reg 11", "enclaves")
     case.is_now(x10=STOPPED, x11=42, x5=1, x6=42)
-    case.tell("all of it in one command, and the last trap of it")
+    case.comment("all of it in one command, with its last trap")
     for i, instruction in enumerate((("addi", 10, 0, 0), ("addi", 16, 0, RESUME), ECALL, ("addi", 5, 10, 0), ("jal", 0, -16))):
         case.place(case.machine.pc + 4 * i, *instruction)
     for count in (3, 1, 11, 12, 100, 1000):
@@ -48,7 +48,7 @@ def several_steps():
     case.set(17, KEY)
     case.set(16, RUN)
     case.set(10, 0)
-    case.tell("at the enclave's entry, behind the host's call, and where the enclave goes on")
+    case.comment("at the entry of the enclave, after the call of the host, and where the enclave continues")
     case.say("break 80020000", "run 9")
     case.is_now(world="e0", pc=BASE)
     case.say("break %x" % (host + 4), "run 2")
@@ -60,7 +60,7 @@ def several_steps():
     case.set(16, STOP)
     case.set(17, KEY)
     case.say("run 20", "enclaves", "regs")
-    case.tell("step looks at no break")
+    case.comment("step ignores breakpoints")
     case.say("break 8002000c", "break %x" % (host + 4), "step 9")
 
 
@@ -77,7 +77,7 @@ def watches():
 
     called(MEASURE, 0, WINDOW)
     case.say("mem 80040000 32")
-    case.tell("but its own accesses are seen in every world")
+    case.comment("but the accesses of the hart hit it in every world")
     case.set(6, WINDOW)
     case.place(case.machine.pc, "sw", 6, 28, 6)
     assert "why=watch:8004001f" in case.say("run 1")
@@ -90,7 +90,7 @@ def watches():
     assert "why=watch:80020400" in case.say("run 9")
     called(MEASURE, 0, BASE + 0x400)
     case.say("mem 80020400 32")
-    case.tell("an access that is refused is none")
+    case.comment("a refused access hits none")
     case.say("watch 80010000", "watch 80010003")
     case.set(6, HOST)
     case.write(stvec=BASE + 0x80)
@@ -100,11 +100,11 @@ def watches():
     called(STOP, 1)
     called(DESTROY, 0)
     case.say("mem 80020400 4", "mem 80020ffc 4")
-    case.tell("nor is a poke, nor a create, whose bytes are measured")
+    case.comment("neither does a poke, nor a create, which reads the bytes")
     case.say("poke 80020000 1")
     case.create(BASE)
     case.say("enclaves")
-    case.tell("one run that enters an enclave and ends at its store")
+    case.comment("a run that enters an enclave and ends at its store")
     case.create(BASE + PAGE, window=(WINDOW, PAGE), wants=1)
     case.place(BASE + PAGE, "sh", 13, 30, 12)
     for number, word in ((17, KEY), (16, RUN), (10, 1)):
@@ -189,7 +189,7 @@ def images():
     case_of("elf_cut", files["at_its_least_address"][:87].hex(), ["step 1"])
 
 
-# ---- worked examples, of which all is written by hand
+# ---- handwritten worked examples
 
 def ran(pc, world, trap="00000009:00000000"):
     return "ran 1 pc=%08x mode=S world=%s why=done trap=%s\n" % (pc, world, trap)
@@ -214,7 +214,7 @@ def digest_of(base, size, window, entry, data):
 
 
 def worked_examples():
-    worked("examples", "create_and_an_access_across_the_border", "7300000083220300",
+    worked("examples", "create_and_an_access_across_the_boundary", "7300000083220300",
            CREATE_9 + "step 1\naccess S r 8001fffe 4\nsetreg 6 8001fffe\nstep 1\ncsr 141\ncsr 142\ncsr 143\n",
            OK5 + ran(0x80010004, "host") + "denied partial 1\nok\n" + ran(0, "host", "00000005:8001fffe")
            + "csr 141=80010004\ncsr 142=00000005\ncsr 143=8001fffe\n")
@@ -270,7 +270,7 @@ def worked_examples():
            + "x10=00000001\nx11=00000005\nx5=00000000\nok\nok\n" + ran(BASE + 4, "e0")
            + "x10=00000000\nx11=00000000\nx5=00000077\nok\nok\nok\n" + ran(0x8001000C, "host")
            + "x10=00000000\nx11=00000009\nok\n" + ran(0x80010010, "host") + "x10=fffffff8\n")
-    worked("examples", "a_region_beside_its_window", "7300000073000000",
+    worked("examples", "a_region_adjacent_to_its_window", "7300000073000000",
            CREATE_9 + sets(x12="80021000", x13="1000") + "step 1\n" + sets(x16="3", x10="0") + "step 1\naccess S r 80020ffe 4\n"
            "access S x 80021000 4\naccess S w 80021000 4\naccess S r 80010000 4\naccess S r 8000fffe 4\n",
            OK7 + ran(0x80010004, "host") + "ok\nok\n" + ran(BASE, "e0")
@@ -279,7 +279,7 @@ def worked_examples():
 
 
 def hostile():
-    """Each from a bench of its own: one enclave, and a second create or another call."""
+    """Each on a separate bench: one enclave, and a second create or another call."""
     usual = {"x16": "1", "x14": "80030000", "x12": "0", "x13": "0"}
     rows = {"a_region_at_the_end_of_addresses": (dict(x10="fffff000", x11="1000"), "fffffffe"),
             "a_region_of_size_0": (dict(x10="80030000", x11="0", x14="1"), "fffffffe"),

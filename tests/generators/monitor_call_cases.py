@@ -1,5 +1,5 @@
-"""The cases of destroy, run, resume, measure, stop and exit: what each takes and refuses, from the host and from an enclave, and
-what a refused call leaves alone."""
+"""The cases of destroy, run, resume, measure, stop and exit: accepted and refused calls, from the host and from an enclave, and the state that a
+refused call does not change."""
 from generators.monitor_case import Case
 from models.monitor_model import (BAD_ADDRESS, BAD_STATE, CREATE, DESTROY, EXIT, EXITED, KEY, MEASURE, NOT_SUPPORTED, NO_ENCLAVE,
                            RESUME, RUN, STOP, STOPPED)
@@ -8,11 +8,11 @@ from models.privileged_hart import ONES
 BASE, PAGE, PAST = 0x80020000, 0x1000, 0x80100000
 WINDOW = 0x80040000
 NO_SLOTS = [13, 14, 16, 31, 32, 255, 256, 1 << 16, 0x7FFFFFFF, 0x80000000, 0x80000001, 0xFFFFFFF3, ONES]
-STATES = {"Fresh": (), "Stopped": (STOP,), "Exited": (EXIT,)}  # and how an enclave comes to it
+STATES = {"Fresh": (), "Stopped": (STOP,), "Exited": (EXIT,)}  # and how an enclave reaches it
 
 
 def brought(case, slot, state):
-    """An enclave at its own page of the regions, in a state."""
+    """Creates an enclave at its own page of the regions, in a state."""
     case.create(BASE + slot * PAGE, window=(WINDOW, PAGE), wants=slot)
     for function in STATES[state]:
         case.enter(slot)
@@ -26,7 +26,7 @@ def states():
         brought(case, 0, state)
         for function in (RUN, RESUME, DESTROY):
             taken = {RUN: state == "Fresh", RESUME: state == "Stopped", DESTROY: True}[function]
-            case.tell("%d of one that is %s" % (function, state))
+            case.comment("call %d of an enclave that is %s" % (function, state))
             case.call(MEASURE, 0, WINDOW, wants=(0, 0))
             if function == DESTROY:
                 case.call(DESTROY, 0, wants=(0, 0))
@@ -60,7 +60,7 @@ def states():
     for function in (DESTROY, RUN, RESUME, MEASURE):
         case.call(function, 0, WINDOW, wants=(NO_ENCLAVE, 0))
     case.say("enclaves", "mem 80040000 32")
-    case = Case("states", "slots_at_their_border")
+    case = Case("states", "slots_at_their_boundary")
     for slot in range(13):
         case.create(BASE + slot * PAGE, wants=slot)
     for function in (DESTROY, RUN, RESUME, MEASURE):
@@ -75,7 +75,7 @@ def states():
     case.say("enclaves")
     case = Case("states", "in_company")
     brought(case, 0, "Exited")
-    case.tell("NotSupported, NoEnclave, BadState, BadAddress: the first is answered")
+    case.comment("NotSupported, NoEnclave, BadState, BadAddress: the first one is the status")
     for function in (DESTROY, RUN, RESUME, MEASURE):
         for slot in (0, 1, 13):
             case.call(function, slot, 0, key=KEY - 1, wants=(NOT_SUPPORTED, 0))
@@ -87,7 +87,7 @@ def states():
 
 
 def refused_calls():
-    """They change the answer, pc and what every trap changes, and nothing else; in the host and in an enclave."""
+    """Refused calls change only the result, pc and the trap registers, in the host and in an enclave."""
     for world in ("host", "e0"):
         case = Case("states", "a_refused_call_changes_only_its_answer_in_" + world)
         case.create(BASE, window=(WINDOW, PAGE))
@@ -131,12 +131,12 @@ def destroys():
     for slot in (1, 3):
         case.call(DESTROY, slot, wants=(0, 0))
         case.say("enclaves", "pmp", *("mem %x 8" % (BASE + at * PAGE) for at in range(4)))
-    case.tell("its region is the host's again: a load of zeros, a store, a fetch")
+    case.comment("the host can access its region again: a load of zeros, a store, a fetch")
     case.set(6, BASE + PAGE)
     case.do(("lw", 5, 0, 6), ("sw", 6, 4, 6), ("lw", 7, 4, 6))
     case.say("reg 5", "reg 7")
     case.set(6, BASE)
-    case.tell("that of a live one is not")
+    case.comment("not that of a live enclave")
     case.say("access S r 80020000 4", "access S r 80021000 4", "access S x 80021000 4", "access S w 80023ffc 4",
              "access S r 80022000 1")
     case = Case("destroy", "a_slot_that_is_used_again")
@@ -172,7 +172,7 @@ def not_supported():
                 case.call(function, slot, WINDOW, wants=(NOT_SUPPORTED, 0))
         case.say("regs", "enclaves", "pmp", "mem 80040000 32", "csr 304")
         case.trapped()
-        case.tell("and its own are")
+        case.comment("its own calls are accepted")
         case.call(MEASURE, 0, WINDOW, wants=(0, 0))
         if world == "enclave":
             case.leave(EXIT, 2, EXITED)
@@ -183,7 +183,7 @@ def not_supported():
 # ---- measure
 
 def places(case, slot, refused, taken, marked=()):
-    """An enclave's measurement at addresses of which all 32 bytes are refused or taken; around them nothing changes."""
+    """A measurement written to addresses whose 32 bytes are all refused or all accepted; the bytes around them do not change."""
     for address in refused:
         case.call(MEASURE, slot, address & ONES, wants=(BAD_ADDRESS, 0))
     case.say(*("mem %x 64" % address for address in marked))
@@ -196,8 +196,8 @@ def places(case, slot, refused, taken, marked=()):
         assert case.machine.part(address, 32) == digest
 
 
-def borders(first, past):
-    """32 bytes that have a byte of a range, and the nearest that have none."""
+def boundaries(first, past):
+    """Returns 32-byte ranges that overlap a range, and the nearest ones that do not."""
     return ([first - 31, first - 30, first - 16, first - 1, first, first + 1, past - 32, past - 1], [first - 32, past])
 
 
@@ -208,7 +208,7 @@ def measures_of_the_host():
                      0x7FFFFFFF, 0xFFFFFFE0, 0xFFFFFFE1, 0xFFFFFFF0, ONES],
            [PAST - 32, PAST - 33, PAST - 64, PAST - 47], [PAST - 64])
     case = Case("measure", "by_the_host_at_the_monitors_range")
-    case.do(("jal", 0, 0x100))  # from the first bytes behind the range
+    case.do(("jal", 0, 0x100))  # from the first bytes after the range
     case.create(BASE)
     places(case, 0, [0x80000000, 0x80000020, 0x80008000, 0x8000FFE0, 0x8000FFE1, 0x8000FFF0, 0x8000FFFC, 0x8000FFFF],
            [0x80010000, 0x80010001, 0x80010020], [0x8000FFE0])
@@ -218,12 +218,12 @@ def measures_of_the_host():
     case.create(BASE + 4 * PAGE, 0x4000, wants=1)
     for slot, (first, past) in enumerate(((BASE, BASE + PAGE), (BASE + 0x4000, BASE + 0x8000))):
         for of in (0, 1):
-            refused, taken = borders(first, past)
+            refused, taken = boundaries(first, past)
             places(case, of, refused, taken, [first - 32, past - 32])
-    case.tell("between two regions that lie less than 32 bytes apart there is no place; here they lie side by side")
+    case.comment("no valid address between two regions less than 32 bytes apart; here they are adjacent")
     case.create(BASE + PAGE, wants=2)
     places(case, 2, [BASE + PAGE - 32, BASE + PAGE - 16, BASE + PAGE], [BASE + 2 * PAGE], [BASE + PAGE - 32])
-    case.tell("a region that is no longer live")
+    case.comment("the region of a destroyed enclave")
     case.call(DESTROY, 0, wants=(0, 0))
     places(case, 1, [BASE + PAGE - 31, BASE + PAGE - 16, BASE + PAGE], [BASE - 16, BASE, BASE + PAGE - 32], [BASE + PAGE - 32])
     case = Case("measure", "by_the_host_into_windows")
@@ -245,7 +245,7 @@ def measures_of_an_enclave():
     case.create(BASE, window=(WINDOW, PAGE))
     case.create(BASE + PAGE, window=(WINDOW + PAGE, PAGE), wants=1)
     case.enter(0)
-    case.tell("of itself, whatever a0 is; the region's first bytes are its code")
+    case.comment("of itself, for any a0; the region begins with its code")
     for a0 in (0, 1, 2, 12, 13, ONES):
         places(case, a0, [], [BASE + 0x400 + 64 * (a0 % 16), WINDOW + 64 * (a0 % 16)])
     region_refused = [BASE - 32, BASE - 31, BASE - 1, BASE + PAGE - 31, BASE + PAGE - 16, BASE + PAGE - 1, BASE + PAGE]
@@ -261,7 +261,7 @@ def measures_of_an_enclave():
     case.enter(0)
     places(case, 0, [WINDOW, 0x80010100, BASE + PAGE, 0], [BASE + PAGE - 32])
     case = Case("measure", "across_a_region_and_its_window")
-    # each of the bytes may be stored alone, though no access across the border may
+    # each byte alone may be stored, but no access across the boundary
     case.create(BASE, window=(BASE + PAGE, PAGE))
     case.enter(0)
     case.say("access S w 80020ffe 4", "access S w 80020fff 1", "access S w 80021000 1")
@@ -272,7 +272,7 @@ def measures_of_an_enclave():
     case.create(BASE)
     case.enter(0)
     places(case, 0, [], [BASE + 4])
-    case.tell("the next word that is fetched is one of the measurement")
+    case.comment("the next fetch is a word of the measurement")
     case.say("step 1")
     case.trapped()
     case = Case("measure", "into_the_window_of_another")
@@ -286,7 +286,7 @@ def measures_of_an_enclave():
 
 
 def ecalls_from_user():
-    """They are passed on, whatever the registers are, and are no calls."""
+    """These ecalls are redirected whatever the registers are, and are not calls."""
     for world in ("host", "e0"):
         case = Case("not_supported", "an_ecall_from_u_is_no_call_of_" + world)
         case.create(BASE)

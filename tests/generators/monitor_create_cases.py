@@ -1,4 +1,4 @@
-"""The cases of create: every refusal at its border and in company of the next one, the slots, and the measurement."""
+"""The cases of create: every refusal at its boundary and together with the next one, the slots, and the measurement."""
 import hashlib
 
 from generators.monitor_case import Case
@@ -6,10 +6,10 @@ from models.monitor_model import (BAD_ENTRY, BAD_REGION, BAD_WINDOW, CREATE, DES
                            STOP)
 from models.privileged_hart import ONES
 
-BASE, PAGE, PAST = 0x80020000, 0x1000, 0x80100000  # a region's base, the least size, the first byte behind RAM
+BASE, PAGE, PAST = 0x80020000, 0x1000, 0x80100000  # the base of a region, the smallest size, the first byte after RAM
 MONITOR_PAST = 0x80010000
 SIZES = [0, 1, 4, 0x7FF, 0x800, 0xFFF, 0x1001, 0x1004, 0x1800, 0x1FFF, 0x2001, 0x3000, 0x5000, 0x6000, 0x7FFF, 0xC000, 0xFFFF,
-         0x10001, 0x18000, 0x7F000, 0x81000, 0xFFFFF, ONES, 0xFFFFF000, 0x80000001, 0x7FFFFFFF]  # no powers of 2 from 4096 up
+         0x10001, 0x18000, 0x7F000, 0x81000, 0xFFFFF, ONES, 0xFFFFF000, 0x80000001, 0x7FFFFFFF]  # sizes that are not powers of 2 from 4096
 UNALIGNED = [(BASE + 1, PAGE), (BASE + 4, PAGE), (BASE + 0x800, PAGE), (BASE + 0xFFF, PAGE), (BASE - 1, PAGE),
              (BASE + PAGE, 2 * PAGE), (BASE + 0x8000, 0x10000), (0x80040000, 0x80000), (0x800C0000, 0x80000)]
 OUTSIDE = [(PAST, PAGE), (0x7FFFF000, PAGE), (0, PAGE), (0xFFFFF000, PAGE), (0x80100000, 0x80000), (0x7FFF0000, 0x10000),
@@ -18,7 +18,7 @@ OUTSIDE = [(PAST, PAGE), (0x7FFFF000, PAGE), (0, PAGE), (0xFFFFF000, PAGE), (0x8
 
 
 def fresh(case, base, size=PAGE, window=(0, 0), entry=None):
-    """A create that is taken, and its destroy."""
+    """Makes a create that is accepted, and its destroy."""
     case.create(base, size, window, entry)
     case.say("enclaves")
     case.call(DESTROY, 0, wants=(0, 0))
@@ -34,7 +34,7 @@ def regions():
         fresh(case, base, size, entry=base + size - 4)
         case.create(base, size + 1, entry=base, wants=BAD_REGION)
     fresh(case, 0x80080000, 0x80000)
-    case.create(0x80000000, 0x100000, wants=OVERLAP)  # all of RAM is a lawful region, and meets the monitor's range
+    case.create(0x80000000, 0x100000, wants=OVERLAP)  # all of RAM is a valid region, and overlaps the range of the monitor
     case.say("enclaves", "pmp")
     case = Case("create", "region_bases")
     for base, size in UNALIGNED + OUTSIDE:
@@ -79,7 +79,7 @@ def windows():
     case = Case("create", "no_window_has_any_base")
     for base in (0, 1, ONES, 0x80000000, BASE, 0x7FFFFFFF, 0x80040001, PAST):
         fresh(case, *region[:2], window=(base, 0))
-    case.tell("and it is handed over as 0 and 0")
+    case.comment("it is passed to the enclave as 0 and 0")
     case.create(BASE, window=(ONES, 0))
     case.enter(0)
     case.say("reg 10", "reg 11", "reg 12", "reg 13", "pmp")
@@ -126,7 +126,7 @@ def overlaps():
         case.create(base, size, wants=OVERLAP)
     for slot, (base, size) in enumerate(((0x80043000, PAGE), (0x80048000, PAGE), (0x80040000, 0x2000), (0x80080000, 0x80000)), 1):
         case.create(base, size, wants=slot)
-    case.tell("a region that is no longer live is met by none")
+    case.comment("the region of a destroyed enclave overlaps nothing")
     case.call(DESTROY, 0, wants=(0, 0))
     case.create(0x80045000, wants=0)
     case.create(0x80044000, 0x4000, wants=OVERLAP)
@@ -170,7 +170,7 @@ def entries():
             case.create(base, size, entry=entry & ONES, wants=BAD_ENTRY)
         for entry in (base, base + 4, base + size // 2, base + size - 4):
             fresh(case, base, size, entry=entry)
-    case.tell("an entry in the window is in no region")
+    case.comment("an entry in the window is not in the region")
     case.create(BASE, window=(BASE + PAGE, PAGE), entry=BASE + PAGE, wants=BAD_ENTRY)
     case.create(BASE, entry=BASE + PAGE - 4)
     case.enter(0)
@@ -186,7 +186,7 @@ def slots():
     case.create(0x8004D000, wants=NO_SLOT)
     case.create(0x8004D000, window=(0x80060000, PAGE), wants=NO_SLOT)
     case.say("enclaves", "pmp")
-    case.tell("the lowest free slot is taken, whatever was freed first")
+    case.comment("the lowest free slot is used, in any order of destruction")
     for slot in (5, 12, 2, 9, 0):
         case.call(DESTROY, slot, wants=(0, 0))
     case.say("pmp")
@@ -200,14 +200,14 @@ def company():
     case = Case("create", "the_first_refusal_is_answered")
     good, bad_region, bad_window, over, entry = (BASE, PAGE), (BASE, 0x1800), (0x80040800, PAGE), (0x8000F000, PAGE), BASE + 2
     case.create(*bad_region, bad_window, entry, wants=BAD_REGION)
-    case.create(0x80000800, PAGE, entry=0x80000800, wants=BAD_REGION)  # and meets the monitor's range
+    case.create(0x80000800, PAGE, entry=0x80000800, wants=BAD_REGION)  # and overlaps the range of the monitor
     case.create(0x80000000, 0x800, entry=0, wants=BAD_REGION)
     case.create(*bad_region, over, wants=BAD_REGION)
     case.create(*bad_region, good, wants=BAD_REGION)
     case.create(*bad_region, entry=entry, wants=BAD_REGION)
     case.create(*over, bad_window, wants=BAD_WINDOW)
-    case.create(*good, (BASE + 0x800, PAGE), wants=BAD_WINDOW)  # and meets the region
-    case.create(*good, (0x80000000, 0x800), wants=BAD_WINDOW)  # and meets the monitor's range
+    case.create(*good, (BASE + 0x800, PAGE), wants=BAD_WINDOW)  # and overlaps the region
+    case.create(*good, (0x80000000, 0x800), wants=BAD_WINDOW)  # and overlaps the range of the monitor
     case.create(*good, bad_window, entry, wants=BAD_WINDOW)
     case.create(*over, entry=0x8000F002, wants=OVERLAP)
     case.create(*over, entry=0x80010000, wants=OVERLAP)
@@ -215,7 +215,7 @@ def company():
     case.create(*good, over, entry, wants=OVERLAP)
     case.create(*good, entry=entry, wants=BAD_ENTRY)
     case.say("enclaves")
-    case.tell("and with no slot left")
+    case.comment("without a free slot")
     for slot in range(13):
         case.create(0x80080000 + slot * PAGE, wants=slot)
     case.create(*bad_region, bad_window, entry, wants=BAD_REGION)
@@ -246,7 +246,7 @@ def company():
 # ---- the measurement
 
 def measured(case, base, size=PAGE, window=(0, 0), entry=None):
-    """A create whose measurement is that of the list that is written out here; answers it."""
+    """Makes a create, and checks its measurement against the record that is written out here; returns the measurement."""
     window, entry = window if window[1] else (0, 0), base if entry is None else entry
     data = case.machine.part(base, size)
     digest = hashlib.sha256(b"".join(it.to_bytes(4, "little") for it in (base, size, *window, entry)) + data).hexdigest()
@@ -271,7 +271,7 @@ def measurements():
         digest = measured(case, BASE)
         assert digest != before
         before = digest
-        case.tell("it is written into memory as it is shown")
+        case.comment("memory has the measurement that enclaves shows")
         case.call(MEASURE, 0, 0x80040000, wants=(0, 0))
         assert case.say("mem 80040000 32").replace(" ", "")[9:] == digest
         case.call(DESTROY, 0, wants=(0, 0))
@@ -285,7 +285,7 @@ def measurements():
         digests.add(measured(case, base, size, window, entry))
         case.call(DESTROY, 0, wants=(0, 0))
     assert len(digests) == 9
-    case.tell("and no window is measured as 0 and 0, whatever its base")
+    case.comment("no window is measured as 0 and 0, for any base")
     assert measured(case, BASE, window=(0x80040000, 0)) in digests
     case = Case("measurement", "is_taken_at_create")
     case.poke(BASE, b"\x73\x00\x00\x00\x73")
@@ -299,11 +299,11 @@ def measurements():
     case.say("enclaves")
     case.call(MEASURE, 0, 0x80041000, wants=(0, 0))
     assert case.say("mem 80041000 32").replace(" ", "")[9:] == digest
-    case.tell("a second enclave of the same bytes at another place has another one")
+    case.comment("an enclave with the same bytes at another address has another measurement")
     case.poke(BASE + PAGE, b"\x73\x00\x00\x00\x73")
     assert measured(case, BASE + PAGE, window=(0x80040000, PAGE)) != digest
     case.call(DESTROY, 1, wants=(0, 0))
-    case.tell("and after a destroy it is that of zeros")
+    case.comment("after a destroy it is that of zeros")
     case.call(DESTROY, 0, wants=(0, 0))
     zeros = measured(case, BASE, window=(0x80040000, PAGE))
     assert zeros != digest

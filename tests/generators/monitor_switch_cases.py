@@ -1,4 +1,4 @@
-"""The cases of what goes on between the worlds: the entries, the switches, the timer, and the traps that are passed on."""
+"""The cases of world switches: the PMP entries, the switches, timer interrupts, and redirected traps."""
 from generators.monitor_case import ECALL, Case
 from models.monitor_model import CREATE, DESTROY, EXIT, EXITED, INTERRUPTED, MEASURE, RESUME, RUN, STOP, STOPPED
 from models.privileged_hart import ONES
@@ -9,13 +9,13 @@ LOOP = ("addi", 5, 5, 1), ("jal", 0, -4)
 SSTATUS = 0x00080122  # SIE, SPIE, SPP and MXR
 
 
-def asked(case, *borders):
-    """Accesses of S and U on and around borders."""
-    for border in borders:
+def asked(case, *boundaries):
+    """Accesses of S and U at and around boundaries."""
+    for boundary in boundaries:
         for mode in "SU":
             for offset, width in ((-4, 4), (-2, 4), (-1, 1), (-1, 2), (0, 1), (0, 4)):
                 for kind in "rwx":
-                    case.say("access %s %s %x %d" % (mode, kind, border + offset, width))
+                    case.say("access %s %s %x %d" % (mode, kind, boundary + offset, width))
 
 
 # ---- the entries
@@ -48,10 +48,10 @@ def layouts():
     case.leave(STOP, 0, STOPPED)
     case.enter(1)
     asked(case, 0x80010000, BASE, BASE + PAGE, BASE + 2 * PAGE, WINDOW, WINDOW + 0x2000)
-    case = Case("layout", "region_beside_its_window")
+    case = Case("layout", "region_adjacent_to_its_window")
     case.create(BASE, window=(BASE + PAGE, PAGE))
     case.create(BASE + 3 * PAGE, window=(BASE + 2 * PAGE, PAGE), wants=1)
-    for slot, border in ((0, BASE + PAGE), (1, BASE + 3 * PAGE)):
+    for slot, boundary in ((0, BASE + PAGE), (1, BASE + 3 * PAGE)):
         case.enter(slot)
         asked(case, BASE, BASE + PAGE, BASE + 2 * PAGE, BASE + 3 * PAGE, BASE + 4 * PAGE)
         case.write(stvec=case.machine.pc + 0x200)
@@ -61,10 +61,10 @@ def layouts():
             for offset, name in ((-4, "sw"), (-3, "sw"), (-2, "lw"), (-1, "sw"), (0, "sw"), (-1, "lhu"), (-1, "sb"), (0, "sb"),
                                  (-1, "lb")):
                 back = case.machine.pc
-                case.set(6, border + offset)
+                case.set(6, boundary + offset)
                 case.set(7, 0x01020304)
                 case.do((name, 7, 0, 6))
-                case.say("mem %x 12" % (border - 4), "reg 7")
+                case.say("mem %x 12" % (boundary - 4), "reg 7")
                 if case.machine.pc != back + 4:
                     case.trapped()
                     case.write(sepc=back + 4)
@@ -72,26 +72,26 @@ def layouts():
         case.do(ECALL)  # from U
         case.leave(STOP, 0, STOPPED)
     case = Case("layout", "accesses_that_are_refused")
-    # the host at each border of a region: loads, stores and jumps, each told by the host's own handler
+    # the host at each boundary of a region: loads, stores and jumps, each reported by the handler of the host
     case.write(stvec=0x80011000)
     case.place(0x80011000, "csrrw", 0, 0x141, 30)
     case.place(0x80011004, "sret")
     case.poke(BASE, b"\x13\x00\x00\x00\x13")
     case.create(BASE)
-    for border in (BASE, BASE + PAGE, 0x80010000, PAST):
+    for boundary in (BASE, BASE + PAGE, 0x80010000, PAST):
         for name, width in (("lw", 4), ("sw", 4), ("lh", 2), ("sb", 1)):
             for offset in (-4, -2, -1, 0, 1):
-                if border == 0x80010000 and offset >= 0 and name[0] == "s":
+                if boundary == 0x80010000 and offset >= 0 and name[0] == "s":
                     continue  # the host's code
-                case.set(6, border + offset)
+                case.set(6, boundary + offset)
                 case.set(7, 0xA5A5A5A5)
                 case.set(30, case.machine.pc + 4)
                 case.do((name, 7, 0, 6))
                 if case.machine.pc == 0x80011000:
                     case.trapped()
                     case.say("step 2")
-        if border < PAST:
-            case.say("mem %x 8" % (border - 4))
+        if boundary < PAST:
+            case.say("mem %x 8" % (boundary - 4))
     for target in (BASE, BASE + 4, BASE + PAGE - 4, 0x80000000, 0x8000FFFC, PAST, 0):
         case.set(6, target)
         case.set(30, case.machine.pc + 4)
@@ -105,7 +105,7 @@ def layouts():
 # ---- switches
 
 def filled(case, seed):
-    """Each register but those of a call, and what of mode S is switched."""
+    """Each register except those of a call, and the registers of mode S that are exchanged."""
     case.write(stvec=(0x80011000 + seed * 0x100) | 3, sscratch=0x10101010 * (seed & 7) + 1, sepc=0x80010003 + seed * 4,
                scause=0x80000000 + seed, stval=0xDEAD0000 + seed, sstatus=(0x80122, 0x80020, 0x00102, 0x80000, 0x122)[seed % 5])
     for number in [*range(1, 10), *range(12, 16), *range(18, 32)]:
@@ -139,7 +139,7 @@ def switches():
         if function == STOP:
             context = case.machine.table[slot].context
             assert context.regs[1:10] + context.regs[12:16] + context.regs[18:] == kept[1:10] + kept[12:16] + kept[18:]
-        case.tell("the host's own by then")
+        case.comment("the present registers of the host")
         filled(case, 1)
     case = Case("switches", "flags_of_mode_s")
     case.create(BASE)
@@ -183,7 +183,7 @@ def switches():
     case.leave(EXIT, ONES, EXITED)
     case = Case("switches", "where_each_world_goes_on")
     case.create(BASE, entry=BASE + PAGE - 8)
-    case.tell("the host's call is the last word before its region")
+    case.comment("the call of the host is the last word before the region")
     case.do(("jal", 0, 0x100))
     case.enter(0)
     case.is_now(pc=BASE + PAGE - 8)
@@ -192,7 +192,7 @@ def switches():
     case.is_now(pc=host, mode="S", world="host")
     case.enter(0, RESUME)
     case.is_now(pc=BASE + PAGE - 4)
-    case.tell("its last word is a call too: resumed, it goes on behind its region, and may not")
+    case.comment("its last word is a call too: after resume it continues after its region, where it has no access")
     case.leave(STOP, 2, STOPPED)
     case.enter(0, RESUME)
     case.is_now(pc=BASE + PAGE)
@@ -247,7 +247,7 @@ def timers():
         case.say("timer on", "csr 344", "step 1", "reg 10", "reg 11", "csr 344", "enclaves")
         case.is_now(world="host", x10=INTERRUPTED, x11=0)
         case.trapped()
-        case.tell("it goes on where it was, with all that it had")
+        case.comment("it resumes where it was, with all its registers")
         case.enter(0, RESUME)
         case.is_now(pc=at, mode="SU"[mode == 0], x10=x10)
         shown(case)
@@ -259,7 +259,7 @@ def timers():
     case.say("timer on")
     case.do(("addi", 5, 5, 1), ("wfi",), ("addi", 5, 5, 1))
     case.say("csr 344", "csr 304", "reg 5")
-    case.tell("it waits for the enclave's first step, of which nothing is done")
+    case.comment("it is taken at the first step of the enclave, which executes nothing")
     case.enter(0)
     case.is_now(pc=BASE, x10=BASE)
     case.csrs("mip", "mie")
@@ -282,7 +282,7 @@ def timers():
         case.is_now(world="host", x10=2, x11=0)
         case.enter(0, RESUME)
         case.say("reg 5", "step %d" % (turn + 1), "reg 5")
-    case.tell("the host leaves the line up, and the enclave makes no step")
+    case.comment("the timer line remains set, and the enclave makes no step")
     for _ in range(3):
         case.say("timer on", "step 1")
         case.say("timer on")
@@ -317,7 +317,7 @@ def timers():
     case.say("step 1")
 
 
-# ---- traps that are passed on
+# ---- redirected traps
 
 FAULTS = {  # a name: the instruction that traps, its cause, and its mtval by the address that x6 holds
     "misaligned_jump": (("jal", 1, 6), 0), "misaligned_jalr": (("jalr", 1, 2, 6), 0), "misaligned_branch": (("beq", 0, 0, 10), 0),
@@ -332,13 +332,13 @@ ALLOWED_IN_S = (("wfi",), ("sfence.vma", 0, 0), ("sfence.vma", 5, 6), ("fence io
 
 
 def forwarded(case, code):
-    """Each of the faults in S and in U, with SIE and SPIE in each way; the handler stands at `code`."""
+    """Each exception in S and in U, with every combination of SIE and SPIE; the handler is at `code`."""
     case.set(6, 0x8000FFFC)
     case.set(7, PAST)
     case.write(stvec=code | 3)
     for mode in "SU":
         for at, (name, (instruction, cause)) in enumerate(FAULTS.items()):
-            case.tell("%s in %s" % (name, mode))
+            case.comment("%s in %s" % (name, mode))
             case.write(sstatus=(0x80022, 0x20, 0x2, 0x80000)[at % 4])
             if mode == "U":
                 case.to_user()
@@ -411,14 +411,14 @@ def forwarding():
         case.say("step 1")
         case.supervisor()
         case.trapped()
-    case.tell("the timer still takes it out")
+    case.comment("the timer still interrupts it")
     case.say("timer on", "step 1")
     case.is_now(world="host", x10=2)
     case.enter(0, RESUME)
     case.is_now(pc=0)
     case.say("step 4", "timer on", "step 1")
     case.call(DESTROY, 0, wants=(0, 0))
-    case.tell("a host whose handler is in the monitor's range")
+    case.comment("a host whose handler is in the range of the monitor")
     case.write(stvec=0x80000000)
     case.do((".word", 0))
     case.say("step 3")
@@ -434,7 +434,7 @@ def forwarding():
                 case.do(ECALL)
                 case.supervisor()
     case = Case("forwarding", "calls_of_the_handler")
-    # a runtime in S serves its application in U: each ecall of U comes to it, and it stops for it
+    # a runtime in S serves its application in U: it handles each ecall of U, and stops
     case.create(BASE, window=(WINDOW, PAGE))
     case.enter(0)
     case.write(stvec=BASE + 0x100)

@@ -1,12 +1,12 @@
 #!/usr/bin/env python3
-"""Makes the cases of pmp: verdicts at the borders of sets of PMP entries, what writes to pmpcfg and pmpaddr leave
-under which locks, and fetches, loads and stores across the borders in each mode and under MPRV.
+"""Generates the cases of pmp: verdicts at the boundaries of sets of PMP entries, writes to pmpcfg and pmpaddr under locks, and fetches, loads and
+stores across the boundaries in each mode and with MPRV.
 
-    python3 -m generators.pmp                      writes its digest and sample anew
-    python3 -m generators.pmp --check              tells whether they are what this script writes
-    python3 -m generators.pmp --check-with-llvm    tells whether llvm-mc gives the same word for each assembly text
+    python3 -m generators.pmp                      writes its digest and sample
+    python3 -m generators.pmp --check              checks that they are up to date
+    python3 -m generators.pmp --check-with-llvm    checks each instruction word against llvm-mc
 
-Nothing here comes from the bench: the entries are in pmp_entries.py, the hart that the cases follow in privileged_hart.py.
+Independent of the code under test: pmp_entries.py has the reference entries, and privileged_hart.py the reference hart.
 """
 import sys
 
@@ -17,18 +17,18 @@ from generators.privileged_case import Case, Returning
 from models.privileged_hart import LETTER, M, MCAUSE, MEPC, MPRV, MSTATUS, MTVAL, ONES, PAST, PMPADDR, PMPCFG, S, START, U, WIDTH
 
 MODES = (M, S, U)
-AREA = START + 0x2000  # data, behind the code
-FORMS = (0, R, R | W, X, R | X, R | W | X)  # the permissions that there are
-# where an access of a width lies at a border: before it, across it, behind it
+AREA = START + 0x2000  # data, after the code
+FORMS = (0, R, R | W, X, R | X, R | W | X)  # all permissions
+# the offsets of an access of a width at a boundary: before it, across it, after it
 PLACES = [(offset, width) for width in (1, 2, 4) for offset in range(-width, 1)]
-CODE = (NAPOT | X, napot(START, 0x2000))  # S and U may fetch the code, and reach no data in it
+CODE = (NAPOT | X, napot(START, 0x2000))  # S and U may fetch the code, but not access data in it
 
 
 def word(address):
     return address >> 2
 
 
-# name: the entries {number: (cfg, pmpaddr)} and the borders; no locked entry has code in it, and entry 0 is left to the code
+# name: the entries {number: (cfg, pmpaddr)} and the boundaries; no locked entry covers code, and entry 0 is reserved for the code
 SETS = {
     "napot_in_tor": (
         {1: (NAPOT | R | W, napot(AREA + 0x100, 0x100)), 2: (OFF | R | W | X, word(AREA)),
@@ -38,7 +38,7 @@ SETS = {
         {3: (OFF, word(AREA + 0x44)), 4: (TOR | X, word(AREA + 0x4C)), 5: (TOR | R | W, word(AREA + 0x50)),
          15: (NAPOT | R, napot(AREA, 0x80))},
         [AREA, AREA + 0x44, AREA + 0x4C, AREA + 0x50, AREA + 0x80]),
-    "na4_at_a_border": (
+    "na4_at_a_boundary": (
         {1: (OFF, word(AREA)), 2: (TOR | R, word(AREA + 0x200)), 3: (NA4 | R | W, word(AREA + 0x200)),
          4: (NA4 | X, word(AREA + 0x204))},
         [AREA, AREA + 0x200, AREA + 0x204, AREA + 0x208]),
@@ -60,13 +60,13 @@ SETS = {
          4: (NA4 | R | W, word(AREA + 36))},
         [AREA, AREA + 16, AREA + 32, AREA + 36, AREA + 40]),
 }
-# sets whose accesses are asked for, not done
+# sets whose accesses are checked by `access`, not made
 MORE_SETS = {
     "tor_with_nothing_alone": (
         {0: (TOR | R | W | X, 0), 1: (TOR | R | W | X, 0), 2: (OFF, word(AREA)), 3: (TOR | R | W | X, word(AREA)),
          4: (L | TOR | R | W | X, word(AREA - 0x100))},
         [START, AREA - 0x100, AREA]),
-    "tor_from_the_first_address": (  # whatever the last pmpaddr is
+    "tor_from_the_first_address": (  # for any value of the last pmpaddr
         {0: (TOR | R | X, word(AREA)), 15: (OFF, word(AREA + 0x100))}, [START, AREA, AREA + 0x100]),
     "addresses_from_2_to_the_32": (  # none of these lies in RAM but the last two, which hold it in them
         {0: (NA4 | R | W | X, word(AREA | 1 << 32)), 1: (NAPOT | R | W | X, napot(AREA | 2 << 32, 0x1000)),
@@ -84,39 +84,39 @@ MORE_SETS = {
 
 
 def written(case, entries):
-    """From mode M: the entries, addresses first."""
+    """Writes the entries in mode M, addresses first."""
     for i in sorted(entries):
         case.write(**{"pmpaddr%d" % i: entries[i][1]})
     for number in sorted({i // 4 for i in entries}):
         case.write(**{"pmpcfg%d" % number: sum(entries.get(4 * number + i, (0, 0))[0] << 8 * i for i in range(4))})
 
 
-def asked(case, borders):
-    """Every mode, kind and width at every border."""
-    for border in borders:
+def asked(case, boundaries):
+    """Checks every mode, kind and width at every boundary."""
+    for boundary in boundaries:
         for offset, width in PLACES:
             for kind in "rwx":
                 for mode in MODES:
-                    case.access(mode, kind, border + offset & ONES, width)
+                    case.access(mode, kind, boundary + offset & ONES, width)
 
 
 def verdicts():
-    for name, (entries, borders) in (SETS | MORE_SETS).items():
+    for name, (entries, boundaries) in (SETS | MORE_SETS).items():
         case = Case("pmp", "verdicts_of_" + name)
         written(case, entries)
         case.pmp()
-        asked(case, borders)
+        asked(case, boundaries)
     case = Case("pmp", "verdicts_at_reset")
     case.pmp()
     asked(case, [START, AREA, PAST])
     case = Case("pmp", "verdicts_of_napot_of_each_size")
-    for k in range(33):  # the least range of its size that holds the area
+    for k in range(33):  # the smallest aligned range that contains the area
         size = 8 << k
         base = AREA // size * size
         case.write(pmpaddr0=napot(base, size), pmpcfg0=NAPOT | R)
-        for border in [border for border in (base, base + size) if START <= border <= PAST] + [AREA]:
+        for boundary in [boundary for boundary in (base, base + size) if START <= boundary <= PAST] + [AREA]:
             for offset in (-4, -2, 0):
-                case.access(U, "r", border + offset, 4)
+                case.access(U, "r", boundary + offset, 4)
         case.show(PMPADDR[0])
     case = Case("pmp", "outside_comes_before_the_entries")
     for cfg in (0, NAPOT | R | W | X, L | NAPOT | R | W | X):
@@ -136,7 +136,7 @@ def verdicts():
 
 
 def operands():
-    """What is no command, or has no such operands, changes nothing."""
+    """Lines that are not commands, or have invalid operands, have no effect."""
     case = Case("pmp", "operands")
     for line in ("access", "access M", "access M r", "access M r 80000000", "access M r 80000000 4 4", "access m r 80000000 4",
                  "access H r 80000000 4", "access 3 r 80000000 4", "access M R 80000000 4", "access M rw 80000000 4",
@@ -164,7 +164,7 @@ def each_word(case, number, words):
 
 
 def stored_forms():
-    """What each cfg byte keeps of each value, in each place, and what each pmpaddr does."""
+    """The writable bits of each cfg byte for each value, and of each pmpaddr."""
     case = Case("pmp", "stored_forms_without_a_lock")
     for value in range(128):  # each byte of the four has each value
         number = PMPCFG[value % 4]
@@ -194,7 +194,7 @@ def stored_forms():
 
 
 def all_written(case, first, step, cfg_word):
-    """Every address, every cfg, and the addresses once more; shown each time."""
+    """Writes every address, every cfg, and the addresses again; shows them each time."""
     for turn in range(2):
         for i in range(16):
             case.write(**{"pmpaddr%d" % i: first + step * i + turn & ONES})
@@ -206,7 +206,7 @@ def all_written(case, first, step, cfg_word):
 
 
 def locks():
-    """The entries of even or of odd number are locked, and then all are written, with ranges that hold no code."""
+    """Locks the entries with even or odd numbers, then writes all, with ranges without code."""
     for matching, name in ((OFF, "off"), (TOR, "tor"), (NA4, "na4"), (NAPOT, "napot")):
         for parity, which in ((0, "even"), (1, "odd")):
             case = Case("pmp", "locked_%s_at_%s_entries" % (name, which))
@@ -256,7 +256,7 @@ def bytes_by_their_own_lock():
 
 
 def registers_below_m():
-    """The registers are those of M alone."""
+    """The registers are accessible only in M."""
     for mode in (S, U):
         case = Returning("pmp", "registers_in_" + LETTER[mode].lower())
         written(case, {0: CODE})
@@ -269,29 +269,29 @@ def registers_below_m():
         case.pmp()
 
 
-def filled(case, borders):
-    """Telling bytes on either side of the borders, from mode M with no entry written."""
-    for i, border in enumerate(borders):
+def filled(case, boundaries):
+    """Stores distinct bytes on both sides of the boundaries, in mode M before any entry is written."""
+    for i, boundary in enumerate(boundaries):
         for offset in (-4, 0):
-            if border + offset < PAST:
-                case.set(6, border + offset)
+            if boundary + offset < PAST:
+                case.set(6, boundary + offset)
                 case.set(7, 0xF1E2D3C4 ^ 0x01010101 * (16 * i + offset & 0xFF))
                 case.run(("sw", 7, 0, 6))
 
 
-def shown(case, border):
-    first = min(border - 4, PAST - 8)
+def shown(case, boundary):
+    first = min(boundary - 4, PAST - 8)
     case.mem(first, 8)
 
 
-def loaded_and_stored(case, borders, mstatus=None):
-    """Each load and store across each border, the bytes there after each store, and the registers of each trap. In mode M
-    mstatus may be written before each."""
-    for i, border in enumerate(borders):
+def loaded_and_stored(case, boundaries, mstatus=None):
+    """Makes each load and store across each boundary; shows the bytes after each store, and the registers of each trap. In mode M mstatus may be
+    written before each."""
+    for i, boundary in enumerate(boundaries):
         for name in (*(("lb", "lhu"), ("lbu", "lh"))[i % 2], "lw", "sb", "sh", "sw"):
             width = WIDTH[name[1]]
             for offset in range(-width, 1):
-                case.set(6, border + offset)
+                case.set(6, boundary + offset)
                 if name in named("load"):
                     case.set(5, 0x11111111)
                 else:
@@ -305,28 +305,28 @@ def loaded_and_stored(case, borders, mstatus=None):
                 if name in named("load"):
                     case.reg(5)
                 else:
-                    shown(case, border)
+                    shown(case, boundary)
 
 
 def accesses():
-    for name, (entries, borders) in SETS.items():
+    for name, (entries, boundaries) in SETS.items():
         for mode in MODES:
             case = Returning("pmp", "%s_in_%s" % (name, LETTER[mode].lower()))
-            filled(case, borders)
+            filled(case, boundaries)
             written(case, {0: CODE} | entries)
             case.to(mode)
-            loaded_and_stored(case, borders)
+            loaded_and_stored(case, boundaries)
 
 
 def under_mprv():
     """From mode M in the previous mode, while the code may be fetched in M alone; without MPRV, that mode is nothing."""
     for name in ("napot_in_tor", "locked_entries_bind_m", "two_entries_side_by_side"):
-        entries, borders = SETS[name]
+        entries, boundaries = SETS[name]
         for mode in MODES:
             case = Returning("pmp", "%s_by_m_under_mprv_in_%s" % (name, LETTER[mode].lower()))
-            filled(case, borders)
+            filled(case, boundaries)
             written(case, entries)
-            loaded_and_stored(case, borders[:3], MPRV | mode << 11)
+            loaded_and_stored(case, boundaries[:3], MPRV | mode << 11)
     case = Returning("pmp", "previous_mode_without_mprv")
     filled(case, [AREA])
     written(case, {3: (NAPOT | R, napot(AREA, 8))})
@@ -344,7 +344,7 @@ def under_mprv():
             case.show(MCAUSE, MTVAL, MSTATUS)
 
 def fetched(case, address):
-    """A jump to an address and the fetch there, of the word 0, which is no instruction: cause 2 where it is done, else 1."""
+    """Jumps to an address and fetches the word 0 there: cause 2 if the fetch is permitted, else 1."""
     case.set(6, address)
     case.set(30, case.hart.pc + 4)
     case.run(("jalr", 0, 0, 6), None, None, None)
@@ -352,16 +352,16 @@ def fetched(case, address):
 
 
 def fetches():
-    for name, (entries, borders) in SETS.items():
+    for name, (entries, boundaries) in SETS.items():
         for mode in MODES:
             case = Returning("pmp", "%s_fetched_in_%s" % (name, LETTER[mode].lower()))
             written(case, {0: CODE} | entries)
             case.to(mode)
-            for border in borders:
+            for boundary in boundaries:
                 for offset in (-8, -4, 0, 4):
-                    fetched(case, border + offset)
+                    fetched(case, boundary + offset)
     for mode in MODES:
-        case = Case("pmp", "code_runs_to_a_border_in_" + LETTER[mode].lower())
+        case = Case("pmp", "code_runs_to_a_boundary_in_" + LETTER[mode].lower())
         count = 24  # words of code
         end = START + 4 * count
         cfg = L if mode == M else 0

@@ -1,9 +1,9 @@
 #!/usr/bin/env python3
-"""Prints the table of verdicts at the borders of a few sets of PMP entries, for crates/rv_machine_tests/src/pmp_tests/verdict_table.rt.
+"""Prints the table of verdicts at the boundaries of a few sets of PMP entries, for crates/rv_machine_tests/src/pmp_tests/verdict_table.rt.
 
     python3 -m generators.pmp_verdicts > crates/rv_machine_tests/src/pmp_tests/verdict_table.rt && (cd crates/rv_machine_tests && rt fmt)
 
-Each verdict is worked out byte by byte, in pmp_entries.py.
+pmp_entries.py computes each verdict byte by byte.
 """
 
 
@@ -11,7 +11,7 @@ from models.pmp_entries import NA4, NAPOT, OFF, TOR, Entries, L, R, W, X, napot
 
 KINDS = {"Fetch": "x", "Read": "r", "Write": "w"}
 
-# name, what it shows, the entries {number: (cfg, pmpaddr)}, the borders
+# name, description, the entries {number: (cfg, pmpaddr)}, the boundaries
 SETS = [
     ("NAPOT_IN_TOR", "A NAPOT range inside a TOR range of lower priority.",
      {0: (NAPOT | R | W, napot(0x80000100, 256)), 1: (OFF | R | W | X, 0x80000000 >> 2), 2: (TOR | R | X, 0x80000400 >> 2)},
@@ -56,12 +56,12 @@ def main():
     print("use rv_pmp::Mode::{M, S, U};")
     print("use rv_word::Width::{Byte, Half, Word};")
     turn = 0
-    for name, shows, entries, borders in SETS:
+    for name, shows, entries, boundaries in SETS:
         written = Entries(entries)
         rows = []
-        for border in borders:
+        for boundary in boundaries:
             for offset, width in [(-4, 4), (-3, 4), (-1, 4), (0, 4), (-2, 2), (-1, 2), (0, 2), (-1, 1), (0, 1), (2, 4), (3, 2)]:
-                address = border + offset
+                address = boundary + offset
                 if not 0 <= address < 1 << 32:
                     continue
                 access = list(KINDS)[turn % 3]
@@ -69,8 +69,8 @@ def main():
                 width_name = {1: "Byte", 2: "Half", 4: "Word"}[width]
                 for mode in "US"[turn % 2], "M":
                     verdict, i = written.verdict(mode, KINDS[access], address, width)
-                    told = verdict if i is None else f"{verdict}({i})"
-                    rows.append(f"    ({mode}, {access}, {hexadecimal(address)}, {width_name}, {told}),")
+                    shown = verdict if i is None else f"{verdict}({i})"
+                    rows.append(f"    ({mode}, {access}, {hexadecimal(address)}, {width_name}, {shown}),")
         print()
         print(f"/// {shows} Each entry is its number, cfg byte and pmpaddr.")
         print(f"pub(crate) const {name}_ENTRIES: [(u8, u8, u32); {len(entries)}] = [")

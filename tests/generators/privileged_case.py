@@ -1,21 +1,21 @@
-"""A case of command-line tests that follows the hart of privileged_hart.py: what the program is told, and the replies of the hart."""
+"""A command-line case that follows the hart of privileged_hart.py: the input, and the replies of the hart."""
 from generators import case_files
 from models.instruction_words import assemble
 from models.privileged_hart import KEPT, LETTER, MEPC, MSTATUS, MTVEC, NUMBER, ONES, Hart
 
 
 class Case:
-    """One case: an image, and its script with the replies of the hart by then."""
+    """A case: an image, and its script with the replies of the hart so far."""
     all, words = [], {}
 
     def __init__(self, topic, name):
-        self.topic, self.name, self.hart, self.script, self.replies, self.told = topic, name, Hart(), [], [], None
+        self.topic, self.name, self.hart, self.script, self.replies, self.last_comment = topic, name, Hart(), [], [], None
         Case.all.append(self)
 
     def files(self):
         image = {}
         for address, instruction in self.hart.memory.items():
-            if instruction != (".word", 0):  # which is there without an image
+            if instruction != (".word", 0):  # present without an image
                 image.update(enumerate(assemble(*instruction)[1].to_bytes(4, "little"), address))
         return {"stdin": case_files.stdin(image, self.script), "stdout": "\n".join(self.replies) + "\n"}
 
@@ -36,7 +36,7 @@ class Case:
         self.say("reg %d" % number, "x%d=%08x" % (number, self.hart.regs[number]))
 
     def show(self, *numbers):
-        """What registers read in mode M."""
+        """Shows the values of registers in mode M."""
         for number in numbers:
             self.say("csr %03x" % number,
                      "csr %03x=%08x" % (number, self.hart.reading(number)) if number in KEPT else "error csr")
@@ -59,20 +59,20 @@ class Case:
         assert self.hart.memory.get(address, instruction) == instruction, "two instructions at one place"
         self.hart.memory[address] = instruction
 
-    def tell(self, text):
-        """A comment, where it is not the last one again."""
-        if text != self.told:
+    def comment(self, text):
+        """Adds a comment unless it repeats the last one."""
+        if text != self.last_comment:
             self.script.append("# " + text)
-        self.told = text
+        self.last_comment = text
 
     def run(self, *instructions):
-        """Steps over instructions, each placed where pc is by then, in one command; None stands for a step over what is there.
-        Answers the last trap."""
+        """Steps over instructions in one command, each written at the pc of its step; None steps over the present instruction. Returns the last
+        trap."""
         last = None
         for instruction in instructions:
             if instruction:
                 self.place(self.hart.pc, *instruction)
-                self.tell(assemble(*instruction)[0])
+                self.comment(assemble(*instruction)[0])
             last = self.hart.step() or last
         trap = "%08x:%08x" % (last.cause, last.tval) if last else "-"
         self.say("step %d" % len(instructions), "ran %d pc=%08x mode=%s world=bare why=done trap=%s" % (
@@ -80,27 +80,27 @@ class Case:
         return last
 
     def write(self, *then, **registers):
-        """From mode M: registers of these names by csrrw, of words in x20 and so on; then other instructions."""
+        """Writes the named registers in mode M by csrrw, from x20 and so on; then steps over other instructions."""
         for i, word in enumerate(registers.values()):
             self.set(20 + i, word)
         return self.run(*(("csrrw", 0, NUMBER[name], 20 + i) for i, name in enumerate(registers)), *then)
 
     def open(self):
-        """From mode M: the entry of the lowest priority gives all memory to every mode."""
+        """Sets the entry of lowest priority in mode M to permit all memory to every mode."""
         self.write(pmpaddr15=ONES, pmpcfg3=0x1F000000)
 
     def enter(self, mode, mtvec, mstatus=0):
-        """From mode M to another, in four steps, with the code going on behind them."""
+        """Goes from mode M to another mode in four steps; the code continues after them."""
         self.write(("mret",), mtvec=mtvec, mstatus=mstatus | mode << 11, mepc=self.hart.pc + 16)
         assert self.hart.mode == mode
 
     def after_enter(self, words):
-        """The address so many words behind the code to which `enter` goes."""
+        """Returns the address this many words after the code to which `enter` goes."""
         return self.hart.pc + 16 + 4 * words
 
 
 class Opened(Case):
-    """A case whose code may go on in every mode."""
+    """A case whose code may run in every mode."""
 
     def __init__(self, topic, name):
         super().__init__(topic, name)
@@ -108,7 +108,7 @@ class Opened(Case):
 
 
 class Returning(Case):
-    """A case with a handler that goes back from a trap into the mode that it came from, at the address in x30."""
+    """A case with a handler that returns from a trap to its mode, at the address in x30."""
 
     def __init__(self, topic, name):
         super().__init__(topic, name)
@@ -119,7 +119,7 @@ class Returning(Case):
         self.run(("csrrw", 0, MTVEC, 31), ("jal", 0, 12))
 
     def attempt(self, *instruction):
-        """One instruction; where it traps, on behind it."""
+        """Steps over one instruction; continues after it if it traps."""
         self.set(30, self.hart.pc + 4)
         trap = self.run(instruction)
         if trap:
@@ -127,7 +127,7 @@ class Returning(Case):
         return trap
 
     def to(self, mode, mstatus=0):
-        """From mode M to another."""
+        """Goes from mode M to another mode."""
         self.set(29, mstatus | mode << 11)
         self.set(30, self.hart.pc + 12)
         self.run(("csrrw", 0, MSTATUS, 29), ("csrrw", 0, MEPC, 30), ("mret",))

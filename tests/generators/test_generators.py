@@ -1,4 +1,4 @@
-"""The kept digests, samples and tables are those that the generators write."""
+"""The stored digests, samples and tables are up to date with the generators."""
 import os
 import subprocess
 import sys

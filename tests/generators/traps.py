@@ -1,12 +1,12 @@
 #!/usr/bin/env python3
-"""Makes the cases of traps, returns, interrupts and counters: each cause from each mode, mret and sret, what is
-illegal below a mode, the order of interrupts, and what steps count.
+"""Generates the cases of traps, returns, interrupts and counters: each cause from each mode, mret and sret, instructions that are illegal below a
+mode, the priority of interrupts, and the steps that count.
 
-    python3 -m generators.traps                      writes their digests and samples anew
-    python3 -m generators.traps --check              tells whether they are what this script writes
-    python3 -m generators.traps --check-with-llvm    tells whether llvm-mc gives the same word for each assembly text
+    python3 -m generators.traps                      writes their digests and samples
+    python3 -m generators.traps --check              checks that they are up to date
+    python3 -m generators.traps --check-with-llvm    checks each instruction word against llvm-mc
 
-Nothing here comes from the bench: the hart that the cases follow is in privileged_hart.py.
+Independent of the code under test: the reference hart is in privileged_hart.py.
 """
 import sys
 
@@ -24,7 +24,7 @@ ALL_BITS = 0x007A19AA  # of mstatus
 
 
 def each_cause():
-    """Each exception from each mode, with interrupts enabled and not, and with mtvec in both modes, which are alike here."""
+    """Each exception from each mode, with interrupts enabled and disabled, and with both modes of mtvec, which are equivalent here."""
     for name, *parts in (
             ("misaligned_jump", [("jal", 1, 2)]), ("fetch_behind_ram", [("jalr", 0, 0, 8), None]), ("ebreak", [EBREAK]),
             ("load_outside_ram", [("lw", 1, -1, 8)]), ("store_outside_ram", [("sw", 1, 3, 8)]), ("ecall", [ECALL]),
@@ -41,7 +41,7 @@ def each_cause():
 
 
 def what_a_trap_leaves():
-    """All other fields of mstatus and the supervisor's registers stay; a trap in a trap's handler is one more."""
+    """A trap keeps all other fields of mstatus and the registers of S; so does a trap in a handler."""
     case = Opened("traps", "fields_that_a_trap_leaves")
     for mode in MODES:
         case.write(stvec=0x80000F00, sscratch=0x11111111, sepc=0x22222220, scause=0x33333333, stval=0x44444444,
@@ -74,7 +74,7 @@ def returns():
             epcs = (target + 3, 0x80000400) if instruction == MRET else (0x80000400, target + 3)  # bits 1:0 are not kept
             case.write(instruction, mtvec=target + 8, mepc=epcs[0], sepc=epcs[1], mstatus=before)
             case.show(MSTATUS, MEPC, SEPC)
-            case.run(ECALL)  # shows the mode, and leads back to M
+            case.run(ECALL)  # shows the mode, and returns to M
             case.show(MSTATUS, MCAUSE)
     case = Opened("returns", "sret_in_s")
     for rest in (0, SPIE, SPP, SPIE | SPP, SIE, SPP | SIE, others, others | SPP):
@@ -87,7 +87,7 @@ def returns():
 
 
 def refused_below():
-    """mret, sret, wfi, sfence.vma and a fence in each mode, under TSR, TW and TVM; but for returns that are done."""
+    """mret, sret, wfi, sfence.vma and a fence in each mode, with TSR, TW and TVM, except returns that succeed."""
     for name, instruction in (("mret", MRET), ("sret", SRET), ("wfi", WFI), ("sfence_vma", VMA), ("fence", FENCE)):
         case = Opened("traps", name + "_by_mode")
         for mode, field in [(m, f) for m in MODES for f in (0, TSR, TW, TVM, TSR | TW | TVM)]:
@@ -100,14 +100,14 @@ def refused_below():
 
 
 def raised(case, numbers):
-    """Just these interrupts: 7 by the line, the others in mip."""
+    """Sets exactly these interrupts pending: 7 by the timer line, the others in mip."""
     if case.hart.timer != (7 in numbers):
         case.timer(7 in numbers)
     case.write(mip=sum(1 << number for number in numbers if number != 7))
 
 
 def interrupted(case, mode, numbers, enabled, vector=VECTORED, mstatus=MPIE):
-    """From mode M to another with these interrupts raised and these enabled, to an instruction; back in M after it."""
+    """Goes from mode M to an instruction in another mode, with these interrupts pending and these enabled; then back to M."""
     case.write(mie=0, mstatus=0)
     raised(case, numbers)
     case.write(MRET, mie=enabled, mtvec=case.hart.pc + 32 + vector, mstatus=mstatus | mode << 11, mepc=case.hart.pc + 20)

@@ -1,12 +1,12 @@
 #!/usr/bin/env python3
-"""Makes the cases of two benches that differ in one enclave, twin_*: every command and every call of the monitor,
-what is not blind at each border of a region, what ends a run, lines, images, and worked examples whose output is written by hand.
+"""Generates the cases of two benches that differ in one enclave, twin_*: every command and every monitor call, commands that are not blind at each
+boundary of a region, the ends of a run, lines, images, and worked examples with handwritten output.
 
-    python3 -m generators.twin                      writes their digests and samples anew
-    python3 -m generators.twin --check              tells whether they are what this script writes
-    python3 -m generators.twin --check-with-llvm    tells whether llvm-mc gives the same word for each assembly text
+    python3 -m generators.twin                      writes their digests and samples
+    python3 -m generators.twin --check              checks that they are up to date
+    python3 -m generators.twin --check-with-llvm    checks each instruction word against llvm-mc
 
-Nothing here comes from the bench: replies are those of the model of monitor_bench.py.
+Independent of the code under test: the replies are those of the model in monitor_bench.py.
 """
 import sys
 

@@ -1,4 +1,4 @@
-"""The cases of the monitor's calls over two benches: what a call that names, meets or shows the enclave answers in both."""
+"""The cases of monitor calls over two benches: calls that name, overlap or show the enclave."""
 from generators.monitor_case import ECALL
 from models.monitor_model import (BAD_ADDRESS, BAD_REGION, BAD_STATE, DESTROY, EXIT, EXITED, MEASURE, NO_ENCLAVE, OVERLAP, RESUME, RUN,
                            STOP, STOPPED)
@@ -20,7 +20,7 @@ def calls():
         case = TwinCase("calls", "of_one_that_is_" + state)
         brought(case, state)
         case.apart()
-        case.tell("its measurement is no secret")
+        case.comment("its measurement is not secret")
         case.call(MEASURE, 0, WINDOW, wants=(0, 0))
         case.say("mem 80040000 32", "enclaves", "pmp")
         for function in (RUN, RESUME):
@@ -57,23 +57,23 @@ def refusals():
                                        (0x80080000, PAGE, (BASE, 0x20000), OVERLAP), (WINDOW, PAGE, (0, 0), OVERLAP)):
         case.create(base, size, window, entry=base, wants=status)
         case.say("reg 10", "reg 11", "enclaves")
-    case.tell("beside it a region and a window")
+    case.comment("next to it a region and a window")
     case.create(BASE + PAGE, window=(BASE - PAGE, PAGE), wants=2)
     case.say("enclaves", "pmp")
 
 
 def accesses():
-    """The host, and another enclave, at each border of the region."""
+    """The host, and another enclave, at each boundary of the region."""
     case = TwinCase("calls", "accesses_of_the_host")
     stopped(case)
     case.write(stvec=HOST + 0x1800)
     case.place(HOST + 0x1800, "csrrw", 0, 0x141, 30)
     case.place(HOST + 0x1804, "sret")
     case.apart()
-    for border in (BASE, BASE + PAGE):
+    for boundary in (BASE, BASE + PAGE):
         for name in ("lw", "lh", "lb", "sw", "sh", "sb"):
             for offset in range(-4, 4):
-                case.set(6, border + offset)
+                case.set(6, boundary + offset)
                 case.set(7, 0x5A5A5A5A)
                 case.set(30, case.machine.pc + 4)
                 case.do((name, 7, 0, 6))

@@ -1,12 +1,12 @@
-"""A case of two benches: what the program is told, and the replies of the model of monitor_bench.py. Until the benches are apart it
-is a case of the monitored profile; from then on each line goes to both.
+"""A case of two benches: its input, and the replies of the model in monitor_bench.py. Until the benches differ it is a case of the monitored
+profile; after that each line goes to both.
 """
 from models.monitor_bench import Twins, twin_output, wanted
 from generators.monitor_case import CODE, MEMORY, Case, input_of
 
 
 class TwinCase(Case):
-    """Options stand behind twin. `is_over` once the run has ended by itself."""
+    """The options follow twin. `is_over` is true after the run has ended by itself."""
 
     def __init__(self, topic, name, slot=0, ram=MEMORY, harts=1):
         self.twins, self.is_over, self.slot = None, False, slot
@@ -29,7 +29,7 @@ class TwinCase(Case):
     # ---- lines
 
     def apart(self, is_there=True):
-        """The line between the scripts, and whether there is an enclave that is made another."""
+        """Adds the line between the scripts; checks whether an enclave gets another secret."""
         self.script.append("--")
         self.twins = Twins(self.bench, self.slot)
         assert self.twins.is_apart == is_there, self.name
@@ -46,29 +46,29 @@ class TwinCase(Case):
         return replies
 
     def both(self, line, *replies):
-        """A line whose replies are the same of both benches, and written out by hand."""
+        """Adds a line with the same handwritten replies of both benches."""
         self.wants(line, *(mark + it for mark in ("a: ", "b: ") for it in replies))
 
     def enters(self, line):
-        """A line that ends the run, since it enters the enclave."""
+        """Adds a line that ends the run, since it enters the enclave."""
         self.wants(line, "twin entered %d" % (self.twins.count + 1))
         assert self.is_over, self.name
 
-    # ---- code, and what is equal
+    # ---- code, and equality
 
     def place(self, address, *instruction):
         super().place(address, *instruction)
-        if self.twins and address in CODE:  # the image has it from the start, in both
+        if self.twins and address in CODE:  # in the image of both from the start
             self.twins.other.machine.put(address, self.machine.part(address, 4))
 
     def are_equal(self):
-        """Whether the benches are equal in every part."""
+        """Returns whether the benches are equal in every part."""
         return state_of(self.twins.one) == state_of(self.twins.other)
 
 
 class WholeTwins:
-    """A case that is its words and its input; its output is the model's, and begins and ends as it is said. The model takes no
-    image whose text has a fault: then the output is `starts` alone."""
+    """A case of arguments and an input. Its output is that of the model, with the given start and end. The model accepts no malformed image; the
+    output is then only `starts`."""
 
     def __init__(self, topic, name, stdin, options=(), starts="", ends="", status=0, is_text=True):
         self.topic, self.name, self.stdin, self.words = "twin_" + topic, name, stdin, ["twin", *options]
@@ -83,7 +83,7 @@ class WholeTwins:
 
 
 def state_of(bench):
-    """All of a bench, as plain values. What is remembered of verdicts is no part of it."""
+    """Returns the state of a bench as plain values, without cached verdicts."""
     def plain(value):
         if isinstance(value, dict):
             return {key: plain(it) for key, it in value.items() if key not in ("verdicts", "peers")}

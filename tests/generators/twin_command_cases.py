@@ -1,5 +1,5 @@
-"""The cases of the debugger's commands over two benches: replies after a: and b:, faults, what is not blind, lines, images, and what
-ends a run."""
+"""The cases of debugger commands over two benches: replies after a: and b:, errors, commands that are not blind, lines, images, and the ends of a
+run."""
 from generators.elf_files import elf, segment, text as image_text
 from generators.monitor_case import ECALL, input_of
 from models.monitor_model import CREATE, DESTROY, EXIT, EXITED, KEY, RESUME, RUN, STOP, STOPPED
@@ -39,14 +39,14 @@ def every_command():
     case.create(BASE)
     case.say("fly", "reg 32", "mem 7fffffff 1")
     case.apart()
-    case.tell("a fault of the line: once, and not counted")
+    case.comment("an error of the line: printed once, not counted")
     for line, fault in (("fly", "command"), ("STEP 1", "command"), ("-- 1", "command"), ("reg", "operand"), ("reg 32", "operand"),
                         ("step 0", "operand"), ("mem 80020000 0", "operand"), ("mem 80020000 65", "operand"), ("poke 80020000 100", "operand"),
                         ("dis", "operand"), ("dis 800200000", "operand"), ("\x01", "line"), ("#" * 121, "line"), ("reg 0\x7f", "line")):
         case.wants(line, "error " + fault)
     case.wants("--", "error command")
     assert case.twins.count == 0
-    case.tell("a fault of the command: of both, and counted")
+    case.comment("an error of the command: printed by both, counted")
     for line, fault in (("mem 7fffffff 1", "outside"), ("mem 80100000 1", "outside"), ("mem ffffffc0 64", "outside"),
                         ("mem ffffffff 64", "outside"), ("poke 7fffffff 1", "outside"), ("dis 800ffffd", "outside"),
                         ("csr 7a0", "csr"), ("csr 7b0", "csr")):
@@ -71,13 +71,13 @@ def every_command():
 
 
 def not_blind():
-    """What shows or writes bytes: at each border, of each length."""
-    case = TwinCase("blind", "at_each_border")
+    """Commands that show or write bytes: at each boundary, of each length."""
+    case = TwinCase("blind", "at_each_boundary")
     case.create(BASE, window=(WINDOW, PAGE))
     case.say("mem 80020000 4", "poke 80020010 5", "dis 80020000")
     case.apart()
-    for border, inside in ((BASE, 0), (BASE + PAGE, -1)):
-        for at in range(border - 4, border + 4):
+    for boundary, inside in ((BASE, 0), (BASE + PAGE, -1)):
+        for at in range(boundary - 4, boundary + 4):
             for command, length in (("mem %x 1", 1), ("mem %x 3", 3), ("dis %x", 4), ("poke %x 5a", 1)):
                 is_blind = at + length <= BASE or at >= BASE + PAGE
                 assert is_blind or case.given(command % at) == ["error blind"]
@@ -94,7 +94,7 @@ def not_blind():
         case.wants(line, "error blind")
     for line in ("mem 80100000 1", "dis 80100000", "poke 80100000 1", "mem ffffffff 64"):
         case.both(line, "error outside")
-    case.tell("another enclave is the same in both")
+    case.comment("another enclave is equal in both")
     case.say("mem 80020000 4", "poke 80020000 77", "mem 80020000 4", "dis 80020ffc", "poke 80020fff 0")
     case = TwinCase("blind", "of_a_region_that_is_all_that_is_left")
     case.create(0x80080000, 0x80000)
@@ -109,17 +109,17 @@ def not_blind():
     assert case.are_equal()
     case.say("mem 80020000 64", "mem 80020100 4", "poke 80020000 99", "dis 80020000")
     case.create(0x80030000)
-    case.tell("the slot has another region now")
+    case.comment("the slot now has another region")
     case.say("mem 80020000 4", "poke 80020000 0")
     for line in ("mem 80030000 4", "poke 80030fff 0", "dis 8002fffd"):
         case.wants(line, "error blind")
     assert case.are_equal()
 
 
-# ---- what ends a run
+# ---- ends of a run
 
 def called(case, function, *arguments, behind=()):
-    """The registers of a call, and its ecall at pc, behind other instructions."""
+    """Sets the registers of a call, and its ecall at pc, after other instructions."""
     for number, word in ((17, KEY), (16, function), *enumerate(arguments, 10)):
         case.set(number, word)
     for i, instruction in enumerate([*behind, ECALL]):
@@ -177,11 +177,11 @@ def ends():
 
 
 def others_enter():
-    """Other enclaves are entered and left, in one command and by many."""
+    """Other enclaves are entered and exited, in one command and in several."""
     case = TwinCase("ends", "not_by_others", slot=1)
     case.create(BASE)
     case.create(BASE + PAGE, window=(WINDOW, PAGE), wants=1)
-    case.tell("enclave 0: it adds, and stops")
+    case.comment("enclave 0: it adds, and stops")
     for i, instruction in enumerate((("addi", 16, 0, STOP), ("lui", 17, KEY + 0x800 >> 12), ("addi", 17, 17, KEY - (KEY + 0x800 & ~0xFFF)),
                                      ("addi", 10, 0, 42), ECALL, ("addi", 10, 10, 1), ("jal", 0, -20))):
         case.place(BASE + 4 * i, *instruction)
@@ -256,7 +256,7 @@ def images():
     WholeTwins("images", "text_before_the_size", "abc" + rest, ("--ram", "1000"), starts="rvbench: hex\n", status=1, is_text=False)
 
 
-# ---- worked examples, whose output is written by hand
+# ---- worked examples with handwritten output
 
 def worked_examples():
     first = "7300000073000000\n--\n" + "\n".join(["setreg 17 0a454e43", *FIRST[1:]]) + "\n--\n"

@@ -1,1 +1,1 @@
-"""Reference models: they compute the expected output of the bench from the manual and the pages, and use nothing of the program."""
+"""Reference models: they compute the expected output from the manual and the documentation, independently of the program."""

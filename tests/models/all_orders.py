@@ -1,15 +1,15 @@
-"""All orders of the steps of two harts, and all moments at which the timer's line may rise, one by one, over the model of the bench: which
-ends there are, how many orders lead to each, and with how few preemptions and timers. Nothing of the bench that is tested is used."""
+"""Enumerates all schedules of two harts and of timer interrupts over the model of the bench: the final states, the number of schedules that lead
+to each, and the fewest preemptions and timer interrupts. Independent of the code under test."""
 import copy
 
 from models.monitor_bench import Bench
 
 
-FIRST, END = 0x10000, 0x14000  # of the bytes of RAM that a program may touch
+FIRST, END = 0x10000, 0x14000  # the bytes of RAM that a program may access
 
 
 class Orders:
-    """Each hart does so many steps, from where a script leads; `values` tells one end from another, of the harts."""
+    """All schedules with this number of steps of each hart, after a script; `values` returns what distinguishes final states."""
 
     def __init__(self, image, script, steps, timers, values, ram=196608, harts=2):
         self.bench = Bench(image, "raw", ram, True, harts)
@@ -19,7 +19,7 @@ class Orders:
         self.walk([0] * harts, None, 0, 0, timers)
 
     def kept(self):
-        """All that a step may change."""
+        """Returns all that a step may change."""
         one = self.harts[0]
         return bytes(one.ram[FIRST:END]), {slot: copy.copy(it) for slot, it in one.table.items()}, [
             (list(it.regs), it.pc, it.mode, it.timer, dict(it.kept), it.entries, it.world, it.host) for it in self.harts]
@@ -37,7 +37,7 @@ class Orders:
             hart.regs, hart.pc, hart.mode, hart.timer, hart.kept, hart.world, hart.host = list(regs), pc, mode, timer, dict(own), world, host
 
     def walk(self, done, last, preemptions, came, timers):
-        """All that may come from here on; the harts are left as they were."""
+        """Enumerates all continuations from here; restores the harts."""
         open_harts = [hart for hart in range(len(self.harts)) if done[hart] < self.steps]
         if not open_harts:
             self.count += 1

@@ -1,5 +1,5 @@
-"""An assembler and a disassembler on Python's texts and whole numbers, by docs/ASSEMBLER.md. Words are those of
-instruction_words.py, and the numbers of control and status registers those of privileged_hart.py. Nothing of the bench is used.
+"""A reference assembler and disassembler by docs/ASSEMBLER.md. instruction_words.py has the encodings, and privileged_hart.py the CSR numbers.
+Independent of the code under test.
 """
 import re
 
@@ -13,7 +13,7 @@ ABI_NAMES = ("zero ra sp gp tp t0 t1 t2 s0 s1 a0 a1 a2 a3 a4 a5 a6 a7 s2 s3 s4 s
 REGISTERS = {**{name: i for names in (X_NAMES, ABI_NAMES) for i, name in enumerate(names)}, "fp": 8}
 CSRS = {name: first + i for first, _, names, _ in TABLE if not names.startswith("mhpm")
         for i, name in enumerate(names.split(", "))}
-PLAIN = [name for name in WHOLE if re.fullmatch("[a-z]+", name)]  # those that take no operands
+PLAIN = [name for name in WHOLE if re.fullmatch("[a-z]+", name)]  # instructions without operands
 NAME = re.compile(r"[A-Za-z_.][A-Za-z0-9_.]{0,31}")
 NUMBER = re.compile(r"-?[0-9]+|0x[0-9A-Fa-f]{1,8}")
 SET = re.compile(r"0|(?=.)i?o?r?w?")
@@ -24,7 +24,7 @@ class Fault(Exception):
         self.kind = kind
 
 
-# ---- operands: what is read of a text, or the fault BadOperand
+# ---- operands: their values, or the error BadOperand
 
 def register(text):
     if text not in REGISTERS:
@@ -59,7 +59,7 @@ def fence_set(text):
     return sum(8 >> "iorw".index(letter) for letter in text if letter in "iorw")
 
 
-# ---- statements: the forms of the operands, and the least and the greatest number
+# ---- statements: the forms of the operands, and the smallest and the largest number
 
 SIGNED_12 = (-2048, 2047)
 ANY_WORD = (-0x80000000, 0xFFFFFFFF)
@@ -76,7 +76,7 @@ STATEMENTS = {**{name: FORMS[row[0]] for name, row in ROWS.items()}, **{name: ((
 
 
 def in_range(name, read):
-    """Whether each number that was read is in its range; that of a label is not known yet."""
+    """Returns whether each number is in its range; the value of a label is not known yet."""
     forms, limits = STATEMENTS[name]
     for form, value in zip(forms, read):
         value = value[0] if form is based else value
@@ -90,7 +90,7 @@ def in_range(name, read):
 
 
 def words_of(name, read):
-    """The words of a statement whose labels are distances."""
+    """Returns the words of a statement whose labels are offsets."""
     flat = [part for value in read for part in (value if isinstance(value, tuple) else (value,))]
     if name in WHOLE:
         return [WHOLE[name]]
@@ -114,7 +114,7 @@ def words_of(name, read):
 # ---- lines
 
 def read_line(line):
-    """The label of a line or None, the name of its statement or None, and what was read of the operands."""
+    """Parses a line into its label or None, the name of its statement or None, and its operands."""
     if len(line) > 120 or re.search(r"[^\t\x20-\x7e]", line):
         raise Fault(BAD_TEXT)
     label, rest = None, line.split("#")[0]
@@ -148,7 +148,7 @@ def lines_of(text):
 
 
 def assembled(text):
-    """The words of a text, or the number of the line that decides and its fault."""
+    """Returns the words of a text, or the line number and the kind of its error."""
     statements, labels, twice, at = [], {}, None, 0
     for line_number, line in enumerate(lines_of(text), 1):
         try:
@@ -187,7 +187,7 @@ def field(word, high, low):
     return word >> low & (1 << high - low + 1) - 1
 
 
-# of each form of operands: the mask, and the operands as numbers, in the order in which they are written
+# for each form of operands: the mask, and the operands as numbers in the order of the text
 I_MASK, R_MASK = 0x0000707F, 0xFE00707F
 CUTS = {"lui": (0x7F, lambda w, d, a, b: (d, w >> 12)), "auipc": (0x7F, lambda w, d, a, b: (d, w >> 12)),
         "jal": (0x7F, lambda w, d, a, b: (d, signed(field(w, 31, 31) << 20 | field(w, 19, 12) << 12 | field(w, 20, 20) << 11

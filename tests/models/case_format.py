@@ -1,15 +1,14 @@
-"""The form of the files tests/cases/TOPIC.cases: the command-line cases of a topic.
+"""The format of the files tests/cases/TOPIC.cases: the command-line cases of a topic.
 
-A case is a line with its name, the status that the program must end with, and the program's words; then each line of its
-input after <, and each line of the output that it must give after >. The last of those that ends without a line feed has a
-backslash at its end. In the words and lines stand
+A case begins with a line that has its name, the expected exit status, and the arguments. Then come the lines of the input after <, and the expected
+lines of the output after >. A last line without a line feed ends in a backslash. Escapes are
 
     \\\\       a backslash
     \\t \\r    a tab, a carriage return
-    \\xHH     any other byte that is no printable ASCII, and a blank at the end of a line or in a word
-    \\e       a word of no bytes
+    \\xHH     any other byte that is not printable ASCII, and a blank at the end of a line or in an argument
+    \\e       an empty argument
 
-Lines that begin with # are comments, and empty lines divide the cases. For example
+Lines that begin with # are comments, and empty lines separate the cases. For example
 
     case reads_no_instruction 0 run --kind raw
     <ffffffff
@@ -23,8 +22,7 @@ SHORT = {0x5C: "\\\\", 0x09: "\\t", 0x0D: "\\r"}
 
 
 class Case:
-    """A case: its name, the program's words, its input, and the output and status that it must give; all but the status are
-    bytes, and the name is text."""
+    """A case: its name (text), the arguments, the input and the expected output (bytes), and the expected status."""
 
     def __init__(self, name, words, stdin, stdout, status):
         self.name, self.words, self.stdin, self.stdout, self.status = name, words, stdin, stdout, status
@@ -34,13 +32,13 @@ class Case:
 
 
 def escaped(data, in_word=False):
-    """The bytes as printable text."""
+    """Returns bytes as printable text."""
     text = "".join(SHORT.get(b) or (chr(b) if 32 <= b < 127 and not (in_word and b == 32) else "\\x%02x" % b) for b in data)
     return text[:-1] + "\\x20" if text.endswith(" ") else text
 
 
 def restored(text):
-    """The bytes of such a text."""
+    """Returns the bytes of such a text."""
     found = re.fullmatch(r"(?:[ -\[\]-~]|\\\\|\\t|\\r|\\x[0-9a-f]{2})*", text)
     if not found:
         raise ValueError("no text of a case: " + text)
@@ -49,13 +47,13 @@ def restored(text):
 
 
 def lines_of(mark, data):
-    """The lines of an input or output, each after its mark."""
+    """Returns the lines of an input or output, each after its mark."""
     *lines, last = data.split(b"\n")
     return [mark + escaped(it) + "\n" for it in lines] + ([mark + escaped(last) + "\\\n"] if last else [])
 
 
 def bytes_of(lines):
-    """The bytes of the lines after their marks. Only the last may lack a line feed."""
+    """Returns the bytes of lines with marks. Only the last may lack a line feed."""
     parts = []
     for at, line in enumerate(lines):
         is_cut = len(line) - len(line.rstrip("\\")) & 1
@@ -66,7 +64,7 @@ def bytes_of(lines):
 
 
 def written(cases, comment):
-    """The text of a file of these cases."""
+    """Returns the text of a file with these cases."""
     texts = ["# " + comment + "\n"]
     for case in cases:
         head = ["case", case.name, str(case.status)] + [escaped(it, in_word=True) or "\\e" for it in case.words]
@@ -75,7 +73,7 @@ def written(cases, comment):
 
 
 def read(text):
-    """The cases of a file. A line of no known form is an error."""
+    """Returns the cases of a file. A line of unknown form is an error."""
     cases = []
     for part in re.split(r"^(?=case )", text, flags=re.M)[1:]:
         head, *lines = [it for it in part.split("\n") if it and not it.startswith("#")]

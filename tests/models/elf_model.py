@@ -1,8 +1,8 @@
-"""ELF32 images as the bench takes them: the faults that a file has, and the memory and entry that it stands for. From the tables
-of docs/IMAGES.md and of the System V gABI, chapters 4 and 5; nothing here comes from the bench. A file is bytes.
+"""A reference loader for ELF32 images: the faults of a file, or its memory and entry. From the tables of docs/IMAGES.md and of the System V gABI,
+chapters 4 and 5; independent of the code under test. A file is bytes.
 """
 START = 0x80000000
-RAM = 1048576  # where --ram is not given
+RAM = 1048576  # the default of --ram
 END = START + RAM
 ONES = 0xFFFFFFFF
 MAGIC = b"\x7fELF"
@@ -10,7 +10,7 @@ HEADER, PROGRAM_HEADER = 52, 32  # their bytes
 LOAD = 1
 ADDI = 0xFFF00093  # addi x1, x0, -1
 
-# the fields: their place, and their bytes
+# the fields: their offset and size
 FIELDS = {"magic": (0, 4), "class": (4, 1), "data": (5, 1), "ident_version": (6, 1), "ident_rest": (7, 9), "type": (16, 2),
           "machine": (18, 2), "version": (20, 4), "entry": (24, 4), "phoff": (28, 4), "shoff": (32, 4), "flags": (36, 4),
           "ehsize": (40, 2), "phentsize": (42, 2), "phnum": (44, 2), "shentsize": (46, 2), "shnum": (48, 2), "shstrndx": (50, 2)}
@@ -18,13 +18,13 @@ WORDS = ("type", "offset", "vaddr", "paddr", "filesz", "memsz", "flags", "align"
 
 
 def field(file, name):
-    """What a field holds, or nothing where the file does not have all of its bytes."""
+    """Returns the value of a field, or None if the file does not have all of its bytes."""
     place, size = FIELDS[name]
     return int.from_bytes(file[place:place + size], "little") if place + size <= len(file) else None
 
 
 def program_headers(file):
-    """Those of the table that the file has all bytes of."""
+    """Returns the program headers that are completely in the file."""
     first, count = field(file, "phoff"), field(file, "phnum")
     if count is None:
         return []
@@ -47,8 +47,8 @@ def share_a_byte(one, other):
 
 
 def faults(file, ram):
-    """The numbers of all faults that the file has. A fault is said of the bytes that are there: of a file that is cut those
-    of the fields that it still has, and of a table that ends past the file's end those of its first headers.
+    """Returns the numbers of all faults of the file. Only bytes in the file count: a truncated file has the faults of its remaining fields, and a
+    truncated table those of its first headers.
     """
     loads = [header for header in program_headers(file) if header["type"] == LOAD]
     present = [header for header in loads if header["memsz"]]
@@ -70,7 +70,7 @@ def faults(file, ram):
 
 
 class Loaded:
-    """The memory and the entry, and the replies to the few commands of a script."""
+    """A loaded image: its memory and entry, and the replies to a few commands."""
 
     def __init__(self, ram, entry):
         self.memory, self.entry, self.mepc, self.x1 = bytearray(ram), entry, 0, 0
@@ -79,7 +79,7 @@ class Loaded:
         self.memory[address - START:address - START + len(data)] = data
 
     def step(self):
-        """The first step alone, over addi or a word that is no instruction."""
+        """Returns the reply to the first step, which is addi or an illegal instruction."""
         word = int.from_bytes(self.memory[self.entry - START:][:4], "little")
         reply = "ran 1 pc=%08x mode=M world=bare why=done trap=%s"
         if word == ADDI:
@@ -102,7 +102,7 @@ class Loaded:
 
 
 def is_no_instruction(word):
-    """Compressed words, and those whose lowest bits are the first byte of an ELF file, which are no opcode of 32 bits."""
+    """Returns whether a word is no 32-bit instruction: compressed, or with the first byte of an ELF file as opcode."""
     return word & 3 != 3 or word & 0x7F == MAGIC[0]
 
 
@@ -111,7 +111,7 @@ def is_elf(file, kind):
 
 
 def answer(file, kind, ram):
-    """The least fault of an image, or what is loaded."""
+    """Returns the lowest fault of an image, or the loaded image."""
     if not is_elf(file, kind):
         if len(file) > ram:
             return 9

@@ -1,5 +1,5 @@
-"""All orders of two small programs without end, state by state, and the final states by the definition of docs/ASK.md. Nothing of rvlook
-is used: the few instructions are executed and encoded here.
+"""Enumerates the states of two small endless programs in all schedules, and their final states by the definition of docs/ASK.md. Independent of
+rvlook: the few instructions are executed and encoded here.
 
 A program is a list of instructions, each a tuple with its name first: ("addi", rd, rs1, value), ("xori", rd, rs1, value), ("lw", rd, offset),
 ("sw", rs2, offset), ("beq", rs1, rs2, target), ("jal", target). A target is an index in the list. Loads and stores are words at DATA.
@@ -68,7 +68,7 @@ def stepped(program, hart, memory):
 
 
 def explored(program):
-    """Returns all states that an order of the harts leads to, each with its edges: hart, following state, whether memory was accessed."""
+    """Returns all states that a schedule of the harts leads to, each with its edges: hart, following state, whether memory was accessed."""
     registers = tuple([0] * 16)
     start = ((0, registers), (0, registers[:10] + (1,) + registers[11:]), (0,) * WORDS)
     edges, waiting = {}, [start]
@@ -119,19 +119,19 @@ def components(edges):
 
 
 def final_states(program, registers=()):
-    """Returns the final states: for each hart how it ends and, if it has ended, the least pc of its loop; and the values of the words at
-    DATA and of these registers, each a pair of hart and number."""
+    """Returns the final states: how each hart ends, the least pc of its loop if it has ended, the values of the words at DATA, and the values of
+    these registers, each a pair of hart and number."""
     edges, found = explored(program), set()
     for part in components(edges):
         inside = [(state, *edge) for state in part for edge in edges[state] if edge[1] in part]
         if {it[1] for it in inside} != {0, 1}:
-            continue  # a hart that goes on leaves these states
+            continue  # a running hart leaves these states
         is_still = all(state[2] == following[2] for state, _, following, _ in inside)
         harts = []
         for hart in (0, 1):
             if any(accesses for _, of, _, accesses in inside if of == hart):
-                harts.append(("waits" if is_still else "goes on", None))
+                harts.append(("waits" if is_still else "runs on", None))
             else:
-                harts.append(("over", ENTRY + 4 * min(state[hart][0] for state in part)))
+                harts.append(("ended", ENTRY + 4 * min(state[hart][0] for state in part)))
         found |= {(tuple(harts), state[2], tuple(state[hart][1][number] for hart, number in registers)) for state in part}
     return found

@@ -1,5 +1,5 @@
-"""What the program must write to any input: the models of monitor_bench.py and assembly_model.py, by the program's words. Nothing
-of the bench that is tested is used.
+"""The expected output for any input, by the models of monitor_bench.py and assembly_model.py, which the arguments select. Independent of
+the code under test.
 """
 from models import monitor_bench
 from models.assembly_model import assembled, disassembled
@@ -24,8 +24,8 @@ def of_dis(text):
 
 
 def answer(words, data):
-    """The output as bytes, and the status."""
+    """Returns the expected output as bytes, and the status."""
     jobs = {"asm": of_asm, "dis": of_dis}
     text = data.decode("latin-1")
-    told, status = jobs[words[0]](text) if words[0] in jobs else monitor_bench.wanted(text, words)
-    return told.encode("latin-1"), status
+    output, status = jobs[words[0]](text) if words[0] in jobs else monitor_bench.wanted(text, words)
+    return output.encode("latin-1"), status

@@ -1,5 +1,5 @@
-"""What the instructions of two operands leave in rd, and which branches are taken, by formulas on Python's integers, which have no
-bound: who keeps a result cuts it to 32 bits. Operands are words of 32 bits. Nothing of the bench is used.
+"""The results of instructions with two operands, and the conditions of branches, on Python's unbounded integers. Operands are 32-bit words; the
+caller cuts a result to 32 bits. Independent of the code under test.
 """
 
 

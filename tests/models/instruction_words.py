@@ -1,6 +1,6 @@
-"""The words of the instructions that corner_values.py, csr_table.py, traps.py, pmp.py and debugger.py use, by the tables of
+"""Encodes the instructions that corner_values.py, csr_table.py, traps.py, pmp.py and debugger.py use, by the tables of
 opcode, funct3 and funct7 of the RISC-V Unprivileged ISA 20191213, sections 2.2, 2.3 and chapter 24, and of the Privileged
-Architecture 20211203. Nothing of the bench is used. differing_from_llvm compares them with LLVM's assembler.
+Architecture 20211203. Independent of the code under test. differing_from_llvm compares them with LLVM's assembler.
 """
 import re
 import subprocess
@@ -14,7 +14,7 @@ def i_places(d, a, n):
     return d << 7 | a << 15 | cut(n, 11, 0) << 20
 
 
-# the opcode, how operands are written, where they stand in the word, and name:funct3:funct7 in hexadecimal
+# the opcode, the form of the operands, their fields in the word, and name:funct3:funct7 in hexadecimal
 FORMATS = {
     "lui": (0x37, "x%d, %d", lambda d, n: d << 7 | n << 12, "lui"),
     "auipc": (0x17, "x%d, %d", lambda d, n: d << 7 | n << 12, "auipc"),
@@ -43,12 +43,12 @@ WHOLE = {"ecall": 0x00000073, "ebreak": 0x00100073, "sret": 0x10200073, "mret": 
 
 
 def named(kind):
-    """The instructions of a format, in the manual's order."""
+    """Returns the instructions of a format, in the order of the manual."""
     return [name for name, row in ROWS.items() if row[0] == kind]
 
 
 def assemble(name, *operands):
-    """The assembly text and the word of an instruction; operands are as in the text, registers by number."""
+    """Returns the assembly text and the word of an instruction; operands are in the order of the text, registers are numbers."""
     if name in WHOLE:
         return name, WHOLE[name]
     if name == ".word":
@@ -59,7 +59,7 @@ def assemble(name, *operands):
 
 
 def differing_from_llvm(words):
-    """Of words by their texts, the texts that llvm-mc gives another word for; and how many it was asked. .word has no word."""
+    """Compares the words of texts with llvm-mc; returns the texts that differ, and the number of compared ones. .word is skipped."""
     texts = [text for text in words if not text.startswith(".word")]
     answer = subprocess.run(["llvm-mc", "-triple=riscv32", "-mattr=+m", "--show-encoding"], input="\n".join(texts) + "\n",
                             capture_output=True, text=True, check=True).stdout

@@ -1,8 +1,8 @@
-"""A bench of the monitored machine of monitor_model.py, of one hart or two, or of a bare hart: images, the debugger's commands, and
-the replies to a script, of one bench or of two that differ in one enclave, by docs/IMAGES.md and docs/COMMANDS.md. Nothing of the
-bench that is tested is used.
+"""A reference model of rvbench over the machine of monitor_model.py with one or two harts, or over a bare hart: images, commands, and the replies
+to a script, from one bench or from two that differ in one enclave, by docs/IMAGES.md and docs/COMMANDS.md. Independent of
+the code under test.
 
-    tests/models/monitor_bench.py [run --monitor --harts 2 .. | twin --slot K ..] < stdin    writes what the program must write
+    tests/models/monitor_bench.py [run --monitor --harts 2 .. | twin --slot K ..] < stdin    writes the expected output
 """
 import argparse
 import copy
@@ -21,19 +21,19 @@ HEX, COUNT, BYTE, CSR = "(?:0x)?[0-9a-fA-F]{1,8}", "[0-9]{1,7}", "[0-9a-fA-F]{1,
 FORMS = {"step": [COUNT], "run": [COUNT], "break": [HEX], "clear": [HEX], "watch": [HEX], "unwatch": [HEX], "reg": [COUNT],
          "regs": [], "setreg": [COUNT, HEX], "csr": [CSR], "mem": [HEX, COUNT], "poke": [HEX, BYTE], "dis": [HEX], "pmp": [],
          "enclaves": [], "access": ["[MSU]", "[rwx]", HEX, "[124]"], "timer": ["on|off"], "hart": ["[01]"], "sched": ["[01]{1,64}"]}
-# the place and the least and greatest value of a decimal operand
+# the index, and the smallest and largest value of a decimal operand
 LIMITS = {"step": (0, 1, MOST_STEPS), "run": (0, 1, MOST_STEPS), "reg": (0, 0, 31), "setreg": (0, 0, 31), "mem": (1, 1, MOST_SHOWN)}
 
 
-MHARTID = 0xF14  # the debugger tells the chosen hart's number
+MHARTID = 0xF14  # the number of the selected hart
 
 
 class Fault(Exception):
-    """A reply to a line that changes nothing, or the line that ends the program."""
+    """The reply to a line that has no effect, or the line that ends the program."""
 
 
 class BareHart(HartInMemory):
-    """Without a monitor, the hart begins in M."""
+    """Without a monitor, the hart starts in M."""
     world, table, entered = "bare", {}, None
 
     def __init__(self, ram, entry):
@@ -44,7 +44,7 @@ class BareHart(HartInMemory):
 # ---- images
 
 def elf_faults(file, size, is_monitored):
-    """As elf_model's, and of the monitor's range."""
+    """Returns the faults of elf_model, and those of the range of the monitor."""
     found = elf_model.faults(file, size)
     if is_monitored:
         loads = [it for it in elf_model.program_headers(file) if it["type"] == elf_model.LOAD and it["memsz"]]
@@ -55,7 +55,7 @@ def elf_faults(file, size, is_monitored):
 
 
 def loaded(image, kind, size, is_monitored):
-    """The bytes of RAM and the entry, or the fault."""
+    """Returns the bytes of RAM and the entry, or the fault."""
     if size % 65536 or not 65536 <= size <= 16777216:
         raise Fault("rvbench: ram 1")
     ram = bytearray(size)
@@ -88,7 +88,7 @@ def shown(trap):
 
 
 def parsed(line):
-    """The words of the command in a line of a script, which is text of one character a byte; none where it has no reply."""
+    """Returns the tokens of a script line, which has one character per byte; none if the line has no reply."""
     if len(line) > MOST_LINE or re.search("[^\t -~]", line):
         raise Fault("error line")
     words = re.split("[ \t]+", line.strip(" \t"))
@@ -107,7 +107,7 @@ def parsed(line):
 
 
 class Bench:
-    """`machine` is the hart that the commands work on, the chosen one; `entered` are the slots that the last command entered."""
+    """One bench. `machine` is the selected hart; `entered` has the slots that the last command entered."""
 
     def __init__(self, image, kind="auto", ram=1048576, is_monitored=True, harts=1):
         ram, entry = loaded(image, kind, ram, is_monitored)
@@ -121,7 +121,7 @@ class Bench:
         return self.machine.peers
 
     def replies(self, line):
-        """The lines that answer a line of a script."""
+        """Returns the reply to a script line."""
         try:
             words = parsed(line)
         except Fault as fault:
@@ -129,7 +129,7 @@ class Bench:
         return self.answers(words) if words else []
 
     def answers(self, words):
-        """The lines that answer a command."""
+        """Returns the reply to a command."""
         self.entered = set()
         try:
             answer = getattr(self, "do_" + words[0])(*words[1:])
@@ -142,12 +142,12 @@ class Bench:
 
     @staticmethod
     def place_of(hart):
-        """Where a hart is: its pc, mode and world."""
+        """Returns the pc, mode and world of a hart."""
         world = hart.world
         return hart.pc, LETTER[hart.mode], "host" if world is None else world if world == "bare" else "e%d" % world
 
     def step_of(self, hart):
-        """One step of a hart; answers its trap."""
+        """Steps a hart; returns its trap."""
         trap = hart.step()
         self.entered |= {hart.entered} - {None}
         return trap
@@ -184,11 +184,11 @@ class Bench:
     def do_sched(self, digits):
         order = [self.hart_of(digit) for digit in digits]  # before any step
         traps = [(hart, self.step_of(hart)) for hart in order]
-        told = []
+        output = []
         for number, hart in enumerate(self.harts):
             last = next((trap for stepped, trap in reversed(traps) if stepped is hart and trap), None)
-            told.append("hart %d %d pc=%08x mode=%s world=%s trap=%s" % (number, order.count(hart), *self.place_of(hart), shown(last)))
-        return told
+            output.append("hart %d %d pc=%08x mode=%s world=%s trap=%s" % (number, order.count(hart), *self.place_of(hart), shown(last)))
+        return output
 
     def put_into(self, addresses, text):
         address = int(text, 16)
@@ -272,20 +272,20 @@ def lines_of(text):
 
 
 def cut_at(lines):
-    """The lines before the first line `--` and those behind it; a line that is too long is no such line."""
+    """Returns the lines before the first line `--`, which must not be too long, and those after it."""
     cut = next((i for i, line in enumerate(lines) if len(line) <= MOST_LINE and line.strip(" \t") == "--"), len(lines))
     return lines[:cut], lines[cut + 1:]
 
 
 def image_of(lines):
-    """The bytes of an image's lines, each of an even number of digits between blanks."""
+    """Returns the bytes of the lines of an image, each an even number of digits between blanks."""
     if not all(len(line) <= MOST_LINE and re.fullmatch("[ \t]*([0-9A-Fa-f]{2})*[ \t]*", line) for line in lines):
         raise Fault("rvbench: hex")
     return bytes.fromhex("".join(line.strip(" \t") for line in lines))
 
 
 def output(text, **setup):
-    """What the program must write to an input, and its status."""
+    """Returns the expected output for an input, and the status."""
     image, script = cut_at(lines_of(text))
     try:
         bench = Bench(image_of(image), **setup)
@@ -300,14 +300,14 @@ SHOWS = {"mem": lambda words: int(words[2]), "poke": lambda words: 1, "dis": lam
 
 
 class Twins:
-    """Two benches that a first script has answered alike; then the second one's enclave of the slot is made another."""
+    """Two benches after the same first script; then the enclave in the slot of the second one gets another secret."""
 
     def __init__(self, bench, slot):
         self.slot, self.count, self.one, self.other = slot, 0, bench, copy.deepcopy(bench)
         self.is_apart = self.other.machine.scramble(slot)
 
     def is_blind(self, words):
-        """Whether the command neither shows nor writes a byte of the enclave's region, in either bench."""
+        """Returns whether the command neither shows nor writes a byte of the region, in either bench."""
         if words[0] not in SHOWS:
             return True
         block = int(words[1], 16), SHOWS[words[0]](words)
@@ -315,46 +315,46 @@ class Twins:
         return not any(self.slot in table and meet(table[self.slot].region, block) for table in tables)
 
     def replies(self, line):
-        """The lines that answer a line, and whether it ends the run."""
+        """Returns the reply to a line, and whether it ends the run."""
         try:
             words = parsed(line)
         except Fault as fault:
             return [fault.args[0]], False
         if not words or not self.is_blind(words):
             return ["error blind"] if words else [], False
-        told = [mark + reply for mark, bench in (("a: ", self.one), ("b: ", self.other)) for reply in bench.answers(words)]
+        output = [mark + reply for mark, bench in (("a: ", self.one), ("b: ", self.other)) for reply in bench.answers(words)]
         self.count += 1
         if self.slot in self.one.entered | self.other.entered:
             return ["twin entered %d" % self.count], True
-        return told, False
+        return output, False
 
 
 def twin_output(text, slot=0, **setup):
-    """What the program must write of two benches, and its status."""
+    """Returns the expected output of two benches, and the status."""
     image, scripts = cut_at(lines_of(text))
     first, second = cut_at(scripts)
     try:
         bench = Bench(image_of(image), **setup)
     except Fault as fault:
         return fault.args[0] + "\n", 1
-    told = [reply for line in first for reply in bench.replies(line)]
+    output = [reply for line in first for reply in bench.replies(line)]
     twins = Twins(bench, slot)
     if not twins.is_apart:
-        return "".join(it + "\n" for it in [*told, "twin no slot"]), 0
+        return "".join(it + "\n" for it in [*output, "twin no slot"]), 0
     for line in second:
         replies, is_last = twins.replies(line)
-        told += replies
+        output += replies
         if is_last:
             break
     else:
-        told.append("twin end %d" % twins.count)
-    return "".join(it + "\n" for it in told), 0
+        output.append("twin end %d" % twins.count)
+    return "".join(it + "\n" for it in output), 0
 
 
-# ---- the program's words
+# ---- the arguments
 
 def setup_of(words):
-    """The setup that the program's words name, for output or for twin_output."""
+    """Returns the configuration of the arguments, for output or for twin_output."""
     parser = argparse.ArgumentParser()
     parser.add_argument("--kind", default="auto", choices=("auto", "raw", "elf"))
     parser.add_argument("--ram", default=1048576, type=int)
@@ -367,7 +367,7 @@ def setup_of(words):
 
 
 def wanted(text, words):
-    """What the program must write with these words, and its status."""
+    """Returns the expected output with these arguments, and the status."""
     setup = setup_of(words)
     if setup["harts"] > 1 and not setup.get("is_monitored", True):
         return "rvbench: command line\n", 2

@@ -1,6 +1,6 @@
-"""The monitored machine: a hart, or two, under a security monitor in the manner of Keystone (EuroSys 2020), by the tables of
-docs/MONITOR.md: the table of enclaves, the entries, the calls with their refusals in order, the switches between worlds, the
-timer's stop, and the traps that are passed on. SHA-256 is hashlib's. Nothing of the bench is used.
+"""The monitored machine: one or two harts under a security monitor in the style of Keystone (EuroSys 2020), by the tables of docs/MONITOR.md: the
+enclave table, the PMP entries, the calls with their refusals in order, world switches, timer interrupts, and redirected traps. SHA-256 is that
+of hashlib. Independent of the code under test.
 """
 import hashlib
 
@@ -17,7 +17,7 @@ CREATE, DESTROY, RUN, RESUME, MEASURE, STOP, EXIT = range(1, 8)
 OF_HOST, OF_ENCLAVE = (CREATE, DESTROY, RUN, RESUME, MEASURE), (MEASURE, STOP, EXIT)
 NOT_SUPPORTED, BAD_REGION, BAD_WINDOW, OVERLAP, BAD_ENTRY, NO_SLOT, NO_ENCLAVE, BAD_STATE, BAD_ADDRESS = range(
     ONES, ONES - 9, -1)
-EXITED, STOPPED, INTERRUPTED = 0, 1, 2  # what the host is told when an enclave leaves
+EXITED, STOPPED, INTERRUPTED = 0, 1, 2  # a0 of the host when an enclave exits, stops or is interrupted
 DIGEST = 32
 SUPERVISOR = [NUMBER[name] for name in ("stvec", "sscratch", "sepc", "scause", "stval")]
 STVEC, SSCRATCH, SEPC, SCAUSE, STVAL = SUPERVISOR
@@ -26,7 +26,7 @@ TIMER_CAUSE, ECALL_FROM_S = 0x80000007, 9
 
 
 class Context:
-    """What a world keeps while it does not run: all 0 and in mode U unless it is said."""
+    """The saved context of a world that does not run; by default all 0 and in mode U."""
 
     def __init__(self, pc=0, mode=U, regs=None):
         self.regs, self.pc, self.mode = regs or [0] * 32, pc, mode
@@ -48,7 +48,7 @@ class Refused(Exception):
 
 
 def meet(one, other):
-    """Whether two blocks, each a base and a size, share a byte."""
+    """Returns whether two blocks, each a base and a size, share a byte."""
     return max(one[0], other[0]) < min(one[0] + one[1], other[0] + other[1])
 
 
@@ -68,7 +68,7 @@ class Monitored(HartInMemory):
         self.lay_out()
 
     def add_hart(self):
-        """A second hart of the machine at reset: it begins as the first one, but for its number in a0."""
+        """Returns a second hart of the machine at reset: equal to the first one, except for its number in a0."""
         other = Monitored(b"", self.pc)
         other.ram, other.table, other.peers = self.ram, self.table, self.peers
         other.set(10, len(self.peers))
@@ -81,7 +81,7 @@ class Monitored(HartInMemory):
         return size >= LEAST_SIZE and size & size - 1 == 0 and base % size == 0 and self.is_inside(base, size)
 
     def lay_out(self):
-        """The sixteen entries and mie, of the table and the hart's own world."""
+        """Programs the sixteen entries and mie from the enclave table and the world of the hart."""
         entries = {0: (0x18, napot(START, MONITOR_SIZE))}
         for slot, enclave in self.table.items():
             entries[slot + 1] = (0x1F if slot == self.world else 0x18, napot(*enclave.region))
@@ -96,7 +96,7 @@ class Monitored(HartInMemory):
     # ---- a step
 
     def step(self):
-        """The bare step; after a trap the monitor does its part, lays out every hart, and returns."""
+        """Makes a bare step; after a trap the monitor handles it, programs the entries of every hart, and returns."""
         self.entered = None
         trap = super().step()
         if trap:
@@ -118,7 +118,7 @@ class Monitored(HartInMemory):
         self.pc = self.mret()
 
     def pass_on(self, trap, mode):
-        """An exception goes to the world's own mode S."""
+        """Redirects an exception to mode S of the same world."""
         status = self.kept[MSTATUS]
         self.leave(SEPC, self.kept[MEPC])
         self.leave(SCAUSE, trap.cause)
@@ -129,7 +129,7 @@ class Monitored(HartInMemory):
     # ---- switches
 
     def saved(self, pc, mode):
-        """The context of the world that is left."""
+        """Returns the context of the suspended world."""
         context = Context(pc, mode, list(self.regs))
         context.supervisor = {number: self.kept.get(number, 0) for number in SUPERVISOR}
         context.flags = self.kept[MSTATUS] & SUPERVISOR_FLAGS
@@ -148,17 +148,17 @@ class Monitored(HartInMemory):
         enclave.state = "Running"
         self.load_context(enclave.context)
 
-    def leave_enclave(self, state, context, told, value):
+    def leave_enclave(self, state, context, status, value):
         enclave = self.table[self.world]
         enclave.state, enclave.context, self.world = state, context, None
-        self.host.regs[10:12] = [told, value]
+        self.host.regs[10:12] = [status, value]
         self.load_context(self.host)
 
-    # ---- what is no step
+    # ---- changes without a step
 
     def scramble(self, slot):
-        """Makes of a live enclave that runs on no hart another one: the complement of each byte of its region and of each saved
-        register. Whether there is such an enclave."""
+        """Replaces each byte of the region and each saved register of a live enclave that runs on no hart by its complement. Returns whether there
+        is such an enclave."""
         if slot not in self.table or self.table[slot].state == "Running":
             return False
         enclave = self.table[slot]
@@ -170,7 +170,7 @@ class Monitored(HartInMemory):
     # ---- calls
 
     def called(self):
-        """An ecall from S: the call is done or refused, and the caller goes on past it."""
+        """Handles an ecall from S: executes or refuses the call, and continues after it."""
         past = self.kept[MEPC] + 4 & ONES
         try:
             function = self.regs[16]
@@ -194,7 +194,7 @@ class Monitored(HartInMemory):
         self.leave_enclave("Stopped" if function == STOP else "Exited", context, STOPPED if function == STOP else EXITED, value)
 
     def slot_in(self, slot, *states):
-        """The slot, live and in one of these states."""
+        """Returns the slot if it is live and in one of these states."""
         if slot not in self.table:
             raise Refused(NO_ENCLAVE)
         if self.table[slot].state not in states:

@@ -1,5 +1,5 @@
-"""The sixteen entries of physical memory protection, by the RISC-V Privileged Architecture 20211203, section 3.7.1: which bytes
-an entry covers, the verdict on an access, worked out byte by byte, and what a write leaves. Nothing of the bench is used.
+"""The sixteen PMP entries, by the RISC-V Privileged Architecture 20211203, section 3.7.1: the bytes that an entry covers, the verdict on an access,
+computed byte by byte, and the effect of a write. Independent of the code under test.
 """
 
 OFF, TOR, NA4, NAPOT = 0x00, 0x08, 0x10, 0x18
@@ -8,12 +8,12 @@ BIT = {"r": R, "w": W, "x": X}
 
 
 def napot(base, size):
-    """The pmpaddr of a NAPOT entry."""
+    """Returns the pmpaddr of a NAPOT entry."""
     return (base + size // 2 - 1) >> 2
 
 
 def stored(cfg):
-    """A cfg byte as a write keeps it: bits 6:5 are 0, and so is W where R is."""
+    """Returns a cfg byte after a write: bits 6:5 are 0, and W is 0 if R is."""
     return cfg & 0x9F & ~(0 if cfg & R else W)
 
 
@@ -42,7 +42,7 @@ class Entries:
         return False
 
     def verdict(self, mode, kind, address, width):
-        """The verdict, and the entry that decides, if any; the mode is a letter, and the kind r, w or x."""
+        """Returns the verdict, and the matching entry if there is one; the mode is a letter, and the kind r, w or x."""
         each = range(address, address + width)
         for i in range(16):
             covered = [self.covers(i, byte) for byte in each]
@@ -63,13 +63,13 @@ class Entries:
         return sum(self.cfgs[4 * number + i] << 8 * i for i in range(4))
 
     def write_cfg_word(self, number, word):
-        """Each byte by its own lock."""
+        """Writes each byte unless it is locked."""
         for i in range(4):
             if not self.is_locked(4 * number + i):
                 self.cfgs[4 * number + i] = stored(word >> 8 * i & 0xFF)
 
     def write_addr(self, i, word):
-        """A locked TOR entry locks the address below it too."""
+        """Writes an address; a locked TOR entry also locks the address below it."""
         is_lower_bound = i < 15 and self.is_locked(i + 1) and self.matching(i + 1) == TOR
         if not self.is_locked(i) and not is_lower_bound:
             self.addrs[i] = word

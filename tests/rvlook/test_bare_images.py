@@ -1,4 +1,4 @@
-"""Bare images: what needs the bench's own monitor, or has one world for all modes, is refused in one line."""
+"""Bare images: subcommands that need the monitor, or that do not distinguish modes, are refused in one line."""
 import pytest
 
 from conftest import PROGRAMS, ROOT
@@ -11,14 +11,14 @@ PMP, SUM = str(ROOT / "examples" / "programs" / "pmp" / "stdin"), str(ROOT / "ex
 def test_subcommand_that_needs_the_monitor_is_refused(rvlook, word, more):
     done = rvlook(word, IMAGE, *more)
     assert (done.returncode, done.stdout) == (2, "")
-    assert done.stderr == "rvlook: %s needs the bench's own monitor, and %s is run bare; --monitor runs it under that one\n" % (word, IMAGE)
+    assert done.stderr == "rvlook: error: %s requires the monitor of rvbench, but %s runs bare; use --monitor\n" % (word, IMAGE)
 
 
 @pytest.mark.parametrize("image, what", [(IMAGE, "enters mode U at step 16"), (PMP, "writes a PMP register at step 3")])
 def test_touch_of_more_than_one_mode_is_refused(rvlook, image, what):
     done = rvlook("touch", image)
     assert (done.returncode, done.stdout) == (2, "")
-    assert done.stderr == "rvlook: touch merges all modes of a bare image, and %s %s; map and trace tell each mode apart\n" % (image, what)
+    assert done.stderr == "rvlook: error: touch does not distinguish modes, but %s %s; use map or trace\n" % (image, what)
 
 
 def test_touch_of_mode_m_alone_is_a_report(rvlook):

@@ -1,4 +1,4 @@
-"""Inputs without end, and large ones, end in one line, soon and in little memory."""
+"""Endless and large inputs end with one line, soon and in little memory."""
 import time
 
 import pytest
@@ -19,7 +19,7 @@ def test_image_without_end_is_refused(bench):
     done = run(bench, "map", "/dev/zero")
     check(done)
     assert done.status in (1, 2)
-    assert b"rvlook: /dev/zero: the file is too long" in done.errors
+    assert b"rvlook: error: '/dev/zero' is too large" in done.errors
     assert done.memory < LITTLE
 
 
@@ -28,7 +28,7 @@ def test_file_of_an_option_without_end_is_refused(bench, image, option):
     done = run(bench, "map", image, option, "/dev/zero")
     check(done)
     assert done.status in (1, 2)
-    assert b"/dev/zero: the file is too long" in done.errors
+    assert b"'/dev/zero' is too large" in done.errors
     assert done.memory < LITTLE
 
 
@@ -47,7 +47,7 @@ def test_long_image_is_refused_before_the_bench_has_it(bench, tmp_path, size):
     done = run(bench, "map", path)
     check(done)
     assert done.status in (1, 2)
-    assert b"too long" in done.errors
+    assert b"is too large" in done.errors or b"rvbench: too long" in done.errors
     assert done.memory < LITTLE
 
 
@@ -55,10 +55,10 @@ def test_script_of_too_many_lines_is_refused(bench, image, tmp_path):
     (tmp_path / "script").write_bytes(b"\n" * 1000001)
     done = run(bench, "map", image, "--script", tmp_path / "script")
     check(done)
-    assert b"the script is too long: it has more than 1000000 lines" in done.errors
+    assert b"is too long: it has more than 1000000 lines" in done.errors
 
 
-def test_many_unknown_names_beside_many_symbols_take_little_time():
+def test_many_unknown_names_with_many_symbols_take_little_time():
     from rvlook.protocol.nearest import nearest
     known = ["symbol_number_%d_of_the_program" % it for it in range(60000)]
     began = time.process_time()

@@ -1,5 +1,5 @@
-"""Long work in parts, by GNU parallel as docs/ASK.md has it. Work that is killed and resumed loses nothing, does nothing twice, and has
-together what one run has."""
+"""Long work in parts with GNU parallel, as in docs/ASK.md. Work that is killed and resumed loses nothing, repeats nothing, and has the results of
+one run."""
 import json
 import os
 import shutil
@@ -32,7 +32,7 @@ class Campaign:
         assert (done.returncode, done.stderr) == (0, "")
 
     def kill_after(self, count):
-        """Starts it, and kills it with its jobs after so many have ended."""
+        """Starts the work, and kills it with its jobs after this many have ended."""
         process = subprocess.Popen(self.command, stdout=subprocess.DEVNULL, stderr=subprocess.DEVNULL, env=self.environment, start_new_session=True)
         end = time.monotonic() + 60
         while time.monotonic() < end and len(self.ended()) < count:
@@ -63,17 +63,17 @@ def test_killed_campaign_is_resumed_without_loss(results, bench, tmp_path):
     assert 0 < len(campaign.ended()) < TRIES // PART, "it was not killed between two jobs"
     campaign.run()
     assert sorted(campaign.ended()) == list(range(1, TRIES // PART + 1)), "a job is missing, or was done twice"
-    key = lambda it: (it["number"], it["bytes"], it["parts"])
-    whole = [key(it) for it in results(*LEAK, "--tries", str(TRIES), "--exit-zero") if it["object"] == "try"]
-    assert sorted(map(key, campaign.objects("try"))) == whole
+    key = lambda it: (it["number"], it["bytes"], it["channels"])
+    whole = [key(it) for it in results(*LEAK, "--tries", str(TRIES), "--exit-zero") if it["object"] == "pair"]
+    assert sorted(map(key, campaign.objects("pair"))) == whole
 
 
 def test_parts_by_the_first_step_of_the_timer_have_all_final_states(results, bench, tmp_path):
     campaign = Campaign(tmp_path, bench, job_of(RACES, "--from {} --to $(({} + 39))"), range(0, 120, 40))
     campaign.run()
-    key = lambda it: (it["values"]["80030000:12"], it["over"][0]["pc"])
-    assert {key(it) for it in results(*RACES, "--exit-zero") if it["object"] == "race"} == set(map(key, campaign.objects("race")))
-    assert [it["whole"] for it in campaign.objects("races")] == [True] * 3
+    key = lambda it: (it["values"]["80030000:12"], it["harts"][0]["pc"])
+    assert {key(it) for it in results(*RACES, "--exit-zero") if it["object"] == "final_state"} == set(map(key, campaign.objects("final_state")))
+    assert [it["complete"] for it in campaign.objects("races")] == [True] * 3
 
 
 def test_folder_of_programs_is_searched(bench, tmp_path):
@@ -82,4 +82,4 @@ def test_folder_of_programs_is_searched(bench, tmp_path):
     words = ("races", "--monitor", "--harts", "2", "--limit", "60")
     campaign = Campaign(tmp_path, bench, job_of(words, "{}"), [tmp_path / "two_harts", tmp_path / "race"])
     campaign.run()
-    assert [it["whole"] for it in campaign.objects("races")] == [True, True]
+    assert [it["complete"] for it in campaign.objects("races")] == [True, True]

@@ -48,10 +48,10 @@ def test_prompt_takes_bytes_that_are_no_text(bench, elf, locale):
 
 
 @pytest.mark.parametrize("locale", LOCALES)
-def test_name_of_a_missing_file_is_told(bench, locale):
-    status, _, told = ended(bench, LOCALES[locale], "map", b"/n\xff\xc3\xb6ne")
+def test_name_of_a_missing_file_is_printed(bench, locale):
+    status, _, errors = ended(bench, LOCALES[locale], "map", b"/n\xff\xc3\xb6ne")
     assert status in (1, 2)
-    assert told.startswith(b"rvlook: /n")
+    assert errors.startswith(b"rvlook: error: cannot open '/n")
 
 
 @pytest.mark.parametrize("mark, encoding", [("\ufeff", "utf-8"), ("\ufeff", "utf-16-le"), ("\ufeff", "utf-16-be")])
@@ -61,7 +61,7 @@ def test_image_text_with_byte_order_mark_is_refused(bench, tmp_path, mark, encod
     done = run(bench, "map", path)
     check(done)
     assert done.status in (1, 2)
-    assert b"it is a text with a byte order mark" in done.errors
+    assert b"is a text file with a byte order mark" in done.errors
     assert run(bench, "map", path, "--kind", "raw", "--steps", "1").status == 0
 
 

@@ -1,4 +1,4 @@
-"""Exit statuses: 0 is no finding, 1 a finding, 2 an unusable argument or input, 3 work that was cut short; and the JUnit report."""
+"""Exit statuses: 0 for no findings, 1 for findings, 2 for an unusable argument or input, 3 for incomplete work; and the JUnit report."""
 import signal
 import subprocess
 import xml.etree.ElementTree as ElementTree
@@ -28,13 +28,13 @@ def test_leak_of_drawn_secrets(rvlook, short_program):
     assert rvlook("leak", *short_program("leak_trap"), "--at", "secret:4", "--tries", "2").returncode == 1
     public = [word for it in ("pc", "answer") for word in ("--public", it) if it == "answer"]
     done = rvlook("leak", *short_program("window_copies"), "--at", "key:20", "--tries", "2", "--public", "window_base+10", *public)
-    assert (done.returncode, done.stdout) == (0, "alike for 2 pairs in pc, steps, address, answer, window\n")
+    assert (done.returncode, done.stdout) == (0, "no difference in 2 pairs: pc, steps, address, answer, window\n")
 
 
 def test_leak_that_seconds_cut(rvlook, short_program):
     words = ("leak", *short_program("window_copies"), "--at", "key:20", "--tries", "500", "--seconds", "0", "--public", "window_base+10")
     done = rvlook(*words)
-    assert (done.returncode, done.stderr) == (3, "rvlook: --seconds ends leak after 1 pair of 500\n")
+    assert (done.returncode, done.stderr) == (3, "rvlook: warning: --seconds ended leak after 1 of 500 pairs\n")
     assert rvlook(*words[:-2]).returncode == 1, "what was found counts more than that not all was compared"
     assert rvlook(*words[:-2], "--exit-zero").returncode == 3
 
@@ -43,7 +43,7 @@ def test_races(rvlook):
     assert rvlook(*RACES).returncode == 1
     assert rvlook(*RACES, "--forbid", "0.a0 == 0x99").returncode == 0
     done = rvlook(*RACES, "--forbid", "0.a0 == 0xfffffff9")
-    assert done.returncode == 1 and done.stderr.startswith("rvlook: --forbid 0.a0 == 0xfffffff9: end ")
+    assert done.returncode == 1 and done.stderr.startswith("rvlook: warning: --forbid 0.a0 == 0xfffffff9: final state ")
 
 
 def test_races_with_one_end(rvlook):
@@ -52,7 +52,7 @@ def test_races_with_one_end(rvlook):
 
 def test_races_that_seconds_cut(rvlook):
     done = rvlook(*RACES, "--seconds", "0", "--forbid", "0.a0 == 0x99")
-    assert (done.returncode, done.stderr) == (3, "rvlook: --forbid is not decided: not all was searched\n")
+    assert (done.returncode, done.stderr) == (3, "rvlook: warning: --forbid is undecided: the search is incomplete\n")
 
 
 def test_explain(rvlook):
@@ -75,14 +75,14 @@ def test_refused_line_counts_more_than_a_finding(rvlook, short_program, tmp_path
     script.write_text("stepp 4\n")
     for more in ((), ("--exit-zero",)):
         done = rvlook("leak", *short_program("leak_trap"), *LEAK, "--script", script, *more)
-        assert done.returncode == 2 and done.stdout.endswith("they part in pc, steps, address, window\n")
+        assert done.returncode == 2 and done.stdout.endswith("the runs differ in pc, steps, address, window\n")
 
 
 @pytest.mark.parametrize("words", [("leak", "--at", "nowhere", "00", "01"), ("leak", "--at", "secret", "0", "01"), ("leak", "--at", "secret", "00", "0001"),
                                    ("leak", "--at", "secret:4"), ("timer", "--every", "0"), ("window", "--slot", "13")])
 def test_argument_that_cannot_be_used(rvlook, short_program, words):
     done = rvlook(words[0], *short_program("leak_trap"), *words[1:])
-    assert (done.returncode, done.stdout) == (2, "") and done.stderr.startswith("rvlook: ")
+    assert (done.returncode, done.stdout) == (2, "") and done.stderr.startswith("rvlook: error: ")
 
 
 @pytest.mark.parametrize("words", [("timer", "--steps", "9"), ("window", "--steps", "9"), ("leak", "--steps", "9", *LEAK)])
@@ -141,9 +141,9 @@ def test_junit_has_a_case_for_each_pair_activation_and_end(rvlook, short_program
     rvlook("leak", *short_program("leak_trap"), "--at", "secret:4", "--tries", "3", "--junit", path)
     assert [it[0] for it in junit(path)[1]] == ["pair 1", "pair 2", "pair 3"]
     rvlook("window", *short_program("window_copies"), "--at", "key:20", "--junit", path)
-    assert junit(path)[1] == [("e0, stay 1", ("failure", "writes      80030010-80030013      4  window_base+10  application+30  depends on the secret"))]
+    assert junit(path)[1] == [("e0, activation 1", ("failure", "writes      80030010-80030013      4  window_base+10  application+30  depends on the secret"))]
     rvlook(*RACES, "--junit", path)
-    assert [it[0] for it in junit(path)[1]][:2] == ["end 1", "end 2"]
+    assert [it[0] for it in junit(path)[1]][:2] == ["final state 1", "final state 2"]
     rvlook(*RACES, "--forbid", "0.a0 == 0x99", "--junit", path)
     assert junit(path)[1] == [("--forbid 0.a0 == 0x99",)]
 
@@ -156,18 +156,18 @@ def test_junit_has_an_error_if_the_work_is_cut_short(rvlook, short_program, tmp_
     suite, cases = junit(path)
     assert suite["errors"] == "1" and cases[-1][0] == "the run" and cases[-1][1][0] == "error"
     assert rvlook("timer", *short_program("leak_trap"), "--slot", "4", "--junit", path).returncode == 3
-    assert junit(path)[1] == [("the run", ("error", "there is no enclave in slot 4"))]
+    assert junit(path)[1] == [("the run", ("error", "no enclave in slot 4"))]
 
 
 @junitparser
 def test_junit_file_that_cannot_be_written(rvlook, short_program):
     done = rvlook("leak", *short_program("leak_trap"), *NO_LEAK, "--junit", "/none/it.xml")
-    assert (done.returncode, done.stderr) == (3, "rvlook: /none/it.xml: No such file or directory\n")
+    assert (done.returncode, done.stderr) == (3, "rvlook: error: cannot write '/none/it.xml': No such file or directory\n")
 
 
 def test_junit_without_its_package(rvlook, short_program, tmp_path):
     (tmp_path / "junitparser.py").write_text("raise ImportError\n")
     done = rvlook("leak", *short_program("leak_trap"), *LEAK, "--junit", tmp_path / "it.xml", env={"PYTHONPATH": str(tmp_path)})
     assert (done.returncode, done.stdout) == (3, "")
-    assert done.stderr == ("rvlook: junitparser is not there, so --junit cannot write its report; apt-get install python3-junitparser brings it\n")
+    assert done.stderr == ("rvlook: error: junitparser is not installed, so --junit cannot write its report; install it with 'apt-get install python3-junitparser'\n")
     assert not (tmp_path / "it.xml").exists()

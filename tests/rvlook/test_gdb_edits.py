@@ -1,4 +1,4 @@
-"""Edits in `rvlook gdb`: a write is replayed at its step, and forgotten after another write before it; and moves at random."""
+"""Writes in `rvlook gdb`: a write is replayed at its step, and discarded after another write before it; and random moves."""
 import random
 import re
 
@@ -30,21 +30,21 @@ def test_edit_is_forgotten_after_another_one_before_it(debugger):
     with debugger(TWO, HARTS) as client:
         for packet in ("vCont;s:1", "vCont;s:1", "M80040000,1:ab", "bc", "Z0,80010014,4", "bc", "M80040001,1:cd"):
             client.ask(packet)
-        client.told = ""
+        client.console = ""
         client.ask("vCont;s:1")
-        assert client.told == "[what had been done behind step 0 is forgotten]\n"
+        assert client.console == "[the history after step 0 is discarded]\n"
         client.ask("vCont;c")
         assert client.ask("m80040000,2") == "00cd"
 
 
 class History:
-    """What was typed, as lines of a script: `done` up to the current step, `future` after it."""
+    """The typed commands as lines of a script: `done` up to the current step, `future` after it."""
 
     def __init__(self, replies):
         self.replies, self.done, self.future = replies, [], []
 
     def state(self):
-        """What `regs` prints after `done`."""
+        """Returns the output of `regs` after `done`."""
         return self.replies(BUG, MONITOR, [*self.done, "regs"])[-33:]
 
     def places(self):

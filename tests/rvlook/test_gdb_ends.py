@@ -1,4 +1,4 @@
-"""How `rvlook gdb` ends: one line on standard error, and no process is left. And how soon Ctrl-C halts a run."""
+"""Ends of `rvlook gdb`: one line on standard error, and no process remains. Also the time in which Ctrl-C halts a run."""
 import os
 import pty
 import re
@@ -14,10 +14,10 @@ from support.packets import packet
 from conftest import EXAMPLES, ROOT, RVLOOK
 
 IMAGE, MONITOR = EXAMPLES / "enclaves" / "timer" / "image", ("--monitor",)
-ENDLESS = "1303130013031300\n6ff09fff\n"  # a loop that never stays
+ENDLESS = "1303130013031300\n6ff09fff\n"  # a loop that never halts
 SOON = 0.05  # seconds within which Ctrl-C halts
-GONE = "rvlook: the debugger has gone\n"
-KILLED = "rvlook: %s: the bench ended with status -9\n" % IMAGE
+GONE = "rvlook: note: the debugger disconnected\n"
+KILLED = "rvlook: error: %s: rvbench exited with status -9\n" % IMAGE
 PARENT = "import subprocess, sys, time\nit = subprocess.Popen(%r, stdin=subprocess.PIPE)\nprint(it.pid, flush=True)\n" \
     "it.stdin.write(%r)\nit.stdin.flush()\ntime.sleep(60)"
 
@@ -108,7 +108,7 @@ def test_server_ends_if_the_debugger_is_killed_meanwhile(environment, endless, p
     parent.stderr.close()
 
 
-@pytest.mark.parametrize("text, answer", [("m80010000,4", "E.the bench has ended"), ("vCont;c", "X09")], ids=["read", "continue"])
+@pytest.mark.parametrize("text, answer", [("m80010000,4", "E.rvbench has exited"), ("vCont;c", "X09")], ids=["read", "continue"])
 def test_bench_that_is_killed_is_reported(debugger, text, answer):
     with debugger(IMAGE, MONITOR, stderr=subprocess.PIPE) as client:
         numbers = children_of(client.process.pid)
@@ -119,11 +119,11 @@ def test_bench_that_is_killed_is_reported(debugger, text, answer):
 
 
 @pytest.mark.parametrize("words, program, message", [
-    ((*MONITOR, IMAGE), "/none", "there is no program at /none"), (("README.md", "--kind", "elf"), None, "README.md: ")], ids=["program", "image"])
+    ((*MONITOR, IMAGE), "/none", "RVBENCH: no program at '/none'"), (("README.md", "--kind", "elf"), None, "'README.md' is a text file, ")], ids=["program", "image"])
 def test_program_or_image_that_cannot_be_used_is_refused(rvlook, words, program, message):
     done = rvlook("gdb", *words, env={"RVBENCH": program} if program else None)
     assert done.returncode == 2
-    assert re.fullmatch("rvlook: %s[^\n]*\n" % re.escape(message), done.stderr), done.stderr
+    assert re.fullmatch("rvlook: error: %s[^\n]*\n" % re.escape(message), done.stderr), done.stderr
 
 
 def asked_at(connection, text):
@@ -144,12 +144,12 @@ def test_port_serves_one_debugger(server, rvlook):
         assert asked_at(first, "QStartNoAckMode") == "OK"
         with socket.create_connection(("localhost", port)) as second:
             assert second.recv(1) == b""
-        assert process.stderr.readline().decode() == "rvlook: a second debugger came to the port, and was turned away\n"
+        assert process.stderr.readline().decode() == "rvlook: warning: rejected a second connection to the port\n"
         assert asked_at(first, "vCont;s:1")[:3] == "T05"
         numbers = children_of(process.pid)
         done = rvlook("gdb", "--port", port, *MONITOR, IMAGE)
         assert done.returncode == 2
-        assert re.fullmatch("rvlook: port %d: Address already in use[^\n]*\n" % port, done.stderr), done.stderr
+        assert re.fullmatch("rvlook: error: cannot listen on port %d: Address already in use[^\n]*\n" % port, done.stderr), done.stderr
     check_end(process, numbers, 0, GONE)
     with pytest.raises(ConnectionRefusedError):
         socket.create_connection(("localhost", port))
@@ -157,29 +157,29 @@ def test_port_serves_one_debugger(server, rvlook):
 
 def test_number_that_is_no_port_is_refused(rvlook):
     done = rvlook("gdb", "--port", "99999", *MONITOR, IMAGE)
-    assert done.returncode == 2 and re.fullmatch("rvlook: port 99999: [^\n]*\n", done.stderr), done.stderr
+    assert done.returncode == 2 and re.fullmatch("rvlook: error: cannot listen on port 99999: [^\n]*\n", done.stderr), done.stderr
 
 
 def test_interrupt_before_a_debugger_comes_ends_the_server(server):
     process, _ = server()
     process.send_signal(signal.SIGINT)
-    assert (process.wait(10), process.stderr.read().decode()) == (130, "rvlook: stopped\n")
+    assert (process.wait(10), process.stderr.read().decode()) == (130, "rvlook: error: interrupted\n")
 
 
-def test_terminal_is_told_how_a_debugger_is_started(environment):
+def test_terminal_gets_the_command_for_a_debugger(environment):
     ours, theirs = pty.openpty()
     done = subprocess.run([RVLOOK, "gdb", *MONITOR, IMAGE], cwd=ROOT, env=environment, stdin=theirs, capture_output=True, text=True, check=False)
     os.close(ours)
     os.close(theirs)
-    assert (done.returncode, done.stderr) == (2, "rvlook: a debugger speaks here, and no person: gdb-multiarch %s -ex 'target remote | ./rvlook gdb "
-                                              "--monitor %s'; or --port N\n" % (IMAGE, IMAGE))
+    assert (done.returncode, done.stderr) == (2, "rvlook: error: standard input is a terminal, not a debugger; run gdb-multiarch %s "
+                                              "-ex 'target remote | ./rvlook gdb --monitor %s', or use --port N\n" % (IMAGE, IMAGE))
 
 
 @pytest.mark.parametrize("words, before", [
     (MONITOR, ()), ((*MONITOR, "--harts", "2"), ()), (MONITOR, ("Z2,80020000,4",)), (MONITOR, ("qRcmd," + b"catch trap".hex(),))],
     ids=["one hart", "two harts", "watchpoint", "catchpoint"])
 def test_interrupt_halts_soon(debugger, endless, words, before):
-    """The best of three times counts, for the machine may do other work."""
+    """The best of three times counts, since the machine may be busy."""
     with debugger(endless, words) as client:
         for text in before:
             client.ask(text)

@@ -1,4 +1,4 @@
-"""Two harts in `rvlook gdb`: turns, schedules, breakpoints and watchpoints, on and back, against `sched` on the bench and `trace`."""
+"""Two harts in `rvlook gdb`: schedules, breakpoints and watchpoints, forwards and backwards, against `sched` of the program and `trace`."""
 import pytest
 
 from conftest import EXAMPLES
@@ -20,7 +20,7 @@ def lines_of(digits):
 
 @pytest.fixture(scope="module")
 def state_after(replies):
-    """What `regs` prints for a hart after steps of harts."""
+    """Returns the output of `regs` for a hart after steps of harts."""
     return lambda digits, hart: replies(IMAGE, WORDS, [*lines_of(digits), "hart %d" % hart, "regs"])[-33:]
 
 

@@ -90,12 +90,12 @@ def test_monitor_line_that_would_wait_is_refused(bench, elf):
     found, _ = replies(bench, elf, *map(monitor, lines), packet("g"))
     assert found.count(b"OK") == len(lines)
     assert REGISTERS.match(found[-1])
-    assert shown(found).count("it is no regular file") == 4
+    assert shown(found).count("is not a regular file") == 4
 
 
 def test_line_feed_in_monitor_does_no_command(bench, elf):
     found, _ = replies(bench, elf, monitor("step 1\nsetreg 5 7"), monitor("reg 5"), monitor("reg 32"))
-    assert "monitor takes one line" in shown(found)
+    assert "monitor takes a single line" in shown(found)
     assert "x5=00000000" in shown(found)
 
 
@@ -104,11 +104,11 @@ def test_page_of_monitor_shows_the_run_up_to_now(bench, elf):
     import json
     import struct
     import zlib
-    found, told = replies(bench, elf, monitor("step 3"), monitor("page"), monitor("trace"))
+    found, errors = replies(bench, elf, monitor("step 3"), monitor("page"), monitor("trace"))
     text = shown(found)
     packed = zlib.decompress(base64.b64decode(re.search(r'id="data">(.*?)</script>', text, re.S)[1]))
     assert json.loads(packed[4:4 + struct.unpack_from("<I", packed)[0]])["steps"] == 3
-    assert "3 steps: bare has come to" in text
+    assert "3 steps: bare is at" in text
     assert "rvlook: " not in text[text.index("<!DOCTYPE"):text.index("</html>")]
 
 
@@ -131,7 +131,7 @@ class Port:
         self.process.wait(60)
 
     def monitor(self, line):
-        """What a line of `monitor` shows."""
+        """Returns the output of a line of `monitor`."""
         self.connection.sendall(monitor(line))
         data = b""
         while b"$OK#" not in data and b"$E" not in data:
@@ -148,16 +148,16 @@ def test_debugger_on_a_port_names_no_file(bench, elf, tmp_path):
     with Port(bench, elf) as port:
         for line in NAMING:
             text = port.monitor(line.format(tmp_path))
-            assert "a debugger on a port may name no file; rvlook gdb --allow-files" in text, line
+            assert "files are disabled for a debugger on a port; start with rvlook gdb --allow-files" in text, line
             assert "secret" not in text
         assert "80000000" in port.monitor("where")
-    assert not (tmp_path / "ends").exists()
+    assert not (tmp_path / "scripts").exists()
 
 
 def test_debugger_on_a_port_names_files_by_permission(bench, elf, tmp_path):
     (tmp_path / "file").write_text("6f000000\n--\nsecret 5\n")
     with Port(bench, elf, "--allow-files") as port:
-        assert "secret is no command" in port.monitor("explain %s/file" % tmp_path)
+        assert "unknown command 'secret'" in port.monitor("explain %s/file" % tmp_path)
 
 
 def test_monitor_of_lldb_acts_on_the_hart_that_halted_and_advises_for_lldb(bench, tmp_path):
@@ -167,7 +167,7 @@ def test_monitor_of_lldb_acts_on_the_hart_that_halted_and_advises_for_lldb(bench
     found, _ = replies(bench, path, *setup, words=["--monitor", "--harts", "2"])
     text = shown(found)
     assert "gdb shows" not in text
-    assert "(lldb shows the registers of before, until the program goes on)" in text
+    assert "(lldb shows old registers until the program continues)" in text
     found, _ = replies(bench, path, *setup[:4], monitor("trace"), words=["--monitor", "--harts", "2"])
     assert "hart 0" in shown(found) and "hart 1  " not in shown(found)
 

@@ -30,14 +30,14 @@ def test_each_step_on_and_back_has_the_registers_of_the_bench(debugger, replies,
 
 
 @pytest.mark.parametrize("name", ["adds", "bug", "ecall"])
-def test_continue_ends_where_the_hart_stays(debugger, results, tmp_path, name):
+def test_continue_stops_where_the_hart_halts(debugger, results, tmp_path, name):
     """The signal is that of its trap: of an ecall without a handler, SIGSEGV."""
     (tmp_path / "ecall").write_text("13000000\n73000000\n")
     image, words, signal = {"adds": (ADDS, MONITOR, 0), "bug": (BUG, MONITOR, 0), "ecall": (tmp_path / "ecall", (), 11)}[name]
     end = next(it for it in results("trace", image, *words) if it["object"] == "end")
     with debugger(image, words) as client:
         assert client.signal("vCont;c") == signal
-        assert "[hart 0 stays at %s" % end["pc"] in client.told
+        assert "[hart 0 halts at %s" % end["pc"] in client.console
         count = 0
         while not client.halt("bs")[0]:
             count += 1
@@ -83,9 +83,9 @@ def test_packet_that_no_command_of_the_bench_serves_is_refused(debugger, text):
         assert client.ask(text).startswith("E")
 
 
-def test_refusal_is_in_words_and_an_unknown_packet_has_an_empty_answer(debugger):
+def test_refusal_has_a_text_and_an_unknown_packet_an_empty_reply(debugger):
     with debugger(TIMER, MONITOR) as client:
-        assert client.ask("P20=00000180") == "E.no command of the bench writes pc"
+        assert client.ask("P20=00000180") == "E.rvbench cannot write pc"
         assert client.ask("vNothing") == ""
 
 
@@ -121,7 +121,7 @@ def test_monitor_takes_a_line_of_the_bench(debugger, replies):
     states = states_of(replies, TIMER, MONITOR, 40)
     with debugger(TIMER, MONITOR) as client:
         assert client.monitor("step 29").split("\n")[0] == "ran 29 pc=80020000 mode=S world=e0 why=done trap=00000009:00000000"
-        assert "maintenance flush register-cache" in client.told
+        assert "maintenance flush register-cache" in client.console
         assert bytes.fromhex(client.ask("p20"))[::-1].hex() == states[29][32][3:]
         assert client.ask("QRvlookFresh") == "OK"
         assert "maintenance" not in client.monitor("back 1")
@@ -139,7 +139,7 @@ def test_monitor_takes_a_subcommand(debugger):
 def test_monitor_shows_where_the_host_entered_the_enclave(debugger):
     with debugger(TIMER, MONITOR) as client:
         client.monitor("step 27")
-        assert client.monitor("entered") == "the hart is in no enclave, but in the world host\n"
+        assert client.monitor("entered") == "the hart is not in an enclave, but in host\n"
         client.monitor("step 5")
         assert client.monitor("entered") == "e0 was entered at step 29, by run at 800100ac\n"
         assert client.ask("p%x" % 91) == "b0000180"  # the pc of the host
@@ -147,5 +147,5 @@ def test_monitor_shows_where_the_host_entered_the_enclave(debugger):
 
 def test_monitor_explains_a_refused_line(debugger):
     with debugger(TIMER, MONITOR) as client:
-        assert "write: mem A N" in client.monitor("mem 80010000")
+        assert "try: mem A N" in client.monitor("mem 80010000")
         assert "no symbols" in client.monitor("break nosuch")

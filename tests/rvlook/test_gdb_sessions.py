@@ -1,5 +1,5 @@
-"""Sessions with the debuggers that are installed. Those of docs/DEBUGGER.md are typed again: each command prints what is below it, where
-`...` stands for any lines. One by gdb's machine interface and one by the Debug Adapter Protocol do what an editor does."""
+"""Sessions with the installed debuggers. The sessions of docs/DEBUGGER.md are repeated: each command prints the lines below it, where `...` matches
+any lines. One session with gdb's machine interface and one with the Debug Adapter Protocol act like an editor."""
 import json
 import os
 import re
@@ -77,20 +77,20 @@ def need(tool):
 
 
 def printed(words, folder, environment, lines):
-    """What a program prints for these lines of input."""
+    """Returns the output of a program for these lines of input."""
     return subprocess.run(words, cwd=folder, env=environment, text=True, input="".join(it + "\n" for it in lines), stdout=subprocess.PIPE,
                           stderr=subprocess.STDOUT, timeout=LIMIT, check=False).stdout
 
 
 def printed_by_gdb(folder, environment, file, words, commands):
-    """What gdb prints for each command."""
+    """Returns the output of gdb for each command."""
     target = "target remote | ./rvlook gdb %s %s" % (words, file)
     command = [GDB, "-q", "-nx", *PLAIN, "-x", "python/rvlook/gdb/client.py", file, "-ex", target]
     return printed(command, folder, environment, commands).split("(gdb) ")[1:len(commands) + 1]
 
 
 def printed_by_lldb(folder, server, file, words, commands):
-    """What lldb prints for each command; the server ends with it."""
+    """Returns the output of lldb for each command; the server ends with it."""
     process, port = server(file, words)
     asked = [it for command in ("gdb-remote localhost:" + port, *commands) for it in ("-o", command)]
     done = subprocess.run([LLDB, "--no-lldbinit", "--no-use-colors", "--batch", *asked, file], cwd=folder, text=True, stdout=subprocess.PIPE,

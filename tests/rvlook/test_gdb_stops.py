@@ -1,4 +1,4 @@
-"""Where `rvlook gdb` halts, on and back: each breakpoint, watchpoint, condition and catchpoint against the steps that `trace` shows."""
+"""Halts of `rvlook gdb`, forwards and backwards: each breakpoint, watchpoint, condition and catchpoint against the steps of `trace`."""
 import pytest
 from support.gdb_client import states_of
 
@@ -41,7 +41,7 @@ def stops_of(steps, breaks, watches):
 
 
 def halt_on(client, step, is_watch, states, packets):
-    """A halt on the way on. That of a watchpoint is before the access; like gdb, the client does the access without watchpoints."""
+    """A halt forwards. At a watchpoint it is before the access; like gdb, the client then makes the access without watchpoints."""
     reason, state = client.halt("vCont;c")
     assert (bool(reason), state) == (is_watch, states[step - is_watch]), "on to step %d" % step
     if is_watch:
@@ -53,7 +53,7 @@ def halt_on(client, step, is_watch, states, packets):
 
 
 def halt_back(client, step, is_watch, states):
-    """A halt on the way back. That of a watchpoint is after the access, which is undone then."""
+    """A halt backwards. At a watchpoint it is after the access, which is then undone."""
     reason, state = client.halt("bc")
     assert (bool(reason), state) == (is_watch, states[step]), "back to step %d" % step
     if is_watch:
@@ -125,14 +125,14 @@ def test_catchpoint_halts_after_each_step_that_it_catches(debugger, run, what):
     wanted = [it["step"] for it in steps if IS_CAUGHT[what](it)]
     assert len(wanted) > 5
     with debugger(BUG, MONITOR) as client:
-        assert client.monitor("catch " + what) == "caught: %s\n" % what
+        assert client.monitor("catch " + what) == "catchpoints: %s\n" % what
         for step in wanted:
             assert client.halt("vCont;c") == ("", states[step]), "on to step %d" % step
-            assert client.told.startswith("[hart 0: ")
+            assert client.console.startswith("[hart 0: ")
         client.halt("vCont;c")
         for step in reversed(wanted):
             assert client.halt("bc") == ("", states[step]), "back to step %d" % step
-        assert client.monitor("catch none") == "caught: none\n"
+        assert client.monitor("catch none") == "catchpoints: none\n"
         assert client.halt("bc")[0] == RESET
 
 
@@ -140,14 +140,14 @@ def test_catchpoint_names_the_call_and_the_timer(debugger):
     with debugger(TIMER, MONITOR) as client:
         client.monitor("catch switch")
         client.monitor("timer on")
-        for wanted in ("[hart 0: from host to e0, by a call]\n", "[hart 0: from e0 to host, by the timer]\n"):
+        for wanted in ("[hart 0: switch from host to e0 by a monitor call]\n", "[hart 0: switch from e0 to host by the timer]\n"):
             client.halt("vCont;c")
-            assert client.told == wanted
+            assert client.console == wanted
 
 
 def test_catchpoint_of_switches_needs_the_monitor(debugger):
     with debugger(PRIMES) as client:
-        assert "write ./rvlook gdb --monitor" in client.monitor("catch switch")
+        assert "start with ./rvlook gdb --monitor" in client.monitor("catch switch")
 
 
 def test_more_breakpoints_than_the_bench_has_are_all_met(debugger, run):

@@ -1,8 +1,8 @@
-"""Golden files: what rvlook prints for each file of `golden` is kept there, byte for byte.
+"""Golden files: each file of `golden` has a command line and its exact output.
 
-A file begins with the command line, seen from the root of the repository. A line `status N` has its exit status unless that is 0, and a line
-`joined FILE..` names files that are its standard input. Then come the parts `input`, `stdout` and `stderr`, each after a line `--- NAME`.
-`pytest --update-golden` writes what comes of the command anew; read it before you keep it.
+The command runs in the root of the repository. A line `status N` has its exit status unless that is 0, and a line `joined FILE..` names files
+that are its standard input. Then come the parts `input`, `stdout` and `stderr`, each after a line `--- NAME`. `pytest --update-golden` rewrites
+the output; review the changes before you commit them.
 """
 import re
 from pathlib import Path
@@ -13,7 +13,7 @@ from conftest import ROOT
 
 GOLDEN = Path(__file__).with_name("golden")
 PART = re.compile(r"^--- (input|stdout|stderr)\n", re.M)
-NO_SYMBOLS = "rvlook: pyelftools is not there"
+NO_SYMBOLS = "rvlook: warning: pyelftools is not installed"
 
 
 def read(path):

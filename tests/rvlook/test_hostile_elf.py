@@ -1,4 +1,4 @@
-"""A damaged ELF file ends in one line, or in a run without what cannot be read of it."""
+"""A damaged ELF file causes one line, or a run without the parts that cannot be read."""
 import struct
 import zlib
 
@@ -80,7 +80,7 @@ def test_trace_of_a_damaged_file_is_that_of_the_whole_one(bench, tmp_path, what)
     done = run(bench, "trace", path, *FEW)
     check(done)
     assert done.status == 0
-    assert b"23 steps: bare stays at 80000008" in done.output
+    assert b"23 steps: bare halts at 80000008" in done.output
 
 
 @pytest.mark.parametrize("what", DWARF)
@@ -92,23 +92,23 @@ def test_other_readers_of_a_damaged_file_end_in_time(bench, tmp_path, what, word
 
 
 def test_each_cut_of_the_file_has_symbols_or_a_reason(tmp_path, capsys):
-    from rvlook.errors import Fault
-    from rvlook.image.symbols import symbols_of, told
+    from rvlook.errors import RvlookError
+    from rvlook.image.symbols import symbols_of, warn_once
     for end in range(4, len(HELLO), 37):
-        told.cache_clear()
+        warn_once.cache_clear()
         try:
             symbols = symbols_of("program.elf", HELLO[:end])
-        except Fault:
+        except RvlookError:
             continue
         symbols.caller(0x80000018)
-        assert symbols or capsys.readouterr().err.startswith("rvlook: program.elf: no ")
+        assert symbols or capsys.readouterr().err.startswith("rvlook: warning: no ")
 
 
-def test_reason_that_is_told_is_one_line(bench, tmp_path):
+def test_reason_is_one_line(bench, tmp_path):
     path = tmp_path / "program.elf"
     path.write_bytes(DAMAGED["symbols of no bytes"])
     done = run(bench, "trace", path, *FEW)
-    assert b": no symbols, for it is no file that pyelftools reads (" in done.errors
+    assert b"program.elf': pyelftools cannot read it (" in done.errors
 
 
 def test_file_that_is_not_damaged_keeps_its_inlined_call(bench, tmp_path):

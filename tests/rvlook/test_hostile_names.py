@@ -1,4 +1,4 @@
-"""Names from input files have no effect on a terminal, on the bench or on a form of lines."""
+"""Names from input files have no effect on a terminal, on the program or on a line format."""
 import json
 
 import pytest
@@ -32,9 +32,9 @@ def test_output_has_no_control_character(bench, elf, names, words):
 
 
 def test_name_with_line_feed_makes_no_row(bench, elf):
-    rows = run(bench, "trace", elf(function="f\n3 steps: host stays"), *FEW).output.decode().split("\n")
+    rows = run(bench, "trace", elf(function="f\n3 steps: host halts"), *FEW).output.decode().split("\n")
     assert not any(it.startswith("3 steps") for it in rows)
-    assert any("<f^J3 steps: host stays>" in it for it in rows)
+    assert any("<f^J3 steps: host halts>" in it for it in rows)
 
 
 def test_name_with_line_feed_makes_no_lcov_record(bench, elf):
@@ -60,22 +60,22 @@ def test_name_from_a_listing_has_no_control_character(bench, tmp_path):
 def test_comment_of_a_script_is_one_line_that_the_bench_takes():
     from rvlook.protocol.bench_line import is_malformed
     from rvlook.finders.races.replay import comment
-    for heading in ("end 1: f\nstep 5\nsetreg 5 1", "é" * 200, "\x1b[31m\u202e", "x" * 500, "\udcff"):
+    for heading in ("final state 1: f\nstep 5\nsetreg 5 1", "é" * 200, "\x1b[31m\u202e", "x" * 500, "\udcff"):
         line = comment(heading)
         assert line.startswith("# ") and not is_malformed(line), line
 
 
 def test_script_of_races_has_no_command_from_a_name(bench, elf, tmp_path):
-    done = run(bench, "races", elf(function=COMMANDS), *FEW, "--ram", "131072", "--outcome", "counted", "--scripts", tmp_path / "ends")
+    done = run(bench, "races", elf(function=COMMANDS), *FEW, "--ram", "131072", "--outcome", "counted", "--scripts", tmp_path / "scripts")
     check(done)
-    script = (tmp_path / "ends" / "end_1").read_text().split("--\n")[1].splitlines()
+    script = (tmp_path / "scripts" / "final_state_1").read_text().split("--\n")[1].splitlines()
     assert {it.split()[0] for it in script} <= {"#", "step", "mem"}, script
     assert "step 5" not in script
 
 
 def test_bench_is_given_no_line_feed_in_a_command(bench, monkeypatch):
     from rvlook.protocol.bench import Bench
-    from rvlook.errors import Fault
+    from rvlook.errors import RvlookError
     monkeypatch.setenv("RVBENCH", bench)
-    with Bench(["run"], b"6f000000\n") as board, pytest.raises(Fault):
+    with Bench(["run"], b"6f000000\n") as board, pytest.raises(RvlookError):
         board.ask("reg 5\nsetreg 5 1")

@@ -1,4 +1,4 @@
-"""`map`: its rows against `access` of each byte of RAM, its moments against the state after each step, and worlds that do not run."""
+"""`map`: its rows against `access` of each byte of RAM, its events against the state after each step, and worlds that are not running."""
 import re
 
 import pytest
@@ -11,8 +11,8 @@ SWITCHES = ("run", "resume", "timer", "stop", "exit")  # events that change noth
 TIMER, PMP = EXAMPLES / "enclaves" / "timer" / "image", EXAMPLES / "programs" / "pmp" / "stdin"
 
 
-def moments_of(results, image, words):
-    return [it for it in results("map", image, *words) if it["object"] == "moment"]
+def events_of(results, image, words):
+    return [it for it in results("map", image, *words) if it["object"] == "event"]
 
 
 def kinds_of(replies, image, words, ram, steps, mode):
@@ -27,11 +27,11 @@ def kinds_of(replies, image, words, ram, steps, mode):
     (TIMER, MONITOR, 0x40000, 2, "S"), *((PMP, (), 0x10000, -3, mode) for mode in "MSU")], ids=["enclave", "bare-M", "bare-S", "bare-U"])
 def test_rows_are_the_replies_to_access_of_each_byte(results, replies, image, words, ram, place, mode):
     words = [*words, "--ram", str(ram)]
-    moment = moments_of(results, image, words)[place]
-    own = moment["columns"][0]["name"]
-    found = [row["may"][own][mode] for row in moment["rows"] for _ in range(row["size"])]
-    assert sum(row["size"] for row in moment["rows"]) == ram
-    wanted = kinds_of(replies, image, words, ram, moment["step"], mode)
+    event = events_of(results, image, words)[place]
+    own = event["columns"][0]["name"]
+    found = [row["may"][own][mode] for row in event["rows"] for _ in range(row["size"])]
+    assert sum(row["size"] for row in event["rows"]) == ram
+    wanted = kinds_of(replies, image, words, ram, event["step"], mode)
     assert [(hex(BASE + at), *it) for at, it in enumerate(zip(found, wanted)) if it[0] != it[1]][:4] == []
 
 
@@ -45,20 +45,20 @@ def states_after(replies, image, words, count):
 
 @pytest.mark.parametrize("image, words", [(PMP, ()), (TIMER, MONITOR), (EXAMPLES / "enclaves" / "at_rest" / "image", MONITOR)],
                          ids=["pmp", "timer", "at_rest"])
-def test_moments_are_the_steps_after_which_entries_world_or_table_differ(results, replies, image, words):
+def test_events_are_the_steps_after_which_entries_world_or_table_differ(results, replies, image, words):
     shown = results("map", image, *words)
     states = states_after(replies, image, words, shown[-1]["steps"])
     changes = [number + 1 for number in range(1, len(states)) if states[number] != states[number - 1]]
     assert len(states) == shown[-1]["steps"] and all(len(it[1]) >= 16 for it in states)
-    assert [it["step"] for it in shown if it["object"] == "moment" and it["step"]] == changes
+    assert [it["step"] for it in shown if it["object"] == "event" and it["step"]] == changes
     assert states_after(replies, image, words, 1) == states[:1]
 
 
 @pytest.mark.parametrize("name", ["enclaves/timer", "enclaves/refused", "attacks/window"])
 def test_world_that_does_not_run_has_the_rights_of_its_own_entries(results, name):
-    moments, compared = moments_of(results, input_of(EXAMPLES / name), MONITOR), 0
-    for before, after in zip(moments, moments[1:]):
-        if after["event"] in SWITCHES:
+    events, compared = events_of(results, input_of(EXAMPLES / name), MONITOR), 0
+    for before, after in zip(events, events[1:]):
+        if after["cause"] in SWITCHES:
             for name in {it["name"] for it in before["columns"]} & {it["name"] for it in after["columns"]}:
                 wanted = [it["may"][name] for it in before["rows"]]
                 assert [it["may"][name] for it in after["rows"]] == wanted, "step %d, %s" % (after["step"], name)

@@ -1,4 +1,4 @@
-"""The table of messages in docs/LOOK.md: each row has a case, which ends with the status of the row and prints its line."""
+"""The table of messages in docs/LOOK.md: the case of each row exits with the status of the row and prints its line."""
 import re
 import tempfile
 from pathlib import Path
@@ -9,8 +9,8 @@ from support.message_runs import FULL, MORE, NEVER_BACK, ORDER, OTHERWISE, REGIS
 
 from conftest import EXAMPLES, PROGRAMS, ROOT, RVLOOK
 
-ROW = re.compile(r"^\| (\d+) \| `(.*)` \| .*\|$", re.M)
-ROWS = [(int(status), line.replace("\\|", "|")) for status, line in
+ROW = re.compile(r"^\| (\d+) \| `(error|warning|note): (.*)` \| .*\|$", re.M)
+ROWS = [(int(status), severity, line.replace("\\|", "|")) for status, severity, line in
         ROW.findall((ROOT / "docs" / "LOOK.md").read_text(encoding="utf-8").split("## Exit statuses")[1])]
 KEPT = ("RVBENCH",)  # in capitals, but no placeholder
 ADDS, LISTING, SUM = EXAMPLES / "enclaves" / "adds" / "image", EXAMPLES / "enclaves" / "adds" / "symbols", EXAMPLES / "programs" / "sum" / "stdin"
@@ -46,83 +46,84 @@ class Cases:
         """Messages about the image, its symbols and its script."""
         files = self.files
         return {
-            "FILE is run with --monitor, for its": ("map", ADDS), "FILE is run with --monitor, for it has": ("map", files.key),
-            "FILE has compressed": ("map", "--monitor", files.compressed),
+            "running FILE with --monitor because its": ("map", ADDS), "running FILE with --monitor because it calls": ("map", files.key),
+            "FILE is built for compressed": ("map", "--monitor", files.compressed),
             "FILE:LINE: COMMAND: error command": self.scripted("unknown"),
-            "FILE:LINE: COMMAND: error operand: there is no symbol": self.scripted("man"),
-            "FILE:LINE: COMMAND: error operand: NAME is no address": ("map", SUM, "--script", files.script),
-            "FILE:LINE: COMMAND: error operand: there is no NAME": self.scripted("behind"),
-            "FILE:LINE: COMMAND: error operand: NAME is at": self.scripted("twice"),
-            "FILE: No such": ("map", SUM, "--script", "/none"), "FILE: it is a text,": ("map", files.text),
-            "FILE: it is a text with": ("map", files.marked), "FILE: the file": ("map", "/dev/zero"),
-            "FILE: the script": ("map", SUM, "--script", files.lines_of_script), "FILE: rvbench: too": ("map", "--kind", "raw", files.large),
-            "FILE: rvbench: image": ("map", "--kind", "elf", SUM), "FILE: no symbols": ("map", "--symbols", files.cut, SUM),
-            "FILE: there are": ("map", "--symbols", files.text, SUM),
-            "there is no symbol": ("trace", "--monitor", ADDS, "--symbols", LISTING, "--function", "man"),
-            "NAME is no address": ("trace", SUM, "--function", "main"), "there are no source": ("touch", SUM, "--lcov"),
-            "the page has": ("page", files.with_source, "--steps", "40"), "--sources DIR": ("page", SUM, "--sources", "/none"),
-            "create refuses": ("measure", files.region, "80020000", "1001", *NUMBERS[2:]),
-            "FILE has COUNT": ("measure", ROOT / "docs" / "LOOK.md", *NUMBERS)}
+            "FILE:LINE: COMMAND: error operand: no symbol 'NAME'; did": self.scripted("man"),
+            "FILE:LINE: COMMAND: error operand: no symbol 'NAME': no": ("map", SUM, "--script", files.script),
+            "FILE:LINE: COMMAND: error operand: no symbol 'NAME' at": self.scripted("behind"),
+            "FILE:LINE: COMMAND: error operand: symbol": self.scripted("twice"),
+            "cannot open": ("map", SUM, "--script", "/none"), "'FILE' is a text file,": ("map", files.text),
+            "'FILE' is a text file with": ("map", files.marked), "'FILE' is too large": ("map", "/dev/zero"),
+            "script": ("map", SUM, "--script", files.lines_of_script), "cannot load 'FILE': rvbench: too": ("map", "--kind", "raw", files.large),
+            "cannot load 'FILE': rvbench: image": ("map", "--kind", "elf", SUM), "no symbols from": ("map", "--symbols", files.cut, SUM),
+            "no symbols in": ("map", "--symbols", files.text, SUM),
+            "no symbol 'NAME'; did": ("trace", "--monitor", ADDS, "--symbols", LISTING, "--function", "man"),
+            "no symbol 'NAME': no": ("trace", SUM, "--function", "main"), "no source lines": ("touch", SUM, "--lcov"),
+            "embedding": ("page", files.with_source, "--steps", "40"), "--sources": ("page", SUM, "--sources", "/none"),
+            "create rejects": ("measure", files.region, "80020000", "1001", *NUMBERS[2:]),
+            "cannot read": ("measure", files.cut, *NUMBERS), "'FILE' has COUNT": ("measure", ROOT / "docs" / "LOOK.md", *NUMBERS)}
 
     def of_finders(self):
         """Messages of the finders about enclaves and their runs."""
-        hmac = EXAMPLES / "enclaves" / "timer" / "image"
+        files, hmac = self.files, EXAMPLES / "enclaves" / "timer" / "image"
         return {
-            "PLACE is no": self.leak("nowhere", "00", "01"), "BYTES are": self.leak("80020800", "0", "01"),
-            "no enclave is created": self.leak("80020800", "00", "01", "--slot", "4"), "the bytes from": self.leak("80010000", "00", "01"),
-            "the two have": self.leak("80020800", "00", "0001"), "--at PLACE:BYTES": self.tries("80020800"),
-            "the enclave of slot NUMBER is never": self.leak("80020800", "00", "00", "--steps", "6158"),
-            "--steps COUNT": ("timer", "--monitor", hmac, "--steps", "60"), "--seconds ends leak": self.tries("80020f00:4", "--seconds", "0"),
-            "the host does not": ("timer", "--monitor", ADDS), "the enclave of slot NUMBER does not come": self.tries("a0@80020f00"),
-            "leak compares": ("leak", "--monitor", LEAKS, "--at", "80020800"), "no enclave runs": ("window", "--monitor", ADDS, "--steps", "9"),
-            "stack overflow in WORLD at step NUMBER, PLACE: it moves": self.overflow(None),
-            "stack overflow in WORLD at step NUMBER, PLACE: it stores": self.overflow("80020fc0"),
-            "there is no enclave": ("timer", SUM, "--monitor", "--steps", "9"),
-            "the enclave of slot NUMBER does nothing": ("timer", "--monitor", EXAMPLES / "enclaves" / "at_rest" / "image"),
-            "REPORT: WHY": self.leak("80020800", "00", "00", "--junit", "/none/report"),
-            "--public needs": ("window", "--monitor", ADDS, "--public", "80030000"), "SUBCOMMAND needs": ("leak", SUM, "--at", "80000000", "00", "01"),
-            "touch merges all modes of a bare image, and FILE enters": ("touch", PROGRAMS / "bare_user" / "image"),
-            "touch merges all modes of a bare image, and FILE writes": ("touch", EXAMPLES / "programs" / "pmp" / "stdin")}
+            "'PLACE' is neither a hexadecimal address": self.leak("nowhere", "00", "01"),
+            "'PLACE' is neither a hexadecimal number": ("measure", files.region, "nowhere", *NUMBERS[1:]), "a secret must": self.leak("80020800", "0", "01"),
+            "no enclave is created": self.leak("80020800", "00", "01", "--slot", "4"), "the bytes at": self.leak("80010000", "00", "01"),
+            "the two secrets": self.leak("80020800", "00", "0001"), "the size of": self.tries("80020800"),
+            "the enclave in slot NUMBER is never": self.leak("80020800", "00", "00", "--steps", "6158"),
+            "--steps COUNT": ("timer", "--monitor", hmac, "--steps", "60"), "--seconds ended": self.tries("80020f00:4", "--seconds", "0"),
+            "the host does not": ("timer", "--monitor", ADDS), "the enclave in slot NUMBER never": self.tries("a0@80020f00"),
+            "leak requires": ("leak", "--monitor", LEAKS, "--at", "80020800"), "no enclave runs": ("window", "--monitor", ADDS, "--steps", "9"),
+            "stack overflow in WORLD at step NUMBER, PLACE: sp": self.overflow(None),
+            "stack overflow in WORLD at step NUMBER, PLACE: store": self.overflow("80020fc0"),
+            "no enclave in": ("timer", SUM, "--monitor", "--steps", "9"),
+            "the enclave in slot NUMBER executes": ("timer", "--monitor", EXAMPLES / "enclaves" / "at_rest" / "image"),
+            "cannot write 'REPORT'": self.leak("80020800", "00", "00", "--junit", "/none/report"),
+            "--public requires": ("window", "--monitor", ADDS, "--public", "80030000"), "SUBCOMMAND requires": ("leak", SUM, "--at", "80000000", "00", "01"),
+            "touch does not distinguish modes, but FILE enters": ("touch", PROGRAMS / "bare_user" / "image"),
+            "touch does not distinguish modes, but FILE writes": ("touch", EXAMPLES / "programs" / "pmp" / "stdin")}
 
     def of_races(self):
         """Messages of `races`."""
         files = self.files
         return {
             "--forbid CONDITION": self.counted("--forbid", "80011000 == 2"),
-            "--forbid is not": self.counted("--forbid", "80011000 == 99", "--seconds", "0"),
-            "races was cut by": self.counted("--seconds", "0"), "not all was": ("races", files.loop, "--steps", "99"),
-            "--forbid is NAME": self.counted("--forbid", "80011000"), "--forbid compares": self.counted("--forbid", "80011000 == many"),
-            "--outcome is": self.counted("--outcome", "nowhere"), "--outcome PLACE": self.counted("--outcome", "80011000:0x4"),
-            "the step at ADDRESS reads": ("races", files.cycle), "DIR: WHY": self.counted("--scripts", files.text)}
+            "--forbid is undecided": self.counted("--forbid", "80011000 == 99", "--seconds", "0"),
+            "the search is incomplete: it was": self.counted("--seconds", "0"), "the search is incomplete: FINAL": ("races", files.loop, "--steps", "99"),
+            "invalid --forbid": self.counted("--forbid", "80011000"), "invalid value": self.counted("--forbid", "80011000 == many"),
+            "invalid --outcome: WHY": self.counted("--outcome", "nowhere"), "invalid --outcome: the": self.counted("--outcome", "80011000:0x4"),
+            "the step at ADDRESS reads": ("races", files.cycle), "cannot write to": self.counted("--scripts", files.text)}
 
-    def of_words(self):
+    def of_arguments(self):
         """Messages about the command line."""
         return {
-            "page has no": ("page", SUM, "--json"), "WORD is no word": ("mpa", SUM), "unrecognized": ("map", SUM, "--fly"),
+            "page does": ("page", SUM, "--json"), "no subcommand": ("mpa", SUM), "unrecognized": ("map", SUM, "--fly"),
             "argument --world": ("trace", SUM, "--world", "foo"), "argument --every": ("timer", SUM, "--every", "0"),
             "--to NUMBER": ("trace", SUM, "--from", "9", "--to", "3"), "--from NUMBER": self.tries("80020800:4", "--from", "3"),
-            "port NUMBER": ("gdb", SUM, "--port", "99999"), "--harts 2": ("map", SUM, "--harts", "2"), "OPTION has no": ("touch", SUM, "--lcov", "--json")}
+            "cannot listen": ("gdb", SUM, "--port", "99999"), "--harts 2": ("map", SUM, "--harts", "2"), "OPTION cannot": ("touch", SUM, "--lcov", "--json")}
 
     def special(self):
         """Messages that need more than a command line: each has a function."""
         runs, files = self.runs, self.files
         races = ("races", "--monitor", ADDS)
         return {
-            "the unproved program": lambda: runs.unproved(self.folder, SUM), "there is no program; ./prove": lambda: runs.unbuilt(self.folder, SUM),
-            "there is no program; RVBENCH": lambda: runs.installed(self.folder, SUM),
-            "MODULE is not there, so WHAT 0": lambda: runs.run(("map", "--monitor", ADDS), PYTHONPATH=files.without("elftools")),
-            "MODULE is not there, so WHAT 3": lambda: runs.run(("page", SUM), PYTHONPATH=files.without("jinja2")),
-            "the step at ADDRESS came": lambda: runs.patched(OTHERWISE, races), "the step at ADDRESS changed": lambda: runs.patched(MORE, races),
-            "the order of": lambda: runs.patched(ORDER, races), "the registers": lambda: runs.patched(REGISTERS, ("trace", SUM)),
+            "running the unproved": lambda: runs.unproved(self.folder, SUM), "cannot build rvbench": lambda: runs.unbuilt(self.folder, SUM),
+            "cannot find rvbench": lambda: runs.installed(self.folder, SUM),
+            "MODULE is not installed, so WHAT 0": lambda: runs.run(("map", "--monitor", ADDS), PYTHONPATH=files.without("elftools")),
+            "MODULE is not installed, so WHAT 3": lambda: runs.run(("page", SUM), PYTHONPATH=files.without("jinja2")),
+            "the step at ADDRESS had": lambda: runs.patched(OTHERWISE, races), "the step at ADDRESS changed": lambda: runs.patched(MORE, races),
+            "the replay": lambda: runs.patched(ORDER, races), "the registers": lambda: runs.patched(REGISTERS, ("trace", SUM)),
             "hart NUMBER does not": lambda: runs.patched(NEVER_BACK, ("races", "--monitor", "--harts", "2", "--ram", "131072", files.spin)),
-            "there is no program at": lambda: runs.run(("map", SUM), RVBENCH="/none"),
-            "FILE: the bench ended": lambda: runs.run(("map", SUM), RVBENCH="/bin/true"), "the output fails": lambda: runs.run(("map", SUM), FULL),
-            "there is no standard": lambda: runs.run(("map", SUM), 'exec "$0" "$@" >&-'), "a debugger": lambda: runs.typed(("gdb", SUM)),
-            "stopped": lambda: runs.stopped(("trace", files.loop)), "who reads": lambda: runs.run(("trace", files.loop), '"$0" "$@" | head -n 1')}
+            "cannot run": lambda: runs.run(("map", SUM), RVBENCH=files.text), "RVBENCH": lambda: runs.run(("map", SUM), RVBENCH="/none"),
+            "FILE: rvbench exited": lambda: runs.run(("map", SUM), RVBENCH="/bin/true"), "cannot write the output": lambda: runs.run(("map", SUM), FULL),
+            "standard output": lambda: runs.run(("map", SUM), 'exec "$0" "$@" >&-'), "standard input": lambda: runs.typed(("gdb", SUM)),
+            "interrupted": lambda: runs.stopped(("trace", files.loop)), "broken pipe": lambda: runs.run(("trace", files.loop), '"$0" "$@" | head -n 1')}
 
     def all(self):
         """Returns the function of each case, by the beginning of its line."""
-        simple = {**self.of_images(), **self.of_finders(), **self.of_races(), **self.of_words()}
+        simple = {**self.of_images(), **self.of_finders(), **self.of_races(), **self.of_arguments()}
         return {**{name: lambda words=words: self.runs.run(words) for name, words in simple.items()}, **self.special()}
 
 
@@ -144,19 +145,19 @@ def names_of(cases, status, line):
 
 
 def pattern_of(line):
-    """A row as a pattern: words in capitals stand for anything."""
+    """Returns a row as a regular expression: words in capitals are placeholders."""
     return "".join(".+" if re.fullmatch("[A-Z]{3,}", it) and it not in KEPT else re.escape(it) for it in re.split(r"(\b[A-Z]{3,}(?=\b|_))", line))
 
 
-@pytest.mark.parametrize("status, line", ROWS, ids=[line.split("`")[0][:50] for _, line in ROWS])
-def test_row_of_the_table_is_what_its_case_prints(cases, status, line):
+@pytest.mark.parametrize("status, severity, line", ROWS, ids=[line.split("`")[0][:50] for *_, line in ROWS])
+def test_row_of_the_table_is_what_its_case_prints(cases, status, severity, line):
     (name,) = names_of(cases, status, line)
-    found, told = cases[name]()
-    assert any(re.fullmatch("rvlook: " + pattern_of(line), it) for it in told), told
-    assert [it for it in told if not it.startswith(("rvlook: ", "prompt"))] == []
+    found, printed = cases[name]()
+    assert any(re.fullmatch("rvlook: %s: %s" % (severity, pattern_of(line)), it) for it in printed), printed
+    assert [it for it in printed if not it.startswith(("rvlook: ", "prompt"))] == []
     assert found == status
 
 
 def test_each_case_has_its_row(cases):
     assert len(ROWS) > 30
-    assert [it for it in cases if sum(it in names_of(cases, *row) for row in ROWS) != 1] == []
+    assert [it for it in cases if sum(it in names_of(cases, status, line) for status, _, line in ROWS) != 1] == []

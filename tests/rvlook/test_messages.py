@@ -7,14 +7,14 @@ import pytest
 from conftest import ROOT
 
 PACKAGE = ROOT / "python" / "rvlook"
-CALLS = ("Fault", "Unfinished", "WordsRefused", "NameRefused", "tell", "told", "refuse", "cut_short")
-ROW = re.compile(r"^\| (\d+) \| `(.*)` \| .*\|$", re.M)
+CALLS = ("RvlookError", "Unfinished", "UsageError", "SymbolError", "error", "warn", "warn_once", "note", "fail", "refuse", "cut_short")
+ROW = re.compile(r"^\| (\d+) \| `(?:error|warning|note): (.*)` \| .*\|$", re.M)
 PLACEHOLDER = re.compile(r"%(?:0?\d*[sdx])")
 CAPITALS = re.compile(r"\b[A-Z]{3,}\b")
 KEPT = ("RVBENCH",)  # in capitals, but no placeholder
-PREFIX = "error operand: "  # of a line of the script, before what is told of a name in it
-SHORT = 8  # letters that a pattern has at least, to be taken for that of one message
-ELSEWHERE = {  # functions whose texts are no line of `rvlook: `: they are printed by the prompt or sent to a debugger
+PREFIX = "error operand: "  # in the message for a script line, before the error of a name
+SHORT = 8  # the fewest letters of a pattern that identifies a message
+ELSEWHERE = {  # files whose texts have no prefix `rvlook: `: they are printed by the prompt or sent to a debugger
     "prompt/session.py", "prompt/prompt.py", "gdb/server.py", "gdb/reverse.py", "gdb/moves.py", "gdb/monitor.py", "gdb/link.py"}
 
 
@@ -29,7 +29,7 @@ def trees():
 
 
 def texts_of(node, functions):
-    """The texts that an expression may be: of a literal, a form, a choice, or what a function of rvlook returns."""
+    """Returns the texts that an expression may have: a literal, a format, a choice, or the result of a function of rvlook."""
     if isinstance(node, ast.Constant) and isinstance(node.value, str):
         return [node.value]
     if isinstance(node, ast.BinOp) and isinstance(node.op, ast.Mod):
@@ -46,12 +46,13 @@ def texts_of(node, functions):
 
 
 CONSTANTS = {}
-INTERNAL = ("a command of the bench is one line, and has no line feed",)  # a check of rvlook's own callers
+INTERNAL = ("a command must be a single line",)  # a check of rvlook's own callers
+OF_THE_SERVER = ("listening on localhost:%d", "rejected a second connection to the port", "the debugger disconnected")  # in docs/DEBUGGER.md
 IN_A_DEBUGGER = ("gdb/monitor.py",)  # its messages are printed in the debugger
 
 
 def messages():
-    """Each text that is given to one of the calls, with its file and line."""
+    """Yields each text that one of CALLS gets, with its file and line."""
     every = trees()
     functions = {}
     for tree in every.values():
@@ -65,13 +66,13 @@ def messages():
         for node in ast.walk(tree):
             if isinstance(node, ast.Call) and node.args and name_of(node.func, name) in CALLS:
                 for text in texts_of(node.args[0], functions) if name not in IN_A_DEBUGGER else ():
-                    if text in INTERNAL:
+                    if text in (*INTERNAL, *OF_THE_SERVER):
                         continue
                     yield "%s:%d" % (name, node.lineno), text
 
 
 def name_of(function, file):
-    """The name that is called; a method `tell` of a prompt or of a debugger's link is another thing."""
+    """Returns the name of the called function, or '' for a method that does not report a message."""
     if isinstance(function, ast.Name):
         return function.id
     is_own = isinstance(function, ast.Attribute) and function.attr in ("cut_short", "refuse")
@@ -79,13 +80,13 @@ def name_of(function, file):
 
 
 def pattern_of(row):
-    """A row as a pattern: words in capitals stand for anything."""
+    """Returns a row as a regular expression: words in capitals are placeholders."""
     parts = re.split(r"(\b[A-Z]{3,}\b)", row)
     return "".join(".+" if CAPITALS.fullmatch(it) and it not in KEPT else re.escape(it) for it in parts)
 
 
 def is_row_of(row, text):
-    """Whether a row has the message: as a pattern of the message's form, or the form as a pattern of the row."""
+    """Returns whether a row is that of a message: one of the two matches the pattern of the other."""
     form = ".+".join(re.escape(it) for it in PLACEHOLDER.split(text))
     if re.fullmatch(form, row) and len(form.replace(".+", "")) >= 1:
         return True
@@ -95,8 +96,8 @@ def is_row_of(row, text):
 
 @pytest.mark.parametrize("place, text", sorted(set(messages()), key=lambda it: it[::-1]))
 def test_message_has_a_row(place, text):
-    assert any(is_row_of(row, text) for row in rows()), "%s prints %r, for which docs/LOOK.md has no row" % (place, text)
+    assert any(is_row_of(row, text) for row in rows()), "%s prints %r, which is not in the table of docs/LOOK.md" % (place, text)
 
 
-def test_walk_finds_messages():
+def test_messages_are_found():
     assert len({text for _, text in messages()}) > 45

@@ -39,7 +39,7 @@ class Model:
         return found
 
     def end(self, interrupted=None):
-        """The steps of the enclave up to its exit, and what the host has then; the timer rises before one of these steps."""
+        """Returns the steps of the enclave up to its exit, and the registers of the host then; a timer interrupt comes before one of these steps."""
         count, machine, most = 0, self.bench.machine, iter(range(MOST))
         while self.state != "Exited":
             assert next(most, None) is not None, "the enclave of the model does not exit"
@@ -61,7 +61,7 @@ def uninterrupted():
 
 def test_timer_counts_the_steps_of_the_enclave(results, uninterrupted):
     found = results("timer", "--monitor", TIMER)[-1]
-    assert (found["steps"], found["stops"], found["same"]) == (uninterrupted[0], uninterrupted[0], True)
+    assert (found["steps"], found["interrupts"], found["same"]) == (uninterrupted[0], uninterrupted[0], True)
 
 
 @pytest.mark.parametrize("place", ["first", "second", "middle", "last"])
@@ -79,11 +79,11 @@ def test_leak_finds_the_step_at_which_two_runs_of_the_model_differ(results):
         model.bench.replies("poke 80020800 " + secret)
         runs.append(model.until("Exited"))
     first = next(number for number, pair in enumerate(zip(*runs)) if pair[0] != pair[1])
-    found = {(it["object"], it.get("what")): it for it in results("leak", "--monitor", LEAK, "--at", "80020800", "00", "05", status=1)}
-    apart = found["apart", "pc"]
-    assert apart["step"] == [created + first + 1] * 2
-    assert apart["values"] == [run[first].split(" ", 2)[2] for run in runs]
-    assert found["apart", "steps"]["values"] == [created + len(run) for run in runs]
+    found = {(it["object"], it.get("channel")): it for it in results("leak", "--monitor", LEAK, "--at", "80020800", "00", "05", status=1)}
+    difference = found["difference", "pc"]
+    assert difference["step"] == [created + first + 1] * 2
+    assert difference["values"] == [run[first].split(" ", 2)[2] for run in runs]
+    assert found["difference", "steps"]["values"] == [created + len(run) for run in runs]
     assert found["leak", None]["steps"] == [len(run) for run in runs]
 
 
@@ -101,6 +101,6 @@ def test_measure_is_sha256_of_the_numbers_and_the_region(results):
     ("9300f0ff\n--\nreg 5\n", [])], ids=["register", "command", "zero", "right"])
 def test_explain_reports_each_refused_line(rvlook, text, wanted):
     done = rvlook("explain", "-", "--json", stdin=text)
-    faults = [it for it in map(json.loads, done.stdout.splitlines()) if it["object"] == "fault"]
-    assert [(it["line"], it["text"], it["reply"], it["write"]) for it in faults] == wanted
+    errors = [it for it in map(json.loads, done.stdout.splitlines()) if it["object"] == "error"]
+    assert [(it["line"], it["text"], it["reply"], it["suggestion"]) for it in errors] == wanted
     assert done.returncode == (1 if wanted else 0)

@@ -1,5 +1,5 @@
-"""The page in a headless Chromium: no script error, its counts, the registers that the bench replies, its keys, its search, the pointer and
-the filters; and a page of a million steps. Needs chromium, chromedriver and python3-selenium."""
+"""The page in a headless Chromium: script errors, counts, registers, keys, search, pointer and filters, and a page of a million steps. Requires
+chromium, chromedriver and python3-selenium."""
 import re
 import shutil
 import time
@@ -24,13 +24,13 @@ SMALL = {"two_harts": (input_of(EXAMPLES / "enclaves" / "two_harts"), "--monitor
          "outside": ("--\nstep 3\n",), "none": ("1300\n", "--kind", "raw", "--steps", "0")}
 REGISTERS = "return [...document.querySelectorAll('#registers .grid > span')].map(it => it.lastChild.textContent)"
 HOVER = """
-    const chart = document.getElementById('chart'), place = chart.getBoundingClientRect(), told = [];
+    const chart = document.getElementById('chart'), place = chart.getBoundingClientRect(), texts = [];
     for (let y = 0; y < place.height; y += 3)
         for (let x = place.width * 0.4; x < place.width * 0.6; x += 3) {
             chart.dispatchEvent(new PointerEvent('pointermove', {clientX: place.left + x, clientY: place.top + y}));
-            told.push(document.getElementById('hover').textContent);
+            texts.push(document.getElementById('hover').textContent);
         }
-    return told"""
+    return texts"""
 TAKEN = """return [10, run.steps / 2 | 0, run.steps - 20].flatMap(first =>
     Array.from({length: 10}, (_, at) => { const was = performance.now(); show(first + at); return performance.now() - was; }))"""
 
@@ -59,7 +59,7 @@ class Page:
         self.driver.find_element("tag name", "body").send_keys(keys)
 
     def check_counts(self):
-        start = "%d moments, %d rows, %d steps, %d points" % (len(self.data["moments"]), *map(self.data.get, ("rows", "steps", "points")))
+        start = "%d events, %d rows, %d steps, %d points" % (len(self.data["events"]), *map(self.data.get, ("rows", "steps", "points")))
         assert self.text("counts").replace(",", "").startswith(start.replace(",", ""))
 
     def check_errors(self):
@@ -136,12 +136,12 @@ def test_step_is_kept_in_the_address(page):
 
 
 def test_keys_and_clicks_go_to_steps(page):
-    moment = page.data["moments"][1]["step"]
+    event = page.data["events"][1]["step"]
     page.run("show(0)")
     page.type("n")
-    assert page.text("where").startswith("Step %d:" % moment)
+    assert page.text("where").startswith("Step %d:" % event)
     page.type("\ue014")  # the right arrow
-    assert page.text("where").startswith("Step %d:" % (moment + 1))
+    assert page.text("where").startswith("Step %d:" % (event + 1))
     chart = page.driver.find_element("id", "chart")
     page.run("arguments[0].scrollIntoView({block: 'center'})", chart)
     chart.click()

@@ -6,8 +6,8 @@ from conftest import EXAMPLES, input_of
 
 TIMER = EXAMPLES / "enclaves" / "timer"
 IMAGES = {"enclaves/timer": ("--monitor", "--symbols", TIMER / "symbols"), "enclaves/two_harts": ("--monitor", "--harts", "2"), "programs/pmp": ()}
-NO_JSON = "rvlook: page has no --json: it shows what map --json and trace --json write\n"
-NO_JINJA = "rvlook: jinja2 is not there, so the page cannot be made; apt-get install python3-jinja2 brings it\n"
+NO_JSON = "rvlook: error: page does not support --json; use map --json and trace --json\n"
+NO_JINJA = "rvlook: error: jinja2 is not installed, so page cannot render its output; install it with 'apt-get install python3-jinja2'\n"
 
 
 @pytest.fixture(scope="module", params=IMAGES)
@@ -33,20 +33,20 @@ def test_steps_are_those_of_trace(page):
         assert found == {name: it[name] for name in found}, "step %d" % it["step"]
 
 
-def test_moments_are_those_of_map(page):
-    data, _, moments = page
-    wanted = kind(moments, "moment")
-    shown = [{"object": "moment", **{name: value for name, value in it.items() if name != "map"}, **data["maps"][it["map"]]}
-             for it in data["moments"]]
+def test_events_are_those_of_map(page):
+    data, _, events = page
+    wanted = kind(events, "event")
+    shown = [{"object": "event", **{name: value for name, value in it.items() if name != "map"}, **data["maps"][it["map"]]}
+             for it in data["events"]]
     assert len(shown) == len(wanted)
     for found, it in zip(shown, wanted):
-        assert found == it, "moment at step %d" % it["step"]
+        assert found == it, "event at step %d" % it["step"]
 
 
 def test_points_rows_and_lines_of_the_script_are_counted(page):
-    data, trace, moments = page
+    data, trace, events = page
     assert data["points"] == points_of(kind(trace, "step"))
-    assert data["rows"] == sum(len(it["rows"]) for it in kind(moments, "moment"))
+    assert data["rows"] == sum(len(it["rows"]) for it in kind(events, "event"))
     assert data["commands"] == [{name: value for name, value in it.items() if name != "object"} for it in kind(trace, "command")]
 
 

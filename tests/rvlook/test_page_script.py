@@ -24,9 +24,9 @@ console.log(JSON.stringify(asserted));
 @pytest.mark.skipif(not shutil.which("node"), reason="node is not installed")
 def test_source_is_found_by_its_own_name_alone():
     text = PANEL.read_text()
-    start, end = text.index("// The name of a file"), text.index("function showAbout")
+    start, end = text.index("// A Map, since a file name"), text.index("function showAbout")
     part = text[start:end].replace('const pre = element("pre", "");', "const pre = { append() {} };")
-    constants = "const SOURCE_BEFORE = 6, SOURCE_BEHIND = 8;\n"
+    constants = "const SOURCE_BEFORE = 6, SOURCE_AFTER = 8;\n"
     script = SHOWN % (constants + part, NAMES)
     done = subprocess.run(["node", "-e", script], capture_output=True, text=True, check=False, timeout=60)
     assert done.returncode == 0, done.stderr

@@ -1,4 +1,4 @@
-"""The page takes in source files below the folder of the ELF file and of `--sources` alone."""
+"""The page embeds only source files below the folder of the ELF file and below `--sources`."""
 import base64
 import json
 import os
@@ -38,19 +38,19 @@ def page_of(bench, folder, source, *words):
 def test_source_below_the_folder_is_taken_in_and_named(bench, folder):
     path = folder / "built" / "a.c"
     path.write_text("int a;\n")
-    sources, told = page_of(bench, folder, path)
+    sources, errors = page_of(bench, folder, path)
     assert sources == {"a.c": "int a;\n"}
-    assert "rvlook: the page has the source file %s\n" % path in told
+    assert "rvlook: note: embedding source file '%s'\n" % path in errors
 
 
 @pytest.mark.parametrize("source", ["/etc/passwd", "/proc/self/environ", "/dev/zero"])
 def test_file_of_the_machine_is_not_taken_in(bench, folder, source):
-    sources, told = page_of(bench, folder, source)
+    sources, errors = page_of(bench, folder, source)
     assert not sources
-    assert "source file" not in told
+    assert "source file" not in errors
 
 
-def test_file_beside_the_folder_needs_the_option(bench, folder):
+def test_file_outside_the_folder_needs_the_option(bench, folder):
     path = folder / "other" / "a.c"
     path.write_text(SECRET)
     assert page_of(bench, folder, path)[0] == {}
@@ -74,7 +74,7 @@ def test_proc_is_refused_also_with_its_folder(bench, folder):
     assert page_of(bench, folder, "/proc/self/mem", "--sources", "/proc")[0] == {}
 
 
-def test_folder_that_is_none_is_told(bench, folder):
+def test_missing_folder_is_refused(bench, folder):
     elf = folder / "built" / "p.elf"
     elf.write_bytes(named())
     done = run(bench, "page", elf, *FEW, "--sources", folder / "none")

@@ -1,4 +1,4 @@
-"""Long work on a terminal: its progress is shown there and nowhere else. Work that Ctrl-C or --seconds stops reports what it has."""
+"""Long work on a terminal shows its progress there and nowhere else. Work that Ctrl-C or --seconds stops reports its results so far."""
 import json
 import os
 import pty
@@ -46,20 +46,20 @@ def stopped(bench):
 def test_races_shows_its_progress_and_reports_what_it_has(stopped, bench, tmp_path):
     (tmp_path / "long").write_text(assembled(bench, COUNTER).hex() + "\n")
     words = ("races", "--monitor", "--harts", "2", "--ram", "131072", "--outcome", "80011000", "--json", tmp_path / "long")
-    status, shown, found = stopped(words, r"\rround \d+: \d+ places")
+    status, shown, found = stopped(words, r"\rround \d+: \d+ states")
     assert (status, shown >= TIMES) == (130, True)
-    assert (found[-1]["object"], found[-1]["whole"]) == ("races", False)
-    assert found[-1]["covered"].startswith("cut by Ctrl-C behind ")
+    assert (found[-1]["object"], found[-1]["complete"]) == ("races", False)
+    assert found[-1]["covered"].startswith("stopped by Ctrl-C after ")
 
 
 def test_leak_shows_a_bar_and_reports_what_it_has(stopped):
-    status, shown, found = stopped(LEAK, r"\r\[#*\.+\] \d+ of 1000  \d+ told")
+    status, shown, found = stopped(LEAK, r"\r\[#*\.+\] \d+ of 1000  \d+ differ")
     assert (status, shown >= TIMES) == (130, True)
-    assert (found[-1]["object"], found[-1]["pairs"]) == ("leak", sum(it["object"] == "try" for it in found))
+    assert (found[-1]["object"], found[-1]["pairs"]) == ("leak", sum(it["object"] == "pair" for it in found))
 
 
 def test_progress_is_shown_on_a_terminal_alone(rvlook):
     done = rvlook(*LEAK, "--seconds", "1")
     pairs = json.loads(done.stdout.splitlines()[-1])["pairs"]
     assert 0 < pairs < 1000
-    assert (done.returncode, done.stderr) == (1, "rvlook: --seconds ends leak after %s of 1000\n" % ("1 pair" if pairs == 1 else "%d pairs" % pairs))
+    assert (done.returncode, done.stderr) == (1, "rvlook: warning: --seconds ended leak after %d of 1000 pairs\n" % pairs)

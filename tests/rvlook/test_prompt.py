@@ -8,7 +8,7 @@ from conftest import EXAMPLES, ROOT, RVLOOK
 
 FOLDER = EXAMPLES / "enclaves" / "timer"
 TIMER = ("--monitor", FOLDER / "image", "--symbols", FOLDER / "symbols")
-SESSION = (  # what is typed, and what is shown then
+SESSION = (  # the typed line, and the expected output
     (None, "host S _start>"), ("break main\r", "ok"), ("run 100\r", "why=break"), ("reg sp\r", "x2=80020000"), ("until switch\r", "world=e0"),
     ("back 1\r", "host S main+54>"), ("fly\x03", "host S main+54>"), ("fly\r", "error command"))
 COMPLETED = (
@@ -58,5 +58,5 @@ def test_interrupt_stops_a_long_trace(terminal, tmp_path):
     assert trace.shows("80000000")
     trace.send("\x03")
     trace.wait()
-    assert trace.shows("rvlook: stopped")
+    assert trace.shows("rvlook: error: interrupted")
     assert trace.end() == (130, True)

@@ -33,7 +33,7 @@ KEEPS = "lw x5, 0(x12); li x17, 0x0a454e43; addi x16, x0, 6; ecall; sw x5, 4(x12
 MASKED = """auipc x5, 0; addi x5, x5, 40; csrrw x0, mtvec, x5; addi x6, x0, 128; csrrw x0, mie, x6; addi x10, x0, 1; csrrwi x0, mstatus, 8
 addi x10, x10, 1; csrrwi x0, mstatus, 0; done: jal x0, done; add x11, x10, x0; mret"""
 TAKE_FLAG, GIVE_TURN = "sw x6, 0(x9)", "sw x11, 8(x8)"
-OVERLAP = 0xFFFFFFFC  # what a create of overlapping regions answers
+OVERLAP = 0xFFFFFFFC  # the status of a create of overlapping regions
 COUNT, ENTERED, KEPT = "80011000", "8001100c", "80013000:8"
 
 
@@ -67,13 +67,13 @@ def values(found, name):
 
 def hows(found):
     """How the harts ended, in order."""
-    return sorted(tuple(it["how"] for it in end["over"]) for end in found)
+    return sorted(tuple(it["how"] for it in end["harts"]) for end in found)
 
 
 def test_counter_has_each_value_from_two_to_six(races, counter):
     found, last = races(counter, "--outcome", COUNT)
     assert values(found, COUNT) == [2, 3, 4, 5, 6]
-    assert (last["orders"], last["covered"]) == (924, "all 924 of 924 orders")  # of six accesses and six
+    assert (last["schedules"], last["covered"]) == (924, "all 924 of 924 schedules")  # of six accesses and six
     assert {it["steps"] for it in found} == {34}  # all 17 of each hart, and no more
     assert next(it["preemptions"] for it in found if it["values"][COUNT] == 2) == 4
 
@@ -81,7 +81,7 @@ def test_counter_has_each_value_from_two_to_six(races, counter):
 def test_preemptions_bound_the_orders(races, counter):
     found, last = races(counter, "--outcome", COUNT, "--preemptions", "2")
     assert values(found, COUNT) == [3, 4, 5, 6]
-    assert last["covered"] == "all 62 of 62 orders with at most 2 preemptions"  # counted by hand: 2, 12, 62
+    assert last["covered"] == "all 62 of 62 schedules with at most 2 preemptions"  # counted by hand: 2, 12, 62
 
 
 @pytest.mark.parametrize("stores, wanted", [((TAKE_FLAG, GIVE_TURN), [2]), ((GIVE_TURN, TAKE_FLAG), [1, 2])], ids=["right", "swapped"])
@@ -100,7 +100,7 @@ def test_double_fetch_is_found_between_its_two_loads(races, image):
     found = races(image(FETCHED), "--outcome", "0.s1")[0]
     assert values(found, "0.s1") == [1, 2, 3]
     worst = next(it for it in found if it["values"]["0.s1"] == 3)
-    assert (worst["preemptions"], worst["told"]) == (1, ["hart 1 does 8001003c between 80010010 and 8001001c of hart 0"])
+    assert (worst["preemptions"], worst["summary"]) == (1, ["hart 1 executes 8001003c between 80010010 and 8001001c of hart 0"])
 
 
 def test_enclave_keeps_its_registers_while_it_is_stopped(races, image):
@@ -115,26 +115,26 @@ def test_one_of_two_creates_of_the_example_is_refused(races):
 def test_two_harts_that_give_way_to_each_other_may_go_on_for_ever(races, image, tmp_path):
     path = image(POLITE)
     found = races(path, "--outcome", ENTERED, "--scripts", tmp_path / "polite")[0]
-    assert hows(found) == [("goes on", "goes on"), ("over", "over")]
-    assert next(it for it in found if it["over"][0]["how"] == "goes on")["round"], "the loop was not done on the bench"
+    assert hows(found) == [("ended", "ended"), ("runs on", "runs on")]
+    assert next(it for it in found if it["harts"][0]["how"] == "runs on")["loop"], "the loop was not replayed"
     races(path, "--outcome", ENTERED, "--forbid", "livelock", status=1)
 
 
 def test_hart_that_waits_for_ever_is_no_livelock(races, image):
     path, words = image(WAITS), ("--outcome", "80011000:8")
-    assert hows(races(path, *words)[0]) == [("over", "over"), ("waits", "over")]
+    assert hows(races(path, *words)[0]) == [("ended", "ended"), ("waits", "ended")]
     races(path, *words, "--forbid", "livelock", status=0)
     races(path, *words, "--forbid", "waits", status=1)
 
 
-def test_hart_that_does_not_come_to_its_end_stays(races, image):
-    assert set(hows(races(image(WAITS), "--end", "80010018", "--forbid", "stays", status=1)[0])) == {("over", "stays"), ("waits", "stays")}
+def test_hart_that_does_not_reach_its_end_halts(races, image):
+    assert set(hows(races(image(WAITS), "--end", "80010018", "--forbid", "halts", status=1)[0])) == {("ended", "halts"), ("waits", "halts")}
 
 
 def test_hart_that_is_given_up_makes_the_result_not_whole(races, image):
     found, last = races(image(ENDLESS), "--steps", "1000")
-    assert hows(found) == [("has not ended", "over")]
-    assert "not what comes behind one hart that has not ended" in last["covered"]
+    assert hows(found) == [("unfinished", "ended")]
+    assert "in which a hart did not finish" in last["covered"]
 
 
 @pytest.mark.parametrize("steps, wanted", [(14, ["0700000000000000", "0700000007000000"]), (15, ["0700000000000000"]), (19, ["0700000000000000"])])
@@ -153,11 +153,11 @@ def test_script_of_each_end_shows_its_values_on_the_bench(races, counter, bench,
     found = races(counter, "--outcome", COUNT, "--scripts", tmp_path / "scripts")[0]
     assert len(os.listdir(tmp_path / "scripts")) == len(found)
     for end in found:
-        text = (tmp_path / "scripts" / ("end_%d" % end["end"])).read_text()
+        text = (tmp_path / "scripts" / ("final_state_%d" % end["number"])).read_text()
         words = text.split("# ./rvbench ")[1].split(" <")[0].split()
         done = subprocess.run([bench, *words], input=text, capture_output=True, text=True, check=True).stdout.splitlines()
-        assert done[-1] == "80011000: %02x 00 00 00" % end["values"][COUNT], "end %d" % end["end"]
-        assert [it for it in done if it.startswith("error")] == [], "end %d" % end["end"]
+        assert done[-1] == "80011000: %02x 00 00 00" % end["values"][COUNT], "final state %d" % end["number"]
+        assert [it for it in done if it.startswith("error")] == [], "final state %d" % end["number"]
 
 
 def test_parts_of_a_search_have_together_the_final_states_of_the_whole(races, counter):
@@ -179,7 +179,7 @@ def test_value_that_does_not_occur_is_not_found(races, counter):
 def test_search_that_is_cut_claims_no_more_than_it_searched(races, image):
     path = image(COUNTER % 40)
     found, last = races(path, "--outcome", COUNT, "--seconds", "0.5")
-    assert (last["whole"], last["covered"].startswith("cut by --seconds behind ")) == (False, True)
+    assert (last["complete"], last["covered"].startswith("stopped by --seconds after ")) == (False, True)
     if "at most" in last["covered"]:
         claimed = last["covered"].split("at most ")[1].split()[0]
         again = races(path, "--outcome", COUNT, "--preemptions", claimed)[0]

@@ -1,5 +1,5 @@
-"""`races` on programs with endless loops: the final states against a model that goes through all orders state by state, the time limit, and
-what is claimed if the search is not whole."""
+"""`races` on programs with endless loops: the final states against a model that enumerates all schedules, the time limit, and the report of an
+incomplete search."""
 import itertools
 import random
 import time
@@ -50,7 +50,7 @@ def random_body(rng):
 
 
 def reported(ends):
-    """The final states of `races` as the model has them."""
+    """Returns the final states of `races` in the form of the model."""
     found = set()
     for it in ends.ends:
         memory, *registers = it.values
@@ -69,13 +69,13 @@ def check(final_states, program, **options):
 
 
 @pytest.mark.parametrize("victim", VICTIMS)
-def test_final_states_beside_each_endless_loop_are_those_of_all_orders(final_states, victim):
+def test_final_states_with_each_endless_loop_are_those_of_all_schedules(final_states, victim):
     for number, body in enumerate(loops()):
         check(final_states, model.linked(VICTIMS[victim], body), plain=number % 8 == 0)
 
 
 @pytest.mark.parametrize("chunk", range(4))
-def test_final_states_of_random_endless_loops_are_those_of_all_orders(final_states, chunk):
+def test_final_states_of_random_endless_loops_are_those_of_all_schedules(final_states, chunk):
     rng = random.Random(chunk)
     for _ in range(30):
         program = model.linked(random_body(rng), random_body(rng))
@@ -83,7 +83,7 @@ def test_final_states_of_random_endless_loops_are_those_of_all_orders(final_stat
         check(final_states, program, plain=True)
 
 
-def test_final_states_beside_one_endless_loop_are_those_of_all_orders(final_states):
+def test_final_states_with_one_endless_loop_are_those_of_all_schedules(final_states):
     check(final_states, model.linked(VICTIMS["one load"], VALUES + [NOP, *STORES, ("jal", 3)]))
 
 
@@ -105,11 +105,11 @@ def test_there_are_five_hundred_programs():
 @pytest.mark.parametrize("name", ["endless_attacker", "endless_attacker_nop"])
 def test_value_of_an_ended_hart_is_reported_although_the_other_never_ends(objects, program, name):
     status, found = objects("races", "--harts", "2", "--ram", "262144", *program(name), "--outcome", "seen", "--forbid", "seen == 800")
-    ends = [it for it in found if it["object"] == "race"]
+    ends = [it for it in found if it["object"] == "final_state"]
     assert status == 1
     assert sorted(it["values"]["seen"] for it in ends) == [0, 16, 800]
-    assert {(it["over"][0]["how"], it["over"][1]["how"]) for it in ends} == {("over", "goes on")}
-    assert found[-1]["whole"] and found[-1]["forbidden"]
+    assert {(it["harts"][0]["how"], it["harts"][1]["how"]) for it in ends} == {("ended", "runs on")}
+    assert found[-1]["complete"] and found[-1]["forbidden"]
 
 
 # ---- the time limit
@@ -131,14 +131,14 @@ def test_time_limit_holds(rvlook, tmp_path, first, second, seconds=3):
     done = rvlook("races", "--monitor", "--harts", "2", "--ram", "131072", path, "--seconds", seconds, "--steps", "1000000000",
                   "--forbid", "80011000 == 70000000", timeout=60)
     assert time.monotonic() - start < seconds + 1.2
-    assert "cut by --seconds" in done.stdout
+    assert "stopped by --seconds" in done.stdout
     assert done.returncode != 0
 
 
 def test_time_limit_holds_in_one_move(rvlook, tmp_path):
     path = write(tmp_path, model.linked(LONG, LONG))
     done = rvlook("races", "--monitor", "--harts", "2", "--ram", "131072", path, "--seconds", 1, "--steps", "1000000000", timeout=20)
-    assert "cut by --seconds" in done.stdout
+    assert "stopped by --seconds" in done.stdout
 
 
 def test_time_limit_holds_while_final_states_are_replayed(final_states, monkeypatch):
@@ -155,7 +155,7 @@ def test_time_limit_holds_while_final_states_are_replayed(final_states, monkeypa
 
 def test_wait_for_the_state_of_a_loop_is_bounded():
     from rvlook.finders.races import loop as races_loop
-    from rvlook.errors import Fault
+    from rvlook.errors import RvlookError
 
     class Round:  # a hart whose state is its number of steps, in a loop of four
         hart, context, digest, registers = 0, 0, 0, ()
@@ -178,7 +178,7 @@ def test_wait_for_the_state_of_a_loop_is_bounded():
     races_loop.Work = Round
     try:
         assert races_loop.first_arrival(Steps, None, work, (3, 0, 0, ()), 5).done == 7
-        with pytest.raises(Fault):
+        with pytest.raises(RvlookError):
             races_loop.first_arrival(Steps, None, work, (9, 0, 0, ()), 0)
     finally:
         races_loop.Work = old
@@ -191,22 +191,22 @@ def test_search_is_bounded_on_the_attacker_after_some_nops(final_states):
         assert search.is_whole(), "%d nops" % nops
 
 
-# ---- what is claimed
+# ---- the report of an incomplete search
 
-def test_hart_that_counts_for_ever_makes_the_result_not_whole(final_states, monkeypatch):
+def test_hart_that_counts_forever_makes_the_result_incomplete(final_states, monkeypatch):
     from rvlook.finders.races import machine as races_machine, search as races
     monkeypatch.setattr(races, "MOST_ALONE", 20)
     monkeypatch.setattr(races_machine, "AHEAD", 64)
     search, ends = final_states(model.image_of(model.linked(VICTIMS["one load"], COUNTS)), *WATCHED, steps=200)
     assert not search.is_whole()
-    assert {it.values[1] for it in ends.ends if it.harts[0][0] == "over"} >= set(range(10))
+    assert {it.values[1] for it in ends.ends if it.harts[0][0] == "ended"} >= set(range(10))
 
 
 def test_forbidden_condition_is_not_decided_if_a_hart_was_given_up(rvlook, tmp_path):
     path = write(tmp_path, model.linked([("jal", 0)], LONG))
     done = rvlook("races", "--monitor", "--harts", "2", "--ram", "131072", path, "--steps", "1000", "--forbid", "80011000 == 5")
     assert done.returncode != 0
-    assert "--forbid is not decided" in done.stderr
+    assert "--forbid is undecided" in done.stderr
     assert "Covered: all" not in done.stdout
 
 
@@ -216,7 +216,7 @@ def test_limit_of_steps_ends_an_endless_loop_where_the_limit_is(final_states, pl
     for limit in range(8, 14):
         _, ends = final_states(model.image_of(model.linked([("jal", 0)], body)), "80011000", "1.t1", limit=limit, plain=plain)
         at = limit - 2 - 3  # steps in the loop
-        assert [it.harts[1] for it in ends.ends] == [("over", model.ENTRY + 4 * (3 + 3 + at % 3))], limit
+        assert [it.harts[1] for it in ends.ends] == [("ended", model.ENTRY + 4 * (3 + 3 + at % 3))], limit
         assert int.from_bytes(ends.ends[0].values[0], "little") == (16, 800, 16)[at % 3] if at > 1 else True
 
 
@@ -235,7 +235,7 @@ def test_bound_of_preemptions_keeps_the_final_states_that_need_none(final_states
 
 def test_search_without_a_time_limit_is_bounded(final_states, monkeypatch):
     from rvlook.finders.races import search as races
-    monkeypatch.setattr(races, "MOST_PLACES", 3)
+    monkeypatch.setattr(races, "MOST_STATES", 3)
     search, _ = final_states(model.image_of(model.linked(VICTIMS["one load"], VALUES + [NOP, *STORES, ("jal", 3)])), *WATCHED)
-    assert search.why_cut == "the bound of 3 places"
+    assert search.why_cut == "the limit of 3 states"
     assert not search.is_whole()

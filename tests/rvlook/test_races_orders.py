@@ -1,12 +1,12 @@
-"""`races` on random programs: against all orders of the steps over a model, against a search without partial-order reduction, and against
-random orders on the bench. `--all-orders` takes more programs, and all orders on the bench itself."""
+"""`races` on random programs: against all schedules over a model, against a search without partial-order reduction, and against random schedules
+on the program. `--all-orders` runs more programs, and all schedules on the program itself."""
 import itertools
 import random
 import subprocess
 
 import pytest
 from support.race_programs import DATA, KINDS, WINDOW, program_of
-from support.race_runs import OUTCOME, REGISTERS, WORDS, Races, apart, model_values, values_of
+from support.race_runs import OUTCOME, REGISTERS, WORDS, Races, differences, model_values, values_of
 
 from models.all_orders import Orders
 
@@ -38,7 +38,7 @@ def written(folder, program):
 
 
 def check_orders(races, bench, folder, seed, steps=None):
-    """Compares the final states with those of all orders: and for each, the fewest preemptions and timers."""
+    """Compares the final states with those of all schedules, and for each the fewest preemptions and timer interrupts."""
     program = program_of(bench, seed)
     count = steps or program.steps
     orders = Orders(program.image, program.script, count, program.timers, model_values)
@@ -46,11 +46,11 @@ def check_orders(races, bench, folder, seed, steps=None):
         assert orders.count == INTERLEAVINGS[count]
     found, last = races(written(folder, program), "--limit", str(count), "--timer", str(program.timers), *OUTCOME)
     mine = {values_of(it): (it["preemptions"], it["timers"]) for it in found}
-    assert apart(mine, {it: cost for it, (cost, _) in orders.found.items()}) == {}
-    assert last["whole"] and last["orders"] == sum(it["orders"] for it in found)
+    assert differences(mine, {it: cost for it, (cost, _) in orders.found.items()}) == {}
+    assert last["complete"] and last["schedules"] == sum(it["schedules"] for it in found)
 
 
-def test_final_states_are_those_of_all_orders(races, bench, tmp_path, orders_seed):
+def test_final_states_are_those_of_all_schedules(races, bench, tmp_path, orders_seed):
     check_orders(races, bench, tmp_path, orders_seed)
 
 
@@ -59,7 +59,7 @@ def test_final_states_of_cut_runs_are_those_of_all_orders(races, bench, tmp_path
 
 
 def walk(bench, program, rng):
-    """Runs one random order on the bench. Returns the values if both harts stay: the last steps of each are alike; or None."""
+    """Runs one random schedule on the program. Returns the values if both harts have halted, which their last steps show; or None."""
     digits = "".join(rng.choice("01") * rng.randrange(1, 6) for _ in range(40))
     lines = [*program.script, *("sched " + digits[at:at + 64] for at in range(0, len(digits), 64)), "sched " + "01" * 32, "sched 01", "sched 01",
              "mem %x 16" % DATA, "mem %x 16" % WINDOW, "enclaves", "hart 0", "regs", "hart 1", "regs"]
@@ -76,16 +76,16 @@ def walk(bench, program, rng):
 
 
 def test_final_states_are_those_without_reduction(races, bench, tmp_path, plain_seed):
-    """The final states of random orders are among them."""
+    """The final states of random schedules are among them."""
     program = program_of(bench, plain_seed)
     path, words = written(tmp_path, program), ("--timer", str(program.timers), *OUTCOME)
     (reduced, last), (plain, _) = races(path, *words), races(path, *words, "--plain")
-    one, other = ({(values_of(it), tuple(of["how"] for of in it["over"])): (it["preemptions"], it["timers"]) for it in them}
+    one, other = ({(values_of(it), tuple(of["how"] for of in it["harts"])): (it["preemptions"], it["timers"]) for it in them}
                   for them in (reduced, plain))
-    assert apart(one, other) == {}
-    known = {values_of(it)[:4] for it in reduced if "over" == it["over"][0]["how"] == it["over"][1]["how"]}
+    assert differences(one, other) == {}
+    known = {values_of(it)[:4] for it in reduced if "ended" == it["harts"][0]["how"] == it["harts"][1]["how"]}
     rng = random.Random(plain_seed)
-    for _ in range(WALKS if last["whole"] else 0):
+    for _ in range(WALKS if last["complete"] else 0):
         end = walk(bench, program, rng)
         assert end is None or end in known
 

@@ -1,4 +1,4 @@
-"""The bench decides which lines it takes: rvlook gives it a malformed line as it is, and reports the reply."""
+"""The program decides which lines are valid: rvlook passes a malformed line on unchanged, and reports the reply."""
 import json
 import subprocess
 
@@ -54,14 +54,14 @@ def test_explain_tells_each_refused_line(bench, script):
     assert numbers == list(range(3, 3 + len(REFUSED)))
 
 
-def test_explain_tells_right_lines_behind_a_refused_comment(bench, script):
+def test_explain_names_the_right_lines_after_a_refused_comment(bench, script):
     output = run(bench, "explain", script("# " + "x" * 119, "reg 5", "stepp 1")).output.decode()
     assert [it for it in output.splitlines() if it.startswith("line ")] == [
         "line 3: # %s   error line" % ("x" * 118), "line 5: stepp 1   error command"]
 
 
 @pytest.mark.parametrize("word", ["trace", "page", "touch", "map"])
-def test_refused_hart_line_is_told_and_the_run_goes_on(bench, script, word):
+def test_refused_hart_line_is_reported_and_the_run_continues(bench, script, word):
     done = run(bench, word, script("hart 1", "hart x", "hart", "step 1"), "--steps", "3")
     check(done)
     assert done.status == 2
@@ -78,7 +78,7 @@ def test_prompt_refuses_what_the_bench_refuses(bench, script):
     check(done)
     lines = done.output.decode().splitlines()
     assert lines.count("error line") == 2
-    assert "  step takes 1 operand, 0 given" in lines
+    assert "  step takes 1 operand, but 0 were given" in lines
     assert "x5=00000000" in lines
 
 

@@ -1,4 +1,4 @@
-"""The objects of --json are as `objects.schema.json` has them, and each member that the schema names is written."""
+"""The objects of --json match `objects.schema.json`, and each member of the schema is written."""
 import json
 
 import pytest
@@ -63,7 +63,7 @@ def named_by(schema, path):
 
 
 def test_members_that_are_written_are_those_of_the_schema(written):
-    """But for those of `line`, which need source lines."""
+    """Members of `line` are excluded, since they require source lines."""
     found = {member for name in COMMANDS for it in written(name) for member in members_of(it, SHAPES[it["object"]], it["object"])}
     named = set().union(*(named_by(it, name) for name, it in SHAPES.items()))
     assert sorted(found - named) == [], "not named by the schema"

@@ -6,7 +6,7 @@ import pytest
 
 from conftest import BUILD, PROGRAMS, ROOT
 
-FRAME = "rvlook: stack overflow in e0 at step 67, sum: it moves sp to 800209e0, 704 bytes below application_stack_bottom\n"
+FRAME = "rvlook: warning: stack overflow in e0 at step 67, sum: sp set to 800209e0, 704 bytes below application_stack_bottom\n"
 SUBCOMMANDS = ("map", "touch", "trace")
 
 
@@ -42,7 +42,7 @@ def test_with_source_lines_the_line_is_reported(rvlook, tmp_path):
     elf = tmp_path / "program.elf"
     subprocess.run([BUILD, tmp_path / "stack", elf], check=True, capture_output=True)
     done = rvlook("trace", "--monitor", elf)
-    assert "stack overflow in e0 at step 67, application.c:9: it moves sp to" in done.stderr
+    assert "stack overflow in e0 at step 67, application.c:9: sp set to" in done.stderr
 
 
 @pytest.mark.skipif(not shutil.which("clang"), reason="clang is not installed")
@@ -68,4 +68,4 @@ def test_a_store_through_sp_above_the_stack_is_found(rvlook, tmp_path):
     subprocess.run([BUILD, folder, elf], check=True, capture_output=True)
     done = rvlook("touch", "--monitor", elf)
     assert done.returncode == 1
-    assert " above application_stack_top" in done.stderr and "it stores to 80020ff" in done.stderr
+    assert " above application_stack_top" in done.stderr and "store to 80020ff" in done.stderr

@@ -1,4 +1,4 @@
-"""Each subcommand with an output that fails, one that nobody reads, Ctrl-C, a file that is missing, and one that is no ELF file."""
+"""Each subcommand with a failing output, a closed pipe, Ctrl-C, a missing file, and a file that is not ELF."""
 from pathlib import Path
 
 import pytest
@@ -35,12 +35,12 @@ def with_file(words, path):
 
 @pytest.mark.parametrize("name", SHORT)
 def test_full_output_is_reported(runs, name):
-    assert runs.run(SHORT[name], FULL) == (3, ["rvlook: the output fails: No space left on device"])
+    assert runs.run(SHORT[name], FULL) == (3, ["rvlook: error: cannot write the output: No space left on device"])
 
 
 @pytest.mark.parametrize("name", SHORT)
 def test_closed_pipe_is_reported(runs, name):
-    assert runs.unread(SHORT[name]) == (141, ["rvlook: who reads the output has gone"])
+    assert runs.unread(SHORT[name]) == (141, ["rvlook: error: broken pipe"])
 
 
 @pytest.mark.parametrize("name", LONG)
@@ -48,21 +48,21 @@ def test_interrupt_stops_the_work(runs, name, tmp_path):
     files = {"LOOP": tmp_path / "loop", "MANY": tmp_path / "many"}
     files["LOOP"].write_text(Files.LOOP)
     files["MANY"].write_text(Files.MANY)
-    assert runs.stopped([files.get(it, it) for it in LONG[name]]) == (130, ["rvlook: stopped"])
+    assert runs.stopped([files.get(it, it) for it in LONG[name]]) == (130, ["rvlook: error: interrupted"])
 
 
 @pytest.mark.parametrize("name", SHORT)
 def test_missing_file_is_refused(runs, name):
-    wanted = "/none is no word of rvlook, and no file; rvlook --help tells the words" if name == "the prompt" else "/none: No such file or directory"
-    assert runs.run(with_file(SHORT[name], "/none")) == (2, ["rvlook: " + wanted])
+    wanted = "no subcommand or file '/none'; see 'rvlook --help'" if name == "the prompt" else "cannot open '/none': No such file or directory"
+    assert runs.run(with_file(SHORT[name], "/none")) == (2, ["rvlook: error: " + wanted])
 
 
 @pytest.mark.parametrize("name", SHORT)
 def test_file_that_is_cut_is_refused(runs, name, tmp_path):
     cut = Path(tmp_path, "cut.elf")
     cut.write_bytes(b"\x7fELF")
-    status, told = runs.run(with_file(SHORT[name], cut))
+    status, lines = runs.run(with_file(SHORT[name], cut))
     if name == "explain":  # a text is explained, whatever it is
-        assert (status, told) == (1, [])
+        assert (status, lines) == (1, [])
     else:
-        assert status == 2 and told and all(it.startswith("rvlook: ") for it in told), told
+        assert status == 2 and lines and all(it.startswith("rvlook: ") for it in lines), lines

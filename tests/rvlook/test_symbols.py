@@ -18,7 +18,7 @@ C_FLAGS = ("-ffreestanding", "-fno-builtin", "-Os")
 
 @dataclass(frozen=True)
 class Tools:
-    """A compiler, its options for the machine and the linker, and the prefix of the tools beside it."""
+    """A compiler, its options for the machine and the linker, and the prefix of its tools."""
     compiler: str
     machine: tuple
     linker: tuple

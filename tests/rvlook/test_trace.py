@@ -1,11 +1,11 @@
-"""`trace` against the bench, step by step; and `touch`, which counts the accesses that `trace` shows."""
+"""`trace` against the program, step by step; and `touch` against the accesses of `trace`."""
 import pytest
 
 from conftest import EXAMPLES, PROGRAMS, input_of
 
 MONITOR = ("--monitor",)
 SLICES = 4
-LIMIT = ("--steps", "3000")  # some examples have no end
+LIMIT = ("--steps", "3000")  # some examples are endless
 SHORT, HARTS = ("--monitor", *LIMIT), ("--monitor", "--harts", "2", *LIMIT)
 COUNTED = {
     **{name: SHORT for name in ("enclaves/refused", "enclaves/timer", "enclaves/bug", "enclaves/at_rest", "attacks/timer", "attacks/window")},
@@ -38,7 +38,7 @@ def test_each_step_has_the_reply_and_registers_of_the_bench(results, replies, na
 
 @pytest.mark.parametrize("part", range(SLICES))
 def test_access_of_a_step_is_where_a_watch_stops_a_run(results, replies, part):
-    """A watch on the first and the last byte stops a run at the step, and one on the bytes beside them does not. After the step the memory
+    """A watch on the first and the last byte stops a run at the step, and one on the adjacent bytes does not. After the step the memory
     has the value."""
     image = EXAMPLES / "enclaves" / "refused" / "image"
     steps = [it for it in steps_of(results, image, MONITOR) if it["touch"] and it["touch"]["done"]][:40]
@@ -88,7 +88,7 @@ def test_touch_counts_the_accesses_of_the_steps(results, name):
     check_counts(results, input_of(EXAMPLES / name), COUNTED[name], 2 if name in REFUSED else 0)
 
 
-def test_touch_counts_the_accesses_behind_a_script(results):
+def test_touch_counts_the_accesses_after_a_script(results):
     folder = PROGRAMS.parent / "images" / "trace_script"
     check_counts(results, folder / "image", ("--script", folder / "script", "--steps", "50"), 2)
 

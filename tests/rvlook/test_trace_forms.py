@@ -43,7 +43,7 @@ sw x5, -4(x2)
 ecall
 mret
 """
-# Forms of the manual, for which objdump has forms of its own.
+# Forms of the manual for which objdump prints others.
 OWN = {"csrrwi zero, mscratch, 3": "csrwi mscratch, 3", "csrrsi zero, mie, 3": "csrsi mie, 3", "csrrci zero, mie, 3": "csrci mie, 3",
        "jalr ra, 4(t0)": "jalr ra, 4(t0)", "addi sp, sp, 1": "addi sp, sp, 1"}
 
@@ -115,7 +115,7 @@ def test_branch_goes_to_its_target_or_to_the_next_instruction(results):
 
 
 def changes_of(lines):
-    """The ranges of each moment of `map --brief`: first and last byte, and the rights that it changes."""
+    """The ranges of each event of `map --brief`: first and last byte, and the rights that it changes."""
     found = []
     for line in lines:
         match = re.match(r"  ([0-9a-f]{8})-([0-9a-f]{8}) +\w+  (.*)", line)
@@ -131,16 +131,16 @@ def changes_of(lines):
 def test_changes_of_the_brief_map_give_the_rows_of_the_map(results, rvlook, image):
     path = EXAMPLES / image
     words = ("--monitor", path if path.exists() else input_of(path.parent))
-    moments = [it for it in results("map", *words) if it["object"] == "moment"]
-    starts = sorted({int(row["first"], 16) for it in moments for row in it["rows"]})
+    events = [it for it in results("map", *words) if it["object"] == "event"]
+    starts = sorted({int(row["first"], 16) for it in events for row in it["rows"]})
     now, changes = {at: {} for at in starts}, changes_of(rvlook("map", "--brief", *words).stdout.splitlines())
-    assert len(changes) >= len(moments) > 2
-    for moment, ranges in zip(moments, changes):
+    assert len(changes) >= len(events) > 2
+    for event, ranges in zip(events, changes):
         for first, last, rights in ranges:
             for at in starts:
                 if first <= at <= last:
                     now[at].update(rights)
         for at in starts:
-            row = [it for it in moment["rows"] if int(it["first"], 16) <= at][-1]
-            wanted = {column["world"]: row["may"][column["name"]]["S"] for column in moment["columns"]}
-            assert {world: now[at].get(world, "---") for world in wanted} == wanted, "step %d, %08x" % (moment["step"], at)
+            row = [it for it in event["rows"] if int(it["first"], 16) <= at][-1]
+            wanted = {column["world"]: row["may"][column["name"]]["S"] for column in event["columns"]}
+            assert {world: now[at].get(world, "---") for world in wanted} == wanted, "step %d, %08x" % (event["step"], at)

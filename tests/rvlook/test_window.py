@@ -1,4 +1,4 @@
-"""`window --at`: copies of parts of the secret, and what may differ."""
+"""`window --at`: copies of parts of the secret, and public bytes."""
 import importlib.util
 
 import pytest
@@ -21,7 +21,7 @@ def window(objects, short_program, tmp_path):
 
 
 def copies(found):
-    return [(it["at"], it["size"], it["offset"]) for it in found if it["object"] == "holds"]
+    return [(it["at"], it["size"], it["offset"]) for it in found if it["object"] == "copy"]
 
 
 def test_tail_of_the_secret_is_reported_with_its_length_and_offset(window):
@@ -52,7 +52,7 @@ def test_all_copies_are_reported(window):
 
 def test_what_the_host_wrote_itself_is_the_same_with_another_secret(window):
     status, found = window(0, *KEY, "--public", ANSWER, guesses=1)
-    (it,) = (it for it in found if it["object"] == "holds")
+    (it,) = (it for it in found if it["object"] == "copy")
     assert (status, it["at"], it["size"], it["secret"]) == (0, "80030100", 8, False)
 
 
@@ -61,7 +61,7 @@ def test_text_has_the_length_and_the_offset(rvlook, short_program, tmp_path):
     script.write_text("poke leaks 11\n")
     lines = rvlook("window", *short_program("window_copies"), "--script", script, *KEY).stdout.splitlines()
     assert [line.split(None, 4)[1:] for line in lines if line.startswith("  copy")] == [
-        ["80030800-8003080e", "15", "window_base+800", "bytes 5 to 19 of the secret's 20  depends on the secret"],
+        ["80030800-8003080e", "15", "window_base+800", "bytes 5 to 19 of the 20-byte secret  depends on the secret"],
         ["80030c00-80030c13", "20", "window_base+c00", "all 20 bytes of the secret  depends on the secret"]]
 
 
@@ -78,17 +78,17 @@ def test_public_bytes_and_instructions_may_differ(window, public):
 
 def test_public_bytes_may_have_a_copy(window):
     status, found = window(WHOLE, *KEY, "--public", ANSWER, "--public", "window_base+c00:20")
-    assert status == 0 and [it["public"] for it in found if it["object"] == "holds"] == [True]
+    assert status == 0 and [it["public"] for it in found if it["object"] == "copy"] == [True]
 
 
 def test_copy_of_which_a_part_is_public_is_found(window):
     status, found = window(WHOLE, *KEY, "--public", ANSWER, "--public", "window_base+c00:19")
-    assert status == 1 and [it["public"] for it in found if it["object"] == "holds"] == [False]
+    assert status == 1 and [it["public"] for it in found if it["object"] == "copy"] == [False]
 
 
 def test_public_needs_a_secret(rvlook, short_program):
     done = rvlook("window", *short_program("window_copies"), "--public", ANSWER)
-    assert (done.returncode, done.stderr) == (2, "rvlook: --public needs --at PLACE, which says what the secret is\n")
+    assert (done.returncode, done.stderr) == (2, "rvlook: error: --public requires --at PLACE\n")
 
 
 def test_double_fetch_is_found_without_a_secret(window):

@@ -1,1 +1,1 @@
-"""What the tests share beside fixtures: hostile inputs, packets of gdb, fuzzing."""
+"""Shared code of the tests: hostile inputs, packets of gdb, fuzzing."""

@@ -1,4 +1,4 @@
-"""How the fuzzers run: a few examples with a fixed seed, or as many as `--fuzz-seconds N` gives time for, each part with the next seed."""
+"""Runs the fuzzers: a few examples with a fixed seed, or as many as fit into `--fuzz-seconds N`, each part with the next seed."""
 import signal
 import time
 from contextlib import contextmanager
@@ -9,7 +9,7 @@ SETTINGS = {"deadline": None, "database": None, "print_blob": False, "suppress_h
 
 
 def fuzz(strategy, check, examples, seconds=0):
-    """Checks so many examples of a strategy; for so many seconds, more of them with other seeds."""
+    """Checks this many examples of a strategy; for this many seconds, more of them with other seeds."""
     number, end = 0, time.monotonic() + seconds
     while number == 0 or time.monotonic() < end:
         seed(number)(settings(max_examples=examples, **SETTINGS)(given(strategy)(check)))()
@@ -18,7 +18,7 @@ def fuzz(strategy, check, examples, seconds=0):
 
 @contextmanager
 def at_most(seconds):
-    """Raises TimeoutError in what takes more seconds of this process's time, whatever else the machine does."""
+    """Raises TimeoutError in a body that takes more processor time, in seconds."""
     def stop(*_):
         raise TimeoutError("more than %d seconds" % seconds)
 

@@ -10,14 +10,14 @@ LIMIT = 120  # seconds of a session
 
 
 class Client:
-    """Starts a server on its standard streams. `told` has what the server has had shown since the last packet that clears it."""
+    """Starts a server on its standard streams. `console` is the output that the server sent since it was last cleared."""
 
     def __init__(self, command, cwd, environment, **more):
         self.process = subprocess.Popen([str(it) for it in command], cwd=cwd, env=environment, stdin=subprocess.PIPE, stdout=subprocess.PIPE,
                                         **more)
         self.clock = threading.Timer(LIMIT, self.process.kill)
         self.clock.start()
-        self.told = ""
+        self.console = ""
         assert self.ask("QStartNoAckMode") == "OK"
 
     def __enter__(self):
@@ -39,7 +39,7 @@ class Client:
         self.process.stdin.flush()
 
     def answer(self):
-        """Returns the next answer; what is shown before it is kept."""
+        """Returns the next reply; output before it goes to `console`."""
         while True:
             text = b""
             while not text.endswith(b"#"):
@@ -52,22 +52,22 @@ class Client:
             assert int(checksum, 16) == sum(text) & 0xFF, text
             if not text.startswith(b"O") or text == b"OK":
                 return text.decode("latin-1")
-            self.told += bytes.fromhex(text[1:].decode()).decode("latin-1")
+            self.console += bytes.fromhex(text[1:].decode()).decode("latin-1")
 
     def ask(self, text):
-        """Returns the answer to a packet."""
+        """Returns the reply to a packet."""
         self.give(packet(text))
         return self.answer()
 
     def monitor(self, line):
-        """Returns what a line of `monitor` prints."""
-        self.told = ""
+        """Returns the output of a line of `monitor`."""
+        self.console = ""
         assert self.ask("qRcmd," + line.encode().hex()) == "OK", line
-        return self.told
+        return self.console
 
     def halt(self, text):
         """Returns where a packet halts: the reason, and the registers and pc as `regs` prints them."""
-        self.told = ""
+        self.console = ""
         answer = self.ask(text)
         values = dict(re.findall(r"\b([0-9a-f]{2}):([0-9a-f]{8});", answer))
         shown = [bytes.fromhex(values["%02x" % number])[::-1].hex() for number in range(PC + 1)]
@@ -76,7 +76,7 @@ class Client:
 
     def signal(self, text):
         """Returns the signal with which a packet halts."""
-        self.told = ""
+        self.console = ""
         return int(self.ask(text)[1:3], 16)
 
     def end(self):
@@ -88,6 +88,6 @@ class Client:
 
 
 def states_of(replies, image, words, count):
-    """Returns what `regs` prints at reset, and after each of so many steps of hart 0."""
+    """Returns the output of `regs` at reset, and after each of this many steps of hart 0."""
     lines = [it for it in replies(image, words, ["regs", *["step 1", "hart 0", "regs"] * count]) if "=" in it[:4]]
     return [lines[33 * number:33 * number + 33] for number in range(count + 1)]

@@ -1,7 +1,7 @@
-"""What the tests of hostile input share: an ELF file whose names are replaced, and rvlook in a child with a clock and a bound of memory.
+"""Shared code of the tests of hostile input: an ELF file whose names can be replaced, and rvlook in a child process with limits of time and memory.
 
-The ELF file is that of `programs/hello`, built with `-g -gdwarf-4`; it is kept as digits, so that the tests need no compiler. Its source file
-and one of its functions have names of 49 and 48 characters, in whose place others fit."""
+The ELF file is that of `programs/hello`, built with `-g -gdwarf-4`; it is stored as digits, so that the tests need no compiler. Its source file
+and one of its functions have names of 49 and 48 characters, which other names can replace."""
 import os
 import resource
 import signal
@@ -19,11 +19,11 @@ SOURCE = next(FOLDER.glob("*.c")).name
 FUNCTION = "a_function_with_a_name_of_48_characters_________"
 HELLO = bytes.fromhex((FOLDER / "elf.hex").read_text())
 SECONDS, MEMORY = 60, 1 << 30
-FEW = ["--steps", "40"]  # the program halts behind 23
+FEW = ["--steps", "40"]  # the program halts after 23
 
 
 def fitting(name, length):
-    """Returns a name as bytes, which is not longer than the one that it replaces."""
+    """Returns a name as bytes; it must not be longer than the one that it replaces."""
     data = name if isinstance(name, bytes) else os.fsencode(name)
     assert len(data) <= length, "the name does not fit"
     return data
@@ -64,7 +64,7 @@ class Done(NamedTuple):
 
 
 def run(bench, *words, stdin=b"", seconds=SECONDS, memory=MEMORY):
-    """Runs rvlook in a forked child, which has its modules already: so a run takes some hundredths of a second."""
+    """Runs rvlook in a forked child, which has its modules already; a run takes a few hundredths of a second."""
     load()
     without_limit(bench)
     with tempfile.TemporaryFile() as given, tempfile.TemporaryFile() as output, tempfile.TemporaryFile() as errors:
@@ -92,7 +92,7 @@ def load():
 
 @lru_cache(maxsize=None)
 def without_limit(bench):
-    """Returns a script that runs the program without the bound of memory, which an unproved one with its sanitizer does not run in."""
+    """Returns a script that runs the program without the memory limit, which an unproved program with a sanitizer exceeds."""
     path = os.path.join(tempfile.mkdtemp(prefix="rvlook"), "bench")
     with open(path, "w", encoding="utf-8") as file:
         file.write('#!/bin/sh\nulimit -S -v unlimited\nexec "%s" "$@"\n' % bench)
@@ -101,7 +101,7 @@ def without_limit(bench):
 
 
 def in_child(bench, words, files, seconds, memory):
-    """Does the words, and ends the process."""
+    """Runs rvlook with these arguments, and ends the process."""
     status = 101
     try:
         signal.signal(signal.SIGALRM, signal.SIG_DFL)
@@ -123,11 +123,11 @@ def in_child(bench, words, files, seconds, memory):
 
 
 def check(done, notes=()):
-    """What holds for every input: no traceback, an end in time, and lines behind `rvlook: ` without control characters."""
-    told = done.errors.decode("utf-8", "replace")
-    assert "Traceback" not in told, told
-    assert done.status >= 0, "signal %d, %s" % (-done.status, told)
+    """Checks the properties of every run: no traceback, an end in time, and lines after `rvlook: ` without control characters."""
+    errors = done.errors.decode("utf-8", "replace")
+    assert "Traceback" not in errors, errors
+    assert done.status >= 0, "signal %d, %s" % (-done.status, errors)
     assert done.memory < MEMORY
-    for line in told.split("\n")[:-1]:
-        assert line.startswith(("rvlook: ", "rvbench: ", *notes)), told
+    for line in errors.split("\n")[:-1]:
+        assert line.startswith(("rvlook: ", "rvbench: ", *notes)), errors
         assert line.isprintable(), repr(line)

@@ -1,15 +1,15 @@
-"""Files for the cases of messages: images, scripts and listings, each of which makes rvlook print one of them."""
+"""Creates files for the cases of messages: images, scripts and listings that each cause one message."""
 from support.hostile import named
 
 IMAGES = "tests/rvlook/images"
 REGION = IMAGES + "/measure/region"
-LARGE = (32 << 20) + 1  # bytes, one more than an image may have
-LINES = 1000001  # one more than a script may have
+LARGE = (32 << 20) + 1  # bytes, one more than the limit of an image
+LINES = 1000001  # one more than the limit of a script
 
 
 class Files:
     """Writes the files into a folder."""
-    LOOP = "1303130013031300\n6ff09fff\n"  # counts for ever
+    LOOP = "1303130013031300\n6ff09fff\n"  # counts forever
     MANY = "b71201801303803e83a302009383130023a072001303f3ffe31803fe6f000000\n"  # adds one to 80011000 a thousand times
 
     def __init__(self, folder, elf):
@@ -20,7 +20,7 @@ class Files:
             ("unknown", "stepp 4"), ("twice", "break trapped"), ("man", "break man"), ("behind", "break trapped@80040000"))}
         self.counter = self.write("counter", "b712018083a302009383130023a072006f000000\n")  # adds one to 80011000
         self.cycle = self.write("cycle", "732500b06f000000\n")  # reads mcycle
-        self.spin = self.write("spin", "93c212006ff0dfff\n")  # inverts a bit of x5 for ever
+        self.spin = self.write("spin", "93c212006ff0dfff\n")  # inverts a bit of x5 forever
         self.key = self.write("key", "b758450a938838e473000000\n6f000000\n")
         self.text = self.write("text", "no image\n")
         self.marked = self.write("marked", "\xef\xbb\xbf6f000000\n")

@@ -16,16 +16,16 @@ import rvlook.finders.races.machine as machine, rvlook.finders.races.replay as r
 from rvlook.__main__ import main
 sys.exit(main(sys.argv[1:]))
 """
-# Edits that break an assumption which rvlook checks as it goes on. No input does.
+# Patches that break an assumption which rvlook checks at run time. No input can break it.
 OTHERWISE = """
 class Forgetful(dict):
     def setdefault(self, key, value):
         return None
-learn = machine.Machine.learn
+decode_step = machine.Machine.decode_step
 def forgetful(self, *more):
     self.known = Forgetful(self.known)
-    return learn(self, *more)
-machine.Machine.learn = forgetful
+    return decode_step(self, *more)
+machine.Machine.decode_step = forgetful
 """
 MORE = "operands = machine.operands; machine.operands = lambda word: (0, *operands(word)[1:])"
 NEVER_BACK = """
@@ -62,12 +62,12 @@ class Runs:
         return done.returncode, done.stderr.splitlines()
 
     def run(self, words, shell=None, **environment):
-        """Runs a command line, or a line of a shell that has it as `"$0" "$@"`."""
+        """Runs a command line, or a shell line that contains it as `"$0" "$@"`."""
         before = [] if shell is None else ["bash", "-o", "pipefail", "-c", shell]
         return self.ended([*before, self.look, *words], env={**self.environment, **environment})
 
     def patched(self, code, words):
-        """Runs rvlook with an edit."""
+        """Runs rvlook with a patch."""
         return self.ended([sys.executable, "-B", "-c", PATCHED % (str(Path(self.root, "python")), code), *words])
 
     def typed(self, words):
@@ -79,7 +79,7 @@ class Runs:
         return found
 
     def unread(self, words):
-        """Runs it with an output that nobody reads: the reading end of the pipe is closed before."""
+        """Runs it with an output pipe whose reading end is closed."""
         reading, writing = os.pipe()
         os.close(reading)
         found = self.ended([self.look, *words], stdout=writing)
@@ -87,27 +87,27 @@ class Runs:
         return found
 
     def stopped(self, words):
-        """Runs it, and sends SIGINT after a second; later if it had not yet begun, or if Python dropped the signal in a finalizer."""
+        """Runs it, and sends SIGINT after a second; later if it had not started, or if Python dropped the signal in a finalizer."""
         for pause in (1, 2, 4):
             with subprocess.Popen([self.look, *map(str, words)], cwd=self.root, stdin=subprocess.PIPE, stdout=subprocess.DEVNULL,
                                   stderr=subprocess.PIPE, text=True, env=self.environment,
                                   preexec_fn=lambda: signal.signal(signal.SIGINT, signal.default_int_handler)) as process:
                 time.sleep(pause)
                 process.send_signal(signal.SIGINT)
-                _, told = process.communicate(timeout=60)
-            if process.returncode != -signal.SIGINT and "Exception ignored" not in told:
+                _, errors = process.communicate(timeout=60)
+            if process.returncode != -signal.SIGINT and "Exception ignored" not in errors:
                 break
-        return process.returncode, told.splitlines()
+        return process.returncode, errors.splitlines()
 
     def in_clone(self, folder, names, image):
-        """Runs `map` in a clone that has these files alone, without RVBENCH."""
+        """Runs `map` in a clone with only these files, without RVBENCH."""
         for name in names:
             source = Path(self.root, name)
             (shutil.copytree if source.is_dir() else shutil.copy)(source, folder / name)
         return lambda: self.ended([folder / "rvlook", "map", image], env=self.unset, cwd=folder)
 
     def unbuilt(self, folder, image):
-        """Runs it in a clone in which no program can be built: the status of tools/program says so."""
+        """Runs it in a clone in which tools/program fails."""
         run = self.in_clone(folder, ("python", "rvlook"), image)
         (folder / "tools").mkdir()
         (folder / "tools" / "program").symlink_to("/bin/false")
@@ -120,7 +120,7 @@ class Runs:
         return self.ended([sys.executable, "-B", "-c", code, "map", image], env={**self.unset, "PATH": "/usr/bin:/bin"}, cwd=folder)
 
     def unproved(self, folder, image):
-        """Runs it in a clone whose program is an unproved one, for which the built program stands."""
+        """Runs it in a clone with an unproved program, which is a copy of the built one."""
         run = self.in_clone(folder, ("python", "tools", "rvlook"), image)
         (folder / "crates" / "rvbench" / "out").mkdir(parents=True)
         (folder / "crates.txt").touch()

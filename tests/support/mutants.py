@@ -1,4 +1,4 @@
-"""Mutants of rvlook: each is one edit that puts a wrong behaviour into a copy of it, and the test that must fail on the copy."""
+"""Mutants of rvlook: each is one change of a copy of rvlook, and the test that must fail on the copy."""
 import os
 import shutil
 import subprocess
@@ -15,7 +15,7 @@ SKIPPED = ("__pycache__", "programs", "golden", "images", "fuzz")
 
 @dataclass(frozen=True)
 class Mutant:
-    """In `file` the text `old`, which is there once, becomes `new`; `test`, a module and the name of a test in it, must fail."""
+    """A mutant replaces the text `old`, which occurs once in `file`, by `new`; `test`, a module and a test in it, must fail."""
     name: str
     file: str
     old: str

@@ -1,4 +1,4 @@
-"""Packets of the GDB remote serial protocol for the tests: how one is written, and what rvlook gdb replies to some."""
+"""Packets of the GDB remote serial protocol: encodes them, and collects the replies of rvlook gdb."""
 import os
 import re
 import subprocess
@@ -15,7 +15,7 @@ def packet(text, checksum=None):
     return b"$%s#%s" % (data, b"%02x" % (sum(data) & 255) if checksum is None else checksum)
 
 
-LAST, ANSWER = packet("qXfer:memory-map:read::0,fff"), b"<memory-map>"  # a packet that no test has, and what is in its reply
+LAST, ANSWER = packet("qXfer:memory-map:read::0,fff"), b"<memory-map>"  # a packet that no test sends, and a part of its reply
 
 
 def monitor(line):
@@ -24,8 +24,8 @@ def monitor(line):
 
 
 def replies(bench, image, *packets, words=(), timeout=120):
-    """Gives packets to rvlook gdb; its replies without acknowledgements, and what it writes to standard error. Its input is closed once it
-    has replied to a last packet, for it ends with the debugger."""
+    """Sends packets to rvlook gdb; returns its replies without acknowledgements, and its standard error. Closes its input after the reply to a
+    last packet, which ends the server."""
     server = subprocess.Popen([str(ROOT / "rvlook"), "gdb", str(image), *words], stdin=subprocess.PIPE, stdout=subprocess.PIPE,
                               stderr=subprocess.PIPE, env={**os.environ, "RVBENCH": bench, "TERM": "dumb"})
     clock = threading.Timer(timeout, server.kill)
@@ -46,5 +46,5 @@ def replies(bench, image, *packets, words=(), timeout=120):
 
 
 def shown(found):
-    """What the debugger shows of replies to `monitor`."""
+    """Returns the output that a debugger shows for replies to `monitor`."""
     return b"".join(bytes.fromhex(it[1:].decode()) for it in found if it[:1] == b"O" and it != b"OK").decode()

@@ -1,4 +1,4 @@
-"""The data of a page of rvlook, unpacked: the steps, as `trace --json` has them, and the rest, as the page has it."""
+"""Unpacks the data of a page of rvlook: the steps in the form of `trace --json`, and the rest in the form of the page."""
 import base64
 import json
 import re
@@ -32,13 +32,13 @@ def column(packed):
 
 
 def points_of(steps):
-    """Returns how many points the chart of a trace has: each fetch, and each load or store."""
+    """Returns the number of points in the chart of a trace: one for each fetch, load or store."""
     fetched = [it for it in steps if not (it["trap"] and it["trap"]["cause"].startswith("8"))]
     return len(fetched) + sum(it["touch"] is not None for it in steps)
 
 
 class Steps:
-    """The steps in the data of a page, which are asked for in their order."""
+    """The steps in the data of a page, which must be read in order."""
 
     def __init__(self, data):
         self.data, self.at = data, 0
@@ -48,7 +48,7 @@ class Steps:
         self.touch = {step: at for at, step in enumerate(self.columns["step"])}
 
     def step(self, number):
-        """Returns a step as `trace --json` has it, with the members that the page keeps."""
+        """Returns a step in the form of `trace --json`, with the members that the page stores."""
         data, place = self.data, number - 1
         end = self.at + self.changes[place]
         changed = {"x%d" % self.registers[at]: "%08x" % self.values[at] for at in range(self.at, end)}

@@ -1,4 +1,4 @@
-"""Programs of two harts for the tests of `races`: random ones, each with the script that leads to its beginning."""
+"""Random programs of two harts for the tests of `races`, each with the script that leads to its start."""
 import random
 import subprocess
 
@@ -28,7 +28,7 @@ def random_lines(rng, count, bases):
 
 
 class Program:
-    """An image, a script, the number of steps that each hart does after it, and how often the timer's line rises at most."""
+    """An image, a script, the number of steps of each hart after it, and the most timer interrupts."""
 
     def __init__(self, image, script, steps, timers=0):
         self.image, self.script, self.steps, self.timers = image, script, steps, timers
@@ -52,7 +52,7 @@ def call_script(function, *arguments):
 
 
 def hosts(bench, rng, steps, calls):
-    """Two hosts of so many steps. With `calls` each calls the monitor once between them, and keeps the answer."""
+    """Two hosts with this many steps. With `calls` each makes one monitor call, and stores its status."""
     bodies, script = [], []
     for hart in (0, 1):
         body = random_lines(rng, steps, [(8, 8)])
@@ -78,7 +78,7 @@ def call_of(rng):
 
 
 def enclaves(bench, rng, steps, timers=0):
-    """An enclave on each hart, with one window. They stop or exit, and the host goes on after its call."""
+    """An enclave on each hart, with a common window. They stop or exit, and the host continues after its call."""
     image = bytearray(0x3000)
     host = ["ecall", "ecall", *random_lines(rng, 3, [(9, 8), (8, 4)]), "ecall", *random_lines(rng, steps, [(9, 8)])]
     code = assembled(bench, host)

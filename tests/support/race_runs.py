@@ -1,19 +1,19 @@
-"""Runs of `races` for its tests: the outcome that they show, and the status that must come of the final states."""
+"""Runs `races` for its tests: the outcome, and the expected status of the final states."""
 from support.race_programs import DATA, WINDOW
 
 WORDS = ("--monitor", "--harts", "2", "--ram", "196608")
 REGISTERS = {5: "t0", 6: "t1", 7: "t2", 10: "a0"}
 OUTCOME = ("--outcome", "%x:16" % DATA, "--outcome", "%x:16" % WINDOW, "--outcome", "enclaves",
            *(it for hart in (0, 1) for name in REGISTERS.values() for it in ("--outcome", "%d.%s" % (hart, name))))
-ENDS = {"over", "has not ended", "is left"}  # of a hart: no finding
+ENDS = {"ended", "unfinished", "not searched"}  # of a hart: no finding
 
 
 def status_of(found):
-    """The status that objects mean without --forbid: 1 if there is more than one final state, or a hart that does not come to its end; 3 if
-    not all was searched."""
-    ends = [it for it in found if it["object"] == "race"]
-    hows = {over["how"] for it in ends for over in it["over"]}
-    return 1 if len(ends) > 1 or hows - ENDS else 3 if "has not ended" in hows or not found[-1]["whole"] else 0
+    """Returns the expected status of objects without --forbid: 1 for more than one final state, or a hart that does not end; 3 for an incomplete
+    search."""
+    ends = [it for it in found if it["object"] == "final_state"]
+    hows = {hart["how"] for it in ends for hart in it["harts"]}
+    return 1 if len(ends) > 1 or hows - ENDS else 3 if "unfinished" in hows or not found[-1]["complete"] else 0
 
 
 class Races:
@@ -27,26 +27,26 @@ class Races:
         assert found, "races %s ends with status %d" % (" ".join(words), ended)
         wanted = status if status is not None else 0 if "--forbid" in words else status_of(found)
         assert ended == wanted, "races %s ends with status %d" % (" ".join(words), ended)
-        return [it for it in found if it["object"] == "race"], found[-1]
+        return [it for it in found if it["object"] == "final_state"], found[-1]
 
 
 def values_of(end):
-    """The values of a final state, as `model_values` has them."""
+    """Returns the values of a final state in the form of `model_values`."""
     values = end["values"]
     registers = tuple(values["%d.%s" % (hart, name)] for hart in (0, 1) for name in REGISTERS.values())
     return (values["%x:16" % DATA], values["%x:16" % WINDOW], tuple(sorted(values["enclaves"].items())), registers,
-            tuple(it["pc"] for it in end["over"]))
+            tuple(it["pc"] for it in end["harts"]))
 
 
 def model_values(harts):
-    """The values of the harts of the model."""
+    """Returns the values of the harts of the model."""
     one = harts[0]
     return (one.part(DATA, 16).hex(), one.part(WINDOW, 16).hex(),
             tuple(sorted(("e%d" % slot, it.state) for slot, it in one.table.items())),
             tuple(it.regs[number] for it in harts for number in REGISTERS), tuple("%08x" % it.pc for it in harts))
 
 
-def apart(found, wanted):
-    """The first few final states that differ: what was found, and what is wanted."""
+def differences(found, wanted):
+    """Returns the first few final states that differ: the found and the expected one."""
     keys = [it for it in {**found, **wanted} if found.get(it) != wanted.get(it)]
     return {it: (found.get(it), wanted.get(it)) for it in keys[:2]}

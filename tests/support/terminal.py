@@ -1,4 +1,4 @@
-"""A program on a terminal of its own, for the tests of what a person types and sees."""
+"""Runs a program on a terminal of its own, for interactive tests."""
 import os
 import pty
 import re
@@ -36,7 +36,7 @@ class Terminal:
         return True
 
     def shows(self, text):
-        """Returns whether a text is shown in time; forgets what was shown before it."""
+        """Returns whether a text is shown in time; discards the output before it."""
         end = time.monotonic() + LIMIT
         while text not in self.seen and time.monotonic() < end:
             self.read()

@@ -1,1 +1,1 @@
-"""Who can access what, and what was accessed: the access map, access counts, activations of enclaves, stack overflows."""
+"""Access rights and accesses: the access map, access counts, activations of enclaves, stack overflows."""

@@ -27,10 +27,10 @@ class Access(NamedTuple):
 def accesses(run: Run) -> tuple[Counter[Access], End]:
     """Counts the accesses of a run by kind, address and width; returns the counts and the end of the run."""
     counter, end = Counting(run), None
-    with run.replay() as reader, run.replay() as teller:
+    with run.replay() as decoder, run.replay() as reader:
         for item in run.stretches():
             if isinstance(item, Stretch):
-                counter.take(reader, teller, item)
+                counter.take(decoder, reader, item)
             elif isinstance(item, End):
                 end = item
     assert end is not None
@@ -43,38 +43,38 @@ class Counting:
     def __init__(self, run: Run) -> None:
         self.steps: Counter[tuple[bytes, bytes, bytes]] = Counter()
         self.touched: Counter[tuple[bytes, str, int, int, bool]] = Counter()
-        self.places = [(run.pc.encode(), run.world.encode()) for _ in range(run.setup.harts)]
+        self.locations = [(run.pc.encode(), run.world.encode()) for _ in range(run.setup.harts)]
 
-    def take(self, reader: Replay, teller: Replay, stretch: Stretch) -> None:
+    def take(self, decoder: Replay, reader: Replay, stretch: Stretch) -> None:
         """Counts the accesses of the steps of a stretch."""
         after, _, worlds, traps = zip(*RAN_FIELDS.findall(stretch.data))
-        pc, world = self.places[stretch.hart]
-        self.places[stretch.hart] = after[-1], worlds[-1]
+        pc, world = self.locations[stretch.hart]
+        self.locations[stretch.hart] = after[-1], worlds[-1]
         pcs, worlds = (pc, *after[:-1]), (world, *worlds[:-1])
         self.steps.update(zip(pcs, worlds, traps))
-        begin(reader, stretch)
-        block = reader.bench.block(b"".join([b"dis %s\nstep 1\n" % it for it in pcs]), 2 * stretch.count)
-        found = [(place, it.memory) for place, it in enumerate(map(instruction_of, block.split(b"\n")[:-1:2])) if it and it.memory]
-        bases = self.bases(teller, stretch, found)
-        for (place, memory), base in zip(found, bases):
-            cause = traps[place][:8].decode()
-            if traps[place] == NO_TRAP or cause in names.ACCESS_FAULTS:
+        begin(decoder, stretch)
+        block = decoder.bench.block(b"".join([b"dis %s\nstep 1\n" % it for it in pcs]), 2 * stretch.count)
+        found = [(index, it.memory) for index, it in enumerate(map(instruction_of, block.split(b"\n")[:-1:2])) if it and it.memory]
+        bases = self.bases(reader, stretch, found)
+        for (index, memory), base in zip(found, bases):
+            cause = traps[index][:8].decode()
+            if traps[index] == NO_TRAP or cause in names.ACCESS_FAULTS:
                 address = (base + memory.offset) & 0xFFFFFFFF
-                self.touched[worlds[place], memory.kind, address, memory.width, traps[place] == NO_TRAP] += 1
+                self.touched[worlds[index], memory.kind, address, memory.width, traps[index] == NO_TRAP] += 1
 
     @staticmethod
-    def bases(teller: Replay, stretch: Stretch, found: Sequence[tuple[int, Memory]]) -> list[int]:
+    def bases(reader: Replay, stretch: Stretch, found: Sequence[tuple[int, Memory]]) -> list[int]:
         """Returns the base register of each access, read before its step."""
-        begin(teller, stretch)
-        asked, count, done = [], 0, 0
-        for place, memory in found:
-            if place > done:
-                asked.append(b"step %d\n" % (place - done))
+        begin(reader, stretch)
+        queries, count, done = [], 0, 0
+        for index, memory in found:
+            if index > done:
+                queries.append(b"step %d\n" % (index - done))
                 count += 1
-            asked.append(b"reg %d\n" % memory.base)
-            count, done = count + 1, place
-        asked.append(b"step %d\n" % (stretch.count - done))
-        lines = teller.bench.block(b"".join(asked), count + 1).split(b"\n")
+            queries.append(b"reg %d\n" % memory.base)
+            count, done = count + 1, index
+        queries.append(b"step %d\n" % (stretch.count - done))
+        lines = reader.bench.block(b"".join(queries), count + 1).split(b"\n")
         return [int(line.split(b"=")[1], 16) for line in lines if line.startswith(b"x")]
 
     def found(self) -> Counter[Access]:

@@ -25,11 +25,11 @@ if TYPE_CHECKING:
 
 DIVIDES = re.compile(r"(?:div|rem)u? x\d+, x(\d+), x(\d+)")
 MODES = {b"U": 0, b"S": 1, b"M": 3}
-LEFT_BY = {0: "exit", 1: "stop", 2: "timer"}
+ENDED_BY = {0: "exit", 1: "stop", 2: "timer"}
 ROW = 64  # bytes that `mem` shows at once
 
 
-class Did(NamedTuple):
+class Operation(NamedTuple):
     """A load (`r`), a store (`w`) or a division (`d`) of a step: address and width, 0 for a division; the value that is stored, or the operands; and
     whether it was done."""
     step: int
@@ -49,7 +49,7 @@ class Fields(NamedTuple):
 
 
 @dataclass
-class Stay:
+class Activation:
     """An activation: an enclave on a hart, from the step that enters it to the one that leaves it. `number` counts the activations of its
     slot."""
     world: str
@@ -58,14 +58,14 @@ class Stay:
     number: int
     enclave: Enclave
     last: int = 0
-    left: str = ""
+    ended_by: str = ""
     answer: tuple[int, ...] = ()
-    pc: Optional[int] = None  # of the step that left
+    pc: Optional[int] = None  # of the last step
     pcs: array[int] = field(default_factory=lambda: array("I"))  # of each step, with its mode in the lowest bits
     steps: array[int] = field(default_factory=lambda: array("I"))  # the number of each
-    traps: dict[int, bytes] = field(default_factory=dict)  # of the steps that trapped, by their place
-    did: list[Did] = field(default_factory=list)
-    did_at: array[int] = field(default_factory=lambda: array("I"))  # the places of these steps
+    traps: dict[int, bytes] = field(default_factory=dict)  # of the steps that trapped, by index
+    operations: list[Operation] = field(default_factory=list)
+    operations_at: array[int] = field(default_factory=lambda: array("I"))  # the indices of these steps
     before: bytes = b""
     after: bytes = b""
     others: tuple[str, ...] = ()  # the world of the other hart, where there is one
@@ -77,11 +77,11 @@ class Stay:
         return int(self.world[1:])
 
 
-Wanted = Tuple[Optional[Memory], Tuple[int, ...]]  # an access, or None for a division, and registers
+Needed = Tuple[Optional[Memory], Tuple[int, ...]]  # an access, or None for a division, and registers
 
 
 @lru_cache(maxsize=65536)
-def wants(line: bytes, is_strict: bool) -> Wanted | None:
+def registers_for(line: bytes, is_strict: bool) -> Needed | None:
     """Returns the registers to read before an instruction: for its address and its stored value, or for a division. None if there are none."""
     it = instruction_of(line)
     if it is None:
@@ -92,22 +92,22 @@ def wants(line: bytes, is_strict: bool) -> Wanted | None:
     return (None, (int(match[1]), int(match[2]))) if match else None
 
 
-class Stays:
+class Activations:
     """The activations of a run after a step. `is_strict` records the operands of divisions too."""
 
     def __init__(self, run: Run, start: int = 0, is_strict: bool = False) -> None:
         self.run, self.start, self.is_strict = run, start, is_strict
         self.code: dict[int, dict[bytes, bytes]] = {}
-        self.places = [(run.pc.encode(), run.mode.encode(), run.world.encode()) for _ in range(run.setup.harts)]
-        self.open: list[Stay | None] = [None] * run.setup.harts
+        self.locations = [(run.pc.encode(), run.mode.encode(), run.world.encode()) for _ in range(run.setup.harts)]
+        self.open: list[Activation | None] = [None] * run.setup.harts
         self.numbers: Counter[str] = Counter()
         self.end: End | None = None
-        self.offset = -1  # of the teller in the stretch; below 0 if it is not there yet
+        self.offset = -1  # of the reader in the stretch; below 0 if it is not there yet
 
-    def all(self) -> Generator[Stay, None, None]:
+    def all(self) -> Generator[Activation, None, None]:
         """Yields each activation after it has ended; one that is open at the end of the run comes last."""
-        with self.run.replay() as teller, self.run.replay() as shower:
-            self.teller, self.shower = teller, shower
+        with self.run.replay() as reader, self.run.replay() as viewer:
+            self.reader, self.viewer = reader, viewer
             for item in self.run.stretches():
                 if isinstance(item, Stretch):
                     yield from self.take(item)
@@ -115,17 +115,17 @@ class Stays:
                     self.code = {hart: {} for hart in self.code} if item.text.startswith("poke") else self.code
                 else:
                     self.end = item
-            for stay in (it for it in self.open if it):
+            for activation in (it for it in self.open if it):
                 assert self.end is not None
-                yield self.closed(stay, self.end.steps, None, "nothing")
+                yield self.closed(activation, self.end.steps, None, "none")
 
-    def take(self, stretch: Stretch) -> Iterator[Stay]:
+    def take(self, stretch: Stretch) -> Iterator[Activation]:
         """Takes the steps of a stretch; yields the activations that end in it."""
-        hart, place = stretch.hart, 0
+        hart, index = stretch.hart, 0
         after = list(zip(*RAN_FIELDS.findall(stretch.data)))
         traps = after.pop()
-        pcs, modes, worlds = ((before, *those[:-1]) for before, those in zip(self.places[hart], after))
-        self.places[hart] = (after[0][-1], after[1][-1], after[2][-1])
+        pcs, modes, worlds = ((before, *those[:-1]) for before, those in zip(self.locations[hart], after))
+        self.locations[hart] = (after[0][-1], after[1][-1], after[2][-1])
         if stretch.first + stretch.count <= self.start:
             self.numbers.update(self.entered(worlds, after[2]))
             return
@@ -133,17 +133,17 @@ class Stays:
         for world, group in itertools.groupby(worlds):
             count = sum(1 for _ in group)
             if world.startswith(b"e"):
-                stay, inside = self.open[hart], range(place, place + count)
-                if stay is None:
-                    stay = self.open[hart] = self.opened(world.decode(), hart, stretch.first + place - 1)
+                activation, inside = self.open[hart], range(index, index + count)
+                if activation is None:
+                    activation = self.open[hart] = self.opened(world.decode(), hart, stretch.first + index - 1)
                     self.code[hart] = {}
-                self.extend(stay, stretch.first, inside, fields, self.looked_at(stretch, fields, inside))
-                if place + count < stretch.count or after[2][-1] != world:
+                self.extend(activation, stretch.first, inside, fields, self.operations_in(stretch, fields, inside))
+                if index + count < stretch.count or after[2][-1] != world:
                     self.open[hart] = None
-                    yield self.closed(stay, stretch.first + place + count - 1, int(pcs[place + count - 1], 16))
-            place += count
+                    yield self.closed(activation, stretch.first + index + count - 1, int(pcs[index + count - 1], 16))
+            index += count
         if 0 <= self.offset < stretch.count:
-            self.teller.bench.block(b"step %d\n" % (stretch.count - self.offset), 1)
+            self.reader.bench.block(b"step %d\n" % (stretch.count - self.offset), 1)
 
     @staticmethod
     def entered(worlds: Iterable[bytes], after: Iterable[bytes]) -> list[str]:
@@ -151,36 +151,36 @@ class Stays:
         return [now.decode() for was, now in zip(worlds, after) if now != was and now.startswith(b"e")]
 
     @staticmethod
-    def extend(stay: Stay, step: int, inside: range, fields: Fields, did: Mapping[int, Did]) -> None:
-        """Adds steps to a stay, by their places in a stretch that begins with step `step`."""
+    def extend(activation: Activation, step: int, inside: range, fields: Fields, operations: Mapping[int, Operation]) -> None:
+        """Adds steps to an activation, by their indices in a stretch that begins with step `step`."""
         pcs, modes, traps = fields
-        begin_at, first, end = len(stay.pcs), inside.start, inside.stop
-        stay.pcs.extend([int(pc, 16) | MODES[mode] for pc, mode in zip(pcs[first:end], modes[first:end])])
-        stay.steps.extend(range(step + first, step + end))
-        stay.traps.update((begin_at + n, it) for n, it in enumerate(traps[first:end]) if it != NO_TRAP)
-        found = [n for n in range(first, end) if n in did]
-        stay.did += [did[n] for n in found]
-        stay.did_at.extend([begin_at + n - first for n in found])
+        begin_at, first, end = len(activation.pcs), inside.start, inside.stop
+        activation.pcs.extend([int(pc, 16) | MODES[mode] for pc, mode in zip(pcs[first:end], modes[first:end])])
+        activation.steps.extend(range(step + first, step + end))
+        activation.traps.update((begin_at + n, it) for n, it in enumerate(traps[first:end]) if it != NO_TRAP)
+        found = [n for n in range(first, end) if n in operations]
+        activation.operations += [operations[n] for n in found]
+        activation.operations_at.extend([begin_at + n - first for n in found])
 
-    # ---- its borders
+    # ---- begin and end of an activation
 
-    def opened(self, world: str, hart: int, step: int) -> Stay:
+    def opened(self, world: str, hart: int, step: int) -> Activation:
         """Returns an activation that begins after a step."""
         self.numbers[world] += 1
         enclave, before = self.seen(world, step)
-        stay = Stay(world, hart, step + 1, self.numbers[world], enclave, before=before)
-        stay.table = tuple(map(enclave_of, self.shower.bench.ask("enclaves")[0]))
-        stay.others = tuple(it[2].decode() for number, it in enumerate(self.places) if number != hart)
-        return stay
+        activation = Activation(world, hart, step + 1, self.numbers[world], enclave, before=before)
+        activation.table = tuple(map(enclave_of, self.viewer.bench.ask("enclaves")[0]))
+        activation.others = tuple(it[2].decode() for number, it in enumerate(self.locations) if number != hart)
+        return activation
 
-    def closed(self, stay: Stay, step: int, pc: int | None, left: str | None = None) -> Stay:
+    def closed(self, activation: Activation, step: int, pc: int | None, ended_by: str | None = None) -> Activation:
         """Completes an activation that ends with a step, and returns it."""
-        _, stay.after = self.seen(stay.world, step, stay.enclave)
-        stay.last, stay.pc, stay.left = step, pc, left or ""
-        if left is None:
-            values = register_values(self.shower.bench.ask(*self.choose(stay.hart), "regs")[-1])
-            stay.left, stay.answer = LEFT_BY.get(values[10], "?"), (values[10], values[11])
-        return stay
+        _, activation.after = self.seen(activation.world, step, activation.enclave)
+        activation.last, activation.pc, activation.ended_by = step, pc, ended_by or ""
+        if ended_by is None:
+            values = register_values(self.viewer.bench.ask(*self.choose(activation.hart), "regs")[-1])
+            activation.ended_by, activation.answer = ENDED_BY.get(values[10], "?"), (values[10], values[11])
+        return activation
 
     def choose(self, hart: int) -> list[str]:
         """Returns the command that chooses a hart, or one without effect if there is one hart."""
@@ -188,12 +188,12 @@ class Stays:
 
     def seen(self, world: str, step: int, enclave: Enclave | None = None) -> tuple[Enclave, bytes]:
         """Returns the table entry of an enclave and the bytes of its window after a step."""
-        bench = self.shower.bench
-        commands = self.shower.lines_to(step)
+        bench = self.viewer.bench
+        commands = self.viewer.lines_to(step)
         if self.run.setup.harts > 1:
             commands.insert(0, "hart %d" % self.shown_hart)
         bench.ask(*(commands or ["reg 0"]))
-        self.shown_hart = self.shower.hart
+        self.shown_hart = self.viewer.hart
         found = next((it for it in map(enclave_of, bench.ask("enclaves")[0]) if it.world == world), enclave)
         assert found is not None
         rows = ["mem %x %d" % (found.window + at, ROW) for at in range(0, found.window_size, ROW)]
@@ -201,44 +201,44 @@ class Stays:
 
     shown_hart = 0
 
-    # ---- what its steps did
+    # ---- the operations of its steps
 
-    def looked_at(self, stretch: Stretch, fields: Fields, inside: range) -> dict[int, Did]:
-        """Returns what each of these steps did, by its place in the stretch."""
+    def operations_in(self, stretch: Stretch, fields: Fields, inside: range) -> dict[int, Operation]:
+        """Returns the operations of these steps, by the index of the step in the stretch."""
         pcs = fields.pcs
         if self.offset < 0:
-            begin(self.teller, stretch)
+            begin(self.reader, stretch)
             self.offset = 0
-        code, bench = self.code[stretch.hart], self.teller.bench
+        code, bench = self.code[stretch.hart], self.reader.bench
         new, first = list({pcs[n] for n in inside} - code.keys()), inside.start - self.offset
         text = (b"step %d\n" % first if first else b"") + b"".join(b"dis %s\n" % it for it in new)
         code.update(zip(new, bench.block(text, len(new) + bool(first)).split(b"\n")[bool(first):]))
         self.offset = inside.start
-        did = self.asked(bench, stretch, fields, inside, [code[pcs[n]] for n in inside])
-        stored = {at & -4: n for n, it in did.items() if it.kind == "w" and it.done for at in range(it.address, it.address + it.width)}
+        operations = self.with_registers(bench, stretch, fields, inside, [code[pcs[n]] for n in inside])
+        stored = {at & -4: n for n, it in operations.items() if it.kind == "w" and it.done for at in range(it.address, it.address + it.width)}
         written = [it for it in code if int(it, 16) in stored]
         if any(pcs[n] in written and n > stored[int(pcs[n], 16)] for n in inside):
-            did = self.step_by_step(stretch, fields, inside)
+            operations = self.step_by_step(stretch, fields, inside)
         for it in written:
             del code[it]
-        return did
+        return operations
 
-    def step_by_step(self, stretch: Stretch, fields: Fields, inside: range) -> dict[int, Did]:
-        """Returns the same as `looked_at`, but decodes each instruction right before its step."""
-        with self.run.replay() as reader, self.run.replay() as teller:
+    def step_by_step(self, stretch: Stretch, fields: Fields, inside: range) -> dict[int, Operation]:
+        """Returns the same as `operations_in`, but decodes each instruction right before its step."""
+        with self.run.replay() as decoder, self.run.replay() as reader:
+            begin(decoder, stretch)
+            block = decoder.bench.block(b"".join([b"dis %s\nstep 1\n" % it for it in fields.pcs]), 2 * stretch.count).split(b"\n")
             begin(reader, stretch)
-            block = reader.bench.block(b"".join([b"dis %s\nstep 1\n" % it for it in fields.pcs]), 2 * stretch.count).split(b"\n")
-            begin(teller, stretch)
             kept, self.offset = self.offset, 0
-            did = self.asked(teller.bench, stretch, fields, inside, [block[2 * n] for n in inside])
+            operations = self.with_registers(reader.bench, stretch, fields, inside, [block[2 * n] for n in inside])
             self.offset = kept
-            return did
+            return operations
 
-    def asked(self, bench: Bench, stretch: Stretch, fields: Fields, inside: range, lines: Sequence[bytes]) -> dict[int, Did]:
-        """Reads the registers that the steps need, each before its step; returns what the steps did. The bench is then after the last step."""
-        wanted = [(n, *found) for n, found in ((n, wants(line, self.is_strict)) for n, line in zip(inside, lines)) if found]
+    def with_registers(self, bench: Bench, stretch: Stretch, fields: Fields, inside: range, lines: Sequence[bytes]) -> dict[int, Operation]:
+        """Reads the registers of each operation before its step; returns the operations. The bench is then after the last step."""
+        needed = [(n, *found) for n, found in ((n, registers_for(line, self.is_strict)) for n, line in zip(inside, lines)) if found]
         questions, count = [], 0
-        for n, _, registers in wanted:
+        for n, _, registers in needed:
             if n > self.offset:
                 questions.append(b"step %d\n" % (n - self.offset))
                 count += 1
@@ -249,16 +249,16 @@ class Stays:
         replies = bench.block(b"".join(questions), count + 1).split(b"\n")
         values = iter([int(it.split(b"=")[1], 16) for it in replies if it.startswith(b"x")])
         found = {}
-        for n, memory, registers in wanted:
-            told, trap = [next(values) for _ in registers], fields.traps[n]
+        for n, memory, registers in needed:
+            values_before, trap = [next(values) for _ in registers], fields.traps[n]
             if trap == NO_TRAP or memory and trap[:8].decode() in names.ACCESS_FAULTS:
-                found[n] = self.what(stretch.first + n, int(fields.pcs[n], 16), memory, told, trap == NO_TRAP)
+                found[n] = self.operation_of(stretch.first + n, int(fields.pcs[n], 16), memory, values_before, trap == NO_TRAP)
         return found
 
     @staticmethod
-    def what(step: int, pc: int, memory: Memory | None, told: Sequence[int], done: bool) -> Did:
-        """Returns what a step did, from the registers before it."""
+    def operation_of(step: int, pc: int, memory: Memory | None, values_before: Sequence[int], done: bool) -> Operation:
+        """Returns the operation of a step, from the registers before it."""
         if memory is None:
-            return Did(step, pc, "d", 0, 0, tuple(told), done)
-        stored = told[1].to_bytes(4, "little")[:memory.width] if memory.kind == "w" else b""
-        return Did(step, pc, memory.kind, (told[0] + memory.offset) & 0xFFFFFFFF, memory.width, tuple(stored), done)
+            return Operation(step, pc, "d", 0, 0, tuple(values_before), done)
+        stored = values_before[1].to_bytes(4, "little")[:memory.width] if memory.kind == "w" else b""
+        return Operation(step, pc, memory.kind, (values_before[0] + memory.offset) & 0xFFFFFFFF, memory.width, tuple(stored), done)

@@ -4,7 +4,7 @@ from __future__ import annotations
 from typing import Sequence, TYPE_CHECKING
 
 from rvlook.output.escapes import visible
-from rvlook.errors import Fault
+from rvlook.errors import RvlookError
 from rvlook.image.source_paths import files_of
 from rvlook.access.touch import Touches, covered_functions, covered_lines
 
@@ -15,19 +15,19 @@ if TYPE_CHECKING:
 
 
 def show_lcov(run: Run, symbols: Symbols, printer: Printer, paths: Sequence[str]) -> None:
-    """Prints a record for each world and each source file; raises Fault if there are no source lines."""
+    """Prints a record for each world and each source file; raises RvlookError if there are no source lines."""
     if not symbols.lines:
-        raise Fault("there are no source lines: an ELF file that is built with -g has them")
+        raise RvlookError("no source lines; use an ELF file built with -g")
     touches = Touches(run)
-    places: dict[str, str] = {}
+    source_paths: dict[str, str] = {}
     for path in paths:
-        places.update((name, visible(file)) for name, file in files_of(path).items())
+        source_paths.update((name, visible(file)) for name, file in files_of(path).items())
     for world in touches.worlds():
         lines = covered_lines(touches, world, symbols)
         functions = functions_of(touches, world, symbols)
         for name in dict.fromkeys(source.rsplit(":", 1)[0] for source, _ in lines):
             own = [(int(source.rsplit(":", 1)[1]), count) for source, count in lines if source.rsplit(":", 1)[0] == name]
-            write(printer, world, places.get(name, name), functions.get(name, []), own)
+            write(printer, world, source_paths.get(name, name), functions.get(name, []), own)
 
 
 def functions_of(touches: Touches, world: str, symbols: Symbols) -> dict[str, list[tuple[int, str, int]]]:

@@ -9,8 +9,8 @@ from dataclasses import dataclass
 from typing import Iterator, Optional, Sequence, TYPE_CHECKING
 
 from rvlook.protocol import names
-from rvlook.access.ranges import Range, meaning, reach, table_borders, verdicts_of
-from rvlook.protocol.replies import Place, enclave_of, register_values, step_of
+from rvlook.access.ranges import Range, derived_rights, meaning, table_boundaries, verdicts_of
+from rvlook.protocol.replies import Location, enclave_of, register_values, step_of
 from rvlook.protocol.run import End, Stretch
 
 if TYPE_CHECKING:
@@ -47,11 +47,11 @@ class Row:
 
 
 @dataclass(frozen=True)
-class Moment:
-    """The access rights after a step. `pc` is that of the instruction, `event` what changed them."""
+class Event:
+    """A change of access rights, and the rights after it. `pc` is that of the instruction, `cause` what changed them."""
     step: int
     hart: int
-    event: str
+    cause: str
     slot: Optional[int]
     status: Optional[str]
     text: Optional[str]
@@ -65,23 +65,23 @@ class Moment:
 
 @dataclass(frozen=True)
 class State:
-    """All that decides access rights: the PMP entries and the world of each hart, and the table of enclaves."""
+    """The state that decides access rights: the PMP entries and the world of each hart, and the enclave table."""
     entries: tuple[tuple[str, ...], ...]
     worlds: tuple[str, ...]
     enclaves: tuple[Enclave, ...]
 
 
 @dataclass(frozen=True)
-class Event:
-    """What a step did: its name, with the slot, the status and the text of the instruction if they apply."""
+class Cause:
+    """The cause of an event: its name, and the slot, the status and the text of the instruction if they apply."""
     name: str
     slot: Optional[int] = None
     status: Optional[str] = None
     text: Optional[str] = None
 
 
-def moments(run: Run) -> Iterator[Moment | End]:
-    """Yields a Moment for the state at reset and for each change of access rights, and then the End."""
+def events(run: Run) -> Iterator[Event | End]:
+    """Yields an Event for the state at reset and for each change of access rights, and then the End."""
     finder = Finder(run)
     end = None
     with run.replay() as replay:
@@ -90,9 +90,9 @@ def moments(run: Run) -> Iterator[Moment | End]:
             if isinstance(item, End):
                 end = item
             else:
-                moment = finder.at_step(replay, *item)
-                if moment:
-                    yield moment
+                event = finder.at_step(replay, *item)
+                if event:
+                    yield event
     assert end is not None
     yield end
 
@@ -103,7 +103,7 @@ def changed_steps(run: Run) -> Iterator[tuple[int, int] | End]:
         if isinstance(item, End):
             yield item
         elif isinstance(item, Stretch):
-            for number in places_of(CALLED, item.data):
+            for number in matching_lines(CALLED, item.data):
                 yield item.first + number, item.hart
 
 
@@ -121,34 +121,34 @@ def changed_entries(run: Run) -> Iterator[tuple[int, int] | End]:
                 replay.bench.ask(*(replay.lines_to(item.first - 1) + replay.lines_up_to_next() or ["reg 0"]))
                 replay.lines_to(item.first - 1 + item.count)
                 block = replay.bench.block(b"".join([b"dis %s\nstep 1\n" % it for it in pcs]), 2 * item.count)
-                for number in places_of(ENTRY_WRITTEN, block) if CSR_TEXT in block else ():
+                for number in matching_lines(ENTRY_WRITTEN, block) if CSR_TEXT in block else ():
                     yield item.first + number // 2, item.hart
 
 
-def places_of(pattern: re.Pattern[bytes], block: bytes) -> Iterator[int]:
+def matching_lines(pattern: re.Pattern[bytes], block: bytes) -> Iterator[int]:
     """Yields the numbers of the lines that match a pattern, each number at most once."""
-    place = number = 0
+    location = number = 0
     for match in pattern.finditer(block):
-        number += block.count(b"\n", place, match.start())
-        place = match.start()
+        number += block.count(b"\n", location, match.start())
+        location = match.start()
         yield number
 
 
 class Finder:
-    """Makes moments of steps, and caches the replies of `access` for PMP entries."""
+    """Finds the events among the steps, and caches the replies of `access` for PMP entries."""
 
     def __init__(self, run: Run) -> None:
         self.run, self.setup = run, run.setup
         self.verdicts: dict[tuple[str, ...], list[Verdicts]] = {}
         self.state = State((), (), ())  # nothing is known yet
 
-    def at_reset(self, replay: Replay) -> Moment:
-        """Returns the moment at reset."""
+    def at_reset(self, replay: Replay) -> Event:
+        """Returns the event at reset."""
         self.state = self.state_of(replay, [self.run.world] * self.setup.harts)
-        return self.moment(0, 0, Event("reset"), Place(self.run.pc, self.run.mode, self.run.world))
+        return self.event(0, 0, Cause("reset"), Location(self.run.pc, self.run.mode, self.run.world))
 
-    def at_step(self, replay: Replay, step: int, hart: int) -> Moment | None:
-        """Returns the moment after a step, or None if nothing has changed."""
+    def at_step(self, replay: Replay, step: int, hart: int) -> Event | None:
+        """Returns the event after a step, or None if nothing has changed."""
         bench = replay.bench
         before = bench.ask(*replay.lines_to(step - 1), *replay.lines_up_to_next(), "regs")[-1]
         pc = before[32][3:]
@@ -159,8 +159,8 @@ class Finder:
         if state == self.state:
             return None
         old, self.state = self.state, state
-        event = event_of(ran, old, hart, register_values(before), register_values(after), text)
-        return self.moment(step, hart, event, Place(pc, ran.mode, ran.world))
+        cause = cause_of(ran, old, hart, register_values(before), register_values(after), text)
+        return self.event(step, hart, cause, Location(pc, ran.mode, ran.world))
 
     def state_of(self, replay: Replay | Timeline, worlds: Sequence[str]) -> State:
         """Reads the PMP entries of each hart and the table of enclaves. Queries the access rights only for entries that are new."""
@@ -175,11 +175,11 @@ class Finder:
             bench.ask("hart %d" % replay.hart)
         return State(tuple(entries), tuple(worlds), tuple(enclave_of(line) for line in bench.ask("enclaves")[0]))
 
-    def moment(self, step: int, hart: int, event: Event, place: Place) -> Moment:
-        """Returns the moment after step `step`, in the present state. `place` is the pc before the step, and mode and world after it."""
+    def event(self, step: int, hart: int, cause: Cause, location: Location) -> Event:
+        """Returns the event after step `step`, in the present state. `location` is the pc before the step, and mode and world after it."""
         columns = self.columns()
-        return Moment(step, hart, event.name, event.slot, event.status, event.text, *place, self.state.enclaves, columns,
-                      tuple(self.rows(columns)))
+        return Event(step, hart, cause.name, cause.slot, cause.status, cause.text, *location, self.state.enclaves, columns,
+                     tuple(self.rows(columns)))
 
     def columns(self) -> tuple[Column, ...]:
         """Returns a column for the world of each hart, and one for each world that runs on no hart."""
@@ -192,17 +192,17 @@ class Finder:
     def rows(self, columns: Sequence[Column]) -> Iterator[Row]:
         """Yields the ranges between all boundaries: those of the PMP entries, and those of the table of enclaves."""
         by_hart = [self.verdicts[lines] for lines in self.state.entries]
-        cuts = table_borders(self.state.enclaves, self.setup.ram) if self.setup.monitor else set()
+        cuts = table_boundaries(self.state.enclaves, self.setup.ram) if self.setup.monitor else set()
         for verdicts in by_hart:
             cuts.update(it.range.first for it in verdicts)
             cuts.add(verdicts[-1].range.end)
-        borders = sorted(cuts)
+        boundaries = sorted(cuts)
         starts = [[it.range.first for it in verdicts] for verdicts in by_hart]
-        for first, end in zip(borders, borders[1:]):
+        for first, end in zip(boundaries, boundaries[1:]):
             may: dict[str, dict[str, str]] = {}
             for column in columns:
                 if column.hart is None:
-                    may[column.name] = dict.fromkeys(self.setup.modes, reach(column.world, self.state.enclaves, first))
+                    may[column.name] = dict.fromkeys(self.setup.modes, derived_rights(column.world, self.state.enclaves, first))
                 else:
                     at = bisect_right(starts[column.hart], first) - 1
                     may[column.name] = by_hart[column.hart][at].may
@@ -210,20 +210,20 @@ class Finder:
             yield Row(Range(first, end), what, may)
 
 
-def event_of(ran: Ran, old: State, hart: int, before: Sequence[int], after: Sequence[int], text: str) -> Event:
-    """Returns the event that a step caused."""
+def cause_of(ran: Ran, old: State, hart: int, before: Sequence[int], after: Sequence[int], text: str) -> Cause:
+    """Returns what a step did that changed the access rights."""
     world = old.worlds[hart]
     if world == "bare":
-        return Event("pmp", text=text)
+        return Cause("pmp", text=text)
     status = "%08x" % after[10]
     assert ran.trap is not None
     if ran.trap.cause == names.TIMER:
-        return Event("timer", int(world[1:]), status)
+        return Cause("timer", int(world[1:]), status)
     call = names.call_of(before)
     assert call is not None
     if world != "host":
-        return Event(call.name, int(world[1:]), status)
+        return Cause(call.name, int(world[1:]), status)
     if call is names.Call.create:
-        return Event("create", after[11], status, text)
+        return Cause("create", after[11], status, text)
     entered = call in (names.Call.run, names.Call.resume)
-    return Event(call.name, before[10], None if entered else status, text)
+    return Cause(call.name, before[10], None if entered else status, text)

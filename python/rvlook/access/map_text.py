@@ -5,13 +5,13 @@ from bisect import bisect_right
 from typing import Iterable, Iterator, Sequence, TYPE_CHECKING
 
 from rvlook.protocol import names
-from rvlook.access.map import moments
+from rvlook.access.map import events
 from rvlook.access.ranges import NOTHING, Range
 from rvlook.protocol.run import End
 from rvlook.output.printer import Style, enclave_object, end_object, end_text, hex8, place_text, run_object
 
 if TYPE_CHECKING:
-    from rvlook.access.map import Column, Moment, Row
+    from rvlook.access.map import Column, Event, Row
     from rvlook.output.printer import Printer, Writer
     from rvlook.protocol.replies import Enclave
     from rvlook.protocol.run import Run
@@ -25,83 +25,83 @@ def show_map(run: Run, symbols: Symbols, printer: Printer, is_brief: bool = Fals
     if printer.as_json:
         run_object(printer, run, symbols)
     before = None
-    for item in moments(run):
+    for item in events(run):
         if isinstance(item, End):
             (end_object(printer, item) if printer.as_json else end_text(printer, item, symbols))
         elif printer.as_json:
-            moment_object(printer, item, symbols)
+            write_event(printer, item, symbols)
         elif is_brief:
-            brief_text(printer, item, before, symbols)
+            print_brief(printer, item, before, symbols)
             before = item
         else:
-            moment_text(printer, item, symbols)
+            print_event(printer, item, symbols)
     if not printer.as_json and not is_brief and run.setup.monitor:
-        printer.line("(in brackets: worlds that do not run, by the law of reach over the table)")
+        printer.line("(in brackets: worlds that are not running; their rights are derived from the enclave table)")
 
 
-def moment_object(printer: Writer, moment: Moment, symbols: Symbols) -> None:
-    """Writes a moment as an object."""
-    pc = int(moment.pc, 16)
+def write_event(printer: Writer, event: Event, symbols: Symbols) -> None:
+    """Writes an event as an object."""
+    pc = int(event.pc, 16)
     rows = [{"first": hex8(row.range.first), "last": hex8(row.range.end - 1), "size": row.range.end - row.range.first,
-             "what": row.what, "may": row.may} for row in moment.rows]
-    columns = [{"name": it.name, "world": it.world, "hart": it.hart, "derived": it.derived} for it in moment.columns]
-    printer.object("moment", step=moment.step, hart=moment.hart, event=moment.event, slot=moment.slot, status=moment.status,
-                   text=moment.text, pc=moment.pc, symbol=symbols.name(pc), source=symbols.source(pc), mode=moment.mode,
-                   world=moment.world, enclaves=[enclave_object(it) for it in moment.enclaves], columns=columns, rows=rows)
+             "what": row.what, "may": row.may} for row in event.rows]
+    columns = [{"name": it.name, "world": it.world, "hart": it.hart, "derived": it.derived} for it in event.columns]
+    printer.object("event", step=event.step, hart=event.hart, cause=event.cause, slot=event.slot, status=event.status,
+                   text=event.text, pc=event.pc, symbol=symbols.name(pc), source=symbols.source(pc), mode=event.mode,
+                   world=event.world, enclaves=[enclave_object(it) for it in event.enclaves], columns=columns, rows=rows)
 
 
-def event_text(moment: Moment) -> str:
-    """Returns an event in a few words."""
-    if moment.event == "reset":
+def heading_of(event: Event) -> str:
+    """Returns the step and the cause of an event."""
+    if event.cause == "reset":
         return "reset"
-    if moment.event == "now":
-        return "step %d" % moment.step
-    if moment.event == "pmp":
-        return "step %d  %s" % (moment.step, names.with_abi_names(moment.text or ""))
-    return "step %d  %s e%s" % (moment.step, moment.event, moment.slot)
+    if event.cause == "now":
+        return "step %d" % event.step
+    if event.cause == "pmp":
+        return "step %d  %s" % (event.step, names.with_abi_names(event.text or ""))
+    return "step %d  %s e%s" % (event.step, event.cause, event.slot)
 
 
-def moment_text(printer: Printer, moment: Moment, symbols: Symbols) -> None:
-    """Prints a moment: the event and its place, the enclaves, and the ranges."""
-    hart = "hart %d  " % moment.hart if sum(not it.derived for it in moment.columns) > 1 else ""
-    heading = "%s%s" % (hart, event_text(moment))
-    printer.line(printer.styled(heading, Style.heading) + "  at " + place_text(moment.pc, symbols))
-    lines = [enclave_text(it) for it in moment.enclaves]
-    lines += ["    measurement " + it.measurement for it in moment.enclaves if moment.event == "create" and it.slot == moment.slot]
-    heads = [head for column in moment.columns for head in heads_of(column, moment)]
+def print_event(printer: Printer, event: Event, symbols: Symbols) -> None:
+    """Prints an event: its cause and place, the enclaves, and the ranges."""
+    hart = "hart %d  " % event.hart if sum(not it.derived for it in event.columns) > 1 else ""
+    heading = "%s%s" % (hart, heading_of(event))
+    printer.line(printer.styled(heading, Style.heading) + "  at " + place_text(event.pc, symbols))
+    lines = [enclave_text(it) for it in event.enclaves]
+    lines += ["    measurement " + it.measurement for it in event.enclaves if event.cause == "create" and it.slot == event.slot]
+    heads = [head for column in event.columns for head in heads_of(column, event)]
     widths = [max(CELL, len(head) + 2) for head in heads]
     lines.append(" " * 29 + "".join(head.ljust(width) for head, width in zip(heads, widths)))
-    lines += [row_text(row, cells_of(row, moment), widths) for row in moment.rows]
+    lines += [row_text(row, cells_of(row, event), widths) for row in event.rows]
     for line in lines + [""]:
         printer.line(line)
 
 
-def brief_text(printer: Printer, moment: Moment, before: Moment | None, symbols: Symbols) -> None:
-    """Prints what a moment changes: the world that runs, the enclaves, and the ranges whose access rights change."""
-    hart = "hart %d  " % moment.hart if sum(not it.derived for it in moment.columns) > 1 else ""
-    parts = [printer.styled(hart + event_text(moment), Style.heading), "at " + place_text(moment.pc, symbols)]
-    if before and moment.world != before.world:
-        parts.append("%s goes on" % moment.world)
+def print_brief(printer: Printer, event: Event, before: Event | None, symbols: Symbols) -> None:
+    """Prints what an event changes: the running world, the enclaves, and the ranges whose access rights change."""
+    hart = "hart %d  " % event.hart if sum(not it.derived for it in event.columns) > 1 else ""
+    parts = [printer.styled(hart + heading_of(event), Style.heading), "at " + place_text(event.pc, symbols)]
+    if before and event.world != before.world:
+        parts.append("switch to %s" % event.world)
     printer.line("  ".join(parts))
-    for enclave in moment.enclaves:
+    for enclave in event.enclaves:
         if not before or enclave not in before.enclaves:
             was = next((it.state for it in before.enclaves if it.slot == enclave.slot), None) if before else None
             printer.line("  %s %s -> %s" % (enclave.world, was, enclave.state) if was else enclave_text(enclave))
-    for found, what, changed in changed_rows(moment, before):
+    for found, what, changed in changed_rows(event, before):
         ends = "%08x-%08x %7s" % (found.first, found.end - 1, names.size_text(found.end - found.first))
         printer.line("  %s  %s%s" % (ends, "  ".join(changed), "  " + what if what else ""))
 
 
-def changed_rows(moment: Moment, before: Moment | None) -> list[tuple[Range, str, list[str]]]:
-    """Returns each range in which the access rights of a world change, with its meaning and the changes; without an earlier moment all ranges.
+def changed_rows(event: Event, before: Event | None) -> list[tuple[Range, str, list[str]]]:
+    """Returns each range in which the access rights of a world change, with its meaning and the changes; without an earlier event all ranges.
     Adjacent ranges with the same changes are joined."""
     found: list[tuple[Range, str, list[str]]] = []
-    starts = sorted({row.range.first for it in (moment, before) if it for row in it.rows})
-    for first, end in zip(starts, [*starts[1:], moment.rows[-1].range.end]):
-        old, new = rights_of(before, first) if before else {}, rights_of(moment, first)
+    starts = sorted({row.range.first for it in (event, before) if it for row in it.rows})
+    for first, end in zip(starts, [*starts[1:], event.rows[-1].range.end]):
+        old, new = rights_of(before, first) if before else {}, rights_of(event, first)
         changed = [change_text(key, old.get(key), new.get(key, NOTHING)) for key in {**old, **new}
                    if old.get(key, NOTHING) != new.get(key, NOTHING)]
-        what = row_at(moment, first).what
+        what = row_at(event, first).what
         if changed and found and found[-1][1:] == (what, changed) and found[-1][0].end == first:
             found[-1] = (Range(found[-1][0].first, end), what, changed)
         elif changed:
@@ -109,17 +109,17 @@ def changed_rows(moment: Moment, before: Moment | None) -> list[tuple[Range, str
     return found
 
 
-def row_at(moment: Moment, address: int) -> Row:
+def row_at(event: Event, address: int) -> Row:
     """Returns the row of an address."""
-    return moment.rows[bisect_right([it.range.first for it in moment.rows], address) - 1]
+    return event.rows[bisect_right([it.range.first for it in event.rows], address) - 1]
 
 
-def rights_of(moment: Moment, address: int) -> dict[str, str]:
+def rights_of(event: Event, address: int) -> dict[str, str]:
     """Returns the access rights of each world to an address, by mode if they differ between modes. A world that does not exist has none."""
-    row, found = row_at(moment, address), {}
-    for column in moment.columns:
+    row, found = row_at(event, address), {}
+    for column in event.columns:
         for mode, rights in row.may[column.name].items():
-            split = "%s %s" % (column.world, mode) if is_split(column, moment) else column.world
+            split = "%s %s" % (column.world, mode) if is_split(column, event) else column.world
             found[mode if column.world == "bare" else split] = rights
     return found
 
@@ -136,25 +136,25 @@ def enclave_text(enclave: Enclave) -> str:
         enclave.world, enclave.state, enclave.base, names.size_text(enclave.size), window, enclave.entry)
 
 
-def is_split(column: Column, moment: Moment) -> bool:
+def is_split(column: Column, event: Event) -> bool:
     """Returns whether the modes of a column may have different access rights."""
-    return any(len(set(row.may[column.name].values())) > 1 for row in moment.rows) or column.world == "bare"
+    return any(len(set(row.may[column.name].values())) > 1 for row in event.rows) or column.world == "bare"
 
 
-def heads_of(column: Column, moment: Moment) -> list[str]:
+def heads_of(column: Column, event: Event) -> list[str]:
     """Returns the headings of a column: one, or one for each mode."""
     name = "(%s)" % column.name if column.derived else column.name
-    if not is_split(column, moment):
+    if not is_split(column, event):
         return [name]
-    modes = moment.rows[0].may[column.name]
+    modes = event.rows[0].may[column.name]
     return list(modes) if column.world == "bare" else ["%s %s" % (name, mode) for mode in modes]
 
 
-def cells_of(row: Row, moment: Moment) -> Iterator[str]:
+def cells_of(row: Row, event: Event) -> Iterator[str]:
     """Yields the cells of a row."""
-    for column in moment.columns:
+    for column in event.columns:
         values = list(row.may[column.name].values())
-        yield from values if is_split(column, moment) else values[:1]
+        yield from values if is_split(column, event) else values[:1]
 
 
 def row_text(row: Row, cells: Iterable[str], widths: Sequence[int]) -> str:

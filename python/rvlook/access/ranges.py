@@ -48,7 +48,7 @@ def entry_range(entries: Sequence[Entry], index: int) -> Range | None:
     return None
 
 
-def borders(entries: Sequence[Entry], ram: int) -> list[int]:
+def boundaries(entries: Sequence[Entry], ram: int) -> list[int]:
     """Returns the boundaries of the PMP entries in RAM, sorted. All bytes between two of them have the same access rights."""
     cuts = {RAM_BASE, RAM_BASE + ram}
     for index in range(len(entries)):
@@ -60,16 +60,16 @@ def borders(entries: Sequence[Entry], ram: int) -> list[int]:
 
 def verdicts_of(bench: Bench, pmp_lines: Sequence[str], modes: str, ram: int) -> list[Verdicts]:
     """Queries the access rights to all of RAM under the PMP entries: `access` of the first byte after each boundary."""
-    cuts = borders([entry_of(line) for line in pmp_lines], ram)
-    asked = [(mode, kind) for mode in modes for kind in KINDS]
-    lines = ["access %s %s %x 1" % (mode, kind, at) for at in cuts[:-1] for mode, kind in asked]
+    cuts = boundaries([entry_of(line) for line in pmp_lines], ram)
+    queries = [(mode, kind) for mode in modes for kind in KINDS]
+    lines = ["access %s %s %x 1" % (mode, kind, at) for at in cuts[:-1] for mode, kind in queries]
     replies = [reply[0] for reply in bench.ask(*lines)]
     found = []
-    for place, (first, end) in enumerate(zip(cuts, cuts[1:])):
-        told = replies[place * len(asked):(place + 1) * len(asked)]
-        may = {mode: "".join(kind if told[i * 3 + k].startswith("allowed") else "-" for k, kind in enumerate(KINDS))
+    for index, (first, end) in enumerate(zip(cuts, cuts[1:])):
+        verdicts = replies[index * len(queries):(index + 1) * len(queries)]
+        may = {mode: "".join(kind if verdicts[i * 3 + k].startswith("allowed") else "-" for k, kind in enumerate(KINDS))
                for i, mode in enumerate(modes)}
-        found.append(Verdicts(Range(first, end), may, tuple(told)))
+        found.append(Verdicts(Range(first, end), may, tuple(verdicts)))
     return merged(found)
 
 
@@ -94,20 +94,20 @@ def window_of(enclave: Enclave) -> Range:
     return Range(enclave.window, enclave.window + enclave.window_size)
 
 
-def reach(world: str, enclaves: Sequence[Enclave], at: int) -> str:
-    """Returns the access rights of a world that runs on no hart to a byte, by the table of enclaves: three letters, as `rw-`."""
+def derived_rights(world: str, enclaves: Sequence[Enclave], at: int) -> str:
+    """Returns the access rights of a world that runs on no hart to a byte, by the enclave table: three letters, as `rw-`."""
     if at < MONITOR_END:
         return NOTHING
-    owners = [it.world for it in enclaves if region_of(it).first <= at < region_of(it).end]
-    if owners:
-        return ALL if owners == [world] else NOTHING
+    regions = [it.world for it in enclaves if region_of(it).first <= at < region_of(it).end]
+    if regions:
+        return ALL if regions == [world] else NOTHING
     if world == "host":
         return ALL
     windows = [it.world for it in enclaves if window_of(it).first <= at < window_of(it).end]
     return DATA if world in windows else NOTHING
 
 
-def table_borders(enclaves: Sequence[Enclave], ram: int) -> set[int]:
+def table_boundaries(enclaves: Sequence[Enclave], ram: int) -> set[int]:
     """Returns the boundaries of the monitor's range, the regions and the windows."""
     cuts = {RAM_BASE, MONITOR_END, RAM_BASE + ram}
     for it in enclaves:
@@ -118,7 +118,7 @@ def table_borders(enclaves: Sequence[Enclave], ram: int) -> set[int]:
 
 
 def meaning(enclaves: Sequence[Enclave], at: int) -> str:
-    """Returns what a byte belongs to, by the table of enclaves; empty if to nothing."""
+    """Returns what a byte belongs to, by the enclave table; empty if to nothing."""
     if at < MONITOR_END:
         return "monitor"
     found = ["region of " + it.world for it in enclaves if region_of(it).first <= at < region_of(it).end]

@@ -33,7 +33,7 @@ class Stack(NamedTuple):
 
 
 class Use(NamedTuple):
-    """What an instruction does with the stack: it stores at an offset from sp, or adds the offset to sp."""
+    """A use of the stack by an instruction: a store at an offset from sp, or an addition of the offset to sp."""
     is_store: bool
     offset: int
 
@@ -75,23 +75,23 @@ class Finder:
         self.stacks = stacks
         self.uses: dict[bytes, Use | None] = {}
         self.found: dict[str, Overflow] = {}
-        self.places = [(run.pc.encode(), run.mode.encode(), run.world.encode())] * run.setup.harts
+        self.locations = [(run.pc.encode(), run.mode.encode(), run.world.encode())] * run.setup.harts
 
     def take(self, replay: Replay, stretch: Stretch) -> None:
         """Checks steps of one hart, one after another."""
         after = RAN.findall(stretch.data)
-        places = [self.places[stretch.hart], *after[:-1]]
-        self.places[stretch.hart] = after[-1]
+        locations = [self.locations[stretch.hart], *after[:-1]]
+        self.locations[stretch.hart] = after[-1]
         begin(replay, stretch)
-        self.read_instructions(replay, {pc for pc, _, _ in places})
-        steps = [at for at, (pc, _, _) in enumerate(places) if self.uses[pc]]
+        self.read_instructions(replay, {pc for pc, _, _ in locations})
+        steps = [at for at, (pc, _, _) in enumerate(locations) if self.uses[pc]]
         for at, sp in zip(steps, stack_pointers(replay, stretch, steps)):
-            pc, mode, world = (it.decode() for it in places[at])
+            pc, mode, world = (it.decode() for it in locations[at])
             self.check(stretch, at, (pc, world, kind_of(world, mode)), sp)
 
-    def check(self, stretch: Stretch, at: int, place: tuple[str, str, str | None], sp: int) -> None:
+    def check(self, stretch: Stretch, at: int, location: tuple[str, str, str | None], sp: int) -> None:
         """Checks one step that uses the stack."""
-        pc, world, kind = place
+        pc, world, kind = location
         if kind is None or kind in self.found or kind not in self.stacks:
             return
         use = self.uses[pc.encode()]
@@ -112,11 +112,11 @@ class Finder:
 
 def stack_pointers(replay: Replay, stretch: Stretch, steps: Sequence[int]) -> list[int]:
     """Returns the value of sp before each of these steps of a stretch. The bench is then at the end of the stretch."""
-    asked, done = [], 0
+    queries, done = [], 0
     for at in steps:
-        asked.append((b"step %d\n" % (at - done) if at > done else b"") + b"reg %d\n" % SP)
+        queries.append((b"step %d\n" % (at - done) if at > done else b"") + b"reg %d\n" % SP)
         done = at
-    text = b"".join(asked) + b"step %d\n" % (stretch.count - done)
+    text = b"".join(queries) + b"step %d\n" % (stretch.count - done)
     lines = replay.bench.block(text, text.count(b"\n")).split(b"\n")
     return [int(line.split(b"=")[1], 16) for line in lines if line.startswith(b"x")]
 
@@ -149,7 +149,7 @@ def overflows(run: Run, symbols: Symbols) -> list[Overflow]:
 def overflow_text(it: Overflow, symbols: Symbols) -> str:
     """Returns an overflow as a line: its place, and how many bytes it is outside."""
     where = symbols.source(it.pc) or symbols.name(it.pc) or hex8(it.pc)
-    does = "stores to" if it.is_store else "moves sp to"
-    outside, border, side = ("below", it.stack.bottom, "bottom") if it.address < it.stack.bottom else ("above", it.stack.top, "top")
-    return "stack overflow in %s at step %d, %s: it %s %08x, %d bytes %s %s_stack_%s" % (
-        it.world, it.step, where, does, it.address, abs(border - it.address), outside, it.stack.name, side)
+    use = "store to" if it.is_store else "sp set to"
+    outside, bound, side = ("below", it.stack.bottom, "bottom") if it.address < it.stack.bottom else ("above", it.stack.top, "top")
+    return "stack overflow in %s at step %d, %s: %s %08x, %d bytes %s %s_stack_%s" % (
+        it.world, it.step, where, use, it.address, abs(bound - it.address), outside, it.stack.name, side)

@@ -1,4 +1,4 @@
-"""The subcommand `touch`: what each world read, wrote and executed, beside what it was permitted."""
+"""The subcommand `touch`: what each world read, wrote and executed, and what it was permitted to."""
 from __future__ import annotations
 
 import re
@@ -9,8 +9,8 @@ from typing import Iterable, Iterator, Optional, TYPE_CHECKING
 
 from rvlook.protocol import names
 from rvlook.access.accesses import accesses
-from rvlook.errors import WordsRefused
-from rvlook.access.map import Moment, moments
+from rvlook.errors import UsageError
+from rvlook.access.map import Event, events
 from rvlook.access.ranges import NOTHING, Range
 from rvlook.protocol.run import Stretch
 from rvlook.output.printer import Style, end_object, end_text, hex8, run_object
@@ -23,7 +23,7 @@ if TYPE_CHECKING:
 
 KINDS = {"r": "read", "w": "wrote", "x": "executed"}
 LEAST_SIZE = 4096
-BARE = "touch merges all modes of a bare image, and %s %s at step %d; map and trace tell each mode apart"
+BARE = "touch does not distinguish modes, but %s %s at step %d; use map or trace"
 
 
 @dataclass(frozen=True)
@@ -70,15 +70,15 @@ class Touches:
         found, self.end = accesses(run)
         for it, count in found.items():
             self.counts[Kind(it.world, it.kind, it.done)][it.address, it.width] += count
-        for moment in moments(run):
-            if isinstance(moment, Moment):
-                self.allow(moment)
+        for event in events(run):
+            if isinstance(event, Event):
+                self.allow(event)
 
-    def allow(self, moment: Moment) -> None:
-        """Adds the access rights that a moment gives to each world that runs."""
-        for column in (it for it in moment.columns if not it.derived):
+    def allow(self, event: Event) -> None:
+        """Adds the access rights that a event gives to each world that runs."""
+        for column in (it for it in event.columns if not it.derived):
             self.permitted[column.world] += [(row.range, row.what, set("".join(row.may[column.name].values())) - {"-"})
-                                             for row in moment.rows]
+                                             for row in event.rows]
 
     def worlds(self) -> list[str]:
         """Returns the worlds that accessed memory, the host first."""
@@ -135,7 +135,7 @@ def within(addresses: list[int], found: Range) -> list[int]:
 
 
 def covered_functions(touches: Touches, world: str, symbols: Symbols) -> Iterator[tuple[Symbol, int, int]]:
-    """Yields each symbol of which a world executed a part, with its size and the executed bytes."""
+    """Yields each symbol that a world executed at least in part, with its size and the executed bytes."""
     executed = Counter(symbol for symbol in map(symbols.at, touches.executed(world)) if symbol)
     for symbol in sorted(executed, key=lambda it: it.address):
         yield symbol, symbols.size_of(symbol), 4 * executed[symbol]
@@ -176,20 +176,20 @@ MODE = re.compile(rb"mode=([SU])")
 
 
 def refuse_modes(run: Run) -> None:
-    """Refuses a bare run that enters S or U, or that writes a PMP register: who may touch what is then another for each mode, and at one time
-    than at another, and `touch` has one world for all of it."""
+    """Raises UsageError for a bare run that enters S or U, or writes a PMP register. Its access rights depend on the mode and the time, but
+    `touch` shows one world."""
     for item in () if run.setup.monitor else run.stretches():
         found = MODE.search(item.data) if isinstance(item, Stretch) else None
         if isinstance(item, Stretch) and found:
             step, what = item.first + item.data.count(b"\n", 0, found.start()), "enters mode " + found[1].decode()
-            raise WordsRefused(BARE % (run.setup.image.name, what, step))
-    for moment in () if run.setup.monitor else moments(run):
-        if isinstance(moment, Moment) and moment.step:
-            raise WordsRefused(BARE % (run.setup.image.name, "writes a PMP register", moment.step))
+            raise UsageError(BARE % (run.setup.image.name, what, step))
+    for event in () if run.setup.monitor else events(run):
+        if isinstance(event, Event) and event.step:
+            raise UsageError(BARE % (run.setup.image.name, "writes a PMP register", event.step))
 
 
 def show_touch(run: Run, symbols: Symbols, printer: Printer) -> None:
-    """Prints the accesses of each world beside what it was permitted."""
+    """Prints the accesses of each world, and what it was permitted to access."""
     refuse_modes(run)
     touches = Touches(run)
     if printer.as_json:
@@ -238,7 +238,7 @@ def world_text(touches: Touches, world: str, symbols: Symbols, printer: Printer)
     lines += ["  %-16s %s" % ("permitted", permitted_text(it)) for it in touches.permitted_rows(world)]
     lines += ["  %-16s %8d of %6d bytes  %s" % ("covered", executed, size, symbol.name)
               for symbol, size, executed in covered_functions(touches, world, symbols)]
-    lines += ["  %-16s %8d of %6d lines  %s%s" % ("covered", done, count, name, ", not " + " ".join(missed) if missed else "")
+    lines += ["  %-16s %8d of %6d lines  %s%s" % ("covered", done, count, name, ", not executed: " + " ".join(missed) if missed else "")
               for name, done, count, missed in by_file(covered_lines(touches, world, symbols))]
     for line in lines + [""]:
         printer.line(line)
@@ -253,8 +253,8 @@ def touched_text(kind: Kind, it: Touched) -> str:
 def permitted_text(it: Permitted) -> str:
     """Returns a permitted range as a line, with how much of it was used."""
     size = it.range.end - it.range.first
-    used = "  ".join("%s %d" % (kind, it.touched[kind]) for kind in it.kinds if kind != "-") if it.lowest is not None else "nothing"
+    used = "  ".join("%s %d" % (kind, it.touched[kind]) for kind in it.kinds if kind != "-") if it.lowest is not None else "not accessed"
     text = "%08x-%08x %7s  %s  %s" % (it.range.first, it.range.end - 1, names.size_text(size), it.kinds, used)
     if it.what and it.lowest is not None and it.enough < size:
-        return "%s  %s, of which %s is enough" % (text, it.what, names.size_text(it.enough))
+        return "%s  %s, of which %s would be enough" % (text, it.what, names.size_text(it.enough))
     return text + ("  " + it.what if it.what else "")

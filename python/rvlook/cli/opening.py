@@ -3,12 +3,12 @@ from __future__ import annotations
 
 from typing import Iterable, TYPE_CHECKING
 
-from rvlook.errors import WordsRefused, tell
-from rvlook.image.detect import asks_for_monitor, has_compressed
+from rvlook.errors import UsageError, note, warn
+from rvlook.image.detect import reason_for_monitor, has_compressed
 from rvlook.image.files import image_of, script_of
 from rvlook.image.symbols import symbols_from
 from rvlook.output.printer import Printer
-from rvlook.protocol.lines import fault_text, resolved_script
+from rvlook.protocol.lines import error_text, resolved_script
 from rvlook.protocol.run import Setup, run_of
 
 if TYPE_CHECKING:
@@ -24,47 +24,46 @@ def setup_of(arguments: Namespace) -> Setup:
     script = image.script + script_of(arguments.script)
     monitor = has_monitor(arguments, image, script)
     if has_compressed(image):
-        tell("%s has compressed instructions, by its flags, and the bench has none: -march=rv32im builds it without" % image.name)
+        warn("%s is built for compressed instructions, which rvbench does not support; rebuild it with -march=rv32im" % image.name)
     symbols = symbols_from(arguments.symbols, image)
     return Setup(image, resolved_script(script, symbols), monitor, arguments.ram, arguments.kind, arguments.harts, arguments.steps, symbols)
 
 
 def has_monitor(arguments: Namespace, image: Image, script: Iterable[ScriptLine]) -> bool:
-    """Returns whether the image runs under the monitor: as the arguments say, or else as the image suggests, which is reported."""
+    """Returns whether the image runs under the monitor. Without --monitor and --no-monitor the image decides, and a note reports why."""
     monitor = arguments.monitor
-    reason = asks_for_monitor(image, script) if monitor is None else None
+    reason = reason_for_monitor(image, script) if monitor is None else None
     if reason:
-        tell("%s is run with --monitor, for %s; --no-monitor runs it bare" % (image.name, reason))
+        note("running %s with --monitor because %s; use --no-monitor to run it bare" % (image.name, reason))
     if arguments.harts > 1 and not (monitor or reason):
-        raise WordsRefused("--harts 2 needs --monitor")
+        raise UsageError("--harts 2 requires --monitor")
     return bool(monitor or reason)
 
 
 def run_from(arguments: Namespace) -> Run:
-    """Returns the run. Reports the lines of its script that the bench refuses, so that the exit status will be 2."""
+    """Returns the run. Reports the script lines that rvbench rejects; the exit status is then 2."""
     run = run_of(setup_of(arguments))
-    for line, reply in run.faults:
-        arguments.findings.refuse(fault_text(line, reply, run.setup.symbols))
+    for line, reply in run.errors:
+        arguments.findings.refuse(error_text(line, reply, run.setup.symbols))
     return run
 
 
 def refuse_bare(arguments: Namespace, run: Run) -> None:
-    """Refuses a run without the bench's own monitor: this subcommand asks that monitor what the enclaves are."""
+    """Raises UsageError for a run without the monitor of rvbench, which reports the enclaves."""
     if not run.setup.monitor:
-        raise WordsRefused("%s needs the bench's own monitor, and %s is run bare; --monitor runs it under that one" % (
-            arguments.word, run.setup.image.name))
+        raise UsageError("%s requires the monitor of rvbench, but %s runs bare; use --monitor" % (arguments.subcommand, run.setup.image.name))
 
 
 def refuse_empty_part(arguments: Namespace, least: int) -> None:
-    """Refuses a part of the work that is empty; it begins at `least`, or at --from if that is later."""
+    """Raises UsageError if --from and --to select nothing. The numbers begin at `least`."""
     if arguments.last is not None and arguments.last < max(least, arguments.first):
-        raise WordsRefused("--to %d is before --from %d" % (arguments.last, max(least, arguments.first)))
+        raise UsageError("--to %d is less than --from %d" % (arguments.last, max(least, arguments.first)))
 
 
 def refuse_json(arguments: Namespace, option: str) -> None:
-    """Raises WordsRefused if --json is given with an output that has a format of its own."""
+    """Raises UsageError if --json is given with an option that has its own output format."""
     if arguments.json:
-        raise WordsRefused("%s has no --json" % option)
+        raise UsageError("%s cannot be combined with --json" % option)
 
 
 def opened(arguments: Namespace) -> tuple[Run, Symbols, Printer]:

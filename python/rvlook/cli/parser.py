@@ -11,130 +11,138 @@ from rvlook.cli.options import (Parser, findings_options, gdb_options, image_opt
 from rvlook.cli.subcommands import (do_explain, do_gdb, do_leak, do_map, do_measure, do_page, do_prompt, do_races, do_timer, do_touch, do_trace,
                                     do_window)
 from rvlook.gdb.monitor import CommandLine
-from rvlook.errors import Fault, WordsRefused
+from rvlook.errors import RvlookError, UsageError
 from rvlook.output.findings import Findings, check_junit, write_junit
 from rvlook.protocol.nearest import nearest
 
 if TYPE_CHECKING:
     from argparse import ArgumentParser, Namespace
 
-WORDS = """words:
-  map          who may touch what, at each moment at which it changes
-  trace        each step: where, what, which registers, which address, which trap
-  touch        what each world read, wrote and executed, beside what it may
-  window       what each stay of an enclave read, read again, wrote and left in its window
-  leak         runs with other secrets in an enclave: where they part
-  timer        the timer before each step of an enclave: does it come to its end
-  races        all orders of two harts, all moments of the timer: which ends there are
-  measure      the digest that create records
-  explain      an input of the bench, read beside its faults
-  page         the run as one page for a browser
-  gdb          the run under gdb: target remote | ./rvlook gdb IMAGE
-  IMAGE alone  a prompt over the pipe
-`./rvlook WORD --help` tells more, and docs/LOOK.md all."""
+USAGE = "rvlook [SUBCOMMAND] IMAGE [OPTIONS]"
+SUBCOMMANDS = """subcommands:
+  map          show who can access what, and each change of it
+  trace        show each step: instruction, registers, memory access, trap
+  touch        show what each world read, wrote and executed
+  window       show what each enclave activation did with its window
+  leak         compare runs that differ only in a secret of an enclave
+  timer        interrupt an enclave before each step, and compare the results
+  races        search all schedules of two harts and of timer interrupts
+  measure      compute the measurement that create records
+  explain      explain the errors of an rvbench input
+  page         write the run as an HTML page
+  gdb          serve the run to gdb: target remote | ./rvlook gdb IMAGE
+
+Without a subcommand, rvlook IMAGE starts an interactive prompt.
+See 'rvlook SUBCOMMAND --help' and docs/LOOK.md."""
 
 NAMES = ("map", "trace", "touch", "window", "leak", "timer", "races", "measure", "explain", "page", "gdb")
 
 
-def add_word(words: Any, name: str, do: Callable[[Namespace], None], about: str, *more: Callable[[ArgumentParser], None]) -> Parser:
+def add_subcommand(subparsers: Any, name: str, do: Callable[[Namespace], None], about: str, *more: Callable[[ArgumentParser], None]) -> Parser:
     """Adds a subcommand over an image; each function of `more` adds options."""
-    parser = words.add_parser(name, help=about, description=about + ".")
-    image_options(parser)
+    parser = subparsers.add_parser(name, help=about, description=about + ".")
+    image_options(parser, name not in ("page", "gdb"))
     for options in more:
         options(parser)
-    parser.set_defaults(do=do, word=name)
+    parser.set_defaults(do=do, subcommand=name)
     return parser
 
 
-def measure_word(words: Any) -> None:
+def add_measure(subparsers: Any) -> None:
     """Adds the subcommand `measure`."""
-    parser = words.add_parser("measure", help="the digest that create records", description="The digest that create records.")
+    about = "Compute the measurement that create records"
+    parser = subparsers.add_parser("measure", help=about, description=about + ".")
     parser.add_argument("file", metavar="FILE", help="an ELF file, or the raw bytes of the region")
     for name in ("BASE", "SIZE", "WINDOW", "WINDOW_SIZE", "ENTRY"):
-        parser.add_argument(name.lower(), metavar=name, help="hexadecimal, or a symbol")
-    parser.add_argument("--symbols", metavar="FILE", help="an ELF file, or what nm prints; else the file's own")
-    parser.add_argument("--json", action="store_true", help="one object (docs/LOOK.md)")
+        parser.add_argument(name.lower(), metavar=name, help="a hexadecimal number or a symbol")
+    parser.add_argument("--symbols", metavar="FILE", help="read symbols from an ELF file or from the output of nm (default: from FILE)")
+    parser.add_argument("--json", action="store_true", help="print one JSON object (see docs/LOOK.md)")
     parser.set_defaults(do=do_measure)
 
 
-def explain_word(words: Any) -> None:
+def add_explain(subparsers: Any) -> None:
     """Adds the subcommand `explain`."""
-    parser = words.add_parser("explain", help="an input read beside its faults", description="An input of the bench, read beside its "
-                              "faults: which line, what is meant, what to write.", usage="rvlook explain [--json] INPUT [-- WORD...]")
-    parser.add_argument("--json", action="store_true", help="one object a line (docs/LOOK.md)")
+    about = "Explain the errors of an rvbench input"
+    parser = subparsers.add_parser("explain", help=about, description=about + ": the line, its meaning, and what to write instead.",
+                                   usage="rvlook explain [--json] INPUT [-- ARGUMENT...]")
+    parser.add_argument("--json", action="store_true", help="print one JSON object per line (see docs/LOOK.md)")
     findings_options(parser)
-    parser.add_argument("input", metavar="INPUT", help="a file with an image, -- and a script; - for standard input")
-    parser.add_argument("words", metavar="WORD", nargs="*", help="the words of ./rvbench, behind --; none is run")
-    parser.set_defaults(do=do_explain, word="explain")
+    parser.add_argument("input", metavar="INPUT", help="a file with an image, a line -- and a script; - for standard input")
+    parser.add_argument("arguments", metavar="ARGUMENT", nargs="*", help="arguments for ./rvbench, after -- (default: run)")
+    parser.set_defaults(do=do_explain, subcommand="explain")
+
+
+OVER_AN_IMAGE: Sequence[Any] = (  # a name, its function, its help, and its options
+    ("map", do_map, "Show who can access what, and each change of it", map_options, findings_options),
+    ("trace", do_trace, "Show each step of a run", trace_options, findings_options),
+    ("touch", do_touch, "Show what each world read, wrote and executed, and what it was permitted to", touch_options, findings_options),
+    ("window", do_window, "Show what each enclave activation read, wrote and left in its window", window_options, findings_options),
+    ("leak", do_leak, "Compare runs that differ only in a secret of an enclave, and show where they diverge", slot_option, leak_options,
+     findings_options),
+    ("timer", do_timer, "Interrupt an enclave before each of its steps, and check that the result stays the same", slot_option, timer_options,
+     findings_options),
+    ("races", do_races, "Search all schedules of two harts and of timer interrupts, and show the final states", races_options, findings_options),
+    ("page", do_page, "Write the run as an HTML page", page_options))
 
 
 def parser_of() -> Parser:
     """Returns the parser of all subcommands."""
-    parser = Parser(prog="rvlook", usage="rvlook [WORD] IMAGE [OPTIONS]", epilog=WORDS,
-                    formatter_class=argparse.RawDescriptionHelpFormatter,
-                    description="See what host and enclave can touch, and when: beside the bench, over a pipe.")
-    parser.set_defaults(findings=Findings(), is_report=False, junit=None, word=None)
-    words = parser.add_subparsers(prog="rvlook", metavar="WORD", help=argparse.SUPPRESS)
-    add_word(words, "map", do_map, "Who may touch what, at each moment at which it changes", map_options, findings_options)
-    add_word(words, "trace", do_trace, "Each step of a run", trace_options, findings_options)
-    add_word(words, "touch", do_touch, "What each world read, wrote and executed, beside what it may", touch_options, findings_options)
-    add_word(words, "window", do_window, "What each stay of an enclave read, read again, wrote and left in its window", window_options,
-             findings_options)
-    add_word(words, "leak", do_leak, "Runs with other secrets in an enclave: where they part", slot_option, leak_options, findings_options)
-    add_word(words, "timer", do_timer, "The timer before each step of an enclave: does it come to its end", slot_option, timer_options,
-             findings_options)
-    add_word(words, "races", do_races, "All orders of two harts, all moments of the timer: which ends there are", races_options, findings_options)
-    measure_word(words)
-    explain_word(words)
-    add_word(words, "page", do_page, "The run as one page for a browser", page_options)
-    gdb = add_word(words, "gdb", do_gdb, "The run under a debugger that speaks the GDB remote serial protocol", gdb_options)
+    parser = Parser(prog="rvlook", usage=USAGE, epilog=SUBCOMMANDS, formatter_class=argparse.RawDescriptionHelpFormatter,
+                    description="Show what a host and its enclaves can access, and when, in a run of rvbench.")
+    parser.set_defaults(findings=Findings(), is_report=False, junit=None, subcommand=None)
+    subparsers = parser.add_subparsers(prog="rvlook", metavar="SUBCOMMAND", help=argparse.SUPPRESS)
+    for name, do, about, *options in OVER_AN_IMAGE:
+        add_subcommand(subparsers, name, do, about, *options)
+    add_measure(subparsers)
+    add_explain(subparsers)
+    gdb = add_subcommand(subparsers, "gdb", do_gdb, "Serve the run to a debugger by the GDB remote serial protocol", gdb_options)
     gdb.set_defaults(command_line=CommandLine(NAMES, read))
     return parser
 
 
-def unknown_word(word: str) -> str:
+def unknown_subcommand(name: str) -> str:
     """Returns the message for a first argument that is neither a subcommand nor a file."""
-    near = nearest(word, NAMES)
-    return "%s is no word of rvlook, and no file%s; rvlook --help tells the words" % (word, "; near it is %s" % near if near else "")
+    near = nearest(name, NAMES)
+    return "no subcommand or file '%s'; %s" % (name, "did you mean '%s'?" % near if near else "see 'rvlook --help'")
 
 
-def with_secrets(parser: Parser, words: Sequence[str]) -> Namespace:
+def with_secrets(parser: Parser, arguments: Sequence[str]) -> Namespace:
     """Parses the arguments of `leak`, whose two secrets may be anywhere after the image."""
-    arguments, rest = parser.parse_known_args(words)
+    parsed, rest = parser.parse_known_args(arguments)
     if len(rest) > 2 or any(it.startswith("-") for it in rest):
         parser.error("unrecognized arguments: %s" % " ".join(rest))
-    arguments.secrets = rest
-    return arguments
+    parsed.secrets = rest
+    return parsed
 
 
-def read(words: Sequence[str]) -> Namespace:
+def read(arguments: Sequence[str]) -> Namespace:
     """Parses the command line."""
     parser = parser_of()
-    if not words:
+    if not arguments:
         parser.print_help()
         sys.exit(2)
-    if words[0] == "leak":
-        return with_secrets(parser, words)
-    if words[0] in NAMES or words[0] in ("-h", "--help"):
-        return parser.parse_args(words)
-    if not words[0].startswith("-") and not os.path.exists(words[0]):
-        raise WordsRefused(unknown_word(words[0]))
-    alone = Parser(prog="rvlook", usage="rvlook [WORD] IMAGE [OPTIONS]")
+    if arguments[0] == "leak":
+        return with_secrets(parser, arguments)
+    if arguments[0] in NAMES or arguments[0] in ("-h", "--help"):
+        return parser.parse_args(arguments)
+    if not arguments[0].startswith("-") and not os.path.exists(arguments[0]):
+        raise UsageError(unknown_subcommand(arguments[0]))
+    alone = Parser(prog="rvlook", usage=USAGE)
     image_options(alone)
     alone.set_defaults(do=do_prompt, findings=Findings(), is_report=False, junit=None)
-    return alone.parse_args(words)
+    return alone.parse_args(arguments)
 
 
 def perform(arguments: Namespace) -> int:
-    """Does what the arguments ask for, and writes the JUnit report, also where that fails; returns the exit status."""
+    """Runs the subcommand, and writes the JUnit report even if it fails; returns the exit status."""
     check_junit(arguments.junit)
     error = ""
     try:
         arguments.do(arguments)
         return arguments.findings.status(arguments.is_report)
-    except (Fault, OSError, KeyboardInterrupt) as fault:
-        error = str(fault) or "stopped"
+    except (RvlookError, OSError, KeyboardInterrupt) as fault:
+        error = str(fault) or "interrupted"
         raise
     finally:
         if arguments.junit:
-            write_junit(arguments.junit, arguments.word, arguments.findings, error)
+            write_junit(arguments.junit, arguments.subcommand, arguments.findings, error)

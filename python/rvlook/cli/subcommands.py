@@ -19,7 +19,7 @@ from rvlook.prompt.prompt import show_prompt
 from rvlook.trace.spike import show_spike
 from rvlook.trace.text import Filter, show_trace
 from rvlook.cli.opening import opened, opened_monitored, refuse_empty_part, refuse_json, setup_of
-from rvlook.errors import Fault, WordsRefused, tell
+from rvlook.errors import RvlookError, UsageError, warn
 from rvlook.output.printer import Printer
 from rvlook.protocol.lines import no_symbol
 
@@ -30,9 +30,9 @@ if TYPE_CHECKING:
 
 
 def report_overflows(arguments: Namespace, run: Run, symbols: Symbols) -> None:
-    """Reports each stack that the run uses outside its range; it is a finding."""
+    """Reports each stack overflow of the run as a finding."""
     for it in overflows(run, symbols):
-        tell(overflow_text(it, symbols))
+        warn(overflow_text(it, symbols))
         arguments.findings.add("stack", overflow_text(it, symbols))
 
 
@@ -52,7 +52,7 @@ def do_trace(arguments: Namespace) -> None:
         refuse_json(arguments, "--format spike")
     run, symbols, printer = opened(arguments)
     if arguments.function and arguments.function not in symbols.by_name:
-        raise Fault(no_symbol(arguments.function, symbols))
+        raise RvlookError(no_symbol(arguments.function, symbols))
     wanted = Filter(arguments.first, arguments.last, arguments.world, arguments.function, arguments.traps)
     if arguments.format == "spike":
         show_spike(run, wanted, printer)
@@ -76,14 +76,14 @@ def do_leak(arguments: Namespace) -> None:
     """Runs `leak`."""
     refuse_empty_part(arguments, 1)
     if arguments.tries is not None and arguments.first > arguments.tries:
-        raise WordsRefused("--from %d is after --tries %d" % (arguments.first, arguments.tries))
+        raise UsageError("--from %d is greater than --tries %d" % (arguments.first, arguments.tries))
     show_leak(*opened_monitored(arguments), arguments)
 
 
 def do_window(arguments: Namespace) -> None:
     """Runs `window`."""
     if arguments.public and not arguments.at:
-        raise WordsRefused("--public needs --at PLACE, which says what the secret is")
+        raise UsageError("--public requires --at PLACE")
     show_window(*opened_monitored(arguments), arguments)
 
 
@@ -117,13 +117,13 @@ def do_gdb(arguments: Namespace) -> None:
 
 def do_explain(arguments: Namespace) -> None:
     """Runs `explain`."""
-    show_explain(arguments.input, arguments.words, Printer(arguments.json), arguments.findings)
+    show_explain(arguments.input, arguments.arguments, Printer(arguments.json), arguments.findings)
 
 
 def do_page(arguments: Namespace) -> None:
     """Runs `page`."""
     if arguments.json:
-        raise Fault("page has no --json: it shows what map --json and trace --json write")
+        raise RvlookError("page does not support --json; use map --json and trace --json")
     template = page_template()
     run, symbols, printer = opened(arguments)
     paths = [it for it in (arguments.symbols, arguments.image) if it] if arguments.has_sources else []

@@ -1,5 +1,5 @@
-"""The subcommand `leak`: compares runs that differ only in a secret of an enclave, by what a host can observe: pc and number of steps,
-addresses of loads and stores, operands of divisions if wanted, results, and the window. After a divergence two runs are compared from where
+"""The subcommand `leak`: compares runs that differ only in a secret of an enclave, in the channels that a host can observe: pc, number of steps,
+addresses of loads and stores, operands of divisions with --strict, results, and the window. After two runs diverge, they are compared from where
 they converge again."""
 from __future__ import annotations
 
@@ -10,43 +10,43 @@ from contextlib import closing
 from dataclasses import dataclass
 from typing import Any, Mapping, Optional, Sequence, TYPE_CHECKING
 
-from rvlook.errors import Fault, Unfinished
+from rvlook.errors import RvlookError, Unfinished
 from rvlook.finders.secrets import place_and_size
-from rvlook.access.activations import Stays
+from rvlook.access.activations import Activations
 
 if TYPE_CHECKING:
-    from rvlook.access.activations import Did, Stay
+    from rvlook.access.activations import Operation, Activation
     from rvlook.finders.secrets import Secret
     from rvlook.protocol.replies import Enclave
     from rvlook.protocol.run import Run
     from rvlook.protocol.symbols import Symbols
 
-PARTS = ("pc", "steps", "address", "operand", "answer", "window")
-SAME, FAR = 4, 4096  # so many steps alike, and two runs are together again; looked for within so many steps
+CHANNELS = ("pc", "steps", "address", "operand", "answer", "window")
+SAME, FAR = 4, 4096  # equal steps after which two runs have converged; the most steps in which this is searched
 
 
 @dataclass
-class Apart:
-    """A difference of two runs: the channel, the first step of each run, the values, the instruction, and how often it occurs there."""
+class Difference:
+    """A difference of two runs: the channel, the first step in each run, the values, the instruction, and how often it occurs there."""
     what: str
     steps: tuple[int, int]
-    values: tuple[Any, ...]  # of a form for each `what`
+    values: tuple[Any, ...]  # their form depends on `what`
     pc: Optional[int] = None
     count: int = 1
 
 
 @dataclass
-class Seen:
-    """What a host observes of one run: the activations of the enclave, and the last step."""
+class Observation:
+    """The observations of a host in one run: the activations of the enclave, and the last step."""
     run: Run
-    stays: list[Stay]
+    activations: list[Activation]
     last: int
     is_cut: bool = False  # by --steps, before the enclave exited
 
 
 @dataclass(frozen=True)
 class Public:
-    """What may differ: the result, bytes of the window, and what instructions of a range store."""
+    """The permitted differences: the result, bytes of the window, and stores of instructions in a range."""
     answer: bool = False
     ranges: tuple[tuple[int, int], ...] = ()
 
@@ -61,82 +61,82 @@ def public_of(texts: Sequence[str] | None, symbols: Symbols) -> Public:
     return Public("answer" in (texts or ()), tuple((at, count or 4) for at, count in (place_and_size(it, symbols) for it in found)))
 
 
-def seen(run: Run, secret: Secret, is_strict: bool) -> Seen:
+def observe(run: Run, secret: Secret, is_strict: bool) -> Observation:
     """Records what a host observes of the enclave in the slot of the secret, until the enclave exits. Raises Unfinished if it is never
     entered."""
-    found, stays = [], Stays(run, secret.step, is_strict)
-    with closing(stays.all()) as every:
-        for stay in every:
-            if stay.slot == secret.slot:
-                found.append(stay)
-                if stay.left == "exit":
-                    return Seen(run, found, stay.last)
+    found, activations = [], Activations(run, secret.step, is_strict)
+    with closing(activations.all()) as every:
+        for activation in every:
+            if activation.slot == secret.slot:
+                found.append(activation)
+                if activation.ended_by == "exit":
+                    return Observation(run, found, activation.last)
     if not found:
-        raise Unfinished("the enclave of slot %d is never entered after step %d, from which on runs are compared" % (secret.slot, secret.step))
-    assert stays.end is not None
-    return Seen(run, found, stays.end.steps, stays.end.why == "limit" and found[-1].left == "nothing")
+        raise Unfinished("the enclave in slot %d is never entered after step %d, where the comparison starts" % (secret.slot, secret.step))
+    assert activations.end is not None
+    return Observation(run, found, activations.end.steps, activations.end.why == "limit" and found[-1].ended_by == "none")
 
 
 class Comparison:
     """A comparison of two runs. `found` has the differences by channel and instruction."""
 
-    def __init__(self, one: Seen, two: Seen, secret: Secret, public: Public, is_strict: bool) -> None:
+    def __init__(self, one: Observation, two: Observation, secret: Secret, public: Public, is_strict: bool) -> None:
         self.one, self.two, self.secret, self.public, self.is_strict = one, two, secret, public, is_strict
-        self.found: dict[tuple[str, int | None], Apart] = {}
+        self.found: dict[tuple[str, int | None], Difference] = {}
         self.writers: dict[int, int] = {}
-        for pair in zip(one.stays, two.stays):
-            self.ways(*pair)
-            self.leaves(*pair)
+        for pair in zip(one.activations, two.activations):
+            self.compare_steps(*pair)
+            self.compare_ends(*pair)
         if one.last != two.last:
             self.add("steps", (one.last, two.last), (one.last, two.last))
-        if len(one.stays) != len(two.stays) and not any(it.what == "answer" for it in self.found.values()):
-            self.add("answer", (one.last, two.last), tuple("%d leaves" % len(it.stays) for it in (one, two)))
+        if len(one.activations) != len(two.activations) and not any(it.what == "answer" for it in self.found.values()):
+            self.add("answer", (one.last, two.last), tuple("%d exits" % len(it.activations) for it in (one, two)))
 
-    def parts(self) -> list[str]:
-        """Returns the channels in which the runs differ, in the order of PARTS."""
-        return [it for it in PARTS if any(found.what == it for found in self.found.values())]
+    def channels(self) -> list[str]:
+        """Returns the channels in which the runs differ, in the order of CHANNELS."""
+        return [it for it in CHANNELS if any(found.what == it for found in self.found.values())]
 
-    def all(self) -> list[Apart]:
+    def all(self) -> list[Difference]:
         """Returns all differences, by channel and step."""
-        return sorted(self.found.values(), key=lambda it: (PARTS.index(it.what), it.steps))
+        return sorted(self.found.values(), key=lambda it: (CHANNELS.index(it.what), it.steps))
 
     def add(self, what: str, steps: tuple[int, int], values: tuple[Any, ...], pc: int | None = None) -> None:
         """Adds a difference, or counts it if there is one at the same instruction."""
         if pc is not None and self.public.has(pc):
             return
-        old = self.found.setdefault((what, pc), Apart(what, steps, values, pc, 0))
+        old = self.found.setdefault((what, pc), Difference(what, steps, values, pc, 0))
         old.count += 1
 
-    def ways(self, one: Stay, two: Stay) -> None:
+    def compare_steps(self, one: Activation, two: Activation) -> None:
         """Compares two activations step by step, and after a divergence from where they converge again."""
-        theirs = dict(zip(two.did_at, two.did))
+        theirs = dict(zip(two.operations_at, two.operations))
         x = y = 0
         while x < len(one.pcs) and y < len(two.pcs):
-            same = alike(one, x, two, y)
-            for place in range(bisect_left(one.did_at, x), bisect_left(one.did_at, x + same)):
-                other = theirs.get(one.did_at[place] - x + y)
+            same = common_length(one, x, two, y)
+            for index in range(bisect_left(one.operations_at, x), bisect_left(one.operations_at, x + same)):
+                other = theirs.get(one.operations_at[index] - x + y)
                 if other is not None:
-                    self.access(one.did[place], other, one.enclave)
+                    self.access(one.operations[index], other, one.enclave)
             x, y = x + same, y + same
             if x == len(one.pcs) and y == len(two.pcs):
                 return
             x, y = self.diverge(one, x, two, y, theirs)
 
-    def diverge(self, one: Stay, x: int, two: Stay, y: int, theirs: Mapping[int, Did]) -> tuple[int, int]:
+    def diverge(self, one: Activation, x: int, two: Activation, y: int, theirs: Mapping[int, Operation]) -> tuple[int, int]:
         """Adds the step by which two ways diverge before x and y; returns where they are compared again. At the same pc that step is the
         next one, which traps in one run and not, or otherwise, in the other. Its access is compared too."""
         if x < len(one.pcs) and y < len(two.pcs) and one.pcs[x] == two.pcs[y]:
-            mine, other = did_at(one, x), theirs.get(y)
+            mine, other = operation_at(one, x), theirs.get(y)
             if mine and other:
                 self.access(mine, other, one.enclave)
             self.add("pc", (one.steps[x], two.steps[y]), (), one.pcs[x] & -4)
             x, y = x + 1, y + 1
-            return (x, y) if one.pcs[x:x + 1] == two.pcs[y:y + 1] else together(one, x, two, y)
+            return (x, y) if one.pcs[x:x + 1] == two.pcs[y:y + 1] else convergence(one, x, two, y)
         steps = (one.steps[x - 1], two.steps[y - 1]) if x else (one.first, two.first)
         self.add("pc", steps, (), one.pcs[max(0, x - 1)] & -4)
-        return together(one, x, two, y)
+        return convergence(one, x, two, y)
 
-    def access(self, mine: Did, theirs: Did, enclave: Enclave) -> None:
+    def access(self, mine: Operation, theirs: Operation, enclave: Enclave) -> None:
         """Compares what two corresponding steps did."""
         steps = mine.step, theirs.step
         if mine.kind == "d":
@@ -147,41 +147,41 @@ class Comparison:
         elif mine.kind == "w" and mine.values != theirs.values and self.is_shown(mine, enclave):
             self.add("window", steps, tuple((it.address, bytes(it.values)) for it in (mine, theirs)), mine.pc)
 
-    def is_shown(self, it: Did, enclave: Enclave) -> bool:
+    def is_shown(self, it: Operation, enclave: Enclave) -> bool:
         """Returns whether a store is to a byte of the window that may not differ."""
-        places = range(it.address, it.address + it.width)
-        return any(enclave.window <= at < enclave.window + enclave.window_size and not self.public.has(at) for at in places)
+        addresses = range(it.address, it.address + it.width)
+        return any(enclave.window <= at < enclave.window + enclave.window_size and not self.public.has(at) for at in addresses)
 
-    def leaves(self, one: Stay, two: Stay) -> None:
+    def compare_ends(self, one: Activation, two: Activation) -> None:
         """Compares the results and the windows at the end of two activations."""
-        if not self.public.answer and (one.left, one.answer) != (two.left, two.answer):
-            self.add("answer", (one.last, two.last), tuple((it.left, *it.answer) for it in (one, two)), one.pc)
+        if not self.public.answer and (one.ended_by, one.answer) != (two.ended_by, two.answer):
+            self.add("answer", (one.last, two.last), tuple((it.ended_by, *it.answer) for it in (one, two)), one.pc)
         self.writers.update(writers_of(one, two))
         if one.after != two.after:
-            base, writers, told = one.enclave.window, self.writers, {pc for what, pc in self.found if what == "window"}
+            base, writers, reported = one.enclave.window, self.writers, {pc for what, pc in self.found if what == "window"}
             for at, (x, y) in enumerate(zip(one.after, two.after)):
                 pc = writers.get(base + at, one.pc)
-                if x != y and not self.public.has(base + at) and pc not in told:
+                if x != y and not self.public.has(base + at) and pc not in reported:
                     self.add("window", (one.last, two.last), ((base + at, bytes([x])), (base + at, bytes([y]))), pc)
 
 
-def did_at(stay: Stay, place: int) -> Did | None:
-    """Returns what the step at a place of the stay did, or None."""
-    at = bisect_left(stay.did_at, place)
-    return stay.did[at] if stay.did_at[at:at + 1] == array("I", [place]) else None
+def operation_at(activation: Activation, index: int) -> Operation | None:
+    """Returns the operation of the step at an index of the activation, or None."""
+    at = bisect_left(activation.operations_at, index)
+    return activation.operations[at] if activation.operations_at[at:at + 1] == array("I", [index]) else None
 
 
-def writers_of(one: Stay, two: Stay) -> dict[int, int]:
+def writers_of(one: Activation, two: Activation) -> dict[int, int]:
     """Returns the instruction that stored each byte last, in either run, by address."""
     found: dict[int, int] = {}
-    for stay in (two, one):
-        for it in stay.did:
+    for activation in (two, one):
+        for it in activation.operations:
             if it.kind == "w" and it.done:
                 found.update((it.address + n, it.pc) for n in range(it.width))
     return found
 
 
-def alike(one: Stay, x: int, two: Stay, y: int) -> int:
+def common_length(one: Activation, x: int, two: Activation, y: int) -> int:
     """Returns how many steps from x and y on have the same pcs, modes and traps."""
     count, most = 0, min(len(one.pcs) - x, len(two.pcs) - y)
     if one.pcs[x:x + most] == two.pcs[y:y + most]:
@@ -198,16 +198,16 @@ def alike(one: Stay, x: int, two: Stay, y: int) -> int:
     return min((n for n in trapped if one.traps.get(x + n) != two.traps.get(y + n)), default=count)
 
 
-def together(one: Stay, x: int, two: Stay, y: int) -> tuple[int, int]:
+def convergence(one: Activation, x: int, two: Activation, y: int) -> tuple[int, int]:
     """Returns where two activations converge: after the fewest steps from x and y; the ends if they do not."""
-    places = defaultdict(list)
+    indices = defaultdict(list)
     for n in range(y, min(y + FAR, len(two.pcs))):
-        places[two.pcs[n]].append(n)
+        indices[two.pcs[n]].append(n)
     best = None
     for m in range(x, min(x + FAR, len(one.pcs))):
         if best and m - x > best[0]:
             break
-        for n in places.get(one.pcs[m], ()):
+        for n in indices.get(one.pcs[m], ()):
             cost = m - x + n - y
             if cost and (best is None or cost < best[0]) and one.pcs[m:m + SAME] == two.pcs[n:n + SAME]:
                 best = cost, m, n
@@ -216,6 +216,6 @@ def together(one: Stay, x: int, two: Stay, y: int) -> tuple[int, int]:
 
 
 def check_values(values: Sequence[bytes]) -> None:
-    """Raises Fault if two secrets have different lengths."""
+    """Raises RvlookError if two secrets have different lengths."""
     if len(values[0]) != len(values[1]):
-        raise Fault("the two have not the same number of bytes")
+        raise RvlookError("the two secrets differ in length")

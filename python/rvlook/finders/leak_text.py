@@ -4,23 +4,23 @@ from __future__ import annotations
 import time
 from typing import Mapping, Sequence, TYPE_CHECKING
 
-from rvlook.errors import Fault, WordsRefused
-from rvlook.finders.leak import PARTS, Comparison, check_values, public_of, seen
+from rvlook.errors import RvlookError, UsageError
+from rvlook.finders.leak import CHANNELS, Comparison, check_values, observe, public_of
 from rvlook.finders.secrets import drawn, secret_of
 from rvlook.output.progress import Progress
 from rvlook.output.printer import Style, hex8, run_object
 
 if TYPE_CHECKING:
     from argparse import Namespace
-    from rvlook.finders.leak import Apart, Seen
+    from rvlook.finders.leak import Difference, Observation
     from rvlook.finders.secrets import Secret
     from rvlook.output.printer import Printer
     from rvlook.protocol.run import Run
     from rvlook.protocol.symbols import Symbols
 
-WORDS = {"pc": "each step goes on at the same pc", "address": "each load and store is at the same address",
-         "operand": "each division has the same operands"}
-MOST_TRIES = 10  # numbers of pairs that are told
+EQUAL = {"pc": "every step continues at the same pc", "address": "every load and store has the same address",
+         "operand": "every division has the same operands"}
+MOST_NUMBERS = 10  # numbers of pairs that are printed
 
 
 class Leak:
@@ -29,20 +29,20 @@ class Leak:
     def __init__(self, run: Run, symbols: Symbols, printer: Printer, options: Namespace) -> None:
         self.run, self.symbols, self.printer, self.options, self.findings = run, symbols, printer, options, options.findings
         self.public, self.is_strict = public_of(options.public, symbols), options.strict
-        self.parts = [it for it in PARTS if it != "operand" or self.is_strict]
+        self.channels = [it for it in CHANNELS if it != "operand" or self.is_strict]
 
     def secret(self, size: int | None = None) -> Secret:
         """Returns the secret that --at names; `size` is its length in bytes."""
         return secret_of(self.options.at, self.symbols, self.run, self.options.slot, size)
 
-    def seen(self, secret: Secret) -> Seen:
+    def observe(self, secret: Secret) -> Observation:
         """Returns the observations of the run with a secret. Notes if --steps ends the run too early."""
-        found = seen(self.run.with_lines(secret.step, secret.lines()), secret, self.is_strict)
+        found = observe(self.run.with_lines(secret.step, secret.lines()), secret, self.is_strict)
         if found.is_cut and not self.findings.cut:
-            self.findings.cut_short("--steps %d ends the run before the enclave of slot %d leaves" % (self.run.setup.limit, secret.slot))
+            self.findings.cut_short("--steps %d ended the run while the enclave in slot %d was running" % (self.run.setup.limit, secret.slot))
         return found
 
-    def compared(self, one: Seen, two: Seen, secret: Secret) -> Comparison:
+    def compared(self, one: Observation, two: Observation, secret: Secret) -> Comparison:
         """Compares the observations of two runs."""
         return Comparison(one, two, secret, self.public, self.is_strict)
 
@@ -60,20 +60,20 @@ def show_leak(run: Run, symbols: Symbols, printer: Printer, options: Namespace) 
         show_tries(leak)
         return
     if len(options.secrets) != 2:
-        raise WordsRefused("leak compares two secrets, ONE and TWO, or draws them, --tries N; rvlook leak --help tells the words")
+        raise UsageError("leak requires two secrets (ONE TWO) or --tries N; see 'rvlook leak --help'")
     try:
         values = [bytes.fromhex(text) for text in options.secrets]
     except ValueError:
-        raise Fault("BYTES are pairs of hexadecimal digits") from None
+        raise RvlookError("a secret must consist of pairs of hexadecimal digits") from None
     check_values(values)
     secret = leak.secret(len(values[0]))
     secrets = [secret.with_bytes(it) for it in values]
     with Progress() as progress:
-        progress.tell("the run with %s", values[0].hex())
-        one, two = (leak.seen(it) for it in secrets)
+        progress.show("running with %s", values[0].hex())
+        one, two = (leak.observe(it) for it in secrets)
     found = leak.compared(one, two, secret)
     (pair_objects if printer.as_json else pair_text)(leak, secrets, (one, two), found)
-    for what in leak.parts:
+    for what in leak.channels:
         leak.findings.add(what, "\n".join(heading_of(leak, it, secret) for it in found.all() if it.what == what))
 
 
@@ -85,57 +85,57 @@ def show_tries(leak: Leak) -> None:
     values = drawn(len(own.bytes), options.seed, options.first, min(options.tries, options.last or options.tries))
     if printer.as_json:
         run_object(printer, leak.run, leak.symbols)
-    told, done, cut, base = {}, 0, False, None
+    differing, done, cut, base = {}, 0, False, None
     until = None if options.seconds is None else time.monotonic() + options.seconds
     try:
         with Progress() as progress:
-            base = leak.seen(own)
+            base = leak.observe(own)
             for number, value in values:
                 other, two, found = try_pair(leak, own, base, number, value)
                 done += 1
-                if found.parts():
-                    told[number] = (other, two, found)
-                progress.bar(done, len(values), "%d told" % len(told))
+                if found.channels():
+                    differing[number] = (other, two, found)
+                progress.bar(done, len(values), "%d differ" % len(differing))
                 if until is not None and time.monotonic() > until and done < len(values):
-                    leak.findings.cut_short("--seconds ends leak after %s of %d" % (pairs_text(done), len(values)))
+                    leak.findings.cut_short("--seconds ended leak after %d of %s" % (done, pairs_text(len(values))))
                     break
     except KeyboardInterrupt:
         cut = True
-    finish(leak, own, base, told, done)
+    finish(leak, own, base, differing, done)
     if cut:
         raise KeyboardInterrupt
 
 
-def try_pair(leak: Leak, own: Secret, base: Seen, number: int, value: bytes) -> tuple[Secret, Seen, Comparison]:
+def try_pair(leak: Leak, own: Secret, base: Observation, number: int, value: bytes) -> tuple[Secret, Observation, Comparison]:
     """Compares the run with a drawn value, or with another if that is the secret itself; notes what was found."""
     other = own.with_bytes(value if value != own.bytes else bytes(it ^ 0xA5 for it in value))
-    two = leak.seen(other)
+    two = leak.observe(other)
     found = leak.compared(base, two, own)
-    parts, both = found.parts(), [own.bytes.hex(), other.bytes.hex()]
-    leak.findings.add("pair %d" % number, "%s and %s part in %s" % (*both, ", ".join(parts)) if parts else "")
+    channels, both = found.channels(), [own.bytes.hex(), other.bytes.hex()]
+    leak.findings.add("pair %d" % number, "%s and %s differ in %s" % (*both, ", ".join(channels)) if channels else "")
     if leak.printer.as_json:
-        leak.printer.object("try", number=number, slot=own.slot, at=own.text(), bytes=both, parts=parts)
+        leak.printer.object("pair", number=number, slot=own.slot, at=own.text(), bytes=both, channels=channels)
     return other, two, found
 
 
-def finish(leak: Leak, own: Secret, base: Seen | None, told: Mapping[int, tuple[Secret, Seen, Comparison]], done: int) -> None:
+def finish(leak: Leak, own: Secret, base: Observation | None, differing: Mapping[int, tuple[Secret, Observation, Comparison]], done: int) -> None:
     """Prints the result of all pairs, and the first pair that differs."""
     printer = leak.printer
     if printer.as_json:
-        printer.object("leak", parts=sorted({part for *_, found in told.values() for part in found.parts()}, key=PARTS.index),
-                       pairs=done, told=sorted(told), compared=leak.parts)
+        printer.object("leak", channels=sorted({it for *_, found in differing.values() for it in found.channels()}, key=CHANNELS.index),
+                       pairs=done, differing=sorted(differing), compared=leak.channels)
         return
-    if not told:
-        printer.line("alike for %s in %s" % (pairs_text(done), ", ".join(leak.parts)))
+    if not differing:
+        printer.line("no difference in %s: %s" % (pairs_text(done), ", ".join(leak.channels)))
         return
-    number = min(told)
-    other, two, found = told[number]
-    printer.line("pair %d of %d, the first that tells" % (number, done))
+    number = min(differing)
+    other, two, found = differing[number]
+    printer.line("pair %d of %d, the first that differs" % (number, done))
     assert base is not None  # as something was found
     pair_text(leak, [own, other], (base, two), found)
-    numbers = ", ".join(map(str, sorted(told)[:MOST_TRIES])) + (", ..." if len(told) > MOST_TRIES else "")
-    parts = sorted({part for *_, it in told.values() for part in it.parts()}, key=PARTS.index)
-    printer.line("%d of %s told, in %s: %s" % (len(told), pairs_text(done), ", ".join(parts), numbers))
+    numbers = ", ".join(map(str, sorted(differing)[:MOST_NUMBERS])) + (", ..." if len(differing) > MOST_NUMBERS else "")
+    channels = sorted({channel for *_, it in differing.values() for channel in it.channels()}, key=CHANNELS.index)
+    printer.line("%d of %s differ, in %s: %s" % (len(differing), pairs_text(done), ", ".join(channels), numbers))
 
 
 def pairs_text(count: int) -> str:
@@ -143,12 +143,17 @@ def pairs_text(count: int) -> str:
     return "1 pair" if count == 1 else "%d pairs" % count
 
 
+def exits_text(count: int) -> str:
+    """Returns a number of exits in words."""
+    return "1 exit" if count == 1 else "%d exits" % count
+
+
 def place_text(pc: int, symbols: Symbols) -> str:
     """Returns an instruction with its symbol and source line."""
     return "  ".join(part for part in ("%08x" % pc, symbols.name(pc), symbols.line(pc)) if part)
 
 
-def values_of(leak: Leak, it: Apart, both: Sequence[Seen]) -> list[str]:
+def values_of(leak: Leak, it: Difference, both: Sequence[Observation]) -> list[str]:
     """Returns the two values of a difference in words."""
     if it.what == "pc":
         return [leak.reply(one.run, step) for one, step in zip(both, it.steps)]
@@ -161,48 +166,48 @@ def values_of(leak: Leak, it: Apart, both: Sequence[Seen]) -> list[str]:
     return list(it.values)
 
 
-def pair_text(leak: Leak, secrets: Sequence[Secret], both: Sequence[Seen], comparison: Comparison) -> None:
+def pair_text(leak: Leak, secrets: Sequence[Secret], both: Sequence[Observation], comparison: Comparison) -> None:
     """Prints the comparison of one pair, channel by channel."""
     printer, first = leak.printer, secrets[0]
-    printer.line("e%d, from step %d on, with %s and with %s at %s  %s" % (
+    printer.line("e%d, from step %d, with %s and with %s at %s  %s" % (
         first.slot, first.step, secrets[0].bytes.hex(), secrets[1].bytes.hex(), first.text(), leak.symbols.name(first.at) or ""))
     found = comparison.all()
-    alike = {**WORDS, "steps": "%d" % (both[0].last - first.step), "answer": "the same at %d leaves" % len(both[0].stays),
-             "window": "the same at each leave"}
-    for what in leak.parts:
+    equal = {**EQUAL, "steps": "%d" % (both[0].last - first.step), "answer": "the same at " + exits_text(len(both[0].activations)),
+             "window": "the same at every exit"}
+    for what in leak.channels:
         entries = [it for it in found if it.what == what]
         if not entries:
-            printer.line("  %-7s alike: %s" % (what, alike[what]))
+            printer.line("  %-7s equal: %s" % (what, equal[what]))
         for it in entries:
-            printer.line("  %-7s %s" % (what, printer.styled(apart_text(leak, it, first, both), Style.bad)))
-    parts = comparison.parts()
-    printer.line("they part in " + ", ".join(parts) if parts else "alike for 1 pair in " + ", ".join(leak.parts))
+            printer.line("  %-7s %s" % (what, printer.styled(difference_text(leak, it, first, both), Style.bad)))
+    channels = comparison.channels()
+    printer.line("the runs differ in " + ", ".join(channels) if channels else "no difference in 1 pair: " + ", ".join(leak.channels))
 
 
-def heading_of(leak: Leak, it: Apart, secret: Secret) -> str:
+def heading_of(leak: Leak, it: Difference, secret: Secret) -> str:
     """Returns where two runs differ."""
     if it.what == "steps":
-        return "apart: %d and %d" % tuple(step - secret.step for step in it.steps)
+        return "differ: %d and %d" % tuple(step - secret.step for step in it.steps)
     step = "step %d" % it.steps[0] if it.steps[0] == it.steps[1] else "steps %d and %d" % it.steps
     times = ", %d times" % it.count if it.count > 1 else ""
     where = ", " + place_text(it.pc, leak.symbols) if it.pc is not None else ""
-    return "apart at %s%s%s" % (step, where, times)
+    return "differs at %s%s%s" % (step, where, times)
 
 
-def apart_text(leak: Leak, it: Apart, secret: Secret, both: Sequence[Seen]) -> str:
+def difference_text(leak: Leak, it: Difference, secret: Secret, both: Sequence[Observation]) -> str:
     """Returns where two runs differ, with both values."""
     values = () if it.what == "steps" else values_of(leak, it, both)
     return heading_of(leak, it, secret) + "".join("\n          " + value.rstrip() for value in values)
 
 
-def pair_objects(leak: Leak, secrets: Sequence[Secret], both: Sequence[Seen], comparison: Comparison) -> None:
+def pair_objects(leak: Leak, secrets: Sequence[Secret], both: Sequence[Observation], comparison: Comparison) -> None:
     """Writes the comparison of one pair as objects."""
     printer, first, symbols = leak.printer, secrets[0], leak.symbols
     run_object(printer, leak.run, symbols)
     printer.object("secret", slot=first.slot, at=first.text(), step=first.step, bytes=[it.bytes.hex() for it in secrets])
     for it in comparison.all():
         values = list(it.values) if it.what == "steps" else [value.rstrip() for value in values_of(leak, it, both)]
-        printer.object("apart", what=it.what, step=list(it.steps), values=values, pc=hex8(it.pc), count=it.count,
+        printer.object("difference", channel=it.what, step=list(it.steps), values=values, pc=hex8(it.pc), count=it.count,
                        symbol=it.pc and symbols.name(it.pc), source=it.pc and symbols.source(it.pc))
-    printer.object("leak", parts=comparison.parts(), steps=[it.last - first.step for it in both], leaves=[len(it.stays) for it in both],
-                   compared=leak.parts, pairs=1)
+    printer.object("leak", channels=comparison.channels(), steps=[it.last - first.step for it in both], exits=[len(it.activations) for it in both],
+                   compared=leak.channels, pairs=1)

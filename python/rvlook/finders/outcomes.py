@@ -1,4 +1,4 @@
-"""What distinguishes the final states of `races`, and what is forbidden of them: bytes, registers and the states of enclaves."""
+"""The values that distinguish final states of `races`, and conditions on them: bytes, registers and the states of enclaves."""
 from __future__ import annotations
 
 import operator
@@ -6,20 +6,21 @@ import re
 from typing import Any, Iterable, NamedTuple, Sequence, TYPE_CHECKING, Tuple, Union
 
 from rvlook.protocol import names
-from rvlook.errors import Fault
+from rvlook.errors import RvlookError
 from rvlook.protocol.lines import no_symbol
 from rvlook.finders.races.machine import operands
 from rvlook.protocol.replies import enclave_of
 from rvlook.output.printer import hex8
 
 if TYPE_CHECKING:
-    from rvlook.finders.races.ends import End
+    from rvlook.finders.races.final_states import FinalState
     from rvlook.finders.races.machine import Look, Machine, Memory, State
     from rvlook.protocol.symbols import Symbols
 
 OPERATORS = {"==": operator.eq, "!=": operator.ne, "<=": operator.le, ">=": operator.ge, "<": operator.lt, ">": operator.gt}
 CONDITION = re.compile(r"\s*([^\s=!<>]+)\s*(==|!=|<=|>=|<|>)\s*([^\s=!<>]+)\s*\Z")
-HOW = {"stays": "stays", "waits": "waits", "livelock": "goes on", "unended": "has not ended"}
+HOW = {"halts": "halts", "waits": "waits", "livelock": "runs on", "unfinished": "unfinished"}
+ALIASES = {"stays": "halts", "unended": "unfinished"}  # accepted too
 WORD_BYTES = 4
 
 
@@ -95,7 +96,7 @@ class Condition(NamedTuple):
     parts: tuple[tuple[str, str, Union[int, str]], ...]
     how: str = ""
 
-    def holds(self, end: End, names_of: Sequence[str]) -> bool:
+    def holds(self, end: FinalState, names_of: Sequence[str]) -> bool:
         """Returns whether a final state meets the condition."""
         if self.how:
             return any(how == self.how for how, _ in end.harts)
@@ -127,7 +128,7 @@ def value_text(value: Value) -> str:
 
 
 def outcome_of(text: str, symbols: Symbols, harts: int) -> Observed:
-    """Parses --outcome: PLACE or PLACE:BYTES, HART.REGISTER, a slot, or `enclaves`. Raises Fault."""
+    """Parses --outcome: PLACE or PLACE:BYTES, HART.REGISTER, a slot, or `enclaves`. Raises RvlookError."""
     hart, dot, register = text.partition(".")
     if text == "enclaves":
         return Table()
@@ -135,28 +136,29 @@ def outcome_of(text: str, symbols: Symbols, harts: int) -> Observed:
         return Slot(text, int(text[1:]))
     if dot and hart in map(str, range(harts)) and register in names.NUMBER_OF:
         return Register(text, int(hart), names.NUMBER_OF[register])
-    place, _, count = text.partition(":")
-    at, symbol = symbols.address(place), symbols.by_name.get(place)
+    name, _, count = text.partition(":")
+    at, symbol = symbols.address(name), symbols.by_name.get(name)
     if at is None:
-        raise Fault("--outcome is PLACE or PLACE:BYTES, HART.REGISTER, enclaves or one, as e0: %s" % no_symbol(place, symbols))
+        raise RvlookError("invalid --outcome: %s (expected PLACE[:BYTES], HART.REGISTER, enclaves, or e0 to e12)" % no_symbol(name, symbols))
     if count and not count.isdigit():
-        raise Fault("--outcome PLACE:BYTES has a decimal number of bytes, and not %s" % count)
+        raise RvlookError("invalid --outcome: the number of bytes must be decimal, not '%s'" % count)
     return Bytes(text, at, int(count or (symbol and symbol.size) or WORD_BYTES))
 
 
 def condition_of(text: str, symbols: Symbols) -> Condition:
-    """Parses --forbid: comparisons joined by `and`, or one of `stays`, `waits`, `livelock` and `unended`. Raises Fault."""
-    if text.strip() in HOW:
-        return Condition(text, (), HOW[text.strip()])
+    """Parses --forbid: comparisons joined by `and`, or one of HOW and ALIASES. Raises RvlookError."""
+    name = ALIASES.get(text.strip(), text.strip())
+    if name in HOW:
+        return Condition(text, (), HOW[name])
     texts = re.split(r"\band\b", text)
     parts = [match for match in map(CONDITION.match, texts) if match]
     if len(parts) < len(texts):
-        raise Fault("--forbid is NAME OPERATOR VALUE, joined by and, or one of %s; and not %s" % (", ".join(HOW), text))
+        raise RvlookError("invalid --forbid '%s' (expected NAME OPERATOR VALUE, joined by 'and', or one of %s)" % (text, ", ".join(HOW)))
     return Condition(text, tuple((it[1], it[2], compared_with(it[1], it[3], symbols)) for it in parts))
 
 
 def compared_with(name: str, value: str, symbols: Symbols) -> int | str:
-    """Parses the value of a comparison: a number, decimal or after 0x, a symbol's address, or the state of an enclave. Raises Fault."""
+    """Parses the value of a comparison: a number, decimal or after 0x, a symbol's address, or the state of an enclave. Raises RvlookError."""
     if re.fullmatch(r"e\d+", name) and name not in symbols.by_name:
         return value
     try:
@@ -164,7 +166,7 @@ def compared_with(name: str, value: str, symbols: Symbols) -> int | str:
     except ValueError:
         at = symbols.address(value) if value in symbols.by_name else None
         if at is None:
-            raise Fault("--forbid compares with a number, decimal or after 0x, or a symbol's address, and not with %s" % value) from None
+            raise RvlookError("invalid value '%s' in --forbid (expected a decimal number, a number after 0x, or a symbol)" % value) from None
         return at
 
 

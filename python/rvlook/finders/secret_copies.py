@@ -3,18 +3,18 @@ from __future__ import annotations
 
 from typing import Iterable, NamedTuple
 
-LEAST = 4  # bytes of a copy that is told; the whole secret if that is shorter
+LEAST = 4  # bytes of a reported copy; the whole secret if that is shorter
 
 
 class Copy(NamedTuple):
-    """`size` bytes at a place that are those of the secret from an offset on."""
+    """`size` bytes at an index that equal those of the secret from an offset."""
     at: int
     size: int
     offset: int
 
 
 def copies_in(data: bytes, secret: bytes) -> list[Copy]:
-    """Returns the copies, by their places. Bytes that are all equal, such as zeros, are none, and neither is what a longer copy covers."""
+    """Returns the copies, by index. Bytes that are all equal, such as zeros, are none, and neither is what a longer copy covers."""
     least = min(LEAST, len(secret))
     found: list[Copy] = []
     ends: dict[int, int] = {}  # of the last copy at each distance between the bytes and the secret
@@ -31,7 +31,7 @@ def copies_in(data: bytes, secret: bytes) -> list[Copy]:
 
 
 def extended(data: bytes, secret: bytes, at: int, offset: int, size: int) -> Copy:
-    """Returns the maximal copy that has the bytes at a place."""
+    """Returns the maximal copy that contains the bytes at an index."""
     while at and offset and data[at - 1] == secret[offset - 1]:
         at, offset, size = at - 1, offset - 1, size + 1
     while at + size < len(data) and offset + size < len(secret) and data[at + size] == secret[offset + size]:

@@ -1,5 +1,5 @@
-"""The place of a secret: bytes of an enclave's region, poked right after its `create`; bytes of the image, poked at reset; or a register
-when an enclave first comes to a place. And the values that it is given."""
+"""The location and the values of a secret. It is in the region of an enclave, written right after `create`; in the image, written at reset; or in a
+register when an enclave first reaches an address."""
 from __future__ import annotations
 
 import random
@@ -9,14 +9,14 @@ from dataclasses import dataclass, replace
 from typing import TYPE_CHECKING
 
 from rvlook.protocol import names
-from rvlook.errors import Fault, Unfinished
-from rvlook.access.map import moments
+from rvlook.errors import RvlookError, Unfinished
+from rvlook.access.map import events
 from rvlook.protocol.replies import bytes_of
 from rvlook.protocol.run import End
-from rvlook.access.activations import Stays
+from rvlook.access.activations import Activations
 
 if TYPE_CHECKING:
-    from rvlook.access.map import Moment
+    from rvlook.access.map import Event
     from rvlook.protocol.run import Run
     from rvlook.protocol.symbols import Symbols
 
@@ -41,7 +41,7 @@ class Secret:
         """Returns the commands that set the secret."""
         if self.register:
             return ["hart %d" % self.hart] * bool(self.hart) + ["setreg %d %x" % (self.register, int.from_bytes(self.bytes, "little"))]
-        return ["poke %x %02x" % (self.at + place, value) for place, value in enumerate(self.bytes)]
+        return ["poke %x %02x" % (self.at + offset, value) for offset, value in enumerate(self.bytes)]
 
     def with_bytes(self, value: Bytes) -> Secret:
         """Returns the secret with another value."""
@@ -58,56 +58,56 @@ class Secret:
             return b"".join(bytes_of(reply[0]) for reply in replay.bench.ask(*reads))
 
     def text(self) -> str:
-        """Returns the place of the secret: a register or an address."""
+        """Returns the location of the secret: a register or an address."""
         return names.abi_name(self.register) if self.register else "%08x" % self.at
 
 
-def created(run: Run, slot: int) -> Moment:
-    """Returns the moment at which the enclave of a slot is created; raises Unfinished if it is not."""
-    for moment in moments(run):
-        if not isinstance(moment, End) and moment.event == "create" and moment.slot == slot:
-            return moment
+def created(run: Run, slot: int) -> Event:
+    """Returns the event at which the enclave of a slot is created; raises Unfinished if it is not."""
+    for event in events(run):
+        if not isinstance(event, End) and event.cause == "create" and event.slot == slot:
+            return event
     raise Unfinished("no enclave is created in slot %d" % slot)
 
 
 def place_and_size(text: str, symbols: Symbols) -> tuple[int, int | None]:
-    """Parses PLACE or PLACE:BYTES into an address and a number of bytes, None if it is not known. Raises Fault."""
-    place, _, count = text.partition(":")
-    at = symbols.address(place)
+    """Parses PLACE or PLACE:BYTES into an address and a number of bytes, None if it is not known. Raises RvlookError."""
+    name, _, count = text.partition(":")
+    at = symbols.address(name)
     if at is None or count and not count.isdigit():
-        raise Fault("%s is no hexadecimal number and no symbol" % text)
-    symbol = symbols.by_name.get(place)
+        raise RvlookError("'%s' is neither a hexadecimal address nor a symbol" % text)
+    symbol = symbols.by_name.get(name)
     return at, int(count) if count else symbol.size if symbol and symbol.size else None
 
 
 def secret_of(text: str, symbols: Symbols, run: Run, slot: int, size: int | None = None) -> Secret:
-    """Returns the secret that --at names, all zeros. `size` is the length of the given values, if there are any. Raises Fault."""
+    """Returns the secret that --at names, all zeros. `size` is the length of the given values, if there are any. Raises RvlookError."""
     register = REGISTER_AT.match(text)
     if register and register[1] in names.NUMBER_OF and text.split("@")[0] not in symbols.by_name:
         return register_secret(register, symbols, run, slot)
     is_image = text.startswith("image:")
-    at, told = place_and_size(text[len("image:"):] if is_image else text, symbols)
-    count = size or told
+    at, own_size = place_and_size(text[len("image:"):] if is_image else text, symbols)
+    count = size or own_size
     if not count:
-        raise Fault("--at PLACE:BYTES tells how many bytes of %s are secret" % text)
+        raise RvlookError("the size of '%s' is unknown; use --at PLACE:BYTES" % text)
     if is_image:
         return Secret(slot, at, 0, bytes(count))
-    moment = created(run, slot)
-    enclave = next(it for it in moment.enclaves if it.slot == slot)
+    event = created(run, slot)
+    enclave = next(it for it in event.enclaves if it.slot == slot)
     if not enclave.base <= at <= at + count <= enclave.base + enclave.size:
-        raise Fault("the bytes from %08x on are not in the region of e%d" % (at, slot))
-    return Secret(slot, at, moment.step, bytes(count))
+        raise RvlookError("the bytes at %08x are outside the region of e%d" % (at, slot))
+    return Secret(slot, at, event.step, bytes(count))
 
 
 def register_secret(match: re.Match[str], symbols: Symbols, run: Run, slot: int) -> Secret:
-    """Returns the secret in a register when the enclave first comes to a place; raises Unfinished if it does not."""
+    """Returns the secret in a register when the enclave first reaches an address; raises Unfinished if it does not."""
     pc, _ = place_and_size(match[2], symbols)
-    with closing(Stays(run).all()) as every:
-        for stay in every:
-            found = next((step for step, it in zip(stay.steps, stay.pcs) if it & -4 == pc), None) if stay.slot == slot else None
+    with closing(Activations(run).all()) as every:
+        for activation in every:
+            found = next((step for step, it in zip(activation.steps, activation.pcs) if it & -4 == pc), None) if activation.slot == slot else None
             if found is not None:
-                return Secret(slot, 0, found - 1, bytes(WORD), names.NUMBER_OF[match[1]], stay.hart)
-    raise Unfinished("the enclave of slot %d does not come to %08x" % (slot, pc))
+                return Secret(slot, 0, found - 1, bytes(WORD), names.NUMBER_OF[match[1]], activation.hart)
+    raise Unfinished("the enclave in slot %d never reaches %08x" % (slot, pc))
 
 
 def drawn(size: int, seed: int, first: int, last: int) -> list[tuple[int, bytes]]:

@@ -1,5 +1,5 @@
-"""The subcommand `timer`: sets the timer interrupt pending before each step of an enclave, or before every Nth, and checks that the enclave
-comes to the same end as without. The script runs before, unchanged."""
+"""The subcommand `timer`: sets the timer interrupt pending before each step of an enclave, or before every Nth, and checks that the result
+of the enclave stays the same. The script runs before, unchanged."""
 from __future__ import annotations
 
 import itertools
@@ -8,7 +8,7 @@ from typing import Iterable, Iterator, Optional, Sequence, TYPE_CHECKING
 
 from rvlook.protocol import names
 from rvlook.errors import Unfinished
-from rvlook.access.map import moments
+from rvlook.access.map import events
 from rvlook.output.progress import Progress
 from rvlook.protocol.replies import step_of, register_values
 from rvlook.protocol.run import End, Stretch
@@ -23,10 +23,10 @@ if TYPE_CHECKING:
     from rvlook.protocol.symbols import Symbols
 
 MOST_STEPS = 200  # of the enclave in one exchange
-PATIENCE = 1000000  # steps in which the host has to enter it
+PATIENCE = 1000000  # steps in which the host must enter the enclave
 ROW = 64  # bytes that `mem` shows at once
 ANSWER = ["reg 10", "reg 11"]
-LEFT = ("Exited", "Stopped")  # states in which the enclave has left: what its host does from then on is not its end
+ENDED = ("Exited", "Stopped")  # states after which steps of the host are not compared
 
 
 @dataclass(frozen=True)
@@ -40,63 +40,63 @@ class Inside:
 
 @dataclass(frozen=True)
 class Last:
-    """The step with which the enclave leaves for good, or the last one of the run; its entry of the table; and whether it still runs when
-    --steps ends the run."""
+    """The last step of the enclave, or of the run if it has none; its entry in the enclave table; and whether it was running when --steps ended the
+    run."""
     step: int
     enclave: Enclave
     is_cut: bool = False
 
 
 @dataclass(frozen=True)
-class Differs:
-    """The first step of the enclave with another result, or its end."""
+class Difference:
+    """The first step of the enclave with another result, or its final state."""
     number: int
     pc: Optional[str]
-    wanted: str
-    found: str
+    expected: str
+    actual: str
 
 
 @dataclass
 class Outcome:
     """The result of the interrupted run."""
     steps: int = 0
-    stops: int = 0
-    differs: Optional[Differs] = None
-    not_resumed: Optional[Differs] = None  # the step before which the host did not enter the enclave
+    interrupts: int = 0
+    difference: Optional[Difference] = None
+    not_resumed: Optional[Difference] = None  # the step before which the host did not enter the enclave
 
 
 def last_of(run: Run, slot: int) -> Last:
-    """Returns the step after the script with which the enclave leaves for good. Raises Unfinished if there is no enclave."""
+    """Returns the last step of the enclave after the script. Raises Unfinished if there is no enclave."""
     found, end = None, None
-    for moment in moments(run):
-        if isinstance(moment, End):
-            end = moment
-        elif moment.slot == slot and not (found and found.enclave.state == "Exited"):
-            enclave = next((it for it in moment.enclaves if it.slot == slot), None)
-            found = Last(moment.step, enclave) if enclave else found
+    for event in events(run):
+        if isinstance(event, End):
+            end = event
+        elif event.slot == slot and not (found and found.enclave.state == "Exited"):
+            enclave = next((it for it in event.enclaves if it.slot == slot), None)
+            found = Last(event.step, enclave) if enclave else found
     if found is None:
-        raise Unfinished("there is no enclave in slot %d" % slot)
+        raise Unfinished("no enclave in slot %d" % slot)
     assert end is not None
-    return found if found.enclave.state in LEFT else Last(end.steps, found.enclave, end.why == "limit")
+    return found if found.enclave.state in ENDED else Last(end.steps, found.enclave, end.why == "limit")
 
 
-def inside_steps(run: Run, slot: int, last: Last, teller: Replay) -> Iterator[Inside]:
-    """Yields the steps of the enclave after the script, without a timer. `teller` is a replay that reads the results of the host."""
+def inside_steps(run: Run, slot: int, last: Last, reader: Replay) -> Iterator[Inside]:
+    """Yields the steps of the enclave after the script, without a timer. `reader` is a replay that reads the results of the host."""
     pc, world, own, entered = run.pc, run.world, "e%d" % slot, True
     for item in run.stretches():
         if isinstance(item, Stretch) and item.first <= last.step:
             for offset, line in enumerate(item.data.decode().splitlines()):
                 step, was, ran = item.first + offset, world, step_of(line)
                 if was == own and run.length < step <= last.step:
-                    yield Inside(pc, line, entered, () if ran.world == own else answer_behind(teller, step))
+                    yield Inside(pc, line, entered, () if ran.world == own else answer_after(reader, step))
                     entered = False
                 entered = entered or was != own
                 pc, world = ran.pc, ran.world
 
 
-def answer_behind(teller: Replay, step: int) -> tuple[str, ...]:
+def answer_after(reader: Replay, step: int) -> tuple[str, ...]:
     """Returns a0 and a1 of the host after a step, as replies."""
-    return tuple(reply[0] for reply in teller.bench.ask(*teller.lines_to(step), *ANSWER)[-len(ANSWER):])
+    return tuple(reply[0] for reply in reader.bench.ask(*reader.lines_to(step), *ANSWER)[-len(ANSWER):])
 
 
 def enter(pc: str) -> list[str]:
@@ -116,71 +116,71 @@ def interrupted(replay: Replay, steps: Iterable[Inside], every: int) -> Outcome:
     """Runs the steps with a timer interrupt before every one that is due. After the first difference the steps are only counted."""
     outcome = Outcome()
     with Progress() as progress:
-        for part in parts_of(enumerate(steps)):
-            outcome.steps += len(part)
-            progress.tell("%d steps, %d stops", outcome.steps, outcome.stops)
-            if not (outcome.differs or outcome.not_resumed):
-                compare(replay, part, every, outcome)
+        for batch in batches_of(enumerate(steps)):
+            outcome.steps += len(batch)
+            progress.show("%d steps, %d interrupts", outcome.steps, outcome.interrupts)
+            if not (outcome.difference or outcome.not_resumed):
+                compare(replay, batch, every, outcome)
     return outcome
 
 
-def parts_of(steps: Iterator[tuple[int, Inside]]) -> Iterator[list[tuple[int, Inside]]]:
-    """Yields the steps for one exchange each. The first parts are small: after a difference each step may run the host to its limit."""
+def batches_of(steps: Iterator[tuple[int, Inside]]) -> Iterator[list[tuple[int, Inside]]]:
+    """Yields the steps for one exchange each. The first batches are small: after a difference each step may run the host to its limit."""
     count = 1
-    while part := list(itertools.islice(steps, count)):
-        yield part
+    while batch := list(itertools.islice(steps, count)):
+        yield batch
         count = min(2 * count, MOST_STEPS)
 
 
-def compare(replay: Replay, part: Sequence[tuple[int, Inside]], every: int, outcome: Outcome) -> None:
+def compare(replay: Replay, batch: Sequence[tuple[int, Inside]], every: int, outcome: Outcome) -> None:
     """Compares some steps of the enclave, up to the first difference."""
-    lists = [commands_for(step, number % every == 0, number == 0 and not step.is_entered) for number, step in part]
+    lists = [commands_for(step, number % every == 0, number == 0 and not step.is_entered) for number, step in batch]
     replies = iter(replay.bench.ask(*(command for it in lists for command in it)))
-    for (number, step), commands in zip(part, lists):
-        told = [next(replies)[0] for _ in commands]
-        answer = tuple(told.pop() for _ in step.answer)[::-1]
-        outcome.stops += sum(names.TIMER in line for line in told)
-        outcome.not_resumed = not_entered(number + 1, step, commands, told)
+    for (number, step), commands in zip(batch, lists):
+        lines = [next(replies)[0] for _ in commands]
+        answer = tuple(lines.pop() for _ in step.answer)[::-1]
+        outcome.interrupts += sum(names.TIMER in line for line in lines)
+        outcome.not_resumed = not_entered(number + 1, step, commands, lines)
         if not outcome.not_resumed:
-            outcome.differs = difference(number + 1, step, number % every == 0, told, answer)
-        if outcome.differs or outcome.not_resumed:
+            outcome.difference = compare_step(number + 1, step, number % every == 0, lines, answer)
+        if outcome.difference or outcome.not_resumed:
             return
 
 
-def not_entered(number: int, step: Inside, commands: Sequence[str], told: Sequence[str]) -> Differs | None:
+def not_entered(number: int, step: Inside, commands: Sequence[str], lines: Sequence[str]) -> Difference | None:
     """Returns the first time that the host did not enter the enclave before a step, or None."""
-    for command, reply in zip(commands, told):
+    for command, reply in zip(commands, lines):
         if command.startswith("run") and step_of(reply).why != "break":
-            return Differs(number, step.pc, "the host enters the enclave", reply)
+            return Difference(number, step.pc, "the host resumes the enclave", reply)
     return None
 
 
-def difference(number: int, step: Inside, is_stopped: bool, told: Sequence[str], answer: tuple[str, ...]) -> Differs | None:
+def compare_step(number: int, step: Inside, is_stopped: bool, lines: Sequence[str], answer: tuple[str, ...]) -> Difference | None:
     """Returns the difference in one step of the enclave, or None."""
     if is_stopped:
-        stop = step_of(told[-5])
+        stop = step_of(lines[-5])
         if stop.trap is None or stop.trap.cause != names.TIMER:
-            return Differs(number, step.pc, "a stop by the timer", told[-5])
-    if seen_inside(told[-1]) != seen_inside(step.reply):
-        return Differs(number, step.pc, step.reply, told[-1])
-    return None if answer == step.answer else Differs(number, step.pc, " ".join(step.answer), " ".join(answer))
+            return Difference(number, step.pc, "a timer interrupt", lines[-5])
+    if visible_part(lines[-1]) != visible_part(step.reply):
+        return Difference(number, step.pc, step.reply, lines[-1])
+    return None if answer == step.answer else Difference(number, step.pc, " ".join(step.answer), " ".join(answer))
 
 
-def seen_inside(reply: str) -> object:
-    """Returns what the enclave's own step shows. The place of the host is left out, as another call may have entered the enclave."""
+def visible_part(reply: str) -> object:
+    """Returns the part of a reply that must be equal: all of it in the enclave, else only world and trap, since the host may be elsewhere."""
     ran = step_of(reply)
     return (ran.world, ran.trap) if ran.world == "host" else reply
 
 
 def finish_of(bench: Bench, enclave: Enclave) -> list[str]:
-    """Reads what the enclave has left: a0 and a1 of the host, its region and its window."""
+    """Reads the final state: a0 and a1 of the host, the region and the window."""
     values = register_values(bench.ask("regs")[0])
     ranges = [(enclave.base, enclave.size), (enclave.window, enclave.window_size)]
     reads = ["mem %x %d" % (base + at, ROW) for base, size in ranges for at in range(0, size, ROW)]
     return ["a0=%08x" % values[10], "a1=%08x" % values[11]] + [reply[0] for reply in bench.ask(*reads)]
 
 
-def behind_script(run: Run) -> Replay:
+def after_script(run: Run) -> Replay:
     """Returns a replay after the script, without the script's breaks and watches."""
     replay = run.replay()
     commands = replay.lines_to(run.length) + replay.lines_up_to_next()
@@ -190,48 +190,48 @@ def behind_script(run: Run) -> Replay:
 
 
 def show_timer(run: Run, symbols: Symbols, printer: Printer, options: Namespace) -> None:
-    """Runs an enclave with and without timer interrupts, and reports whether both end alike. Raises Unfinished if the host does not resume the
-    enclave."""
+    """Runs an enclave with and without timer interrupts, and reports whether the results are equal. Raises Unfinished if the host does not
+    resume the enclave."""
     slot, every, findings = options.slot, options.every, options.findings
     last = last_of(run, slot)
-    with run.replay() as quiet, run.replay() as teller, behind_script(run) as replay:
+    with run.replay() as quiet, run.replay() as reader, after_script(run) as replay:
         quiet.bench.ask(*(quiet.lines_to(last.step) or ["reg 0"]))
-        outcome = interrupted(replay, inside_steps(run, slot, last, teller), every)
+        outcome = interrupted(replay, inside_steps(run, slot, last, reader), every)
         if not outcome.steps:
-            raise Unfinished("the enclave of slot %d does nothing behind the script" % slot)
-        if not (outcome.differs or outcome.not_resumed):
+            raise Unfinished("the enclave in slot %d executes no step after the script" % slot)
+        if not (outcome.difference or outcome.not_resumed):
             pairs = zip(finish_of(quiet.bench, last.enclave), finish_of(replay.bench, last.enclave))
-            outcome.differs = next((Differs(outcome.steps, None, a, b) for a, b in pairs if a != b), None)
+            outcome.difference = next((Difference(outcome.steps, None, a, b) for a, b in pairs if a != b), None)
     (timer_object if printer.as_json else timer_text)(run, symbols, printer, slot, every, outcome)
     if outcome.not_resumed:
-        raise Unfinished("the host does not resume the enclave of slot %d after the timer stopped it, at its step %d; timer needs a host "
-                         "that resumes it each time" % (slot, outcome.not_resumed.number))
-    it = outcome.differs
-    findings.add("e%d comes to the same end" % slot, "its step %d: %s in place of %s" % (it.number, it.found, it.wanted) if it else "")
+        raise Unfinished("the host does not resume the enclave in slot %d after the timer interrupt at its step %d; timer requires a "
+                         "host that always resumes it" % (slot, outcome.not_resumed.number))
+    it = outcome.difference
+    findings.add("e%d: same result with timer interrupts" % slot, "step %d: %s instead of %s" % (it.number, it.actual, it.expected) if it else "")
     if last.is_cut:
-        findings.cut_short("--steps %d ends the run before the enclave of slot %d leaves" % (run.setup.limit, slot))
+        findings.cut_short("--steps %d ended the run while the enclave in slot %d was running" % (run.setup.limit, slot))
 
 
 def timer_object(run: Run, symbols: Symbols, printer: Printer, slot: int, every: int, outcome: Outcome) -> None:
     """Writes the result as objects."""
-    it = outcome.differs or outcome.not_resumed
+    it = outcome.difference or outcome.not_resumed
     run_object(printer, run, symbols)
-    apart = None if it is None else {"step": it.number, "pc": it.pc, "wanted": it.wanted, "found": it.found,
-                                     "source": symbols.source(int(it.pc, 16)) if it.pc else None}
-    printer.object("timer", slot=slot, every=every, stops=outcome.stops, steps=outcome.steps,
-                   same=None if outcome.not_resumed else it is None, apart=apart)
+    difference = None if it is None else {"step": it.number, "pc": it.pc, "expected": it.expected, "actual": it.actual,
+                                          "source": symbols.source(int(it.pc, 16)) if it.pc else None}
+    printer.object("timer", slot=slot, every=every, interrupts=outcome.interrupts, steps=outcome.steps,
+                   same=None if outcome.not_resumed else it is None, difference=difference)
 
 
 def timer_text(_run: Run, symbols: Symbols, printer: Printer, slot: int, every: int, outcome: Outcome) -> None:
     """Prints the result."""
-    it = outcome.differs or outcome.not_resumed
-    how = "each" if every == 1 else "one in %d" % every
-    stops = "1 stop" if outcome.stops == 1 else "%d stops" % outcome.stops
-    printer.line("e%d: %d steps, the timer before %s of them: %s" % (slot, outcome.steps, how, stops))
+    it = outcome.difference or outcome.not_resumed
+    which = "each step" if every == 1 else "every %d steps" % every
+    count = "1 interrupt" if outcome.interrupts == 1 else "%d interrupts" % outcome.interrupts
+    printer.line("e%d: %d steps, timer interrupt before %s: %s" % (slot, outcome.steps, which, count))
     if it is None:
-        printer.line(printer.styled("it comes to the same end: each step, a0 and a1, its region and its window", Style.good))
+        printer.line(printer.styled("same result: every step, a0 and a1, region and window", Style.good))
         return
-    printer.line(printer.styled("the host does not resume it" if outcome.not_resumed else "it does not come to the same end", Style.bad))
-    printer.line("  its step %d%s" % (it.number, "" if it.pc is None else ", at " + place_text(it.pc, symbols)))
-    printer.line("  without  " + it.wanted)
-    printer.line("  with     " + it.found)
+    printer.line(printer.styled("not resumed by the host" if outcome.not_resumed else "different result", Style.bad))
+    printer.line("  step %d of e%d%s" % (it.number, slot, "" if it.pc is None else ", at " + place_text(it.pc, symbols)))
+    printer.line("  expected  " + it.expected)
+    printer.line("  actual    " + it.actual)

@@ -12,9 +12,9 @@ from rvlook.finders.leak import public_of
 from rvlook.finders.secrets import secret_of
 from rvlook.finders.secret_copies import copies_in
 from rvlook.output.progress import Progress
-from rvlook.access.ranges import reach
+from rvlook.access.ranges import derived_rights
 from rvlook.output.printer import Style, hex8, run_object
-from rvlook.access.activations import Stay, Stays
+from rvlook.access.activations import Activation, Activations
 
 if TYPE_CHECKING:
     from argparse import Namespace
@@ -26,10 +26,11 @@ if TYPE_CHECKING:
     from rvlook.protocol.symbols import Symbols
 
 WIDTH = 16  # bytes of a row of the dump
+END_TEXT = {"none": "still running"}  # of an activation that has not ended
 
 
 Marks = Tuple[Tuple[int, ...], Optional[bool], bool]  # instructions, whether it is secret, and whether it is public
-Kept = Tuple[int, int, int]  # a value, the instruction that stored it, and the number of the stay
+Kept = Tuple[int, int, int]  # a value, the instruction that stored it, and the number of the activation
 
 
 class Found(NamedTuple):
@@ -45,10 +46,10 @@ class Found(NamedTuple):
     @property
     def is_finding(self) -> bool:
         """Returns whether the range counts as a finding."""
-        return self.what == "reads again" or bool(self.is_secret) and not self.is_public
+        return self.what == "rereads" or bool(self.is_secret) and not self.is_public
 
 
-class Held(NamedTuple):
+class SecretCopy(NamedTuple):
     """A copy of a part of the secret in the window, whether it changes with the secret, and whether --public names it."""
     copy: Copy
     is_secret: bool
@@ -64,13 +65,13 @@ class Held(NamedTuple):
 class View:
     """The findings of one activation: its ranges, and the copies of the secret."""
     found: list[Found]
-    held: list[Held]
+    copies: list[SecretCopy]
 
 
 @dataclass
 class Byte:
-    """A byte of the window in one activation: the instructions that read it last and first before a store of the enclave, that read it again,
-    and that stored to it last; and the values stored."""
+    """A byte of the window in one activation: the last and the first instruction that read it before a store of the enclave, the pairs that reread
+    it, the last one that stored to it, and the stored values."""
     read_at: Optional[int] = None
     input_at: Optional[int] = None
     again: dict[tuple[int, int], bool] = field(default_factory=dict)  # of pairs of instructions
@@ -78,11 +79,11 @@ class Byte:
     values: bytearray = field(default_factory=bytearray)
 
 
-def bytes_of(stay: Stay) -> dict[int, Byte]:
+def bytes_of(activation: Activation) -> dict[int, Byte]:
     """Returns what the activation did with each byte of its window, by offset."""
     found: dict[int, Byte] = defaultdict(Byte)
-    base, size = stay.enclave.window, stay.enclave.window_size
-    for it in stay.did:
+    base, size = activation.enclave.window, activation.enclave.window_size
+    for it in activation.operations:
         if it.done and it.kind in "rw" and it.address < base + size and base < it.address + it.width:
             for n in range(it.width):
                 if it.kind == "r":
@@ -108,47 +109,48 @@ def stored(byte: Byte, pc: int, value: int) -> None:
     byte.values.append(value)
 
 
-def ranges(what: str, told: Mapping[int, Marks]) -> list[Found]:
-    """Joins adjacent bytes with the same marks. `told` has the marks by offset."""
+def ranges(what: str, marks: Mapping[int, Marks]) -> list[Found]:
+    """Joins adjacent bytes with the same marks. `marks` has them by offset."""
     found: list[Found] = []
-    for at in sorted(told):
+    for at in sorted(marks):
         last = found[-1] if found else None
-        if last and last.first + last.size == at and last[3:] == told[at]:
+        if last and last.first + last.size == at and last[3:] == marks[at]:
             found[-1] = last._replace(size=last.size + 1)
         else:
-            found.append(Found(what, at, 1, *told[at]))
+            found.append(Found(what, at, 1, *marks[at]))
     return found
 
 
-class Left:
-    """What the activations of each enclave have left in its window: the value of each byte, the instruction, and the activation."""
+class Leftovers:
+    """The data that the activations of each enclave left in its window: the value of each byte, its instruction and activation."""
 
     def __init__(self) -> None:
         self.kept: dict[str, dict[int, Kept]] = defaultdict(dict)
 
-    def of(self, stay: Stay) -> dict[int, Kept]:
-        """Returns the bytes at the end of the activation that an earlier one has left unchanged."""
-        return {at: it for at, it in self.kept[stay.world].items() if at < len(stay.after) and stay.after[at] == it[0] == stay.before[at]
-                and it[2] != stay.number}
+    def of(self, activation: Activation) -> dict[int, Kept]:
+        """Returns the bytes that an earlier activation stored and that did not change in this one."""
+        before, after = activation.before, activation.after
+        return {at: it for at, it in self.kept[activation.world].items() if at < len(after) and after[at] == it[0] == before[at]
+                and it[2] != activation.number}
 
-    def take(self, stay: Stay, found: Mapping[int, Byte]) -> dict[int, Kept]:
-        """Updates the window after an activation; returns the bytes that an earlier activation has left."""
-        kept = self.kept[stay.world]
-        for at in [it for it in kept if it >= len(stay.before) or stay.before[it] != kept[it][0]]:
+    def take(self, activation: Activation, found: Mapping[int, Byte]) -> dict[int, Kept]:
+        """Updates the data after an activation; returns the bytes that remain from an earlier activation."""
+        kept = self.kept[activation.world]
+        for at in [it for it in kept if it >= len(activation.before) or activation.before[it] != kept[it][0]]:
             del kept[at]  # the host has written there
-        told = self.of(stay)
+        remaining = self.of(activation)
         for at, byte in found.items():
             if byte.stored_at is not None:
-                kept[at] = byte.values[-1], byte.stored_at, stay.number
-                told.pop(at, None)
-        return told
+                kept[at] = byte.values[-1], byte.stored_at, activation.number
+                remaining.pop(at, None)
+        return remaining
 
 
-def view_of(stay: Stay, left: Left, other: Stay | None, secret: Secret | None, public: Public) -> View:
+def view_of(activation: Activation, leftovers: Leftovers, other: Activation | None, secret: Secret | None, public: Public) -> View:
     """Returns all findings of an activation. `other` is the same activation with another secret, if there is one."""
-    found, base = bytes_of(stay), stay.enclave.window
+    found, base = bytes_of(activation), activation.enclave.window
     theirs = bytes_of(other) if other else {}
-    kept = left.take(stay, found)
+    kept = leftovers.take(activation, found)
     again: dict[tuple[int, int], dict[int, Marks]] = defaultdict(dict)
     writes: dict[int, Marks] = {}
     for at, byte in found.items():
@@ -157,22 +159,22 @@ def view_of(stay: Stay, left: Left, other: Stay | None, secret: Secret | None, p
         if byte.stored_at is not None:
             is_secret = None if other is None else theirs.get(at, Byte()).values != byte.values
             writes[at] = (byte.stored_at,), is_secret, bool(is_secret) and (public.has(base + at) or public.has(byte.stored_at))
-    told = [*ranges("reads", {at: ((it.input_at,), None, False) for at, it in found.items() if it.input_at is not None}),
-            *(it for pair in sorted(again) for it in ranges("reads again", again[pair])),
-            *ranges("writes", writes),
-            *ranges("left", {at: ((pc, number), None, False) for at, (_, pc, number) in kept.items()})]
-    writers = {at: pc for at, (_, pc, _) in left.kept[stay.world].items()}
-    return View(told, list(held_in(stay, other, secret, writers, public)) if secret else [])
+    found_ranges = [*ranges("reads", {at: ((it.input_at,), None, False) for at, it in found.items() if it.input_at is not None}),
+                    *(it for pair in sorted(again) for it in ranges("rereads", again[pair])),
+                    *ranges("writes", writes),
+                    *ranges("remains", {at: ((pc, number), None, False) for at, (_, pc, number) in kept.items()})]
+    writers = {at: pc for at, (_, pc, _) in leftovers.kept[activation.world].items()}
+    return View(found_ranges, list(copies_of(activation, other, secret, writers, public)) if secret else [])
 
 
-def held_in(stay: Stay, other: Stay | None, secret: Secret, writers: Mapping[int, int], public: Public) -> Iterator[Held]:
+def copies_of(activation: Activation, other: Activation | None, secret: Secret, writers: Mapping[int, int], public: Public) -> Iterator[SecretCopy]:
     """Yields the copies of parts of the secret in the window at the end of the activation. `writers` has the instruction that stored each
     byte."""
-    base = stay.enclave.window
-    for copy in copies_in(stay.after, secret.bytes):
-        places = range(copy.at, copy.at + copy.size)
-        is_secret = other is None or other.after[places.start:places.stop] != stay.after[places.start:places.stop]
-        yield Held(copy, is_secret, all(public.has(base + at) or at in writers and public.has(writers[at]) for at in places))
+    base = activation.enclave.window
+    for copy in copies_in(activation.after, secret.bytes):
+        indices = range(copy.at, copy.at + copy.size)
+        is_secret = other is None or other.after[indices.start:indices.stop] != activation.after[indices.start:indices.stop]
+        yield SecretCopy(copy, is_secret, all(public.has(base + at) or at in writers and public.has(writers[at]) for at in indices))
 
 
 def show_window(run: Run, symbols: Symbols, printer: Printer, options: Namespace) -> None:
@@ -181,50 +183,52 @@ def show_window(run: Run, symbols: Symbols, printer: Printer, options: Namespace
     if options.at:
         secret = secret_of(options.at, symbols, run, 0 if slot is None else slot)
         secret = secret.with_bytes(secret.bytes_in(run))
-    others = Others(run, secret) if secret else None
+    others = WithComplement(run, secret) if secret else None
     if printer.as_json:
         run_object(printer, run, symbols)
-    left, number, stays = Left(), 0, Stays(run)
-    write = stay_objects if printer.as_json else stay_text
+    leftovers, number, activations = Leftovers(), 0, Activations(run)
+    write = activation_objects if printer.as_json else activation_text
     with Progress() as progress:
-        for stay in stays.all():
-            if slot is None or stay.slot == slot:
+        for activation in activations.all():
+            if slot is None or activation.slot == slot:
                 number += 1
                 progress.clear()
-                view = view_of(stay, left, others.next(stay) if others and secret and stay.slot == secret.slot else None, secret, public)
-                write(printer, symbols, stay, view, secret)
-                options.findings.add("%s, stay %d" % (stay.world, stay.number), finding_of(stay, view, symbols, secret))
-            progress.tell("step %d, %d stays", stay.last or 0, number)
+                other = others.next(activation) if others and secret and activation.slot == secret.slot else None
+                view = view_of(activation, leftovers, other, secret, public)
+                write(printer, symbols, activation, view, secret)
+                options.findings.add("%s, activation %d" % (activation.world, activation.number), finding_of(activation, view, symbols, secret))
+            progress.show("step %d, %d activations", activation.last or 0, number)
     if not number:
-        raise Unfinished("no enclave runs" if slot is None else "there is no enclave in slot %d" % slot)
+        raise Unfinished("no enclave runs" if slot is None else "no enclave in slot %d" % slot)
 
 
-def finding_of(stay: Stay, view: View, symbols: Symbols, secret: Secret | None) -> str:
+def finding_of(activation: Activation, view: View, symbols: Symbols, secret: Secret | None) -> str:
     """Returns the rows that are findings, as a text; empty if there is none."""
-    rows = [found_text(stay, it, symbols) for it in view.found if it.is_finding]
-    rows += [held_text(stay, it, symbols, secret) for it in view.held if it.is_finding]
+    rows = [found_text(activation, it, symbols) for it in view.found if it.is_finding]
+    rows += [copy_text(activation, it, symbols, secret) for it in view.copies if it.is_finding]
     return "\n".join(it.strip() for it in rows)
 
 
-class Others:
+class WithComplement:
     """The activations of the run with the complement of the secret."""
 
     def __init__(self, run: Run, secret: Secret) -> None:
         other = secret.with_bytes(bytes(it ^ 0xFF for it in secret.bytes))
-        self.stays: Iterator[Stay] = (it for it in Stays(run.with_lines(other.step, other.lines()), secret.step).all() if it.slot == secret.slot)
+        every = Activations(run.with_lines(other.step, other.lines()), secret.step).all()
+        self.activations: Iterator[Activation] = (it for it in every if it.slot == secret.slot)
 
-    def next(self, stay: Stay) -> Stay:
-        """Returns the next activation there; one without stores if there is none."""
-        found: Stay | None = next(self.stays, None)
-        return found or Stay(stay.world, stay.hart, 0, 0, stay.enclave)
+    def next(self, activation: Activation) -> Activation:
+        """Returns the next activation; one without stores if there is none."""
+        found: Activation | None = next(self.activations, None)
+        return found or Activation(activation.world, activation.hart, 0, 0, activation.enclave)
 
 
-def between_text(stay: Stay, at: int) -> str:
+def between_text(activation: Activation, at: int) -> str:
     """Returns who may write to a byte of the window between two loads of an activation."""
-    for world in stay.others:
-        if "w" in reach(world, stay.table, at):
-            return "the other hart, in %s, may write between" % world
-    return "the host may write between, where the timer stops it there"
+    for world in activation.others:
+        if "w" in derived_rights(world, activation.table, at):
+            return "the other hart (%s) may write in between" % world
+    return "the host may write in between, after a timer interrupt"
 
 
 def places_text(pcs: Iterable[int], symbols: Symbols) -> str:
@@ -232,16 +236,16 @@ def places_text(pcs: Iterable[int], symbols: Symbols) -> str:
     return " and ".join(dict.fromkeys(symbols.source(pc) or symbols.name(pc) or hex8(pc) for pc in pcs))
 
 
-def found_text(stay: Stay, it: Found, symbols: Symbols) -> str:
+def found_text(activation: Activation, it: Found, symbols: Symbols) -> str:
     """Returns a range as a line."""
-    base = stay.enclave.window + it.first
+    base = activation.enclave.window + it.first
     parts = ["  %-11s %08x-%08x %6d" % (it.what, base, base + it.size - 1, it.size), symbols.name(base) or ""]
-    if it.what == "left":
+    if it.what == "remains":
         pc, number = it.pcs
-        parts.append("%s, of stay %d" % (places_text([pc], symbols), number))
-    elif it.what == "reads again":
+        parts.append("%s, in activation %d" % (places_text([pc], symbols), number))
+    elif it.what == "rereads":
         first, second = (symbols.source(pc) or symbols.name(pc) or hex8(pc) for pc in it.pcs)
-        parts.append("%s and %s; %s" % (first, second, between_text(stay, base)))
+        parts.append("%s and %s; %s" % (first, second, between_text(activation, base)))
     else:
         parts.append(places_text(it.pcs, symbols))
     if it.is_secret is not None:
@@ -249,27 +253,27 @@ def found_text(stay: Stay, it: Found, symbols: Symbols) -> str:
     return "  ".join(part for part in parts if part)
 
 
-def secret_text(it: Found | Held) -> str:
+def secret_text(it: Found | SecretCopy) -> str:
     """Returns whether bytes of the window depend on the secret."""
     return ("depends on the secret" + (", public" if it.is_public else "")) if it.is_secret else "the same with another secret"
 
 
-def held_text(stay: Stay, it: Held, symbols: Symbols, secret: Secret | None) -> str:
+def copy_text(activation: Activation, it: SecretCopy, symbols: Symbols, secret: Secret | None) -> str:
     """Returns a copy of a part of the secret as a line."""
     assert secret is not None
-    copy, base = it.copy, stay.enclave.window + it.copy.at
+    copy, base = it.copy, activation.enclave.window + it.copy.at
     what = "all %d bytes of the secret" % copy.size if copy.size == len(secret.bytes) else \
-        "bytes %d to %d of the secret's %d" % (copy.offset, copy.offset + copy.size - 1, len(secret.bytes))
+        "bytes %d to %d of the %d-byte secret" % (copy.offset, copy.offset + copy.size - 1, len(secret.bytes))
     parts = ["  %-11s %08x-%08x %6d" % ("copy", base, base + copy.size - 1, copy.size), symbols.name(base) or "", what, secret_text(it)]
     return "  ".join(part for part in parts if part)
 
 
-def rows_of(stay: Stay) -> Iterator[tuple[int, bytes]]:
+def rows_of(activation: Activation) -> Iterator[tuple[int, bytes]]:
     """Yields the address and the bytes of each row of the window at the end that is not all zero."""
-    for at in range(0, len(stay.after), WIDTH):
-        row = stay.after[at:at + WIDTH]
+    for at in range(0, len(activation.after), WIDTH):
+        row = activation.after[at:at + WIDTH]
         if any(row):
-            yield stay.enclave.window + at, row
+            yield activation.enclave.window + at, row
 
 
 def row_text(at: int, row: bytes) -> str:
@@ -278,41 +282,44 @@ def row_text(at: int, row: bytes) -> str:
     return "  %08x  %s  %s" % (at, " ".join("%02x" % it for it in row), shown)
 
 
-def heading_of(stay: Stay) -> str:
+def heading_of(activation: Activation) -> str:
     """Returns the heading of an activation."""
-    hart = "hart %d  " % stay.hart if stay.others else ""
-    answer = "  a0=%08x a1=%08x" % stay.answer if stay.answer else ""
-    return "%s%s, stay %d: steps %d to %d, left by %s%s" % (hart, stay.world, stay.number, stay.first, stay.last, stay.left, answer)
+    hart = "hart %d  " % activation.hart if activation.others else ""
+    answer = "  a0=%08x a1=%08x" % activation.answer if activation.answer else ""
+    end = END_TEXT.get(activation.ended_by, "ended by " + activation.ended_by)
+    return "%s%s, activation %d: steps %d to %d, %s%s" % (hart, activation.world, activation.number, activation.first, activation.last, end, answer)
 
 
-def stay_text(printer: Printer, symbols: Symbols, stay: Stay, view: View, secret: Secret | None) -> None:
+def activation_text(printer: Printer, symbols: Symbols, activation: Activation, view: View, secret: Secret | None) -> None:
     """Prints an activation."""
-    printer.line(printer.styled(heading_of(stay), Style.heading))
+    printer.line(printer.styled(heading_of(activation), Style.heading))
     for it in view.found:
-        text = found_text(stay, it, symbols)
+        text = found_text(activation, it, symbols)
         printer.line(printer.styled(text, Style.bad) if it.is_finding else text)
     if not view.found:
-        printer.line("  touches nothing of its window" if stay.enclave.window_size else "  has no window")
-    for at, row in rows_of(stay):
+        printer.line("  does not access its window" if activation.enclave.window_size else "  no window")
+    for at, row in rows_of(activation):
         printer.line(row_text(at, row))
-    for held in view.held:
-        text = held_text(stay, held, symbols, secret)
-        printer.line(printer.styled(text, Style.bad) if held.is_finding else text)
+    for found in view.copies:
+        text = copy_text(activation, found, symbols, secret)
+        printer.line(printer.styled(text, Style.bad) if found.is_finding else text)
     printer.line()
 
 
-def stay_objects(printer: Printer, symbols: Symbols, stay: Stay, view: View, _secret: Secret | None) -> None:
+def activation_objects(printer: Printer, symbols: Symbols, activation: Activation, view: View, _secret: Secret | None) -> None:
     """Writes an activation as objects."""
-    printer.object("stay", world=stay.world, hart=stay.hart, stay=stay.number, first=stay.first, last=stay.last, left=stay.left,
-                   answer=[hex8(it) for it in stay.answer], window=hex8(stay.enclave.window), size=stay.enclave.window_size)
+    printer.object("activation", world=activation.world, hart=activation.hart, activation=activation.number, first=activation.first,
+                   last=activation.last, ended_by=activation.ended_by,
+                   answer=[hex8(it) for it in activation.answer], window=hex8(activation.enclave.window), size=activation.enclave.window_size)
     for it in view.found:
-        base, pcs = stay.enclave.window + it.first, it.pcs[:1] if it.what == "left" else it.pcs
-        printer.object("window", world=stay.world, stay=stay.number, what=it.what, first=hex8(base), last=hex8(base + it.size - 1),
+        base, pcs = activation.enclave.window + it.first, it.pcs[:1] if it.what == "remains" else it.pcs
+        printer.object("window", world=activation.world, activation=activation.number, what=it.what, first=hex8(base), last=hex8(base + it.size - 1),
                        symbol=symbols.name(base), pcs=[hex8(pc) for pc in pcs], sources=[symbols.source(pc) for pc in pcs],
-                       secret=it.is_secret, public=it.is_public, of=it.pcs[1] if it.what == "left" else None,
-                       between=between_text(stay, base) if it.what == "reads again" else None)
-    for at, row in rows_of(stay):
-        printer.object("dump", world=stay.world, stay=stay.number, at=hex8(at), bytes=row.hex())
-    for held in view.held:
-        printer.object("holds", world=stay.world, stay=stay.number, at=hex8(stay.enclave.window + held.copy.at), size=held.copy.size,
-                       offset=held.copy.offset, secret=held.is_secret, public=held.is_public)
+                       secret=it.is_secret, public=it.is_public, of=it.pcs[1] if it.what == "remains" else None,
+                       between=between_text(activation, base) if it.what == "rereads" else None)
+    for at, row in rows_of(activation):
+        printer.object("dump", world=activation.world, activation=activation.number, at=hex8(at), bytes=row.hex())
+    for found in view.copies:
+        copy, base = found.copy, activation.enclave.window
+        printer.object("copy", world=activation.world, activation=activation.number, at=hex8(base + copy.at), size=copy.size,
+                       offset=copy.offset, secret=found.is_secret, public=found.is_public)

@@ -28,31 +28,31 @@ class Assembly(Unwinder):
 
     def __call__(self, pending: gdb.PendingFrame) -> gdb.UnwindInfo | None:
         try:
-            place = int(pending.read_register("pc")) & 0xFFFFFFFF
-            if self.is_function(place):
+            pc = int(pending.read_register("pc")) & 0xFFFFFFFF
+            if self.is_function(pc):
                 return None
             handler = int(pending.read_register("stvec")) & HANDLER
-            if handler and handler <= place and name_of(place) == name_of(handler):
-                return self.interrupted(pending, place, handler)
-            return self.caller(pending, place) if str(pending.read_register("world")).startswith("e") else None
+            if handler and handler <= pc and name_of(pc) == name_of(handler):
+                return self.interrupted(pending, pc, handler)
+            return self.caller(pending, pc) if str(pending.read_register("world")).startswith("e") else None
         except (ValueError, gdb.error):
-            return None  # a register of this frame is not known, or there is none of that name without the bridge
+            return None  # a register of this frame is not known, or there is none of that name without the server
 
     @staticmethod
-    def is_function(place: int) -> bool:
+    def is_function(pc: int) -> bool:
         """Returns whether the debugging information has a function at an address."""
         space = gdb.current_progspace()
-        block = space.block_for_pc(place) if space else None
+        block = space.block_for_pc(pc) if space else None
         while block and not block.function:
             block = block.superblock
         return block is not None
 
     @staticmethod
-    def interrupted(pending: gdb.PendingFrame, place: int, handler: int) -> gdb.UnwindInfo:
+    def interrupted(pending: gdb.PendingFrame, pc: int, handler: int) -> gdb.UnwindInfo:
         """Returns the frame of a trap handler, with the interrupted code as its caller. The handler's instructions up to here show where it
         saved registers."""
         stack, saved, moved, swapped = int(pending.read_register("sp")), {}, 0, False
-        for at in range(handler, place, 4):
+        for at in range(handler, pc, 4):
             word = int.from_bytes(bytes(gdb.selected_inferior().read_memory(at, 4)), "little")
             if word == SWAP:
                 swapped = not swapped
@@ -60,7 +60,7 @@ class Assembly(Unwinder):
                 moved += signed(word >> 20)
             elif word & 0x000FF07F == STORE | TO_SP << 15:
                 saved[word >> 20 & 31] = signed(word >> 25 << 5 | word >> 7 & 31)
-        info = pending.create_unwind_info(FrameId(pending.read_register("sp"), gdb.Value(place)))
+        info = pending.create_unwind_info(FrameId(pending.read_register("sp"), gdb.Value(pc)))
         for name in [*KEPT, *("x%d" % number for number in (1, *range(3, 32)) if number not in saved)]:
             info.add_saved_register(name, pending.read_register(name))
         kind = pending.read_register("ra").type
@@ -72,11 +72,11 @@ class Assembly(Unwinder):
         return info
 
     @staticmethod
-    def caller(pending: gdb.PendingFrame, place: int) -> gdb.UnwindInfo:
+    def caller(pending: gdb.PendingFrame, pc: int) -> gdb.UnwindInfo:
         """Returns the frame of an enclave, with the registers of the host as those of its caller."""
         values = {name: pending.read_register("host_" + name) for name in ["pc", *SAVED]}
-        int(values["pc"])  # which fails where the bridge has found no entry
-        info = pending.create_unwind_info(FrameId(pending.read_register("sp"), gdb.Value(place)))
+        int(values["pc"])  # fails if the server found no entry
+        info = pending.create_unwind_info(FrameId(pending.read_register("sp"), gdb.Value(pc)))
         for name, value in values.items():
             info.add_saved_register(name, value)
         return info
@@ -87,17 +87,17 @@ def signed(value: int) -> int:
     return (value & 0xFFF) - (1 << 12 if value & 0x800 else 0)
 
 
-def name_of(place: int) -> str:
+def name_of(pc: int) -> str:
     """Returns the label at or before an address."""
-    return (gdb.execute("info symbol 0x%x" % place, to_string=True) or "").split(" ")[0]
+    return (gdb.execute("info symbol 0x%x" % pc, to_string=True) or "").split(" ")[0]
 
 
 def before_monitor() -> None:
-    """Tells the bridge that all is read anew behind a line of `monitor`."""
+    """Announces that gdb reads all registers again after a line of `monitor`."""
     try:
         gdb.execute("maintenance packet QRvlookFresh", to_string=True)
     except gdb.error:
-        pass  # there is no bridge yet, and gdb tells so of the line itself
+        pass  # there is no server yet; gdb reports that for the line itself
 
 
 register_unwinder(None, Assembly(), replace=True)

@@ -6,10 +6,10 @@ import contextlib
 from dataclasses import dataclass
 from typing import Iterator, TYPE_CHECKING
 
-from rvlook.gdb.lookahead import BLOCK, asked
+from rvlook.gdb.lookahead import BLOCK, query_steps
 from rvlook.gdb.target import SAVED
 from rvlook.protocol.names import NUMBER_OF
-from rvlook.protocol.timeline import Told, part, steps_within
+from rvlook.protocol.timeline import Change, actions_between, steps_within
 
 if TYPE_CHECKING:
     from rvlook.protocol.timeline import Steps, Timeline
@@ -28,8 +28,8 @@ class Entered:
     @property
     def registers(self) -> dict[str, str]:
         """Returns the registers with which the host continues, by the names for the debugger."""
-        behind = "%08x" % ((int(self.pc, 16) + CALL) & 0xFFFFFFFF)
-        return {"host_pc": behind, **{"host_" + name: self.values[NUMBER_OF[name]] for name in SAVED}}
+        after = "%08x" % ((int(self.pc, 16) + CALL) & 0xFFFFFFFF)
+        return {"host_pc": after, **{"host_" + name: self.values[NUMBER_OF[name]] for name in SAVED}}
 
 
 class Entry:
@@ -87,8 +87,8 @@ def last_switch(timeline: Timeline, hart: int, lowest: int) -> int | None:
 
 def blocks(timeline: Timeline, ahead: Timeline, first: int, end: int) -> Iterator[Steps]:
     """Yields the steps of a part of the past in blocks. Gives the commands between them to the other bench."""
-    for it in part(timeline.past, first, end):
-        if isinstance(it, Told):
+    for it in actions_between(timeline.past, first, end):
+        if isinstance(it, Change):
             ahead.choose(it.hart)
             ahead.do(it.line)
             continue
@@ -102,7 +102,7 @@ def blocks_with_traps(timeline: Timeline, hart: int, first: int, end: int) -> li
     with contextlib.closing(timeline.again(first)) as ahead:
         for steps in blocks(timeline, ahead, first, end):
             start = ahead.position
-            if any(ran.trap for other, _, ran in asked(ahead, steps.turns, steps.count, False) if other == hart):
+            if any(ran.trap for other, _, ran in query_steps(ahead, steps.turns, steps.count, False) if other == hart):
                 found.append((start, steps))
     return found
 
@@ -113,7 +113,7 @@ def switch_in(timeline: Timeline, hart: int, start: int, steps: Steps) -> int | 
     with contextlib.closing(timeline.again(start)) as ahead:
         ahead.settle()
         world = ahead.worlds[hart]
-        for step, (other, _, ran) in enumerate(asked(ahead, steps.turns, steps.count, True), start + 1):
+        for step, (other, _, ran) in enumerate(query_steps(ahead, steps.turns, steps.count, True), start + 1):
             if other == hart and ran.world != world:
                 found, world = step, ran.world
     return found

@@ -16,8 +16,8 @@ NUMBER = re.compile(r"[0-9a-fA-F]{1,16}\Z")
 ESCAPED = re.compile(r"[#$}*]")
 INTERRUPT = b"\x03"
 HUNG_UP = select.POLLHUP | select.POLLERR | getattr(select, "POLLRDHUP", 0)
-OFTEN = 0.2  # seconds after which it is asked whether the debugger has gone
-PATIENCE = 2  # seconds after which a debugger that waits is told that there is still work: lldb waits five for a reply
+OFTEN = 0.2  # seconds between two checks whether the debugger has disconnected
+PATIENCE = 2  # seconds after which a waiting debugger gets a sign of life; lldb waits five for a reply
 
 
 class Gone(Exception):
@@ -92,7 +92,7 @@ class Link:
 
     def watch(self, done: threading.Event, is_impatient: bool) -> None:
         """Wakes the main thread when the debugger has gone."""
-        poll, told = select.poll(), time.monotonic()
+        poll, last_shown = select.poll(), time.monotonic()
         poll.register(self.reading, HUNG_UP)
         while not done.wait(OFTEN):
             if any(event & HUNG_UP for _, event in poll.poll(0)):
@@ -100,16 +100,16 @@ class Link:
                 assert main is not None
                 signal.pthread_kill(main, signal.SIGUSR1)
                 return
-            if is_impatient and time.monotonic() > told + PATIENCE:
+            if is_impatient and time.monotonic() > last_shown + PATIENCE:
                 self.send("O" + hex_of("."))
-                told = time.monotonic()
+                last_shown = time.monotonic()
 
     def send(self, text: str) -> None:
         """Sends a packet."""
         data = text.encode("latin-1", "replace")
         self.write(b"$%s#%02x" % (data, sum(data) & 0xFF))
 
-    def tell(self, line: str) -> None:
+    def show(self, line: str) -> None:
         """Makes the debugger show a line while the harts run."""
         self.send("O" + hex_of(line + "\n"))
 

@@ -7,17 +7,17 @@ import re
 from typing import Callable, Iterable, Iterator, Mapping, Optional, TYPE_CHECKING, Tuple
 
 from rvlook.protocol.replies import RAN, Ran, Trap, step_of, trap_of
-from rvlook.protocol.run import ALIKE, MOST_STEPS
-from rvlook.protocol.timeline import Steps, part, turned
+from rvlook.protocol.run import EQUAL, MOST_STEPS
+from rvlook.protocol.timeline import Steps, actions_between, rotated
 
 if TYPE_CHECKING:
     from rvlook.gdb.stops import Halt, Stops
     from rvlook.protocol.timeline import Timeline
 
 RANS = re.compile(RAN.pattern)
-BLOCK = 4096  # steps that are looked through at once
-LONGEST, NO_TRAP = 100, b"trap=-"  # bytes of a reply to `run`, at most; and the end of one that tells of no trap
-RUNS, MOST_QUESTIONS = 256, 16  # runs in one exchange, and what is asked behind each
+BLOCK = 4096  # steps of an exchange
+LONGEST, NO_TRAP = 100, b"trap=-"  # the most bytes of a reply to `run`; the end of a reply without a trap
+RUNS, MOST_QUESTIONS = 256, 16  # runs in one exchange, and queries after each
 
 
 RanState = Tuple[str, str, str, Optional[Trap]]  # pc, mode, world and trap
@@ -50,8 +50,8 @@ def planned(turns: str, count: int, is_single: bool, chosen: int) -> tuple[list[
     return runs, ("\n".join(lines) + "\n").encode(), len(lines)
 
 
-def asked(timeline: Timeline, turns: str, count: int, is_single: bool,
-          is_quiet: Callable[[bytes, int], bool] | None = None) -> list[tuple[int, int, Ran]]:
+def query_steps(timeline: Timeline, turns: str, count: int, is_single: bool,
+                is_quiet: Callable[[bytes, int], bool] | None = None) -> list[tuple[int, int, Ran]]:
     """Does steps of a schedule, one by one or in runs; returns for each run its hart, its wanted steps and its reply. If a run met a stop, what
     follows is not by the schedule any more. Only the last replies are decoded if `is_quiet` holds."""
     timeline.settle()
@@ -80,13 +80,13 @@ def by_turns(timeline: Timeline, stops: Stops, turns: str, count: int) -> Iterat
             left = min(left, len(turns) - len(turns.lstrip(turns[0])))
         before = timeline.worlds[hart]
         ran = timeline.run(hart, 1 if stops.is_single else left, turns)
-        turns = turned(turns, ran.steps)
+        turns = rotated(turns, ran.steps)
         yield stops.met(timeline, hart, ran, before) if stops.may_meet(timeline, ran, before) else None
 
 
 def judged(timeline: Timeline, stops: Stops, hart: int, count: int) -> list[tuple[int, Ran, bool | None]]:
-    """Runs of a hart alone, of so many steps in all at most, in one exchange, each with what decides whether it halts: the steps up to it,
-    its reply, and whether it does, or None where that is to be asked there."""
+    """Runs a hart alone for at most `count` steps, in one exchange of several runs. Returns for each run the steps up to its end, its reply, and
+    whether it halts there, or None if that is not decided."""
     timeline.settle()
     timeline.choose(hart)
     questions = list(stops.questions)[-MOST_QUESTIONS:]
@@ -109,43 +109,43 @@ def ran_of_match(match: re.Match[str]) -> Ran:
 
 
 def state_of(ran: Ran) -> RanState:
-    """Returns what stays the same while a hart does nothing more."""
+    """Returns the state by which a halted hart is detected."""
     return ran.pc, ran.mode, ran.world, ran.trap
 
 
 def ends_of(found: Iterable[tuple[int, int, Ran]]) -> dict[int, RanState] | None:
-    """Returns the state of each hart if no hart does anything more, or None."""
+    """Returns the state of each hart if all harts have halted, or None."""
     last: dict[int, list[RanState]] = {}
     for hart, _, ran in found:
         last.setdefault(hart, []).append(state_of(ran))
-    if any(len(states) < ALIKE or len(set(states[-ALIKE:])) > 1 for states in last.values()):
+    if any(len(states) < EQUAL or len(set(states[-EQUAL:])) > 1 for states in last.values()):
         return None
     return {hart: states[-1] for hart, states in last.items()}
 
 
-def first_alike(timeline: Timeline, first: int, ends: Mapping[int, RanState]) -> int:
-    """Returns the first step after `first` from which on no hart does anything. `ends` has the state of each hart now."""
+def first_equal(timeline: Timeline, first: int, ends: Mapping[int, RanState]) -> int:
+    """Returns the first step after `first` from which all harts are halted. `ends` has the present state of each hart."""
     end = timeline.position
     with contextlib.closing(timeline.again(block_before(timeline, first, ends))) as ahead:
         since: dict[int, int] = {}
-        for it in part(timeline.past, ahead.position, end):
+        for it in actions_between(timeline.past, ahead.position, end):
             while isinstance(it, Steps) and it.count:
                 count = min(it.count, BLOCK)
                 position = ahead.position
-                for hart, _, ran in asked(ahead, it.turns, count, True):
+                for hart, _, ran in query_steps(ahead, it.turns, count, True):
                     position += 1
                     if state_of(ran) != ends[hart]:
                         since.pop(hart, None)
                     else:
                         since.setdefault(hart, position)
-                if len(since) == len(ends) and position >= max(since.values()) + ALIKE * len(it.turns):
+                if len(since) == len(ends) and position >= max(since.values()) + EQUAL * len(it.turns):
                     return max(since.values())
-                it = next(part([it], count, it.count), Steps(it.turns, 0))
+                it = next(actions_between([it], count, it.count), Steps(it.turns, 0))
         return max(since.values(), default=end)
 
 
 def block_before(timeline: Timeline, first: int, ends: Mapping[int, RanState]) -> int:
-    """Returns a step shortly before the one that `first_alike` looks for: the end of the last block after which the hart has another state."""
+    """Returns a step shortly before the result of `first_equal`: the end of the last block after which the hart has another state."""
     if len(ends) > 1:
         return first
     (hart, state), = ends.items()

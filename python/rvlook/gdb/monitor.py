@@ -8,12 +8,12 @@ import io
 import os
 from typing import Callable, NamedTuple, Sequence, TYPE_CHECKING, TextIO
 
-from rvlook.protocol.bench_line import words_of
+from rvlook.protocol.bench_line import tokens_of
 from rvlook.protocol.commands import COMMANDS, Form, is_form, written
 from rvlook.output.escapes import visible
-from rvlook.errors import Fault
+from rvlook.errors import RvlookError
 from rvlook.gdb.entry import Entry
-from rvlook.gdb.moves import FORGOTTEN
+from rvlook.gdb.moves import DISCARDED
 from rvlook.protocol.names import Call
 from rvlook.protocol.run import run_of
 from rvlook.prompt.session import Session
@@ -25,16 +25,16 @@ if TYPE_CHECKING:
     from rvlook.gdb.moves import Moves
     from rvlook.protocol.symbols import Symbols
 
-OTHERS = ("measure", "explain")  # words over a file of their own
-FROM_HERE = ("leak", "timer", "races")  # which look at what comes behind what was done
+OTHERS = ("measure", "explain")  # subcommands over a file of their own
+FROM_HERE = ("leak", "timer", "races")  # subcommands over the steps after the present one
 CAUGHT = ("switch", "trap", "call")
 OWN = {
-    "catch": "catch [switch | trap | call | none]: a continue stops behind each switch of world, each trap, each call of the monitor",
-    "schedule": "schedule [W]: the digits, 1 to 64, by which two harts go on in turn, as those of sched",
-    "entered": "entered: where the host entered the enclave in which the hart is"}
-STALE = "(gdb shows the registers of before, until `maintenance flush register-cache`; with python/rvlook/gdb/client.py it reads them anew)\n"
-STALE_IN_LLDB = "(lldb shows the registers of before, until the program goes on)\n"
-READ_FILES, FOLDERS = ("script", "symbols", "file", "input"), ("scripts", "sources")  # arguments that name some
+    "catch": "catch [switch | trap | call | none]: stop after each world switch, trap, or monitor call; none removes all catchpoints",
+    "schedule": "schedule [DIGITS]: show or set the schedule of two harts, 1 to 64 digits 0 and 1 as for sched",
+    "entered": "entered: show where the host entered the enclave on this hart"}
+STALE = "(gdb shows old registers until `maintenance flush register-cache`; load python/rvlook/gdb/client.py to refresh them)\n"
+STALE_IN_LLDB = "(lldb shows old registers until the program continues)\n"
+READ_FILES, FOLDERS = ("script", "symbols", "file", "input"), ("scripts", "sources")  # arguments that name files and folders
 
 
 class CommandLine(NamedTuple):
@@ -47,41 +47,41 @@ class Monitor:
     """Runs lines of `monitor`. `symbols` reads the symbols; only with `has_files` may a line name files."""
 
     def __init__(self, moves: Moves, symbols: Callable[[], Symbols], command_line: CommandLine, has_files: bool = True) -> None:
-        self.moves, self.symbols, self.entry, self.is_fresh = moves, symbols, Entry(), False
+        self.moves, self.symbols, self.entry, self.refreshes = moves, symbols, Entry(), False
         self.session: Session | None = None
         self.has_files, self.read = has_files, command_line.read
         self.subcommands = tuple(it for it in command_line.names if it not in (*OTHERS, "gdb"))  # over an image
 
     def line(self, text: str) -> str:
-        """Runs a line of `monitor`; returns its output. What `page` reports goes to standard error."""
+        """Runs a line of `monitor`; returns its output. The notes of `page` go to standard error."""
         out, moves = io.StringIO(), self.moves
-        before, told = (moves.timeline, moves.timeline.changes), moves.timeline.was_told
-        errors = contextlib.nullcontext() if "page" in words_of(text)[:2] else contextlib.redirect_stderr(out)
-        with contextlib.redirect_stdout(out), errors, moves.link.watched(moves.behind_watches):
+        before, had_command = (moves.timeline, moves.timeline.changes), moves.timeline.has_command
+        errors = contextlib.nullcontext() if "page" in tokens_of(text)[:2] else contextlib.redirect_stderr(out)
+        with contextlib.redirect_stdout(out), errors, moves.link.watched(moves.stops_after_watch):
             try:
                 self.do(text, out)
-            except Fault as fault:
+            except RvlookError as fault:
                 out.write(visible(str(fault)) + "\n")
             except SystemExit:
-                pass  # the help of a word was told
+                pass  # after the help of a subcommand
         if before != (moves.timeline, moves.timeline.changes):
-            moves.forget(moves.timeline.position)
-            if told and moves.timeline is before[0] and not moves.timeline.was_told:
-                out.write(FORGOTTEN % moves.timeline.position + "\n")
-            out.write("" if self.is_fresh else STALE_IN_LLDB if moves.behind_watches else STALE)
+            moves.discard(moves.timeline.position)
+            if had_command and moves.timeline is before[0] and not moves.timeline.has_command:
+                out.write(DISCARDED % moves.timeline.position + "\n")
+            out.write("" if self.refreshes else STALE_IN_LLDB if moves.stops_after_watch else STALE)
         return out.getvalue()
 
     def do(self, text: str, out: TextIO) -> None:
         """Runs a line, and prints its output."""
-        words = words_of(text)
+        tokens = tokens_of(text)
         if "\n" in text:
-            print("monitor takes one line")
-        elif not words or words == ["help"]:
+            print("monitor takes a single line")
+        elif not tokens or tokens == ["help"]:
             self.help()
-        elif words[0] in OWN:
-            self.own(*words)
-        elif words[0] == "rvlook" or words[0] in OTHERS or words[0] in self.subcommands and not self.is_command(words):
-            self.word(words[1:] if words[0] == "rvlook" else words)
+        elif tokens[0] in OWN:
+            self.own(*tokens)
+        elif tokens[0] == "rvlook" or tokens[0] in OTHERS or tokens[0] in self.subcommands and not self.is_command(tokens):
+            self.subcommand(tokens[1:] if tokens[0] == "rvlook" else tokens)
         else:
             self.opened(out).line(text)
 
@@ -96,9 +96,9 @@ class Monitor:
         act(*operands)
 
     @staticmethod
-    def is_command(words: Sequence[str]) -> bool:
+    def is_command(tokens: Sequence[str]) -> bool:
         """Returns whether a line is a command of the bench: `timer on` is, `timer --every 2` is a subcommand."""
-        return words[0] in COMMANDS and written(words[0], words[1:]) is not None
+        return tokens[0] in COMMANDS and written(tokens[0], tokens[1:]) is not None
 
     def opened(self, out: TextIO | None = None) -> Session:
         """Returns the session of the prompt over the debugger's bench."""
@@ -109,66 +109,66 @@ class Monitor:
 
     def help(self) -> None:
         """Prints the commands."""
-        print("of the bridge:")
+        print("debugger commands:")
         for text in OWN.values():
             print("  " + text)
-        print("words over what was done up to now: %s; and %s" % (" ".join(self.subcommands), " ".join(OTHERS)))
+        print("subcommands over the run so far: %s; and %s" % (" ".join(self.subcommands), " ".join(OTHERS)))
         self.opened().help()
 
-    def word(self, words: Sequence[str]) -> None:
+    def subcommand(self, tokens: Sequence[str]) -> None:
         """Runs a subcommand of rvlook over a run of what was done so far."""
-        words = [it.encode("latin-1", "replace").decode("utf-8", "surrogateescape") for it in words]
-        if not words or words[0] not in (*self.subcommands, *OTHERS):
-            print("rvlook takes a word over what was done up to now: %s; or %s" % (" ".join(self.subcommands), " ".join(OTHERS)))
+        tokens = [it.encode("latin-1", "replace").decode("utf-8", "surrogateescape") for it in tokens]
+        if not tokens or tokens[0] not in (*self.subcommands, *OTHERS):
+            print("rvlook requires a subcommand over the run so far: %s; or %s" % (" ".join(self.subcommands), " ".join(OTHERS)))
             return
-        if words[0] in OTHERS:
-            arguments = self.read(words)
+        if tokens[0] in OTHERS:
+            arguments = self.read(tokens)
             self.check_files(arguments)
         else:
             timeline = self.moves.timeline
-            arguments = self.read([words[0], timeline.setup.image.name, *words[1:]])
+            arguments = self.read([tokens[0], timeline.setup.image.name, *tokens[1:]])
             self.check_files(arguments)
             arguments.has_sources = self.has_files
-            limit = arguments.steps if words[0] in FROM_HERE or "--steps" in words else 0
+            limit = arguments.steps if tokens[0] in FROM_HERE or "--steps" in tokens else 0
             setup = timeline.setup.with_script(commands_of(timeline.past, 0, timeline.hart), limit)
             arguments.opened = run_of(setup), self.opened().symbols
         arguments.do(arguments)
 
     def check_files(self, arguments: Namespace) -> None:
-        """Refuses what names files if a debugger may name none, and files that are not regular: to read one may wait for ever, as it does
-        for the debugger's own input."""
+        """Raises RvlookError for an argument that names a file if files are disabled, and for a file that is not regular, since a read of it may
+        block."""
         read_files = [it for it in (getattr(arguments, name, None) for name in READ_FILES) if it]
         named = read_files + [it for it in (getattr(arguments, name, None) for name in FOLDERS) if it]
         if named and not self.has_files:
             named = named[0] if isinstance(named[0], str) else named[0][0]
-            raise Fault("%s: a debugger on a port may name no file; rvlook gdb --allow-files --port N lets it" % named)
+            raise RvlookError("cannot use '%s': files are disabled for a debugger on a port; start with rvlook gdb --allow-files --port N" % named)
         for path in read_files:
             if not os.path.isfile(path):
-                raise Fault("%s: it is no regular file" % path)
+                raise RvlookError("'%s' is not a regular file" % path)
 
-    # of the bridge
+    # commands of the server
 
     def catch(self, what: str | None = None) -> None:
-        """Adds a catchpoint, or takes all away; and tells which there are."""
+        """Adds a catchpoint, or removes all, and prints those that are set."""
         stops, has_worlds = self.moves.stops, self.moves.timeline.setup.monitor
         if what == "none":
             stops.caught.clear()
         elif what in CAUGHT and what != "trap" and not has_worlds:
-            print("without the monitor there is one world, and no call: write ./rvlook gdb --monitor %s"
+            print("this catchpoint requires the monitor; start with ./rvlook gdb --monitor %s"
                   % self.moves.timeline.setup.image.name)
         elif what in CAUGHT:
             stops.caught.add(what)
         elif what:
             print(OWN["catch"])
-        print("caught: %s" % (" ".join(it for it in CAUGHT if it in stops.caught) or "none"))
+        print("catchpoints: %s" % (" ".join(it for it in CAUGHT if it in stops.caught) or "none"))
 
     def schedule(self, digits: str | None = None) -> None:
         """Sets or shows the schedule of two harts."""
         if self.moves.timeline.setup.harts == 1:
-            print("the bench has one hart: write ./rvlook gdb --monitor --harts 2 %s" % self.moves.timeline.setup.image.name)
+            print("a schedule requires two harts; start with ./rvlook gdb --monitor --harts 2 %s" % self.moves.timeline.setup.image.name)
             return
         if digits and not is_form(digits, Form.schedule):
-            print("%s is not %s; write: schedule 01" % (digits, Form.schedule.value))
+            print("'%s' is not %s; try: schedule 01" % (digits, Form.schedule.value))
         elif digits:
             self.moves.schedule = digits
         print("schedule: " + self.moves.schedule)
@@ -178,8 +178,8 @@ class Monitor:
         timeline, symbols = self.moves.timeline, self.opened().symbols
         found = self.entry.find(timeline, timeline.hart)
         if not found:
-            print("the hart is in no enclave, but in the world %s" % timeline.worlds[timeline.hart])
+            print("the hart is not in an enclave, but in %s" % timeline.worlds[timeline.hart])
             return
         number = int(found.values[16], 16)
-        call = Call(number).name if number in set(Call) else "a call"
+        call = Call(number).name if number in set(Call) else "a monitor call"
         print("%s was entered at step %d, by %s at %s" % (timeline.worlds[timeline.hart], found.step, call, place_text(found.pc, symbols)))

@@ -6,29 +6,29 @@ import time
 from typing import Container, NamedTuple, Sequence, TYPE_CHECKING
 
 from rvlook.protocol import names
-from rvlook.gdb.lookahead import asked, by_turns, ends_of, first_alike, judged
+from rvlook.gdb.lookahead import query_steps, by_turns, ends_of, first_equal, judged
 from rvlook.gdb.stops import INTERRUPTED, Halt, Stops, signal_of
 from rvlook.gdb.view import View
-from rvlook.protocol.run import ALIKE, MOST_STEPS
-from rvlook.protocol.timeline import Steps, part
+from rvlook.protocol.run import EQUAL, MOST_STEPS
+from rvlook.protocol.timeline import Steps, actions_between
 
 if TYPE_CHECKING:
     from rvlook.gdb.link import Link
     from rvlook.protocol.replies import Ran
-    from rvlook.protocol.timeline import Part, Timeline
+    from rvlook.protocol.timeline import Action, Timeline
 
-SCHEDULE = "0" * 32 + "1" * 32  # of two harts, where no other is asked for
-FIRST_RUN, MORE = 1024, 4  # steps of the first part of a continue, and times as many in the next
+SCHEDULE = "0" * 32 + "1" * 32  # the default schedule of two harts
+FIRST_RUN, MORE = 1024, 4  # steps of the first part of a continue, and the factor for the next
 SHORT, LONG = 0.005, 0.02  # seconds: a part that took less is followed by a longer one, one that took more by a shorter one
-MOST_BY_TURNS = 1 << 17  # steps of a part of which each is asked alone, or by turns
-FORGOTTEN = "[what had been done behind step %d is forgotten]"
-CAREFUL = 4096  # steps that are done one exchange a turn, behind a stop that was none
+MOST_BY_TURNS = 1 << 17  # the most steps of a part with a reply per step, or with a schedule
+DISCARDED = "[the history after step %d is discarded]"
+CAREFUL = 4096  # steps with one exchange per run, after a stop that turned out to be none
 
 
 class Start(NamedTuple):
-    """Where steps began: the position, and what had been done after it before the debugger went back."""
+    """The start of some steps: the position, and the future there."""
     position: int
-    future: list[Part]
+    future: list[Action]
 
 
 class Moves:
@@ -41,15 +41,15 @@ class Moves:
         self.follower: Timeline | None = None
         self.careful = 0
         self.notes: list[str] = []
-        self.behind_watches = False  # whether a debugger expects to be behind the access that a watch met
+        self.stops_after_watch = False  # whether the debugger expects a watchpoint to halt after the access
 
     def close(self) -> None:
         """Ends all benches."""
-        self.forget(0)
+        self.discard(0)
         self.timeline.close()
 
-    def forget(self, position: int) -> None:
-        """Ends the other benches at and behind a step: what they did may no longer be what was done."""
+    def discard(self, position: int) -> None:
+        """Ends the other benches at or after a step, since their history may no longer be valid."""
         for it in [it for it in self.ready if it >= position]:
             self.ready.pop(it).close()
         if self.follower and self.follower.position >= position:
@@ -57,7 +57,7 @@ class Moves:
             self.follower = None
 
     def go(self, position: int) -> None:
-        """Goes to an earlier step, by a bench that is there or near."""
+        """Goes to an earlier step, with a bench that is there or near."""
         if position == self.timeline.position:
             return
         new = self.ready.pop(position, None) or self.followed(position) or self.timeline.again(position)
@@ -65,33 +65,32 @@ class Moves:
         new.set_stops(self.timeline.stops)
         self.timeline.close()
         self.timeline, self.view = new, View(new)
-        self.forget(position)
+        self.discard(position)
 
-    def tell(self, lines: Sequence[str]) -> None:
-        """Does commands of the person that change registers or bytes: they are part of what was done, and what had been done behind here
-        is no longer what would come."""
-        self.forget(self.timeline.position)
-        had = self.timeline.was_told
+    def apply(self, lines: Sequence[str]) -> None:
+        """Runs commands of the user that change registers or bytes. They become part of the history, and the future is discarded."""
+        self.discard(self.timeline.position)
+        had = self.timeline.has_command
         self.timeline.do_all(lines)
-        if had and not self.timeline.was_told:
-            self.notes.append(FORGOTTEN % self.timeline.position)
+        if had and not self.timeline.has_command:
+            self.notes.append(DISCARDED % self.timeline.position)
 
-    def tell_notes(self) -> None:
-        """Makes the debugger show the notes that were held back."""
+    def show_notes(self) -> None:
+        """Shows the pending notes in the debugger."""
         for note in self.notes:
-            self.link.tell(note)
+            self.link.show(note)
         self.notes = []
 
     def redo(self) -> None:
-        """Tells again what was told at this step before one came back."""
+        """Repeats the commands of the future at this step."""
         if self.timeline.redo():
-            self.forget(self.timeline.position)
+            self.discard(self.timeline.position)
 
     def followed(self, position: int) -> Timeline | None:
         """Returns the following bench, brought to a step; None if it is past that step."""
         found = self.follower if self.follower and self.follower.position <= position else None
         if found:
-            found.follow(part(self.timeline.past, found.position, position))
+            found.follow(actions_between(self.timeline.past, found.position, position))
             self.follower = None
         return found
 
@@ -99,7 +98,7 @@ class Moves:
         """Makes a bench follow to the present step."""
         if self.follower:
             self.follower.settle()
-            self.follower.follow(part(self.timeline.past, self.follower.position, self.timeline.position))
+            self.follower.follow(actions_between(self.timeline.past, self.follower.position, self.timeline.position))
         else:
             self.follower = self.timeline.again(self.timeline.position)
 
@@ -117,8 +116,8 @@ class Moves:
     # one step
 
     def step(self, hart: int, others: Sequence[int], inside: Container[int] = ()) -> Halt:
-        """Does a step of a hart, or as many as are inside a range; the other harts run by the schedule meanwhile."""
-        last, alike = None, 0
+        """Steps a hart once, or while it is inside a range; the other harts run by the schedule meanwhile."""
+        last, equal = None, 0
         while True:
             self.redo()
             turns = self.turns_of([hart, *others])
@@ -130,26 +129,26 @@ class Moves:
             halt = self.stops.met(self.timeline, hart, ran, before) if ran.why != "done" else None
             if halt and halt.reason:
                 return self.halt_at(halt)
-            self.tell_step(ran, before)
-            alike, last = alike + 1 if ran == last else 0, ran
+            self.show_step(ran, before)
+            equal, last = equal + 1 if ran == last else 0, ran
             if halt or ran.trap or int(ran.pc, 16) not in inside or self.stops.is_break(self.timeline, ran.pc):
                 return Halt(hart)
-            if alike >= ALIKE:
-                return self.halt_at(self.stays([hart], hart, ran))
+            if equal >= EQUAL:
+                return self.halt_at(self.halted([hart], hart, ran))
             if self.link.interrupted():
                 return Halt(hart, signal=INTERRUPTED)
 
-    def tell_step(self, ran: Ran, before: str) -> None:
-        """Tells the trap of a step, and the world that it went to."""
+    def show_step(self, ran: Ran, before: str) -> None:
+        """Shows the trap of a step, and its switch to another world."""
         if ran.trap:
-            self.link.tell("[%s, %s]" % (names.cause_name(ran.trap.cause), ran.trap.value))
+            self.link.show("[%s, %s]" % (names.cause_name(ran.trap.cause), ran.trap.value))
         if ran.world != before:
-            self.link.tell("[%s goes on]" % ran.world)
+            self.link.show("[switch to %s]" % ran.world)
 
     # many steps
 
     def go_on(self, harts: Sequence[int]) -> Halt:
-        """Runs these harts by the schedule, to a stop, to Ctrl-C, or until none does anything more."""
+        """Runs these harts by the schedule, to a stop, to Ctrl-C, or until all have halted."""
         size, by_turns, self.careful = FIRST_RUN, len(harts) > 1 or self.stops.is_single, 0
         while True:
             self.redo()
@@ -171,7 +170,7 @@ class Moves:
                 size = max(FIRST_RUN, size // 2)
 
     def advance(self, turns: str, count: int) -> Halt | None:
-        """Does at most this many steps; returns the halt if there is one before."""
+        """Runs at most `count` steps; returns the halt if there is one before."""
         if len(set(turns)) == 1 and not self.stops.is_single and not self.stops.has_conditions or self.careful > 0:
             self.careful -= count
             return self.exactly(turns, count, LONG)
@@ -181,7 +180,7 @@ class Moves:
                 if verdict is not False:
                     return self.met_at(start, Steps(turns, done), int(turns[0]), ran, worlds[int(turns[0])])
             return None
-        for hart, wanted, ran in asked(self.timeline, turns, count, self.stops.is_single, self.stops.is_quiet(self.timeline)):
+        for hart, wanted, ran in query_steps(self.timeline, turns, count, self.stops.is_single, self.stops.is_quiet(self.timeline)):
             done += ran.steps
             if ran.steps < wanted or self.stops.may_meet(self.timeline, ran, worlds[hart]):
                 return self.met_at(start, Steps(turns, done), hart, ran, worlds[hart])
@@ -207,17 +206,17 @@ class Moves:
 
     def halt_at(self, halt: Halt) -> Halt:
         """Halts where the bench is. Halts before the access of a watchpoint if the debugger expects that, as gdb does on RISC-V."""
-        if halt.told:
-            self.link.tell(halt.told)
-        if halt.reason and not self.behind_watches:
+        if halt.message:
+            self.link.show(halt.message)
+        if halt.reason and not self.stops_after_watch:
             self.go(self.timeline.position - 1)
         return halt
 
     def end_of(self, harts: Sequence[int], first: int) -> Halt | None:
-        """Returns the halt at the first step after `first` from which on these harts do nothing, or None."""
+        """Returns the halt at the first step after `first` from which these harts are halted, or None."""
         turns = self.turns_of(harts)
         start, worlds = Start(self.timeline.position, list(self.timeline.future)), list(self.timeline.worlds)
-        found = asked(self.timeline, turns, ALIKE * len(turns), True)
+        found = query_steps(self.timeline, turns, EQUAL * len(turns), True)
         for done, (hart, _, ran) in enumerate(found, 1):
             if self.stops.may_meet(self.timeline, ran, worlds[hart]):
                 halt = self.met_at(start, Steps(turns, done), hart, ran, worlds[hart])
@@ -227,14 +226,14 @@ class Moves:
         ends = ends_of(found)
         if ends is None:
             return None
-        self.go(first_alike(self.timeline, first, ends))
-        return self.stays(harts, found[-1][0], found[-1][2])
+        self.go(first_equal(self.timeline, first, ends))
+        return self.halted(harts, found[-1][0], found[-1][2])
 
-    def stays(self, harts: Sequence[int], hart: int, ran: Ran) -> Halt:
-        """Returns the halt of harts that do nothing more."""
+    def halted(self, harts: Sequence[int], hart: int, ran: Ran) -> Halt:
+        """Returns the halt of harts that make no progress."""
         cause = ran.trap and ran.trap.cause
-        who = "hart %d stays" % hart if len(harts) == 1 else "all harts stay"
-        told = "[%s at %s%s]" % (who, ran.pc, ": " + names.cause_name(cause) if cause else "")
+        who = "hart %d halts" % hart if len(harts) == 1 else "all harts halt"
+        text = "[%s at %s%s]" % (who, ran.pc, ": " + names.cause_name(cause) if cause else "")
         if ran.world == "bare" and int(self.view.registers(hart)[17], 16) == names.KEY:
-            told += "\n[a7 has the key of the monitor's calls, and there is no monitor: ./rvlook gdb --monitor has one]"
-        return Halt(hart, "", signal_of(ran.trap), told)
+            text += "\n[a7 holds the key of monitor calls, but there is no monitor; start with ./rvlook gdb --monitor]"
+        return Halt(hart, "", signal_of(ran.trap), text)

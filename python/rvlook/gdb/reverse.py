@@ -5,20 +5,20 @@ from __future__ import annotations
 import contextlib
 from typing import Any, Iterable, Iterator, Sequence, TYPE_CHECKING
 
-from rvlook.gdb.lookahead import BLOCK, asked, by_turns, judged
+from rvlook.gdb.lookahead import BLOCK, query_steps, by_turns, judged
 from rvlook.gdb.stops import INTERRUPTED, Halt
 from rvlook.protocol.run import MOST_STEPS
-from rvlook.protocol.timeline import Told, part, steps_within
+from rvlook.protocol.timeline import Change, actions_between, steps_within
 
 if TYPE_CHECKING:
     from rvlook.gdb.moves import Moves
     from rvlook.protocol.replies import Ran
-    from rvlook.protocol.timeline import Part, Steps, Timeline
+    from rvlook.protocol.timeline import Action, Steps, Timeline
 
-FIRST_PART, MORE_BACK = 4096, 8  # steps of the first part that is looked through, and times as many in the next
-MOST_BY_TURNS = 1 << 18  # of a part of two harts, or of single steps
-FAR, AHEAD = 200000, 3  # so many steps from reset, so many steps back are played again before they are asked for
-MOST_READY = 6  # benches that wait at earlier steps
+FIRST_PART, MORE_BACK = 4096, 8  # steps of the first part that is searched, and the factor for the next
+MOST_BY_TURNS = 1 << 18  # the most steps of a part with two harts, or of single steps
+FAR, AHEAD = 200000, 3  # the distance from reset from which earlier benches are prepared, and their number
+MOST_READY = 6  # the most benches that wait at earlier steps
 AT_RESET = "replaylog:begin;"
 
 
@@ -34,8 +34,8 @@ class Back:
         self.key: tuple[Any, ...] | None = None
         self.found: list[tuple[int, Halt]] = []
 
-    def forget(self) -> None:
-        """Forgets the stops that were found, as what follows may change."""
+    def discard(self) -> None:
+        """Discards the cached stops, since the steps may change."""
         self.key, self.found = None, []
 
     def step(self, hart: int) -> Halt:
@@ -57,17 +57,17 @@ class Back:
         while len(ready) > MOST_READY:
             ready.pop(min(ready)).close()
 
-    def ask_person(self) -> None:
+    def check_interrupt(self) -> None:
         """Raises Interrupted if Ctrl-C came."""
         if self.moves.link.interrupted():
             raise Interrupted
 
     def go(self, hart: int, harts: Sequence[int]) -> Halt:
-        """Goes to the last stop of these harts before here, or stays here where Ctrl-C comes before it is found."""
+        """Goes to the last stop of these harts before here; stays here if Ctrl-C comes before it is found."""
         try:
             return self.go_to_stop(hart, harts)
         except Interrupted:
-            self.forget()
+            self.discard()
             return Halt(hart, signal=INTERRUPTED)
 
     def go_to_stop(self, hart: int, harts: Sequence[int]) -> Halt:
@@ -82,14 +82,14 @@ class Back:
             first = max(0, self.first - size)
             self.found = self.stops_between(first, self.first, harts) + self.found
             self.first, size = first, size * MORE_BACK if not by_turns_alone else min(size * MORE_BACK, MOST_BY_TURNS)
-            self.ask_person()
+            self.check_interrupt()
         halts = self.before(here)
         if halts:
             position, halt = halts[-1]
             moves.go(position)
             self.prepare(it for it, _ in halts[-2:-2 - AHEAD:-1])
-            if halt.told:
-                moves.link.tell(halt.told)
+            if halt.message:
+                moves.link.show(halt.message)
             return halt
         moves.go(0)
         at_break = here and moves.stops.is_break(moves.timeline, moves.view.registers(hart)[32])
@@ -103,13 +103,13 @@ class Back:
         """Returns the stops after step `first`, up to step `end`."""
         moves = self.moves
         found: dict[int, Halt] = {}
-        pieces = list(part(moves.timeline.past, first, end))
+        pieces = list(actions_between(moves.timeline.past, first, end))
         if not moves.stops.is_single and not self.may_stop(first, pieces):
             return []
         with contextlib.closing(moves.timeline.again(first)) as ahead:
             ahead.set_stops(moves.timeline.stops)
             for it in pieces:
-                if isinstance(it, Told):
+                if isinstance(it, Change):
                     ahead.choose(it.hart)
                     ahead.do(it.line)
                 elif moves.stops.is_single:
@@ -120,25 +120,25 @@ class Back:
                     found.update(self.stops_by_turns(ahead, it))
         return sorted(((position, halt) for position, halt in found.items() if halt.hart in harts), key=lambda it: it[0])
 
-    def may_stop(self, first: int, pieces: Sequence[Part]) -> bool:
+    def may_stop(self, first: int, pieces: Sequence[Action]) -> bool:
         """Returns whether there may be a stop in steps of two harts. Steps of one hart are searched at once."""
-        if all(isinstance(it, Told) or it.chosen for it in pieces):
+        if all(isinstance(it, Change) or it.chosen for it in pieces):
             return True
         with contextlib.closing(self.moves.timeline.again(first)) as ahead:
             ahead.set_stops(self.moves.timeline.stops)
             for it in pieces:
-                if isinstance(it, Told):
+                if isinstance(it, Change):
                     ahead.choose(it.hart)
                     ahead.do(it.line)
                 elif any(ran.steps < count or self.moves.stops.may_meet(ahead, ran, "")
-                         for _, count, ran in asked(ahead, it.turns, it.count, False, self.moves.stops.is_quiet(ahead))):
+                         for _, count, ran in query_steps(ahead, it.turns, it.count, False, self.moves.stops.is_quiet(ahead))):
                     return True
         return False
 
     def stops_by_turns(self, ahead: Timeline, steps: Steps) -> Iterator[tuple[int, Halt]]:
         """Yields the stops in steps of the past, with an exchange for each run."""
         for halt in by_turns(ahead, self.moves.stops, steps.turns, steps.count):
-            self.ask_person()
+            self.check_interrupt()
             if halt:
                 yield ahead.position, halt
 
@@ -146,7 +146,7 @@ class Back:
         """Yields the stops in steps of one hart with conditions, with many runs in one exchange."""
         hart, end = int(steps.turns), ahead.position + steps.count
         while ahead.position < end:
-            self.ask_person()
+            self.check_interrupt()
             position = ahead.position
             for done, ran, verdict in judged(ahead, self.moves.stops, hart, min(end - position, MOST_STEPS)):
                 halt = Halt(hart) if verdict else None if verdict is False else self.halt_there(ahead, position + done, hart, ran, "")
@@ -157,10 +157,10 @@ class Back:
         """Yields the stops in steps of the past that are checked one by one, with many steps in one exchange."""
         stops = self.moves.stops
         for at in range(0, steps.count, BLOCK):
-            self.ask_person()
+            self.check_interrupt()
             now = steps_within(steps, at, at + BLOCK)
             position, worlds = ahead.position, list(ahead.worlds)
-            for hart, _, ran in asked(ahead, now.turns, now.count, True):
+            for hart, _, ran in query_steps(ahead, now.turns, now.count, True):
                 position += 1
                 if stops.may_meet(ahead, ran, worlds[hart]):
                     halt = self.halt_there(ahead, position, hart, ran, worlds[hart])
@@ -171,7 +171,7 @@ class Back:
     def halt_there(self, ahead: Timeline, position: int, hart: int, ran: Ran, before: str) -> Halt | None:
         """Returns the halt after a step, or None. Uses another bench if the halt depends on registers or memory at that step."""
         stops = self.moves.stops
-        if not stops.asks(ran):
+        if not stops.needs_query(ran):
             return stops.met(ahead, hart, ran, before)
         with contextlib.closing(ahead.again(position)) as there:
             there.set_stops(self.moves.timeline.stops)

@@ -10,14 +10,14 @@ from typing import Callable, Dict, Optional, TYPE_CHECKING
 
 from rvlook.protocol import names
 from rvlook.output.escapes import visible
-from rvlook.errors import BenchEnded, Fault
+from rvlook.errors import BenchEnded, RvlookError, error as report_error, note, warn
 from rvlook.gdb.reverse import Back
 from rvlook.gdb.link import Gone, Link, escaped, hex_of, little, number_of, unescaped
 from rvlook.gdb.monitor import Monitor
 from rvlook.gdb.moves import Moves
 from rvlook.gdb.stops import Halt, Watch
 from rvlook.gdb.target import CORE, ENTERED, MODES, PC, PRIV, REGISTERS, TRIPLE, WORLD, WORLDS, memory_text, target_text, threads_text
-from rvlook.protocol.run import told_fault
+from rvlook.protocol.run import error_of
 from rvlook.protocol.timeline import Timeline
 
 if TYPE_CHECKING:
@@ -32,9 +32,9 @@ BREAKS, WATCHES = ("0", "1"), {"2": ("watch", "w"), "3": ("rwatch", "r"), "4": (
 FEATURES = ("PacketSize=4000;QStartNoAckMode+;qXfer:features:read+;qXfer:memory-map:read+;qXfer:threads:read+;vContSupported+;"
             "ReverseStep+;ReverseContinue+;ConditionalBreakpoints+")
 MOST_WATCHED = 32
-MOST_READ = 0x2000  # bytes of memory in a reply, whose digits are then as many as PacketSize tells
-PIECE = 2000  # characters of what `monitor` tells, in a packet
-SIGNS = re.compile(r"[#$}*]")  # which no text of an error may have
+MOST_READ = 0x2000  # bytes of memory in a reply; their digits fill PacketSize
+PIECE = 2000  # characters of the output of `monitor` in a packet
+SIGNS = re.compile(r"[#$}*]")  # characters that the text of an error must not contain
 GONE = "X09"  # the program was ended
 
 
@@ -70,7 +70,7 @@ class Server:
     def moves(self) -> Moves:
         """Returns the moves of the debugger; raises Refused if the bench was ended."""
         if not self.running:
-            raise Refused("the bench was ended")
+            raise Refused("rvbench was terminated")
         return self.running
 
     @property
@@ -89,9 +89,9 @@ class Server:
             except Refused as refusal:
                 answer = "E.%s" % refusal
             except BenchEnded:
-                self.link.send(GONE if name in MOVING else "E.the bench has ended")
+                self.link.send(GONE if name in MOVING else "E.rvbench has exited")
                 raise
-            except Fault as fault:
+            except RvlookError as fault:
                 answer = "E." + SIGNS.sub("?", visible(str(fault)))
             except (ValueError, LookupError, TypeError, ArithmeticError, MemoryError, RecursionError):
                 answer = "E01"
@@ -107,11 +107,11 @@ class Server:
 
     def transfer(self, rest: str) -> str:
         """Replies to qXfer with a part of a document."""
-        kind, _, name, place = rest[1:].split(":")
+        kind, _, name, location = rest[1:].split(":")
         made = {("features", "target.xml"): target_text, ("memory-map", ""): lambda: memory_text(self.setup.ram),
                 ("threads", ""): lambda: threads_text(map(self.hart_text, range(self.setup.harts if self.running else 0)))}
         text = made[kind, name]()
-        first, count = map(number_of, place.split(","))
+        first, count = map(number_of, location.split(","))
         return ("m" if first + count < len(text) else "l") + escaped(text[first:first + count])
 
     def threads(self, _: str) -> str:
@@ -127,7 +127,7 @@ class Server:
         """Returns the hart of a thread, the last one that halted for any thread. Raises Refused."""
         hart = self.last if thread in ("", "0", "-1") else number_of(thread) - 1
         if not 0 <= hart < self.setup.harts:
-            raise Refused("there is no such thread")
+            raise Refused("no such thread")
         return hart
 
     def choose(self, rest: str) -> str:
@@ -167,8 +167,8 @@ class Server:
                 WORLD: little("%08x" % WORLDS[self.timeline.worlds[self.shown]])}
 
     def changing(self) -> None:
-        """Forgets what was derived from the steps after the present one, as they may change."""
-        self.back.forget()
+        """Discards what was derived from later steps, since they may change."""
+        self.back.discard()
         self.commands.entry.limit(self.timeline.position)
 
     def write_register(self, rest: str) -> str:
@@ -176,12 +176,12 @@ class Server:
         digits, value = rest.split("=")
         number = number_of(digits)
         if not 0 < number < PC:
-            raise Refused("no command of the bench writes %s" % REGISTERS[number])
+            raise Refused("rvbench cannot write %s" % REGISTERS[number])
         if not VALUE.match(value):
             raise ValueError(value)
         self.changing()
         self.timeline.choose(self.shown)
-        self.moves.tell(["setreg %d %s" % (number, little(value))])
+        self.moves.apply(["setreg %d %s" % (number, little(value))])
         return "OK"
 
     def read_memory(self, rest: str) -> str:
@@ -194,23 +194,23 @@ class Server:
 
     def write_memory(self, rest: str) -> str:
         """Replies to M."""
-        place, digits = rest.split(":", 1)
-        return self.write(place, bytes.fromhex(digits))
+        location, digits = rest.split(":", 1)
+        return self.write(location, bytes.fromhex(digits))
 
     def write_binary(self, rest: str) -> str:
         """Replies to X."""
-        place, data = rest.split(":", 1)
-        return self.write(place, unescaped(data).encode("latin-1"))
+        location, data = rest.split(":", 1)
+        return self.write(location, unescaped(data).encode("latin-1"))
 
-    def write(self, place: str, data: bytes) -> str:
+    def write(self, location: str, data: bytes) -> str:
         """Pokes bytes; raises Refused if one is outside RAM."""
-        first, count = map(number_of, place.split(","))
+        first, count = map(number_of, location.split(","))
         if len(data) != count:
-            raise Refused("%d bytes in place of %d" % (len(data), count))
+            raise Refused("got %d bytes instead of %d" % (len(data), count))
         if count and len(self.moves.view.bytes(first, count)) < count:
-            raise Refused("a byte of it is outside RAM")
+            raise Refused("the range is not entirely in RAM")
         self.changing()
-        self.moves.tell(["poke %x %02x" % (first + n, byte) for n, byte in enumerate(data)])
+        self.moves.apply(["poke %x %02x" % (first + n, byte) for n, byte in enumerate(data)])
         return "OK"
 
     # breakpoints and watchpoints
@@ -222,8 +222,8 @@ class Server:
             conditions = [bytes.fromhex(it[2])[:int(it[1], 16)] for it in CONDITION.finditer(rest)]
             self.moves.stops.set_break(self.timeline, kind, first, conditions)
         elif count > MOST_WATCHED or not self.moves.stops.set_watch(self.timeline, Watch(*WATCHES[kind], first, count)):
-            print("rvlook: the bench watches %d bytes at most, and these would be more" % MOST_WATCHED, file=sys.stderr, flush=True)
-            raise Refused("the bench watches %d bytes at most" % MOST_WATCHED)
+            report_error("cannot set the watchpoint: rvbench watches at most %d bytes" % MOST_WATCHED)
+            raise Refused("rvbench watches at most %d bytes" % MOST_WATCHED)
         return "OK"
 
     def clear_stop(self, rest: str) -> str:
@@ -255,7 +255,7 @@ class Server:
 
     def resume(self, rest: str) -> str:
         """Replies to vCont: each hart does the first action that names it."""
-        self.moves.tell_notes()
+        self.moves.show_notes()
         self.changing()
         actions: dict[int, str] = {}
         for it in rest[1:].split(";"):
@@ -273,10 +273,10 @@ class Server:
         self.moves.redo()
         return self.halted(halt)
 
-    def go_on(self, action: str, place: str) -> str:
+    def go_on(self, action: str, location: str) -> str:
         """Replies to c and s of a debugger without vCont."""
-        if place:
-            raise Refused("no command of the bench writes pc")
+        if location:
+            raise Refused("rvbench cannot write pc")
         return self.resume(";%s:%s" % (action, "-1" if self.moved is None else "%x" % (self.moved + 1)))
 
     def step_back(self, _: str) -> str:
@@ -293,10 +293,10 @@ class Server:
     def monitor(self, rest: str) -> str:
         """Replies to qRcmd: runs a line of the bench or of the prompt, or a subcommand."""
         self.changing()
-        self.timeline.choose(self.last if self.moves.behind_watches else self.shown)  # lldb reads registers of each hart, and names none here
+        self.timeline.choose(self.last if self.moves.stops_after_watch else self.shown)  # lldb reads registers of each hart, and names none here
         text = self.commands.line(bytes.fromhex(rest[1:]).decode("latin-1"))
         self.shown = self.timeline.hart
-        self.last = self.shown if self.moves.behind_watches else self.last
+        self.last = self.shown if self.moves.stops_after_watch else self.last
         for first in range(0, len(text), PIECE):
             self.link.send("O" + hex_of(text[first:first + PIECE]))
         return "OK"
@@ -313,7 +313,7 @@ class Server:
 
     def end(self, _: str) -> str | None:
         """Replies to k: lldb expects a reply, gdb none."""
-        answers_it = self.running and self.running.behind_watches
+        answers_it = self.running and self.running.stops_after_watch
         self.close()
         self.over = not self.extended
         return GONE if answers_it else None
@@ -334,12 +334,12 @@ class Server:
 
     def host(self, _: str) -> str:
         """Replies to qHostInfo, which only lldb sends."""
-        self.moves.behind_watches = True
+        self.moves.stops_after_watch = True
         return "triple:%s;ptrsize:4;endian:little;watchpoint_exceptions_received:after;" % hex_of(TRIPLE)
 
-    def fresh(self, _: str) -> str:
-        """Replies to QRvlookFresh: the debugger reads everything again after each line of `monitor`."""
-        self.commands.is_fresh = True
+    def set_refresh(self, _: str) -> str:
+        """Replies to QRvlookFresh: the debugger reads all registers again after each line of `monitor`."""
+        self.commands.refreshes = True
         return "OK"
 
 
@@ -354,7 +354,7 @@ ACTS: Dict[str, Callable[[Server, str], Optional[str]]] = {
     "R": Server.restart, "T": lambda server, rest: "OK" if server.hart_of(rest) >= 0 else "", "X": Server.write_binary, "Z": Server.set_stop,
     "k": Server.end, "m": Server.read_memory, "p": Server.read_register, "z": Server.clear_stop, "g": Server.registers,
     "c": lambda server, rest: server.go_on("c", rest), "s": lambda server, rest: server.go_on("s", rest),
-    "bc": Server.go_back, "bs": Server.step_back, "QRvlookFresh": Server.fresh,
+    "bc": Server.go_back, "bs": Server.step_back, "QRvlookFresh": Server.set_refresh,
     "QStartNoAckMode": Server.no_acknowledgements, "qAttached": answers("0"), "qC": lambda server, rest: "QC%x" % (server.last + 1),
     "qHostInfo": Server.host, "qProcessInfo": lambda server, rest: "pid:1;" + server.host(rest), "qRcmd": Server.monitor,
     "qSupported": answers(FEATURES), "qThreadExtraInfo": lambda server, rest: hex_of(server.hart_text(server.hart_of(rest[1:]))),
@@ -364,18 +364,18 @@ ACTS: Dict[str, Callable[[Server, str], Optional[str]]] = {
 
 def link_of(setup: Setup, port: int | None) -> Link:
     """Opens the connection with the debugger: the standard streams, or a port of this machine for the first client. A thread turns away later
-    clients. Raises Fault."""
+    clients. Raises RvlookError."""
     if port is None and sys.stdin.isatty():
-        words = " ".join([*(["--monitor"] if setup.monitor else []), setup.image.name])
-        raise Fault("a debugger speaks here, and no person: gdb-multiarch %s -ex 'target remote | ./rvlook gdb %s'; or --port N" % (
-            setup.image.name, words))
+        arguments = " ".join([*(["--monitor"] if setup.monitor else []), setup.image.name])
+        raise RvlookError("standard input is a terminal, not a debugger; "
+                          "run gdb-multiarch %s -ex 'target remote | ./rvlook gdb %s', or use --port N" % (setup.image.name, arguments))
     if port is None:
         return Link(sys.stdin.fileno(), sys.stdout.fileno())
     try:
         listening = socket.create_server(("localhost", port))
     except (OSError, OverflowError) as error:
-        raise Fault("port %d: %s" % (port, getattr(error, "strerror", None) or error)) from None
-    print("rvlook: localhost:%d" % listening.getsockname()[1], file=sys.stderr, flush=True)
+        raise RvlookError("cannot listen on port %d: %s" % (port, getattr(error, "strerror", None) or error)) from None
+    note("listening on localhost:%d" % listening.getsockname()[1])
     connection = listening.accept()[0]
     connection.setsockopt(socket.IPPROTO_TCP, socket.TCP_NODELAY, 1)
     threading.Thread(target=turn_away, args=(listening,), daemon=True).start()
@@ -385,10 +385,10 @@ def link_of(setup: Setup, port: int | None) -> Link:
 
 
 def turn_away(listening: socket.socket) -> None:
-    """Tells each that comes to the port that there is a debugger already."""
+    """Closes all further connections to the port."""
     while True:
         listening.accept()[0].close()
-        print("rvlook: a second debugger came to the port, and was turned away", file=sys.stderr, flush=True)
+        warn("rejected a second connection to the port")
 
 
 def serve_gdb(setup: Setup, symbols: Callable[[], Symbols], port: int | None, allow_files: bool, command_line: CommandLine) -> None:
@@ -401,9 +401,9 @@ def serve_gdb(setup: Setup, symbols: Callable[[], Symbols], port: int | None, al
         server = Server(link_of(setup, port), setup, symbols, command_line, port is None or allow_files)
         server.serve()
     except Gone:
-        print("rvlook: the debugger has gone", file=sys.stderr)
+        note("the debugger disconnected")
     except BenchEnded as ended:
-        raise told_fault(setup, ended) from None
+        raise error_of(setup, ended) from None
     finally:
         if server:
             server.close()

@@ -1,5 +1,5 @@
-"""Where harts halt under a debugger: breakpoints with conditions, watchpoints by kind of access, and catchpoints. The bench checks its
-breaks and watches; whether they are halts is decided here."""
+"""The stops of a debugger: breakpoints with conditions, watchpoints by kind of access, and catchpoints. rvbench reports its breakpoints and
+watchpoints; this module decides whether they are halts."""
 from __future__ import annotations
 
 import contextlib
@@ -39,11 +39,11 @@ class Watch:
 
 @dataclass(frozen=True)
 class Halt:
-    """A halt on a hart. `reason` is that of the protocol, empty for a step, a breakpoint and a signal; `told` is a line for the user."""
+    """A halt on a hart. `reason` is that of the protocol, empty for a step, a breakpoint and a signal; `message` is a line for the user."""
     hart: int
     reason: str = ""
     signal: int = STEPPED
-    told: str = ""
+    message: str = ""
 
 
 def signal_of(trap: Trap | None) -> int:
@@ -85,7 +85,7 @@ class Stops:
         if timeline.do("break %x" % at)[0] != "ok":
             self.beyond.add(at)
         if conditions:
-            self.holds(timeline, timeline.hart, at)  # what it asks is asked behind each run from then on
+            self.holds(timeline, timeline.hart, at)  # records the queries that decide, which then follow each run
 
     def clear_break(self, timeline: Timeline, kind: str, at: int) -> None:
         """Removes a breakpoint of a kind."""
@@ -119,12 +119,12 @@ class Stops:
 
     def is_quiet(self, timeline: Timeline) -> Callable[[bytes, int], bool]:
         """Returns a function that checks the replies to runs, as bytes: whether there is certainly no halt after any of them."""
-        places = [b"pc=%s " % it.split()[1].rjust(8, "0").encode() for it in timeline.stops if it.startswith("break")]
-        places += [b"pc=%08x " % at for at in self.beyond]
+        patterns = [b"pc=%s " % it.split()[1].rjust(8, "0").encode() for it in timeline.stops if it.startswith("break")]
+        patterns += [b"pc=%08x " % at for at in self.beyond]
 
         def is_quiet(block: bytes, runs: int) -> bool:
             return block.count(b"why=done") == runs and not (self.caught and block.count(NO_TRAP) < runs) \
-                and not any(it in block for it in places)
+                and not any(it in block for it in patterns)
 
         return is_quiet
 
@@ -132,7 +132,7 @@ class Stops:
         """Returns whether there may be a halt after a run, by its reply alone. `before` is the world before it."""
         return ran.why != "done" or self.is_break(timeline, ran.pc) or bool(self.caught and self.catch(0, ran, before))
 
-    def asks(self, ran: Ran) -> bool:
+    def needs_query(self, ran: Ran) -> bool:
         """Returns whether registers or memory decide if there is a halt."""
         return ran.why.startswith("watch") or any(code for it in self.breaks.get(int(ran.pc, 16), {}).values() for code in it)
 
@@ -193,10 +193,10 @@ class Stops:
     def catch(self, hart: int, ran: Ran, before: str) -> Halt | None:
         """Returns the halt of a catchpoint after a single step, or None."""
         if "switch" in self.caught and ran.world != before:
-            return Halt(hart, "", STOPPED, "[hart %d: from %s to %s, by %s]" % (
-                hart, before, ran.world, "the timer" if ran.trap and ran.trap.cause == names.TIMER else "a call"))
+            return Halt(hart, "", STOPPED, "[hart %d: switch from %s to %s by %s]" % (
+                hart, before, ran.world, "the timer" if ran.trap and ran.trap.cause == names.TIMER else "a monitor call"))
         if "call" in self.caught and ran.trap and ran.trap.cause == names.ECALL_FROM_S and before != "bare":
-            return Halt(hart, "", STOPPED, "[hart %d: a call of %s]" % (hart, before))
+            return Halt(hart, "", STOPPED, "[hart %d: monitor call by %s]" % (hart, before))
         if "trap" in self.caught and ran.trap:
             return Halt(hart, "", signal_of(ran.trap), "[hart %d: %s, %s]" % (hart, names.cause_name(ran.trap.cause), ran.trap.value))
         return None

@@ -33,7 +33,7 @@ class View:
         self.lines: dict[int, bytes] = {}
 
     def check(self) -> None:
-        """Forgets the values if something may have changed."""
+        """Discards the cached values if something may have changed."""
         if self.changes != self.timeline.changes:
             self.changes, self.values, self.lines = self.timeline.changes, {}, {}
 

@@ -1,1 +1,1 @@
-"""What is run: images, symbols and source lines, and the measurement of a region."""
+"""Images, symbols and source lines, and the measurement of a region."""

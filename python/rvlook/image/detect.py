@@ -44,13 +44,13 @@ def has_compressed(image: Image) -> bool:
     return is_elf_32(image) and bool(struct.unpack_from("<I", image.data or b"", AT_FLAGS)[0] & COMPRESSED)
 
 
-def asks_for_monitor(image: Image, script: Iterable[ScriptLine]) -> str | None:
+def reason_for_monitor(image: Image, script: Iterable[ScriptLine]) -> str | None:
     """Returns why an image seems to be made for the monitor, or None."""
     if is_elf_32(image):
         first = min((address for address, _ in segments_of(image.data or b"")), default=0)
         return "its first address is %08x" % first if first == MONITOR_END else None
     if has_key(image.data or b"") or any(KEY_SET.match(line.given) for line in script):
-        return "it has an ecall with the monitor's a7, 0a454e43"
+        return "it calls the monitor (a7 = 0a454e43)"
     return None
 
 

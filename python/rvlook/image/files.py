@@ -5,7 +5,7 @@ import re
 from typing import BinaryIO
 
 from rvlook.protocol.bench_line import LONGEST_LINE, ended, is_separator, lines_of
-from rvlook.errors import Fault
+from rvlook.errors import RvlookError
 from rvlook.protocol.inputs import Image, ScriptLine
 
 DIGITS_A_LINE = 120
@@ -19,21 +19,21 @@ PRINTABLE = re.compile(rb"[\t\r\n\x20-\x7e]*\Z")
 
 
 def read_file(path: str) -> bytes:
-    """Returns the bytes of a file, at most MOST_READ; raises Fault."""
+    """Returns the bytes of a file, at most MOST_READ; raises RvlookError."""
     try:
         with open(path, "rb") as file:
             return bounded(file, path)
     except OSError as error:
-        raise Fault("%s: %s" % (path, error.strerror)) from None
+        raise RvlookError("cannot open '%s': %s" % (path, error.strerror)) from None
     except ValueError as error:  # a NUL in the name
-        raise Fault("%s: %s" % (path, error)) from None
+        raise RvlookError("cannot open '%s': %s" % (path, error)) from None
 
 
 def bounded(file: BinaryIO, path: str) -> bytes:
-    """Returns all bytes of an open file; a Fault if there are more than MOST_READ. A device without end is such a file."""
+    """Returns all bytes of an open file; a RvlookError if there are more than MOST_READ. A device without end is such a file."""
     data = file.read(MOST_READ + 1)
     if len(data) > MOST_READ:
-        raise Fault("%s: the file is too long: it has more than %d bytes" % (path, MOST_READ))
+        raise RvlookError("'%s' is too large: it has more than %d bytes" % (path, MOST_READ))
     return data
 
 
@@ -45,9 +45,9 @@ def digits_of(data: bytes) -> bytes:
 
 
 def script_lines(data: bytes, path: str, before: int = 0) -> tuple[ScriptLine, ...]:
-    """Returns the lines of a script that follows `before` lines of a file. Leaves out lines --, which are for two benches. Raises Fault."""
+    """Returns the lines of a script that follows `before` lines of a file. Leaves out lines --, which are for two benches. Raises RvlookError."""
     if data.count(b"\n") > MOST_LINES:
-        raise Fault("%s: the script is too long: it has more than %d lines" % (path, MOST_LINES))
+        raise RvlookError("script '%s' is too long: it has more than %d lines" % (path, MOST_LINES))
     lines = enumerate(lines_of(data.decode("latin-1")), before + 1)
     return tuple(ScriptLine(line, "%s:%d" % (path, number), line) for number, line in lines
                  if line.strip(" \t") and not is_separator(line) or len(line) > LONGEST_LINE)
@@ -62,8 +62,8 @@ def decoded(text: bytes) -> bytes | None:
 
 
 def image_of(path: str, kind: str = "auto") -> Image:
-    """Reads an image. Hexadecimal digits are passed on with the script after their line `--`, if there is one. So is any other text before such
-    a line, whose errors the bench reports. All other bytes are the image itself. Raises Fault."""
+    """Reads an image. Hexadecimal digits, and any text before a line `--`, are passed on unchanged; rvbench reports their errors. The lines after
+    `--` are a script. All other bytes are the image itself. Raises RvlookError."""
     data = read_file(path)
     cut = separator_in(data)
     head, rest = (data[:cut.start()], data[cut.end():]) if cut else (data, b"")
@@ -74,9 +74,9 @@ def image_of(path: str, kind: str = "auto") -> Image:
         return Image(path, text, decoded(head), script_lines(rest, path, before) if cut else ())
     if kind != "raw" and (printable or is_marked_text(data)):
         mark = "" if printable else " with a byte order mark"
-        raise Fault("%s: it is a text%s, and not that of an image; --kind raw takes its bytes" % (path, mark))
+        raise RvlookError("'%s' is a text file%s, not a hex image; use --kind raw to load its bytes" % (path, mark))
     if len(data) > MOST_BYTES:
-        raise Fault("%s: rvbench: too long: the image has more than %d bytes" % (path, MOST_BYTES))
+        raise RvlookError("cannot load '%s': rvbench: too long: the image has more than %d bytes" % (path, MOST_BYTES))
     return Image(path, digits_of(data), data)
 
 

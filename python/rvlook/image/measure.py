@@ -7,7 +7,7 @@ import struct
 from typing import Sequence, TYPE_CHECKING
 
 from rvlook.protocol import names
-from rvlook.errors import Fault, Unfinished, package_missing
+from rvlook.errors import RvlookError, Unfinished, package_missing
 from rvlook.image.files import read_file
 from rvlook.protocol.inputs import ELF_MAGIC
 from rvlook.protocol.memory_map import MONITOR_END
@@ -22,10 +22,10 @@ LEAST_SIZE = 4096
 
 def region_bytes(path: str, data: bytes, base: int, size: int) -> bytes:
     """Returns the bytes of a region, padded with zeros: the segments of an ELF file, or the bytes of another file from the base on. Raises
-    Fault."""
+    RvlookError."""
     if not data.startswith(ELF_MAGIC):
         if len(data) > size:
-            raise Fault("%s has %d bytes, and the region %d" % (path, len(data), size))
+            raise RvlookError("'%s' has %d bytes, but the region has only %d" % (path, len(data), size))
         return data.ljust(size, b"\0")
     region = bytearray(size)
     for address, part in segments(path, data):
@@ -36,17 +36,17 @@ def region_bytes(path: str, data: bytes, base: int, size: int) -> bytes:
 
 
 def segments(path: str, data: bytes) -> list[tuple[int, bytes]]:
-    """Returns the load address and the bytes of each segment of an ELF file; raises Fault or Unfinished."""
+    """Returns the load address and the bytes of each segment of an ELF file; raises RvlookError or Unfinished."""
     try:
         from elftools.common.exceptions import ELFError
         from elftools.elf.elffile import ELFFile
     except ImportError:
-        raise Unfinished(package_missing("pyelftools", "python3-pyelftools", "no ELF file can be measured; raw bytes can")) from None
+        raise Unfinished(package_missing("pyelftools", "python3-pyelftools", "measure cannot read an ELF file")) from None
     try:
         file = ELFFile(io.BytesIO(data))
         return [(it["p_paddr"], it.data()) for it in file.iter_segments() if it["p_type"] == "PT_LOAD"]
     except ELFError as error:
-        raise Fault("%s: %s" % (path, error)) from None
+        raise RvlookError("cannot read '%s': %s" % (path, error)) from None
 
 
 def measurement(record: Sequence[int], region: bytes) -> str:
@@ -54,16 +54,16 @@ def measurement(record: Sequence[int], region: bytes) -> str:
     return hashlib.sha256(struct.pack("<5I", *record) + region).hexdigest()
 
 
-def is_lawful(base: int, size: int, least: int) -> bool:
+def is_valid(base: int, size: int, least: int) -> bool:
     """Returns whether `create` accepts such a range."""
     return size >= LEAST_SIZE and size & (size - 1) == 0 and base % size == 0 and base >= least
 
 
 def refusal_of(base: int, size: int, window: int, window_size: int, entry: int) -> str | None:
     """Returns the status with which `create` always refuses these arguments, or None."""
-    if not is_lawful(base, size, 0x80000000):
+    if not is_valid(base, size, 0x80000000):
         return "BadRegion"
-    if window_size and not is_lawful(window, window_size, 0x80000000):
+    if window_size and not is_valid(window, window_size, 0x80000000):
         return "BadWindow"
     if base < MONITOR_END or window_size and (window < MONITOR_END or window < base + size and base < window + window_size):
         return "Overlap"
@@ -71,16 +71,16 @@ def refusal_of(base: int, size: int, window: int, window_size: int, entry: int) 
 
 
 def show_measure(path: str, numbers: Sequence[str], symbols_path: str | None, printer: Printer) -> None:
-    """Prints the digest; raises Fault if `create` refuses these arguments."""
+    """Prints the digest; raises RvlookError if `create` refuses these arguments."""
     data = read_file(path)
     symbols = symbols_of(symbols_path or path, read_file(symbols_path) if symbols_path else data)
     values = [symbols.address(text) for text in numbers]
     if None in values:
-        raise Fault("%s is no hexadecimal number and no symbol" % numbers[values.index(None)])
+        raise RvlookError("'%s' is neither a hexadecimal number nor a symbol" % numbers[values.index(None)])
     base, size, window, window_size, entry = (it for it in values if it is not None)
     refusal = refusal_of(base, size, window, window_size, entry)
     if refusal:
-        raise Fault("create refuses these numbers: %s" % refusal)
+        raise RvlookError("create rejects these arguments: %s" % refusal)
     record = (base, size, window if window_size else 0, window_size, entry)
     digest = measurement(record, region_bytes(path, data, base, size))
     if printer.as_json:

@@ -9,7 +9,7 @@ from typing import Any, Callable, Iterator, TYPE_CHECKING, TypeVar
 
 from rvlook.protocol.bench_line import lines_of
 from rvlook.output.escapes import name_of, visible
-from rvlook.errors import Fault, package_missing, tell
+from rvlook.errors import RvlookError, package_missing, warn
 from rvlook.image.files import read_file
 from rvlook.protocol.inputs import ELF_MAGIC
 from rvlook.protocol.symbols import Symbol, Symbols
@@ -49,11 +49,11 @@ def decoded(data: bytes) -> str:
 
 
 def symbols_from(path: str | None, image: Image) -> Symbols:
-    """Returns the symbols of a file, or else those of the image if it is an ELF file. Raises Fault."""
+    """Returns the symbols of a file, or else those of the image if it is an ELF file. Raises RvlookError."""
     if path:
         found = symbols_of(path, read_file(path))
         if not found:
-            raise Fault("%s: there are no symbols in it" % path)
+            raise RvlookError("no symbols in '%s'" % path)
         return found
     return symbols_of(image.name, image.data if image.is_elf else None)
 
@@ -63,7 +63,7 @@ def elf_symbols(path: str, data: bytes) -> Symbols:
     try:
         from elftools.elf.elffile import ELFFile
     except ImportError:
-        told(package_missing("pyelftools", "python3-pyelftools", "there are addresses in place of symbols"))
+        warn_once(package_missing("pyelftools", "python3-pyelftools", "symbols are not available"))
         return Symbols()
     file = readable(path, "no symbols", lambda: checked(ELFFile(io.BytesIO(data)), data))
     if file is None:
@@ -80,7 +80,7 @@ def readable(path: str, without: str, read: Callable[[], T]) -> T | None:
         return read()
     except Exception as error:  # pyelftools has no common class for what it cannot read, and lets errors of Python through
         reason = visible(str(error)[:LONGEST_REASON]) or type(error).__name__
-        told("%s: %s, for it is no file that pyelftools reads (%s)" % (path, without, reason))
+        warn_once("%s from '%s': pyelftools cannot read it (%s)" % (without, path, reason))
         return None
 
 
@@ -88,18 +88,18 @@ def checked(file: Any, data: bytes) -> Any:
     """Returns an ELF file whose table of sections is in the file, and whose compressed sections are not too large: pyelftools believes both."""
     size, count = file["e_shentsize"], file.num_sections()
     if count > MOST_SECTIONS or count and (size < LEAST_HEADER or file["e_shoff"] + count * size > len(data)):
-        raise ValueError("its table of sections is damaged")
+        raise ValueError("the section table is damaged")
     inflated = 0
     for section in file.iter_sections():
         if section.compressed or section.name.startswith(".zdebug"):
             inflated += inflated_size(data[section["sh_offset"]:section["sh_offset"] + section["sh_size"]])
         if inflated > MOST_INFLATED:
-            raise ValueError("its compressed sections have more than %d bytes" % MOST_INFLATED)
+            raise ValueError("the compressed sections exceed %d bytes" % MOST_INFLATED)
     return file
 
 
 def inflated_size(data: bytes) -> int:
-    """Returns how many bytes the zlib stream of a compressed section gives, which stands after its header; at most MOST_INFLATED + 1."""
+    """Returns the size of the zlib stream of a compressed section after decompression, at most MOST_INFLATED + 1; the stream follows a header."""
     for header in (12, 24):  # of ELF; .zdebug has 12 bytes too
         try:
             return len(zlib.decompressobj().decompress(data[header:], MOST_INFLATED + 1))
@@ -109,9 +109,9 @@ def inflated_size(data: bytes) -> int:
 
 
 @lru_cache(maxsize=None)
-def told(line: str) -> None:
-    """Prints a line once."""
-    tell(line)
+def warn_once(line: str) -> None:
+    """Prints a warning, once for each text."""
+    warn(line)
 
 
 def knows_all_forms() -> None:
@@ -136,7 +136,7 @@ def named(file: Any) -> Iterator[Symbol]:
         kind, index = symbol["st_info"]["type"], symbol["st_shndx"]
         length += len(symbol.name)
         if length > MOST_NAMED:
-            raise ValueError("its names have more than %d characters" % MOST_NAMED)
+            raise ValueError("the symbol names exceed %d characters" % MOST_NAMED)
         if symbol.name and not symbol.name.startswith(("$", ".L")) and (index in sections) \
                 and kind in (*PREFERRED, "STT_NOTYPE"):
             rank = 0 if kind in PREFERRED else 1 if symbol["st_info"]["bind"] == "STB_GLOBAL" else 2
@@ -169,8 +169,8 @@ def line_programs(dwarf: Any) -> Iterator[tuple[Any, Any]]:
 def file_names(program: Any) -> dict[int, str]:
     """Returns the file names of a line table by number: from 1 up to DWARF 4, from 0 in DWARF 5."""
     first = 0 if program["version"] >= 5 else 1
-    return {first + place: name_of(entry.name.split(b"/")[-1])
-            for place, entry in enumerate(program["file_entry"])}
+    return {first + number: name_of(entry.name.split(b"/")[-1])
+            for number, entry in enumerate(program["file_entry"])}
 
 
 def inlined_calls(file: Any) -> Iterator[Inlined]:
@@ -208,23 +208,23 @@ def entries_of(dwarf: Any, unit: Any) -> Iterator[Any]:
     """Yields the entries of a unit in the order of the file. pyelftools follows sibling references, and does not end if one is circular."""
     from elftools.dwarf.die import DIE
     unit.get_top_DIE()  # which others need to read indirect values
-    place, end = unit.cu_die_offset, unit.cu_offset + unit.size
-    while place < end:
-        entry = DIE(unit, dwarf.debug_info_sec.stream, place)
-        place += entry.size
+    offset, end = unit.cu_die_offset, unit.cu_offset + unit.size
+    while offset < end:
+        entry = DIE(unit, dwarf.debug_info_sec.stream, offset)
+        offset += entry.size
         yield entry
 
 
 def ranges_of(dwarf: Any, unit: Any, entry: Any) -> Iterator[tuple[int, int]]:
     """Yields the address ranges of an entry, each without its end."""
-    told = entry.attributes
-    if "DW_AT_low_pc" in told and "DW_AT_high_pc" in told:
-        first, end = told["DW_AT_low_pc"].value, told["DW_AT_high_pc"]
+    attributes = entry.attributes
+    if "DW_AT_low_pc" in attributes and "DW_AT_high_pc" in attributes:
+        first, end = attributes["DW_AT_low_pc"].value, attributes["DW_AT_high_pc"]
         yield first, end.value if end.form == "DW_FORM_addr" else first + end.value
-    elif "DW_AT_ranges" in told and dwarf.range_lists():
+    elif "DW_AT_ranges" in attributes and dwarf.range_lists():
         base = unit.get_top_DIE().attributes.get("DW_AT_low_pc")
         base = base.value if base else 0
-        for it in dwarf.range_lists().get_range_list_at_offset(told["DW_AT_ranges"].value, unit):
+        for it in dwarf.range_lists().get_range_list_at_offset(attributes["DW_AT_ranges"].value, unit):
             if hasattr(it, "base_address"):
                 base = it.base_address
             else:

@@ -1,1 +1,1 @@
-"""What is printed: lines, objects, progress, findings."""
+"""Output: lines, objects, progress, findings."""

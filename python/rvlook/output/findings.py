@@ -1,15 +1,15 @@
-"""The findings of a subcommand, as its exit status and as a JUnit report with a test case for each question."""
+"""The findings of a subcommand, as its exit status and as a JUnit report with a test case for each check."""
 from __future__ import annotations
 
 from dataclasses import dataclass
 from typing import Any
 
-from rvlook.errors import FOUND, REFUSED, UNFINISHED, Unfinished, package_missing, tell
+from rvlook.errors import FOUND, REFUSED, UNFINISHED, Unfinished, error as report_error, package_missing, warn
 
 
 @dataclass(frozen=True)
 class Case:
-    """A question that a subcommand answers, and the finding; empty if there is none."""
+    """A check of a subcommand, and its finding; empty if there is none."""
     name: str
     finding: str = ""
 
@@ -28,12 +28,12 @@ class Findings:
 
     def refuse(self, line: str) -> None:
         """Notes a line of the script that the bench refused."""
-        tell(line)
+        report_error(line)
         self.refused.append(line)
 
     def cut_short(self, line: str) -> None:
         """Notes that not everything was examined; the line says why."""
-        tell(line)
+        warn(line)
         self.cut = line
 
     @property
@@ -73,7 +73,7 @@ def write_junit(path: str, name: str, findings: Findings, error: str = "") -> No
     try:
         report.write(path, pretty=True)
     except OSError as fault:
-        raise Unfinished("%s: %s" % (path, fault.strerror)) from None
+        raise Unfinished("cannot write '%s': %s" % (path, fault.strerror)) from None
 
 
 def case_of(case: Any, kind: Any, text: str) -> Any:

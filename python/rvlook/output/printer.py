@@ -17,7 +17,7 @@ Json = Union[None, bool, int, float, str, Sequence[Any], Mapping[str, Any]]  # t
 
 
 class Writer(Protocol):
-    """What takes the objects of a run."""
+    """A consumer of the objects of a run."""
 
     def object(self, __kind: str, **members: Json) -> None:
         """Takes an object by its kind and its members."""
@@ -86,7 +86,7 @@ def end_object(printer: Writer, end: End) -> None:
 
 def end_text(printer: Printer, end: End, symbols: Symbols) -> None:
     """Prints the last line of a run."""
-    why = "stays at" if end.why == "stays" else "has come to"
+    why = "halts at" if end.why == "halted" else "is at"
     count = "1 step" if end.steps == 1 else "%d steps" % end.steps
     printer.line("%s: %s %s %s in %s" % (count, end.world, why, place_text(end.pc, symbols), end.mode))
 

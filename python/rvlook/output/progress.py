@@ -21,20 +21,20 @@ class Progress:
     def __exit__(self, *_: object) -> None:
         self.clear()
 
-    def tell(self, text: str, *values: object) -> None:
+    def show(self, text: str, *values: object) -> None:
         """Shows a line, from a format and its values."""
         if not self.is_shown or time.monotonic() - self.last < EVERY:
             return
-        self.last, told = time.monotonic(), text % values
-        self.stream.write("\r" + told.ljust(self.width))
+        self.last, line = time.monotonic(), text % values
+        self.stream.write("\r" + line.ljust(self.width))
         self.stream.flush()
-        self.width = len(told)
+        self.width = len(line)
 
     def bar(self, done: int, of: int, found: str) -> None:
         """Shows how much of a known amount is done, and what was found."""
         if self.is_shown and of:
             filled = 30 * done // of
-            self.tell("[%s%s] %d of %d  %s", "#" * filled, "." * (30 - filled), done, of, found)
+            self.show("[%s%s] %d of %d  %s", "#" * filled, "." * (30 - filled), done, of, found)
 
     def clear(self) -> None:
         """Removes the line."""

@@ -15,13 +15,13 @@ JOINED = 1024  # touched places nearer than that are one segment
 
 def segments_of(found: Collector) -> list[dict[str, Any]]:
     """Returns the segments of RAM in ascending order: first and last address, whether it is accessed, and the names in it."""
-    borders = sorted(int(first, 16) for first in found.borders)
-    ends = borders[1:] + [RAM_BASE + found.run["ram"]]
+    boundaries = sorted(int(first, 16) for first in found.boundaries)
+    ends = boundaries[1:] + [RAM_BASE + found.run["ram"]]
     touched = sorted(it * GRANULE for it in found.granules)
-    below, above = any(it < borders[0] for it in touched), any(it >= ends[-1] for it in touched)
+    below, above = any(it < boundaries[0] for it in touched), any(it >= ends[-1] for it in touched)
     labels = sorted((address, name) for name, address in found.labels.items())
     segments = [outside(0, RAM_BASE)] if below else []
-    for first, end in zip(borders, ends):
+    for first, end in zip(boundaries, ends):
         for low, high, is_open in cut(first, end, [it for it in touched if first <= it < end]):
             names = [{"address": "%08x" % address, "name": name} for address, name in labels if low <= address < high]
             segments.append({"first": "%08x" % low, "last": "%08x" % (high - 1), "range": "%08x" % first, "open": is_open,
@@ -36,15 +36,15 @@ def outside(first: int, end: int) -> dict[str, Any]:
 
 def cut(first: int, end: int, touched: Sequence[int]) -> Iterator[tuple[int, int, bool]]:
     """Yields the parts of a range: first address, end, and whether it is accessed."""
-    place, at = first, 0
+    start, at = first, 0
     while at < len(touched):
         low = high = touched[at]
         while at < len(touched) and touched[at] - high <= JOINED:
             high, at = touched[at], at + 1
         high = min(high + GRANULE, end)
-        if low > place:
-            yield place, low, False
+        if low > start:
+            yield start, low, False
         yield low, high, True
-        place = high
-    if place < end:
-        yield place, end, False
+        start = high
+    if start < end:
+        yield start, end, False

@@ -1,7 +1,7 @@
-// The picture: where steps and addresses lie, the bands of memory, and the axes.
+// The picture: positions of steps and addresses, the bands of memory, and the axes.
 const chart = document.getElementById("chart"), drawing = document.getElementById("drawing"), cursor = document.getElementById("cursor");
 const SHUT = 5, LEAST = 15, OUTSIDE = 28, AXIS = 20, EDGE = 10, NARROW = 600;
-// What of the run is seen: steps, and of the memory the part from its top to its bottom.
+// The visible part of the run: steps, and the part of the memory from its top to its bottom.
 const view = { from: 0, to: Math.max(1, run.steps), top: 0, bottom: 1 };
 const lanes = [
   ...[[data.commands, "script"], [data.calls, "calls"], [faults, "traps"]].filter(([signs]) => signs.length)
@@ -11,7 +11,7 @@ const lanes = [
 const segments = data.segments.map(it => ({ ...it, low: parseInt(it.first, 16), high: parseInt(it.last, 16) }));
 let box = null;
 
-// The colours are asked for once a drawing, for the scheme may change.
+// The colours are read once per drawing, since the colour scheme may change.
 let palette = {};
 const style = name => palette[name] ??= getComputedStyle(document.documentElement).getPropertyValue(name).trim();
 const slotOf = world => world.startsWith("e") ? Number(world.slice(1)) : -1;
@@ -24,15 +24,15 @@ function yOf(address) {
   return it.bottom - (address - it.low + 0.5) / (it.high - it.low + 1) * (it.bottom - it.top);
 }
 
-// What a range of the map is, at whatever moment it is something.
+// The name of a range of the map, at the first event that gives it one.
 function nameOfRange(first) {
   if (segments.some(it => it.outside && it.low === first)) return "no memory";
-  const names = data.moments.map(it => rowAt(it, first).what).filter(it => it);
+  const names = data.events.map(it => rowAt(it, first).what).filter(it => it);
   return names[0] || (data.run.monitor ? "host" : "RAM");
 }
 
-function rowAt(moment, address) {
-  return moment.rows[lastAtMost(moment.rows, address, row => parseInt(row.first, 16))];
+function rowAt(event, address) {
+  return event.rows[lastAtMost(event.rows, address, row => parseInt(row.first, 16))];
 }
 
 const wholes = [...new Set(segments.map(it => it.range))].map(range => {
@@ -40,10 +40,10 @@ const wholes = [...new Set(segments.map(it => it.range))].map(range => {
   const name = nameOfRange(parseInt(range, 16));
   return { range, name, own, isHost: ["host", "RAM"].includes(name) };
 });
-// A range that has a name is seen also where nothing in it was touched.
+// A range that has a name is drawn even if nothing in it was accessed.
 wholes.filter(it => !it.isHost && !it.own.some(segment => segment.open)).forEach(it => { it.own[0].named = true; });
 
-// Where everything lies on a chart of this width.
+// Computes the layout for the present width.
 function measure() {
   const width = chart.clientWidth, isNarrow = width < NARROW, gutter = isNarrow ? 66 : 200;
   const top = lanes.reduce((sum, lane) => { lane.top = sum; return sum + lane.height; }, 0) + 4;
@@ -62,7 +62,7 @@ function measure() {
   box = { left: gutter, width: width - gutter - EDGE, top, bottom, height: bottom + AXIS, full: width, isNarrow };
 }
 
-// Draws within the memory alone, of which a part may be seen.
+// Draws clipped to the memory area.
 function within(pen, draw) {
   pen.save();
   pen.beginPath();
@@ -72,7 +72,7 @@ function within(pen, draw) {
   pen.restore();
 }
 
-// The address at a place of the picture, or null where there is no memory.
+// The address at a height of the picture, or null outside memory.
 function addressAt(y) {
   const it = segments.find(segment => y >= segment.top && y < segment.bottom);
   return it ? it.low + Math.floor((it.bottom - y) / (it.bottom - it.top) * (it.high - it.low + 1)) : null;
@@ -90,7 +90,7 @@ function sized(canvas) {
 
 const HATCHES = { nobody: [[0, 0, 6, 6], [6, 0, 0, 6]], shared: [[0, 3, 6, 3]], slots: [[[0, 6, 6, 0]], [[0, 0, 6, 6]], [[3, 0, 3, 6]]] };
 
-// A pattern of lines in a colour, which tells the same without it.
+// A pattern of lines, which is distinguishable without its colour.
 function hatch(pen, lines, colour) {
   const tile = document.createElement("canvas");
   tile.width = tile.height = 6;
@@ -100,7 +100,7 @@ function hatch(pen, lines, colour) {
   return pen.createPattern(tile, "repeat");
 }
 
-// How a set of worlds is drawn: colour and lines.
+// The colour and pattern of a set of worlds.
 function lookOf(pen, names) {
   if (!names.length) return { colour: style("--nobody"), lines: hatch(pen, HATCHES.nobody, style("--nobody")) };
   const colour = names.length > 1 ? style("--shared") : colourOf(names[0]);
@@ -123,14 +123,14 @@ function fillBand(pen, look, isRunning, x, y, width, height) {
 
 const looks = new Map();
 
-// The band of a segment from one moment to the next.
-function drawBand(pen, moment, segment, x, end) {
+// Draws the band of a segment from one event to the next.
+function drawBand(pen, event, segment, x, end) {
   if (segment.outside) return;
-  const row = rowAt(moment, segment.low), who = whoOf(moment, row), key = who.worlds.join("+");
+  const row = rowAt(event, segment.low), who = whoOf(event, row), key = who.worlds.join("+");
   if (!looks.has(key)) looks.set(key, lookOf(pen, who.worlds));
   const look = looks.get(key), height = segment.bottom - segment.top;
-  fillBand(pen, look, isOpen(moment, row, who), x, segment.top, end - x, height);
-  const text = rightsText(moment, row);
+  fillBand(pen, look, isOpen(event, row, who), x, segment.top, end - x, height);
+  const text = rightsText(event, row);
   if (height >= 13 && end - x > pen.measureText(text).width + 8) outlined(pen, text, x + 4, segment.top + 10);
 }
 
@@ -144,9 +144,9 @@ function outlined(pen, text, x, y) {
   pen.fillText(text, x, y);
 }
 
-// From, to and the moment, of those that are seen; of more within half a pixel the last.
-function shownMoments() {
-  const spans = data.moments.map((it, at) => ({ it, from: it.step, to: data.moments[at + 1]?.step ?? Math.max(run.steps, 1) }));
+// The visible events with their horizontal extent; of several within half a pixel only the last.
+function shownEvents() {
+  const spans = data.events.map((it, at) => ({ it, from: it.step, to: data.events[at + 1]?.step ?? Math.max(run.steps, 1) }));
   const seen = spans.filter(it => it.to > view.from && it.from < view.to && (it.to > it.from));
   return seen.map(({ it, from, to }) => ({ it, x: Math.max(box.left, xOf(from)), end: Math.min(box.left + box.width, xOf(to)) }))
     .filter((span, at, all) => span.end - span.x > 0.5 || at % Math.ceil(all.length / box.width) === 0);
@@ -155,7 +155,7 @@ function shownMoments() {
 function drawBands(pen) {
   looks.clear();
   pen.font = "10px " + style("--mono");
-  const spans = shownMoments();
+  const spans = shownEvents();
   spans.forEach(({ it, x, end }) => segments.forEach(segment => drawBand(pen, it, segment, x, end)));
   pen.fillStyle = style("--ink");
   pen.globalAlpha = 0.55;
@@ -165,7 +165,7 @@ function drawBands(pen) {
   pen.fillRect(box.left - 4, box.top - 0.5, box.width + 4, 1);
 }
 
-// The names of ranges, and in a wide picture of what is touched in them, as far as there is room.
+// Draws the names of ranges and, in a wide picture, of the accessed symbols, as far as there is room.
 function drawGutter(pen) {
   wholes.forEach(it => {
     const top = it.own[it.own.length - 1].top, bottom = it.own[0].bottom;

@@ -1,10 +1,10 @@
-// The data of the page: the packed columns as arrays, and what is asked of them.
+// The data of the page: the packed columns as arrays, and queries on them.
 const LAST_REGISTER = 31;
 
-// The data as python/rvlook/page/data.py packs them: an object, and the columns behind it.
+// Unpacks the data that python/rvlook/page/data.py packs: an object, then the columns.
 async function unpacked() {
-  const told = document.getElementById("data"), text = told.textContent;
-  told.remove();
+  const source = document.getElementById("data"), text = source.textContent;
+  source.remove();
   const packed = (await fetch("data:application/octet-stream;base64," + text)).body;
   const bytes = await new Response(packed.pipeThrough(new DecompressionStream("deflate"))).arrayBuffer();
   const length = new DataView(bytes).getUint32(0, true);
@@ -13,7 +13,7 @@ async function unpacked() {
 
 const [data, packedBytes, firstColumn] = await unpacked();
 
-data.moments.forEach(moment => Object.assign(moment, data.maps[moment.map]));
+data.events.forEach(event => Object.assign(event, data.maps[event.map]));
 
 // A column as an array of numbers of its width.
 function columnOf({ width, at, count }) {
@@ -25,7 +25,7 @@ const TOUCH_COLUMNS = ["step", "address", "width", "kind", "name", "value"];
 const columnsOf = (of, names) => Object.fromEntries(names.map(name => [name, columnOf(of[name])]));
 const run = { steps: data.steps, ...columnsOf(data, COLUMNS), touch: columnsOf(data.touch, TOUCH_COLUMNS) };
 const ABI = "zero ra sp gp tp t0 t1 t2 s0 s1 a0 a1 a2 a3 a4 a5 a6 a7 s2 s3 s4 s5 s6 s7 s8 s9 s10 s11 t3 t4 t5 t6".split(" ");
-// Where the changes of each step begin among all of them.
+// The index of the first change of each step.
 run.start = new Uint32Array(run.steps + 1);
 run.changes.forEach((count, at) => { run.start[at + 1] = run.start[at] + count; });
 
@@ -39,7 +39,7 @@ const isWritten = kind => (kind & 1) === 1, isRefused = kind => (kind & 2) === 2
 const hex8 = number => (number >>> 0).toString(16).padStart(8, "0");
 const pcs = Uint32Array.from(data.sites, site => parseInt(site.pc, 16));
 
-// The place of the last element of a sorted array that is not over the wanted one, or -1.
+// The index of the last element of a sorted array that is at most the wanted one, or -1.
 function lastAtMost(array, wanted, keyOf = it => it) {
   let low = 0, high = array.length;
   while (low < high) {
@@ -49,7 +49,7 @@ function lastAtMost(array, wanted, keyOf = it => it) {
   return low - 1;
 }
 
-const momentAt = step => Math.max(0, lastAtMost(data.moments, step, it => it.step));
+const eventAt = step => Math.max(0, lastAtMost(data.events, step, it => it.step));
 const siteOf = step => data.sites[run.site[step - 1]];
 const placeOf = step => data.places[run.place[step - 1]];
 const trapOf = step => run.trap[step - 1] ? data.traps[run.trap[step - 1] - 1] : null;
@@ -64,31 +64,31 @@ function touchOf(step) {
   return { address: run.touch.address[at], width, kind, value, symbol: data.names[run.touch.name[at]] };
 }
 
-// The steps with a trap that is no call, in their order.
+// The steps with a trap other than a monitor call, in order.
 const faults = [];
 run.trap.forEach((trap, at) => { if (trap && !callAt.has(at + 1)) faults.push(at + 1); });
 
-// What setreg lines of the script put into registers, by the step behind which they stand.
+// The registers that setreg lines of the script write, by the step after which they run.
 const puts = data.commands.filter(it => it.line.startsWith("setreg") && it.replies[0] === "ok").map(it => {
   const [, number, value] = it.line.trim().split(/\s+/);
   return { step: it.step, hart: it.hart, number: Number(number), value: parseInt(value, 16) };
 });
 
-// The registers of a hart behind every so many steps, and how many of the lines that put one were done by then.
-const APART = 4096, kept = new Map();
+// The registers of a hart at regular steps, with the number of setreg lines so far.
+const INTERVAL = 4096, kept = new Map();
 
 function registersFrom(hart) {
   const values = new Uint32Array(LAST_REGISTER + 1), all = [];
   values[10] = hart;
   let next = 0;
   for (let step = 0; step <= run.steps; step++) {
-    if (step % APART === 0) all.push({ values: values.slice(), next });
+    if (step % INTERVAL === 0) all.push({ values: values.slice(), next });
     if (step < run.steps) next = goOn(values, next, step + 1, hart);
   }
   return all;
 }
 
-// What the lines before a step put, and what the step changed.
+// Applies the setreg lines before a step, and the changes of the step.
 function goOn(values, next, step, hart) {
   next = putLines(values, next, step - 1, hart);
   if (data.places[run.place[step - 1]].hart === hart)
@@ -96,45 +96,45 @@ function goOn(values, next, step, hart) {
   return next;
 }
 
-function putLines(values, next, behind, hart) {
-  for (; next < puts.length && puts[next].step <= behind; next++)
+function putLines(values, next, last, hart) {
+  for (; next < puts.length && puts[next].step <= last; next++)
     if (puts[next].hart === hart && puts[next].number) values[puts[next].number] = puts[next].value;
   return next;
 }
 
-// The registers of a hart behind a step.
+// The registers of a hart after a step.
 function registersAfter(step, hart) {
   if (!kept.has(hart)) kept.set(hart, registersFrom(hart));
-  const start = Math.floor(step / APART), from = kept.get(hart)[start], values = from.values.slice();
+  const start = Math.floor(step / INTERVAL), from = kept.get(hart)[start], values = from.values.slice();
   let next = from.next;
-  for (let at = start * APART + 1; at <= step; at++) next = goOn(values, next, at, hart);
+  for (let at = start * INTERVAL + 1; at <= step; at++) next = goOn(values, next, at, hart);
   putLines(values, next, step, hart);
   return values;
 }
 
-const worlds = [...new Set(data.moments.flatMap(it => it.columns.map(column => column.world)))].sort((one, other) =>
+const worlds = [...new Set(data.events.flatMap(it => it.columns.map(column => column.world)))].sort((one, other) =>
   (one === "host" ? -1 : other === "host" ? 1 : one.localeCompare(other, "en", { numeric: true })));
 const hartCount = data.run.harts;
 
-// Who may touch a row of a moment at all: the worlds, and which of them run.
-function whoOf(moment, row) {
-  const may = moment.columns.filter(column => Object.values(row.may[column.name]).some(it => it !== "---"));
+// The worlds that can access a row of the map after an event, and which of them are running.
+function whoOf(event, row) {
+  const may = event.columns.filter(column => Object.values(row.may[column.name]).some(it => it !== "---"));
   const running = new Set(may.filter(it => !it.derived).map(it => it.world));
   return { worlds: worlds.filter(world => may.some(it => it.world === world)), running };
 }
 
-// The modes of a range with what each may do, those together that may do the same.
+// The access rights of each mode; modes with equal rights are joined.
 function modesText(texts) {
   const same = new Map();
   Object.entries(texts).forEach(([mode, rights]) => same.set(rights, (same.get(rights) || "") + mode));
   return [...same].map(([rights, modes]) => modes + " " + rights).join(" ");
 }
 
-// What the worlds that run may do there, as r, w and x of all modes together; those that do not run are in brackets. On the bare bench
-// the modes are told apart.
-function rightsText(moment, row) {
+// The access rights of the running worlds, as r, w and x of all modes together, and the other worlds in brackets. On the bare bench the
+// modes are distinguished.
+function rightsText(event, row) {
   if (!data.run.monitor) return modesText(row.may.bare);
-  const parts = moment.columns.map(column => {
+  const parts = event.columns.map(column => {
     const texts = Object.values(row.may[column.name]);
     const rights = ["r", "w", "x"].map(kind => texts.some(it => it.includes(kind)) ? kind : "-").join("");
     return rights === "---" ? "" : column.derived ? `(${column.name})` : `${column.name} ${rights}`;
@@ -142,7 +142,7 @@ function rightsText(moment, row) {
   return parts.filter(it => it).join(" ") || "nobody";
 }
 
-// Whether a band is strong: a world that runs may touch it; on the bare bench, not M alone.
-function isOpen(moment, row, who) {
+// Whether a band is strong: a running world can access it; on the bare bench, S or U can.
+function isOpen(event, row, who) {
   return data.run.monitor ? who.running.size > 0 : row.may.bare.S !== "---" || row.may.bare.U !== "---";
 }

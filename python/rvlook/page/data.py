@@ -1,5 +1,5 @@
 """Packs the objects of a run for the page: repeated values are numbers in a table, and numbers are columns of bytes. The result is
-compressed by zlib, in base 64: the length of a JSON object in four bytes, little-endian; the object; and the columns, at the places that
+compressed by zlib, in base 64: the length of a JSON object in four bytes, little-endian; the object; and the columns, at the offsets that
 the object names."""
 from __future__ import annotations
 
@@ -21,9 +21,9 @@ if TYPE_CHECKING:
 GRANULE = 16  # bytes that are touched are kept by so many, which bounds the memory for them
 KINDS = {"r": 0, "w": 1}
 KINDS_OF_ARRAYS = "BHI"
-COMMON = ("stdin", "image", "program.elf")  # names that tell nothing
+COMMON = ("stdin", "image", "program.elf")  # names that do not identify a run
 MAP = ("enclaves", "columns", "rows")
-REFUSED, NO_VALUE = 2, 4  # added to the kind of a touch that trapped, and of one whose value is not told
+REFUSED, NO_VALUE = 2, 4  # added to the kind of an access that trapped, and of one without a value
 LEVEL = 6  # of zlib
 BRANCH = re.compile(r"b|jal ")
 
@@ -50,21 +50,21 @@ class Columns:
         self.bytes = bytearray()
 
     def add(self, numbers: array[int]) -> dict[str, int]:
-        """Appends an array, in little-endian numbers of the least width that is enough; returns its place."""
+        """Appends an array, in little-endian numbers of the least width that is enough; returns its location."""
         largest = max(numbers, default=0)
         narrow = array(next(kind for kind in KINDS_OF_ARRAYS if largest < 256 ** array(kind).itemsize), numbers)
         if sys.byteorder == "big":
             narrow.byteswap()
-        place = {"width": narrow.itemsize, "at": len(self.bytes), "count": len(narrow)}
+        location = {"width": narrow.itemsize, "at": len(self.bytes), "count": len(narrow)}
         self.bytes += narrow.tobytes() + bytes(-len(narrow) * narrow.itemsize % 4)
-        return place
+        return location
 
 
 def compressed(data: Mapping[str, Any], columns: Columns) -> str:
     """Returns the data of a page and its columns as text."""
-    told = json.dumps(data, separators=(",", ":")).encode("utf-8")
-    told += b" " * (-len(told) % 4)
-    return base64.b64encode(zlib.compress(struct.pack("<I", len(told)) + told + bytes(columns.bytes), LEVEL)).decode("ascii")
+    header = json.dumps(data, separators=(",", ":")).encode("utf-8")
+    header += b" " * (-len(header) % 4)
+    return base64.b64encode(zlib.compress(struct.pack("<I", len(header)) + header + bytes(columns.bytes), LEVEL)).decode("ascii")
 
 
 def refusal(step: Mapping[str, Any]) -> str | None:
@@ -94,11 +94,11 @@ class Collector:
                       "value": array("I")}
         self.calls: list[dict[str, Any]] = []
         self.commands: list[dict[str, Any]] = []
-        self.moments: list[dict[str, Any]] = []
+        self.events: list[dict[str, Any]] = []
         self.granules: set[int] = set()
         self.labels: dict[str, int] = {}
         self.maps = Table()
-        self.borders: set[str] = set()
+        self.boundaries: set[str] = set()
         self.points = self.rows = 0
 
     @property
@@ -124,13 +124,13 @@ class Collector:
         """Takes a line of the script."""
         self.commands.append(it)
 
-    def take_moment(self, it: dict[str, Any]) -> None:
-        """Takes a moment. Equal maps are stored once."""
+    def take_event(self, it: dict[str, Any]) -> None:
+        """Takes a event. Equal maps are stored once."""
         self.rows += len(it["rows"])
-        self.borders.update(row["first"] for row in it["rows"])
+        self.boundaries.update(row["first"] for row in it["rows"])
         shown = json.dumps({name: it[name] for name in MAP})
         rest = {name: value for name, value in it.items() if name not in MAP}
-        self.moments.append({**rest, "map": self.maps.number(shown)})
+        self.events.append({**rest, "map": self.maps.number(shown)})
 
     def take_step(self, it: dict[str, Any]) -> None:
         """Takes a step."""
@@ -169,7 +169,7 @@ class Collector:
             self.labels[name] = address
 
     def source_names(self) -> set[str]:
-        """Returns the names of the files of which a line was executed."""
+        """Returns the names of the files with executed lines."""
         sources = [source for site in self.sites.numbers for source in site[5:7] if source]
         return {source.rsplit(":", 1)[0] for source in sources}
 
@@ -183,4 +183,4 @@ class Collector:
             "names": list(self.names.numbers), "site": columns.add(self.site), "place": columns.add(self.place),
             "trap": columns.add(self.trap), "changes": columns.add(self.changes), "registers": columns.add(self.registers),
             "values": columns.add(self.values), "touch": {name: columns.add(column) for name, column in self.touch.items()},
-            "calls": self.calls, "commands": self.commands, "moments": self.moments}
+            "calls": self.calls, "commands": self.commands, "events": self.events}

@@ -1,7 +1,7 @@
-// What is found: by the pointer, by a symbol or an address; and which worlds and kinds are drawn.
+// The search by pointer, symbol and address, and the filters.
 const hover = document.getElementById("hover"), finder = document.getElementById("find"), NEAR = 7, MOST_NEAR = 3000;
 
-// The point nearest to a place of the picture: its step, and whether it is what was touched.
+// The point nearest to a position of the picture: its step, and whether it is a load or store.
 function nearest(x, y) {
   const first = Math.max(1, stepAt(x - NEAR)), last = Math.min(stepAt(x + NEAR), first + MOST_NEAR);
   let best = null, least = NEAR * NEAR;
@@ -9,13 +9,13 @@ function nearest(x, y) {
     if (hidden.has(placeOf(step).world)) continue;
     touchedAt(step).forEach((address, place) => {
       const far = (xOf(step - 0.5) - x) ** 2 + (yOf(address) - y) ** 2;
-      if (far < least) [least, best] = [far, { step, isTouch: place > 0 }];
+      if (far < least) [least, best] = [far, { step, isAccess: place > 0 }];
     });
   }
   return best;
 }
 
-// The name of an address: of what was executed or touched there, or the nearest name below it.
+// The symbol of an address that was executed or accessed, or the nearest one below.
 function nameAt(address) {
   const segment = segments[lastAtMost(segments, address, it => it.low)];
   const label = segment && segment.labels[lastAtMost(segment.labels, address, it => parseInt(it.address, 16))];
@@ -27,11 +27,11 @@ function hoverLines(x, y) {
   if (near) {
     const site = siteOf(near.step), place = placeOf(near.step);
     const lines = [`step ${near.step.toLocaleString("en")}, ${placeName(place)}`, `${site.pc} ${site.symbol || ""}  ${site.shown || ""}`];
-    return near.isTouch ? [...lines, touchText(touchOf(near.step))] : lines;
+    return near.isAccess ? [...lines, touchText(touchOf(near.step))] : lines;
   }
   if (address === null || x < box.left) return address === null ? [] : [hex8(address), nameAt(address)];
-  const step = stepAt(x), row = rowAt(data.moments[momentAt(step)], address);
-  const may = row ? `${row.what} ${rightsText(data.moments[momentAt(step)], row)}` : "";
+  const step = stepAt(x), row = rowAt(data.events[eventAt(step)], address);
+  const may = row ? `${row.what} ${rightsText(data.events[eventAt(step)], row)}` : "";
   return [`${hex8(address)} ${nameAt(address)}`, may];
 }
 
@@ -47,7 +47,7 @@ function hideHover() {
   hover.hidden = true;
 }
 
-// Which sites and which touches are those of a symbol or an address.
+// Predicates for the sites and the accesses of a symbol or an address.
 function wantedOf(text) {
   const address = /^(0x)?[0-9a-f]{8}$/i.test(text) ? parseInt(text, 16) : null;
   const isNamed = name => name === text || Boolean(name) && name.startsWith(text + "+");
@@ -59,7 +59,7 @@ function wantedOf(text) {
   return { site: at => sites[at], touch: at => names[run.touch.name[at]] };
 }
 
-// The next step, or the one before, at which it is executed or touched; from the other end where there is none.
+// The next or previous step that executes or accesses it; wraps around at the ends of the run.
 function findFrom(wanted, direction) {
   for (let count = 1; count <= run.steps; count++) {
     const step = (current - 1 + direction * count + 2 * run.steps) % run.steps + 1;
@@ -72,7 +72,7 @@ function findFrom(wanted, direction) {
 
 function find(direction) {
   const text = finder.value.trim(), step = text ? findFrom(wantedOf(text), direction) : current;
-  document.getElementById("found").textContent = step === null ? "no step has it" : "";
+  document.getElementById("found").textContent = step === null ? "not found" : "";
   if (step !== null) show(step);
 }
 
@@ -91,6 +91,6 @@ function showFilters() {
     input.addEventListener("change", () => { if (input.checked) hidden.delete(name); else hidden.add(name); draw(); });
     return element("label", "", input, text);
   };
-  put("filters", element("span", "aside", "drawn:"), ...[...new Set(data.places.map(it => it.world))].map(it => box(it, it)),
+  put("filters", element("span", "aside", "show:"), ...[...new Set(data.places.map(it => it.world))].map(it => box(it, it)),
     ...SHOWN_KINDS.map(([name, text]) => box(name, text)));
 }

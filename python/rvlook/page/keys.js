@@ -1,4 +1,4 @@
-// Where the reader goes: by keys, buttons and the picture.
+// Navigation by keys, buttons and the picture.
 let current = 0;
 const LEAST_SPAN = 8, LEAST_PART = 1 / 64, ZOOM = 2, MOVED = 0.2, DRAGGED = 4;
 const number = document.getElementById("number");
@@ -13,11 +13,11 @@ function draw() {
   drawLegend();
   drawCursor();
   const points = data.points.toLocaleString("en"), rows = data.rows.toLocaleString("en");
-  put("counts", `${data.moments.length} moments, ${rows} rows, ${run.steps.toLocaleString("en")} steps, ${points} points` +
-    (marks < data.points ? `, of which ${marks.toLocaleString("en")} marks are drawn here` : ""));
+  put("counts", `${data.events.length} events, ${rows} rows, ${run.steps.toLocaleString("en")} steps, ${points} points` +
+    (marks < data.points ? `, drawn as ${marks.toLocaleString("en")} marks` : ""));
 }
 
-// The step that is shown: a line, and rings around what it fetched and touched.
+// Draws the current step: a line, and rings around its fetch, load and store.
 function drawCursor() {
   const pen = sized(cursor), x = xOf(Math.max(0, current - 0.5));
   if (x < box.left - 1 || x > box.left + box.width + 1) return;
@@ -28,7 +28,7 @@ function drawCursor() {
   within(pen, () => touchedAt(current).forEach(address => { pen.beginPath(); pen.arc(x, yOf(address), 7, 0, 7); pen.stroke(); }));
 }
 
-// The step stands in the page's address, a moment after the reader has come to it.
+// Stores the current step in the URL fragment, after a short delay.
 let keeping = 0;
 function keepStep() {
   clearTimeout(keeping);
@@ -51,7 +51,7 @@ function show(step) {
   keepStep();
 }
 
-// Shows so many steps from one on.
+// Shows `span` steps from `from` on.
 function look(from, span) {
   const whole = Math.max(1, run.steps), width = Math.min(whole, Math.max(Math.min(LEAST_SPAN, whole), span));
   view.from = Math.min(Math.max(0, from), whole - width);
@@ -65,7 +65,7 @@ function zoom(factor, around = current) {
   look(around - (around - view.from) / factor, span);
 }
 
-// Shows a part of the memory, by its top and its height as parts of the whole.
+// Shows a part of the memory; its top and height are fractions of the whole.
 function lookAlong(top, height) {
   const part = Math.min(1, Math.max(LEAST_PART, height));
   view.top = Math.min(Math.max(0, top), 1 - part);
@@ -73,7 +73,7 @@ function lookAlong(top, height) {
   draw();
 }
 
-// Comes closer to the memory around a height of the picture, by default that of what the step touched last.
+// Zooms in on the memory around a height of the picture, by default that of the last access of the step.
 function zoomAlong(factor, y = heightOf(current)) {
   const part = (y - box.top) / (box.bottom - box.top), height = (view.bottom - view.top) / factor;
   lookAlong(view.top + part * (view.bottom - view.top) - part * height, height);
@@ -90,12 +90,12 @@ function whole() {
 
 const nextOf = (steps, fallback) => steps[lastAtMost(steps, current) + 1] ?? fallback;
 const previousOf = (steps, fallback) => steps[lastAtMost(steps, current - 1)] ?? fallback;
-const changes = data.moments.map(it => it.step), called = data.calls.map(it => it.step);
+const changes = data.events.map(it => it.step), called = data.calls.map(it => it.step);
 
 const actions = {
   previousStep: () => show(current - 1), nextStep: () => show(current + 1), previousTen: () => show(current - 10),
   nextTen: () => show(current + 10), first: () => show(0), last: () => show(run.steps),
-  previousMoment: () => show(previousOf(changes, 0)), nextMoment: () => show(nextOf(changes, current)),
+  previousEvent: () => show(previousOf(changes, 0)), nextEvent: () => show(nextOf(changes, current)),
   previousTrap: () => show(previousOf(faults, current)), nextTrap: () => show(nextOf(faults, current)),
   previousCall: () => show(previousOf(called, current)), nextCall: () => show(nextOf(called, current)),
   closer: () => zoom(ZOOM), farther: () => zoom(1 / ZOOM), taller: () => zoomAlong(ZOOM), flatter: () => zoomAlong(1 / ZOOM),
@@ -103,7 +103,7 @@ const actions = {
   help: () => { const help = document.getElementById("help"); help.hidden = !help.hidden; },
 };
 const keys = {
-  ArrowLeft: "previousStep", ArrowRight: "nextStep", Home: "first", End: "last", n: "nextMoment", p: "previousMoment", t: "nextTrap",
+  ArrowLeft: "previousStep", ArrowRight: "nextStep", Home: "first", End: "last", n: "nextEvent", p: "previousEvent", t: "nextTrap",
   T: "previousTrap", c: "nextCall", C: "previousCall", "+": "closer", "=": "closer", "-": "farther", 0: "whole", "?": "help",
   v: "taller", V: "flatter", ArrowUp: "up", ArrowDown: "down", "/": "find",
 };
@@ -122,7 +122,7 @@ number.addEventListener("change", () => show(Number(number.value)));
 const inChart = event => ({ x: event.clientX - chart.getBoundingClientRect().left, y: event.clientY - chart.getBoundingClientRect().top });
 let held = null;
 
-// A drag moves the picture; a click, or a touch, goes to the step there.
+// A drag scrolls the picture; a click or a tap selects the step there.
 chart.addEventListener("pointerdown", event => {
   chart.setPointerCapture(event.pointerId);
   held = { ...inChart(event), view: { ...view }, isDragged: false };
@@ -157,7 +157,7 @@ chart.addEventListener("wheel", event => {
   else zoom(factor, stepAt(x));
 }, { passive: false });
 
-// Draws once a frame.
+// Draws once per frame.
 function soon(act) {
   cancelAnimationFrame(pending);
   pending = requestAnimationFrame(act);
@@ -168,7 +168,7 @@ window.addEventListener("resize", () => soon(draw));
 window.matchMedia("(prefers-color-scheme: dark)").addEventListener("change", draw);
 window.addEventListener("hashchange", () => show(Number(location.hash.slice(1)) || 0));
 
-// What a reader of the page may ask of it by a script.
+// The functions and values for scripts.
 Object.assign(window, { show, run, view, look, zoomAlong });
 
 chart.setAttribute("aria-valuemax", run.steps);
@@ -176,4 +176,4 @@ number.max = run.steps;
 showAbout();
 showFilters();
 draw();
-show(Number(location.hash.slice(1)) || data.moments[1]?.step || 0);
+show(Number(location.hash.slice(1)) || data.events[1]?.step || 0);

@@ -1,9 +1,9 @@
-// What is drawn on the bands: points of what was read, written and executed, and the lanes above; the legend.
+// The marks on the bands (reads, writes, instructions), the lanes above, and the legend.
 const KINDS = ["read", "write", "refused", "execute"];
 const hidden = new Set(); // kinds and worlds that are not drawn
 let marks = 0;
 
-// A sign of a kind, hollow where it is the host's or the bare bench's, and filled where it is an enclave's.
+// Draws a sign of a kind: hollow for the host and the bare bench, filled for an enclave.
 function drawSign(pen, kind, isFilled, x, y) {
   pen.beginPath();
   if (kind === "execute") {
@@ -18,7 +18,7 @@ function drawSign(pen, kind, isFilled, x, y) {
   pen.stroke();
 }
 
-// A load of an enclave: a thick ring, which its stores, as full squares, are not.
+// Draws a load of an enclave: a thick ring. Its stores are filled squares.
 function drawRing(pen, x, y) {
   fillPaper(pen);
   pen.lineWidth = 2.6;
@@ -32,14 +32,14 @@ function fillPaper(pen) {
   pen.fillStyle = own;
 }
 
-// A colour that stands out on the band of the same one; where the browser cannot mix, the colour itself.
+// A colour that contrasts with a band of the same colour; the colour itself if the browser cannot mix colours.
 function darker(pen, colour) {
   pen.fillStyle = colour;
   pen.fillStyle = `color-mix(in srgb, ${colour} 45%, ${style("--ink")})`;
   return pen.fillStyle;
 }
 
-// One sign for all points of a kind and a world that lie within two pixels.
+// Draws one sign for all points of a kind and a world within two pixels.
 class Signs {
   constructor(pen) {
     this.pen = pen;
@@ -64,7 +64,7 @@ function drawPoints(pen) {
   const lastAt = new Int32Array(data.sites.length).fill(-1), perStep = box.width / (view.to - view.from) / 2;
   for (let step = first; step <= last; step++) {
     const site = run.site[step - 1], at = Math.floor((step - view.from) * perStep) * 16 + run.place[step - 1] % 16;
-    // Most steps lie on the mark of one before.
+    // Most steps coincide with an earlier mark.
     if (!run.trap[step - 1] && lastAt[site] === at) continue;
     lastAt[site] = at;
     const trap = trapOf(step), isRefused = trap && trap.cause === "00000001" && trap.value === data.sites[site].pc;
@@ -81,7 +81,7 @@ function drawTouches(signs, first, last) {
   }
 }
 
-// Signs in a lane, and above each its text, where that of the one before leaves room.
+// Draws signs in a lane, each with its text above if there is room.
 function drawLane(pen, lane, marked, drawOne) {
   let free = 0, last = -Infinity;
   marked.filter(it => it.position >= view.from && it.position <= view.to).forEach(({ position, text, world }) => {
@@ -157,7 +157,7 @@ const signOf = trap => isInterrupt(trap) ? diamond : trap.cause === ECALL_FROM_U
 
 const trapText = trap => isInterrupt(trap) ? "timer" : trap.name;
 
-// The stretches of a hart's steps in one world and mode, beside which those of the other hart stand still.
+// The stretches of steps of a hart in one world and mode.
 function stretchesOf(hart) {
   const found = [];
   for (let step = 1; step <= run.steps; step++) {
@@ -202,7 +202,7 @@ function legendItem(text, draw, isSign) {
 
 function drawLegend() {
   const legend = document.getElementById("legend"), sets = new Map([["", []], ...worlds.map(it => [it, [it]])]);
-  data.moments.forEach(it => it.rows.forEach(row => { const who = whoOf(it, row).worlds; sets.set(who.join("+"), who); }));
+  data.events.forEach(it => it.rows.forEach(row => { const who = whoOf(it, row).worlds; sets.set(who.join("+"), who); }));
   const bands = [...sets].map(([name, who]) =>
     legendItem(name || "nobody", (pen, width, height) => fillBand(pen, lookOf(pen, who), true, 0, 0, width, height), false));
   const sign = (kind, isFilled) => (pen, width, height) => {
@@ -214,7 +214,7 @@ function drawLegend() {
   const filled = hasSlots ? ["read", "write", "execute"].map(kind => legendItem(kind + " by an enclave", sign(kind, true), true)) : [];
   const traps = faults.map(trapOf), has = (isOne, item) => traps.some(isOne) ? [item] : [];
   const rest = [
-    ...has(it => signOf(it) === crossed, legendItem("refused, or a fault", sign("refused", false), true)),
+    ...has(it => signOf(it) === crossed, legendItem("refused access or other fault", sign("refused", false), true)),
     ...has(it => signOf(it) === hollow, legendItem("ecall from U", pen => hollow(pen, 7, 7), true)),
     ...has(isInterrupt, legendItem("timer", pen => diamond(pen, 7, 7), true)),
   ];

@@ -5,8 +5,8 @@ import os
 from typing import Any, Sequence, TYPE_CHECKING
 
 from rvlook.errors import Unfinished, package_missing
-from rvlook.access.map_text import moment_object
-from rvlook.access.map import moments
+from rvlook.access.map_text import write_event
+from rvlook.access.map import events
 from rvlook.page.axis import segments_of
 from rvlook.page.data import Collector, Columns, compressed
 from rvlook.page.sources import roots_of, source_texts
@@ -29,7 +29,7 @@ def page_template() -> Any:
     try:
         from jinja2 import Environment, FileSystemLoader, StrictUndefined
     except ImportError:
-        raise Unfinished(package_missing("jinja2", "python3-jinja2", "the page cannot be made")) from None
+        raise Unfinished(package_missing("jinja2", "python3-jinja2", "page cannot render its output")) from None
     environment = Environment(loader=FileSystemLoader(FOLDER), autoescape=True, undefined=StrictUndefined, keep_trailing_newline=False)
     return environment.get_template("page.html")
 
@@ -55,9 +55,9 @@ def collected(run: Run, symbols: Symbols) -> Collector:
             writer.end(item)
         else:
             writer.command(item)
-    for moment in moments(run):
-        if isinstance(moment, End):
-            end_object(found, moment)
+    for event in events(run):
+        if isinstance(event, End):
+            end_object(found, event)
         else:
-            moment_object(found, moment, symbols)
+            write_event(found, event, symbols)
     return found

@@ -1,7 +1,7 @@
-// What stands beside the picture: a step, the map behind it, the registers, and the source.
-const BEFORE = 5, BEHIND = 6, STEP_COLUMNS = 4, MOST_LINES = 12, SOURCE_BEFORE = 6, SOURCE_BEHIND = 8;
+// The panel: the current step, the access rights after it, the registers, and the source.
+const BEFORE = 5, AFTER = 6, STEP_COLUMNS = 4, MOST_LINES = 12, SOURCE_BEFORE = 6, SOURCE_AFTER = 8;
 
-// An element with a class and what is in it.
+// Makes an element with a class and its contents.
 function element(tag, name, ...parts) {
   const made = document.createElement(tag);
   if (name) made.className = name;
@@ -30,7 +30,7 @@ function touchText(touch) {
     (isRefused(touch.kind) ? ": refused" : value);
 }
 
-// What a step did, in a few words.
+// The effect of a step, in short.
 function effectOf(step) {
   const trap = trapOf(step), touch = touchOf(step), call = callAt.get(step);
   const changes = changesOf(step).map(([number, value]) => ABI[number] + "=" + hex8(value));
@@ -46,38 +46,38 @@ function effectOf(step) {
 function showWhere(step) {
   if (!step) {
     put("where", "At reset");
-    put("did", element("p", "mono", `pc ${data.run.pc}, ${data.run.world} in ${data.run.mode}`), ...commandsBehind(0));
+    put("did", element("p", "mono", `pc ${data.run.pc}, ${data.run.world} in ${data.run.mode}`), ...commandsAfter(0));
     return;
   }
   const site = siteOf(step), place = placeOf(step), trap = trapOf(step), touch = touchOf(step), call = callAt.get(step);
   put("where", `Step ${step.toLocaleString("en")}: ${placeName(place)}`);
   const lines = [element("p", "mono", site.pc, site.symbol ? "  " + site.symbol : "", sourceText(site))];
-  if (isInterrupt(trap)) lines.push(element("p", "refused", "the " + trap.name + ": no instruction is done"));
+  if (isInterrupt(trap)) lines.push(element("p", "refused", trap.name + ": no instruction is executed"));
   else lines.push(element("p", "mono here", site.shown || "no instruction"));
   if (touch) lines.push(element("p", isRefused(touch.kind) ? "refused" : "", touchText(touch)));
   if (call) lines.push(element("p", call.refused ? "refused" : "", callText(call)));
   else if (trap && !isInterrupt(trap)) lines.push(element("p", "refused", `trap: ${trap.name}, value ${trap.value}`));
-  put("did", ...lines, ...commandsBehind(step));
+  put("did", ...lines, ...commandsAfter(step));
 }
 
-// The source line; of what was inlined, that of the call too.
+// The source line; for inlined code also that of the call.
 const sourceText = site => site.source ? "  " + (site.caller ? site.caller + ", in " : "") + site.source : "";
 
 function callText(call) {
   const words = Object.entries(call.arguments).map(([name, value]) => name.replace("_", " ") + " " + value).join(", ");
   const isSame = call.to === placeOf(call.step).world;
-  return `calls ${call.name} (${words}): ${call.refused ? "refused, " + call.refused : isSame ? "done" : call.to + " goes on"}`;
+  return `calls ${call.name} (${words}): ${call.refused ? "refused, " + call.refused : isSame ? "done" : "switch to " + call.to}`;
 }
 
-function commandsBehind(step) {
+function commandsAfter(step) {
   const lines = data.commands.filter(it => it.step === step);
-  const rest = lines.length > MOST_LINES ? [element("p", "aside", `and ${lines.length - MOST_LINES} lines more of the script`)] : [];
+  const rest = lines.length > MOST_LINES ? [element("p", "aside", `and ${lines.length - MOST_LINES} more script lines`)] : [];
   return lines.slice(0, MOST_LINES).map(it => element("p", "mono aside", "> " + it.line + (it.replies.length ? "  " + it.replies[0] : "") +
-    (it.replies.length > 1 ? ` (and ${it.replies.length - 1} lines)` : ""))).concat(rest);
+    (it.replies.length > 1 ? ` (and ${it.replies.length - 1} more lines)` : ""))).concat(rest);
 }
 
 function showSteps(step) {
-  const first = Math.max(1, step - BEFORE), last = Math.min(run.steps, step + BEHIND), rows = [];
+  const first = Math.max(1, step - BEFORE), last = Math.min(run.steps, step + AFTER), rows = [];
   let function_ = null, world = null;
   for (let at = first; at <= last; at++) {
     const site = siteOf(at), place = placeOf(at);
@@ -102,26 +102,26 @@ function touchedAt(step) {
   return [pcs[run.site[step - 1]], ...(touch ? [touch.address] : [])];
 }
 
-// What the modes may do, once where they may do the same.
+// The access rights of the modes, once if they are equal.
 function cellText(texts) {
   const values = Object.values(texts);
   return values.every(it => it === values[0]) ? values[0] : modesText(texts);
 }
 
 function showMap(step) {
-  const moment = data.moments[momentAt(step)], touched = touchedAt(step);
-  const heads = ["from", "to", ...moment.columns.map(it => it.derived ? `(${it.name})` : it.name), "what"];
-  const rows = [...moment.rows].reverse().map(row => {
+  const event = data.events[eventAt(step)], touched = touchedAt(step);
+  const heads = ["from", "to", ...event.columns.map(it => it.derived ? `(${it.name})` : it.name), "what"];
+  const rows = [...event.rows].reverse().map(row => {
     const first = parseInt(row.first, 16), last = parseInt(row.last, 16);
-    const cells = moment.columns.map(it => element("td", it.derived ? "derived" : "", cellText(row.may[it.name])));
+    const cells = event.columns.map(it => element("td", it.derived ? "derived" : "", cellText(row.may[it.name])));
     const isHere = touched.some(it => it >= first && it <= last);
     const ends = [row.first, row.last].map(it => element("td", "", it));
     return element("tr", isHere ? "here" : "", ...ends, ...cells, element("td", "", row.what));
   });
-  const since = moment.step ? `since step ${moment.step}, ${moment.event}${moment.slot === null ? "" : " e" + moment.slot}` : "since reset";
-  const derived = moment.columns.some(it => it.derived) ? "; in brackets, derived: worlds that do not run" : "";
+  const since = event.step ? `since step ${event.step}, ${event.cause}${event.slot === null ? "" : " e" + event.slot}` : "since reset";
+  const derived = event.columns.some(it => it.derived) ? "; in brackets, derived: worlds that are not running" : "";
   put("map", table(heads, rows), element("p", "aside", since + derived));
-  const lives = moment.enclaves.map(it => element("tr", "", ...[`e${it.slot}`, it.state, it.base, it.size.toString(16), it.window,
+  const lives = event.enclaves.map(it => element("tr", "", ...[`e${it.slot}`, it.state, it.base, it.size.toString(16), it.window,
     it.window_size.toString(16), it.entry, it.measurement.slice(0, 8) + "…"].map(text => element("td", "", text))));
   put("enclaves", ...(lives.length ? [element("h3", "", "Enclaves"),
     table(["", "state", "region", "size", "window", "size", "entry", "measured"], lives)] : []));
@@ -135,7 +135,7 @@ function showRegisters(step) {
   put("registers", grid);
 }
 
-// The name of a file, which may be that of a member of every object, as __proto__ is.
+// A Map, since a file name may be that of a member of every object, such as __proto__.
 const sourceTexts = new Map(Object.entries(data.sources));
 
 // The file and the line number of a source line; the name of the file may have a colon.
@@ -149,7 +149,7 @@ function showSource(step) {
   const [name, line] = source ? nameAndLine(source) : [null, 0], text = name === null ? "" : sourceTexts.get(name);
   document.getElementById("below").classList.toggle("paired", Boolean(text));
   if (!text) return put("source");
-  const lines = text.split("\n"), first = Math.max(1, line - SOURCE_BEFORE), last = Math.min(lines.length, line + SOURCE_BEHIND);
+  const lines = text.split("\n"), first = Math.max(1, line - SOURCE_BEFORE), last = Math.min(lines.length, line + SOURCE_AFTER);
   const pre = element("pre", "");
   for (let at = first; at <= last; at++)
     pre.append(element("div", at === line ? "here" : "", String(at).padStart(4) + "  " + lines[at - 1]));
@@ -157,7 +157,7 @@ function showSource(step) {
 }
 
 function showAbout() {
-  const { run: setup, end } = data, last = end ? `${end.world} ${end.why === "stays" ? "stays at" : "has come to"} ${end.pc}` : "";
+  const { run: setup, end } = data, last = end ? `${end.world} ${end.why === "halted" ? "halts at" : "is at"} ${end.pc}` : "";
   const harts = setup.harts > 1 ? ", two harts" : "";
   put("about", `${run.steps.toLocaleString("en")} steps ${setup.monitor ? "under the monitor" : "on the bare bench"}${harts}; ${last}`);
 }

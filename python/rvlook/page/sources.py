@@ -7,7 +7,7 @@ import stat
 from typing import Sequence
 
 from rvlook.output.escapes import visible
-from rvlook.errors import Fault, tell
+from rvlook.errors import RvlookError, note
 from rvlook.image.source_paths import files_of
 
 LARGEST = 200000  # bytes of a source that is shown
@@ -17,7 +17,7 @@ def roots_of(folders: Sequence[str]) -> list[str]:
     """Returns the folders of `--sources`, without symbolic links."""
     for folder in folders:
         if not os.path.isdir(folder):
-            raise Fault("--sources %s: there is no such folder" % folder)
+            raise RvlookError("--sources: no directory '%s'" % folder)
     return [os.path.realpath(it) for it in folders]
 
 
@@ -50,5 +50,5 @@ def text_of(path: str, roots: Sequence[str]) -> str | None:
         return None
     if len(data) > LARGEST:
         return None
-    tell("the page has the source file %s" % visible(path))
+    note("embedding source file '%s'" % visible(path))
     return data.decode("utf-8", "replace")

@@ -9,7 +9,7 @@ from difflib import get_close_matches
 from typing import Iterable, Optional, Sequence, TYPE_CHECKING
 
 from rvlook.protocol.bench import COUNTS, program_path
-from rvlook.protocol.bench_line import LONGEST_LINE, has_reply, is_separator, lines_of, words_of
+from rvlook.protocol.bench_line import LONGEST_LINE, has_reply, is_separator, lines_of, tokens_of
 from rvlook.protocol.commands import COMMANDS
 from rvlook.protocol.messages import input_error, line_error
 from rvlook.errors import Unfinished
@@ -22,75 +22,75 @@ if TYPE_CHECKING:
 
 @dataclass(frozen=True)
 class Explained:
-    """An error: the line (0 for the input as a whole), its text, the reply, its meaning, and what to write."""
+    """An error: the line (0 for the whole input), its text, the reply, its meaning, and what to write instead."""
     line: int
     text: str
     reply: str
-    meant: str
-    write: Optional[str]
+    meaning: str
+    suggestion: Optional[str]
 
 
-def replies_to(words: Sequence[str], data: bytes) -> list[str]:
+def replies_to(arguments: Sequence[str], data: bytes) -> list[str]:
     """Returns the lines that the bench writes for an input; raises Unfinished."""
     try:
-        done = subprocess.run([program_path(), *words], input=data, capture_output=True, check=False)
+        done = subprocess.run([program_path(), *arguments], input=data, capture_output=True, check=False)
     except OSError as error:
-        raise Unfinished("%s: %s" % (program_path(), error.strerror)) from None
+        raise Unfinished("cannot run '%s': %s" % (program_path(), error.strerror)) from None
     return done.stdout.decode("latin-1").splitlines()
 
 
-def explained(words: Sequence[str], data: bytes) -> list[Explained]:
+def explained(arguments: Sequence[str], data: bytes) -> list[Explained]:
     """Returns all errors of an input, in order."""
-    replies = replies_to(words, data)
+    replies = replies_to(arguments, data)
     lines = lines_of(data.decode("latin-1"))
     last = replies[-1] if replies and replies[-1].startswith("rvbench: ") else None
     if last == "rvbench: command line":
-        return command_line_faults(words)
+        return command_line_errors(arguments)
     if last == "rvbench: hex":
-        return image_faults(lines)
+        return image_errors(lines)
     if last:
-        return [whole_fault(last)]
-    cut = next((place for place, line in enumerate(lines) if is_separator(line)), None)
+        return [input_error_of(last)]
+    cut = next((index for index, line in enumerate(lines) if is_separator(line)), None)
     if cut is None:
-        return [Explained(0, "", "", "there is no line --, so all of it is an image, and no script", "-- before the first command")]
-    return script_faults(list(enumerate(lines[cut + 1:], cut + 2)), replies, words[:1] == ["twin"])
+        return [Explained(0, "", "", "the input has no line --, so all of it is read as the image", "-- before the first command")]
+    return script_errors(list(enumerate(lines[cut + 1:], cut + 2)), replies, arguments[:1] == ["twin"])
 
 
-def whole_fault(reply: str) -> Explained:
-    """Returns an error of the input as a whole."""
+def input_error_of(reply: str) -> Explained:
+    """Returns an error of the whole input."""
     return Explained(0, "", reply, *input_error(reply))
 
 
-def image_faults(lines: Sequence[str]) -> list[Explained]:
+def image_errors(lines: Sequence[str]) -> list[Explained]:
     """Returns the first malformed line of the image's text."""
     for number, line in enumerate(lines, 1):
         if is_separator(line):
             break
-        found = image_line_fault(line)
+        found = image_line_error(line)
         if found:
             return [Explained(number, shown(line), "rvbench: hex", *found)]
-    return [Explained(0, "", "rvbench: hex", "a line of the image is faulty", None)]
+    return [Explained(0, "", "rvbench: hex", "a line of the image is malformed", None)]
 
 
-def image_line_fault(line: str) -> tuple[str, str | None] | None:
+def image_line_error(line: str) -> tuple[str, str | None] | None:
     """Returns what is wrong with a line of an image, and what to write; None if it is well-formed."""
     if re.search(r"[^\t\x20-\x7e]", line):
-        return "these are bytes, and not their digits", "the file's digits: od -An -v -tx1 -w60 FILE | tr -d ' '; rvlook takes it as it is"
+        return "the image contains raw bytes, not hexadecimal digits", "od -An -v -tx1 -w60 FILE | tr -d ' ' (rvlook reads the file as it is)"
     if len(line) > LONGEST_LINE:
-        return "the line has %d bytes, and may have %d" % (len(line), LONGEST_LINE), "shorter lines"
-    words = words_of(line)
-    joined = "".join(words)
-    if words and (words[0] in COMMANDS or words[0].startswith("#")):
-        return "this is of the script, and the image has not ended", "-- in a line before it"
+        return "the line has %d bytes; the limit is %d" % (len(line), LONGEST_LINE), "shorter lines"
+    tokens = tokens_of(line)
+    joined = "".join(tokens)
+    if tokens and (tokens[0] in COMMANDS or tokens[0].startswith("#")):
+        return "this is a script command, but the image is not terminated", "a line -- before it"
     if "0x" in line.lower():
-        return "digits have no 0x before them", re.sub(r"0[xX]|[, ]", "", line)
+        return "hexadecimal digits must not have the prefix 0x", re.sub(r"0[xX]|[, ]", "", line)
     other = re.search(r"[^0-9a-fA-F]", joined)
     if other:
-        return "%s is no hexadecimal digit" % other[0], None
-    if len(words) > 1:
-        return "no spaces stand between the digits of a line", joined
+        return "'%s' is not a hexadecimal digit" % other[0], None
+    if len(tokens) > 1:
+        return "the digits of a line must not be separated by spaces", joined
     if len(joined) % 2:
-        return "there are %d digits, an odd number; a byte has two" % len(joined), None
+        return "the line has an odd number of digits (%d); each byte has two" % len(joined), None
     return None
 
 
@@ -99,21 +99,21 @@ def shown(text: str) -> str:
     return re.sub(r"[^\x20-\x7e]", "?", text[:LONGEST_LINE])
 
 
-def script_faults(lines: Iterable[tuple[int, str]], replies: Sequence[str], is_twin: bool) -> list[Explained]:
+def script_errors(lines: Iterable[tuple[int, str]], replies: Sequence[str], is_twin: bool) -> list[Explained]:
     """Returns the lines of a script that have an error reply."""
-    found, place = [], 0
+    found, index = [], 0
     for number, line in lines:
         if not has_reply(line):
             continue
-        words = words_of(line)
-        reply = replies[place] if place < len(replies) else ""
-        if words == ["--"] and is_twin:
+        tokens = tokens_of(line)
+        reply = replies[index] if index < len(replies) else ""
+        if tokens == ["--"] and is_twin:
             continue
         if reply.startswith("error "):
-            place += 1
-            found.append(Explained(number, shown(line), reply, *line_error(reply, words)))
+            index += 1
+            found.append(Explained(number, shown(line), reply, *line_error(reply, tokens)))
         else:
-            place += marked_count(replies[place:]) or count_of(words, replies[place:])
+            index += marked_count(replies[index:]) or count_of(tokens, replies[index:])
     return found
 
 
@@ -124,48 +124,48 @@ def marked_count(replies: Sequence[str]) -> int:
     return first + second
 
 
-def count_of(words: Sequence[str], replies: Sequence[str]) -> int:
+def count_of(tokens: Sequence[str], replies: Sequence[str]) -> int:
     """Returns how many of the lines are the reply to a command."""
-    if words[0] == "enclaves":
+    if tokens[0] == "enclaves":
         return next((n for n, it in enumerate(replies) if not it.startswith("enclave ")), len(replies))
-    if words[0] == "sched":
+    if tokens[0] == "sched":
         return 2 if len(replies) > 1 and replies[0].startswith("hart 0") and replies[1].startswith("hart 1") else 1
-    return COUNTS.get(words[0], 1)
+    return COUNTS.get(tokens[0], 1)
 
 
-def command_line_faults(words: Sequence[str]) -> list[Explained]:
+def command_line_errors(arguments: Sequence[str]) -> list[Explained]:
     """Returns the first argument that the bench refuses: it accepts the arguments before it, with a value after an option that has one."""
-    for count in range(1, len(words) + 1):
-        tried = [words[:count], [*words[:count], "1"], [*words[:count], "raw"], [*words[:count], "65536"],
-                 [*words[:count], "--monitor"], [*words[:count], "1", "--monitor"]]
+    for count in range(1, len(arguments) + 1):
+        tried = [arguments[:count], [*arguments[:count], "1"], [*arguments[:count], "raw"], [*arguments[:count], "65536"],
+                 [*arguments[:count], "--monitor"], [*arguments[:count], "1", "--monitor"]]
         if all(replies_to(it, b"--\n")[-1:] == ["rvbench: command line"] for it in tried):
-            return [Explained(0, " ".join(words), "rvbench: command line", *word_fault(words, count - 1))]
-    return [Explained(0, " ".join(words), "rvbench: command line", "a value or --monitor is missing", "./rvbench run --help")]
+            return [Explained(0, " ".join(arguments), "rvbench: command line", *argument_error(arguments, count - 1))]
+    return [Explained(0, " ".join(arguments), "rvbench: command line", "a value or --monitor is missing", "./rvbench run --help")]
 
 
-def word_fault(words: Sequence[str], place: int) -> tuple[str, str]:
+def argument_error(arguments: Sequence[str], index: int) -> tuple[str, str]:
     """Returns which argument is refused, and what might be meant."""
     known = ("run", "twin", "asm", "dis", "help", "--kind", "--monitor", "--ram", "--harts", "--slot", "--help", "auto", "raw", "elf")
-    near = get_close_matches(words[place].lower(), known, 1, 0.6)
-    return "%s, word %d, is not taken there" % (words[place], place + 1), near[0] if near and near[0] != words[place] else \
+    near = get_close_matches(arguments[index].lower(), known, 1, 0.6)
+    return "argument %d ('%s') is invalid" % (index + 1, arguments[index]), near[0] if near and near[0] != arguments[index] else \
         "./rvbench run --help"
 
 
-def show_explain(path: str, words: Sequence[str], printer: Printer, findings: Findings) -> None:
+def show_explain(path: str, arguments: Sequence[str], printer: Printer, findings: Findings) -> None:
     """Prints the errors of an input, and what to write; each is a finding."""
     data = bounded(sys.stdin.buffer, "standard input") if path == "-" else read_file(path)
-    found = explained(words or ["run"], data)
+    found = explained(arguments or ["run"], data)
     for it in found:
-        findings.add("line %d" % it.line if it.line else "the input", "%s: %s: %s" % (it.text, it.reply, it.meant))
+        findings.add("line %d" % it.line if it.line else "input", "%s: %s: %s" % (it.text, it.reply, it.meaning))
         if printer.as_json:
-            printer.object("fault", line=it.line, text=it.text, reply=it.reply, meant=it.meant, write=it.write)
+            printer.object("error", line=it.line, text=it.text, reply=it.reply, meaning=it.meaning, suggestion=it.suggestion)
             continue
-        place = "line %d: %s" % (it.line, it.text) if it.line else "the input" if it.text == "" else "the words: " + it.text
-        printer.line("%s   %s" % (place, it.reply))
-        printer.line("  " + it.meant)
-        if it.write:
-            printer.line("  write: " + it.write)
+        index = "line %d: %s" % (it.line, it.text) if it.line else "input" if it.text == "" else "arguments: " + it.text
+        printer.line("%s   %s" % (index, it.reply))
+        printer.line("  " + it.meaning)
+        if it.suggestion:
+            printer.line("  try: " + it.suggestion)
     if not found:
-        findings.add("the input")
+        findings.add("input")
     if not found and not printer.as_json:
-        printer.line("every line is taken")
+        printer.line("no errors")

@@ -6,7 +6,7 @@ from typing import Iterator, TYPE_CHECKING
 
 from rvlook.protocol.bench_line import lines_of
 from rvlook.output.escapes import visible_line
-from rvlook.prompt.session import Held, Session, completions
+from rvlook.prompt.session import TimelineKeeper, Session, completions
 from rvlook.output.printer import Style
 from rvlook.protocol.timeline import Timeline
 
@@ -16,7 +16,7 @@ if TYPE_CHECKING:
     from rvlook.protocol.symbols import Symbols
 
 
-LONGEST_INPUT = 1 << 16  # characters of a line; a longer one is taken in parts
+LONGEST_INPUT = 1 << 16  # characters of a line; a longer one is read in parts
 
 
 def plain_lines(session: Session) -> Iterator[str]:
@@ -41,8 +41,8 @@ def complete_by(session: Session) -> None:
 
     def complete(text: str, number: int) -> str | None:
         """Returns a completion by its number, or None."""
-        words = (readline.get_line_buffer()[:readline.get_begidx()] + "|").split()
-        found = [it + " " for it in completions(session, words) if it.startswith(text)]
+        tokens = (readline.get_line_buffer()[:readline.get_begidx()] + "|").split()
+        found = [it + " " for it in completions(session, tokens) if it.startswith(text)]
         return found[number] if number < len(found) else None
 
     readline.set_completer(complete)
@@ -69,26 +69,26 @@ def bytes_text(line: str) -> str:
     return next(iter(lines_of(data.decode("latin-1"))), "")
 
 
-def done(session: Session, line: str) -> bool:
-    """Does a line; where Ctrl-C stops it, the bench is brought back to where it was before."""
+def run_line(session: Session, line: str) -> bool:
+    """Runs a line. If Ctrl-C interrupts it, the state before the line is restored."""
     position = session.timeline.position
     try:
         return session.line(bytes_text(line))
     except KeyboardInterrupt:
-        session.held.go(position)
-        session.tell("stopped; it is as it was before")
+        session.keeper.go(position)
+        session.print("interrupted; the state is unchanged")
         return True
 
 
 def show_prompt(run: Run, symbols: Symbols, printer: Printer) -> None:
-    """Reads lines and does them, up to the end."""
-    held = Held(Timeline.of_script(run.setup))
-    session = Session(held, run, symbols, printer)
+    """Reads and runs lines up to the end of the input."""
+    keeper = TimelineKeeper(Timeline.of_script(run.setup))
+    session = Session(keeper, run, symbols, printer)
     try:
         if sys.stdin.isatty():
-            printer.line(printer.styled("help tells the commands; quit, or Ctrl-D, leaves", Style.aside))
+            printer.line(printer.styled("Type help for the commands, quit or Ctrl-D to leave.", Style.aside))
         for line in terminal_lines(session) if sys.stdin.isatty() else plain_lines(session):
-            if not done(session, line):
+            if not run_line(session, line):
                 return
     finally:
-        held.timeline.close()
+        keeper.timeline.close()

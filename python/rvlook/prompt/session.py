@@ -5,17 +5,17 @@ import inspect
 from typing import Protocol, Sequence, TYPE_CHECKING
 
 from rvlook.protocol import names
-from rvlook.protocol.bench_line import has_reply, is_malformed, words_of
+from rvlook.protocol.bench_line import has_reply, is_malformed, tokens_of
 from rvlook.protocol.commands import COMMANDS, Form, is_form
 from rvlook.output.escapes import visible
 from rvlook.protocol.messages import line_error
-from rvlook.errors import NameRefused
+from rvlook.errors import SymbolError
 from rvlook.protocol.lines import resolved
-from rvlook.access.map import Event, Finder
-from rvlook.access.map_text import moment_text
+from rvlook.access.map import Cause, Finder
+from rvlook.access.map_text import print_event
 from rvlook.protocol.nearest import nearest
-from rvlook.protocol.replies import Place, ran_of
-from rvlook.protocol.run import ALIKE, MOST_STEPS, alike_at_end
+from rvlook.protocol.replies import Location, ran_of
+from rvlook.protocol.run import EQUAL, MOST_STEPS, equal_at_end
 from rvlook.output.printer import Style, place_text
 
 if TYPE_CHECKING:
@@ -24,29 +24,29 @@ if TYPE_CHECKING:
     from rvlook.protocol.symbols import Symbols
     from rvlook.protocol.timeline import Timeline
 
-CHUNK = 2048  # steps that are looked through at once
+CHUNK = 2048  # steps that are searched at once
 LONGEST_COUNT = 18  # digits of the operand of `back`
 PLACES = (Form.address, Form.value)
 
 OWN = {
-    "until": "until switch | trap: steps up to another world, or to a trap, at most 1000000",
-    "back": "back [N]: N steps back, 1 where it is not said; the run is played again from reset",
-    "map": "map: who may touch what now, and the table",
-    "where": "where: the next instruction, its symbol and its source line",
-    "help": "help: this",
-    "quit": "quit: leaves; so does the end of the input"}
+    "until": "until switch | trap: run to the next world switch or trap, at most 1000000 steps",
+    "back": "back [N]: go back N steps (default 1), by a replay from reset",
+    "map": "map: show the current access rights and the enclaves",
+    "where": "where: show the next instruction, its symbol and its source line",
+    "help": "help: show this list",
+    "quit": "quit: leave the prompt; so does the end of the input"}
 
 
 class Keeper(Protocol):
-    """What has the timeline of a session."""
+    """An owner of the timeline of a session."""
     timeline: Timeline
 
     def go(self, position: int) -> None:
         """Goes back to a step."""
 
 
-class Held:
-    """A timeline that another one at an earlier step may replace; what had been done after that step is forgotten."""
+class TimelineKeeper:
+    """An owner of a timeline, which it replaces to go back; the history after that step is discarded."""
 
     def __init__(self, timeline: Timeline) -> None:
         self.timeline = timeline
@@ -59,15 +59,15 @@ class Held:
 
 
 class Session:
-    """The session of a prompt; `held` has its timeline."""
+    """The session of a prompt; `keeper` has its timeline."""
 
-    def __init__(self, held: Keeper, run: Run, symbols: Symbols, printer: Printer) -> None:
-        self.held, self.setup, self.symbols, self.printer, self.finder = held, run.setup, symbols, printer, Finder(run)
+    def __init__(self, keeper: Keeper, run: Run, symbols: Symbols, printer: Printer) -> None:
+        self.keeper, self.setup, self.symbols, self.printer, self.finder = keeper, run.setup, symbols, printer, Finder(run)
 
     @property
     def timeline(self) -> Timeline:
         """Returns the timeline of the bench."""
-        return self.held.timeline
+        return self.keeper.timeline
 
     @property
     def hart(self) -> int:
@@ -87,22 +87,22 @@ class Session:
         return "%s%s %s %s> " % (hart, self.timeline.worlds[self.hart], self.timeline.modes[self.hart], name or pc)
 
     def line(self, text: str) -> bool:
-        """Does a line; False where the session ends."""
+        """Runs a line; returns False if the session ends."""
         try:
             return self.done(text)
-        except NameRefused as fault:
-            self.tell(str(fault), Style.bad)
+        except SymbolError as fault:
+            self.print(str(fault), Style.bad)
             return True
 
     def done(self, text: str) -> bool:
-        """Runs a line; returns False if the session ends. Raises NameRefused for an ambiguous name."""
-        words = words_of(text)
+        """Runs a line; returns False if the session ends. Raises SymbolError for an ambiguous name."""
+        tokens = tokens_of(text)
         if not has_reply(text):
             return True
-        if words[0] in ("quit", "exit"):
+        if tokens[0] in ("quit", "exit"):
             return False
-        if words[0] in OWN and not is_malformed(text):
-            self.own(words[0], words[1:])
+        if tokens[0] in OWN and not is_malformed(text):
+            self.own(tokens[0], tokens[1:])
         else:
             self.command(resolved(text, self.symbols))
         return True
@@ -113,11 +113,11 @@ class Session:
         try:
             inspect.signature(act).bind(*operands)
         except TypeError:
-            self.tell(OWN[name])
+            self.print(OWN[name])
             return
         act(*operands)
 
-    def tell(self, text: str, style: Style | None = None) -> None:
+    def print(self, text: str, style: Style | None = None) -> None:
         """Prints a text."""
         text = visible(text)
         self.printer.line(self.printer.styled(text, style) if style else text)
@@ -126,71 +126,70 @@ class Session:
         """Runs a command of the bench."""
         replies = self.timeline.do(line)
         for reply in replies:
-            self.tell(reply, Style.bad if reply.startswith("error ") else None)
+            self.print(reply, Style.bad if reply.startswith("error ") else None)
         if replies and replies[0].startswith("error "):
-            self.refused(replies[0], words_of(line))
+            self.refused(replies[0], tokens_of(line))
         if replies and ran_of(replies[0]):
             self.where()
 
-    def refused(self, reply: str, words: Sequence[str]) -> None:
-        """Prints what an error means, and what to write."""
-        meant, write = line_error(reply, words)
-        unknown = self.unknown_symbol(words) if reply == "error operand" else None
+    def refused(self, reply: str, tokens: Sequence[str]) -> None:
+        """Prints the meaning of an error, and what to write instead."""
+        meaning, suggestion = line_error(reply, tokens)
+        unknown = self.unknown_symbol(tokens) if reply == "error operand" else None
         if unknown:
             near = nearest(unknown, self.symbols.by_name)
-            meant = "%s is no symbol of the image" % unknown if self.symbols else "%s is no address, and no symbols are known" % unknown
-            write = " ".join(near if it == unknown else it for it in words) if near else \
-                None if self.symbols else "--symbols FILE behind the image, or an ELF file that has them"
-        self.tell("  " + meant)
-        if write:
-            self.tell("  write: " + write)
+            meaning = "no symbol '%s'%s" % (unknown, "" if self.symbols else ": no symbols are loaded")
+            suggestion = " ".join(near if it == unknown else it for it in tokens) if near else \
+                None if self.symbols else "an ELF file, or --symbols FILE"
+        self.print("  " + meaning)
+        if suggestion:
+            self.print("  try: " + suggestion)
 
-    def unknown_symbol(self, words: Sequence[str]) -> str | None:
+    def unknown_symbol(self, tokens: Sequence[str]) -> str | None:
         """Returns the operand that should be an address or a value and is none, or None."""
-        command = COMMANDS.get(words[0])
-        pairs = zip(words[1:], command.forms) if command and len(words) - 1 == len(command.forms) else ()
-        return next((word for word, form in pairs if form in PLACES and not is_form(word, form)
-                     and self.symbols.address(word) is None), None)
+        command = COMMANDS.get(tokens[0])
+        pairs = zip(tokens[1:], command.forms) if command and len(tokens) - 1 == len(command.forms) else ()
+        return next((token for token, form in pairs if form in PLACES and not is_form(token, form)
+                     and self.symbols.address(token) is None), None)
 
     def help(self) -> None:
         """Prints the commands."""
-        self.tell("of the bench, in which symbols and the names of registers may stand:")
-        self.tell("  " + "  ".join(("%s %s" % (name, it.letters)).strip() for name, it in list(COMMANDS.items())[:10]))
-        self.tell("  " + "  ".join(("%s %s" % (name, it.letters)).strip() for name, it in list(COMMANDS.items())[10:]))
-        self.tell("of the prompt:")
+        self.print("rvbench commands (operands may be symbols and register names):")
+        self.print("  " + "  ".join(("%s %s" % (name, it.letters)).strip() for name, it in list(COMMANDS.items())[:10]))
+        self.print("  " + "  ".join(("%s %s" % (name, it.letters)).strip() for name, it in list(COMMANDS.items())[10:]))
+        self.print("prompt commands:")
         for text in OWN.values():
-            self.tell("  " + text)
+            self.print("  " + text)
 
     def where(self) -> None:
         """Prints the next instruction."""
         pc = self.pc
         text = self.timeline.ask("dis " + pc)[0][0].split(": ")[-1]
-        word, _, text = text.partition(" ")
-        self.tell("next  %s  %s" % (names.with_abi_names(text) if word != "error" else "(outside)", place_text(pc, self.symbols)))
+        token, _, text = text.partition(" ")
+        self.print("next  %s  %s" % (names.with_abi_names(text) if token != "error" else "(outside RAM)", place_text(pc, self.symbols)))
 
     def map(self) -> None:
         """Prints the present access rights."""
         pc, now = self.pc, self.timeline
         self.finder.state = self.finder.state_of(now, now.worlds)
-        moment = self.finder.moment(now.position, now.hart, Event("now"), Place(pc, now.modes[now.hart], now.worlds[now.hart]))
-        moment_text(self.printer, moment, self.symbols)
+        event = self.finder.event(now.position, now.hart, Cause("now"), Location(pc, now.modes[now.hart], now.worlds[now.hart]))
+        print_event(self.printer, event, self.symbols)
 
     def back(self, count: str = "1") -> None:
         """Goes back by a number of steps."""
         if not (count.isascii() and count.isdigit() and len(count) <= LONGEST_COUNT):
-            self.tell(OWN["back"])
+            self.print(OWN["back"])
             return
-        self.held.go(max(0, self.timeline.position - int(count)))
+        self.keeper.go(max(0, self.timeline.position - int(count)))
         self.where()
 
     def until(self, what: str) -> None:
-        """Goes on up to a switch of world or a trap. A second bench, at the same step, goes ahead to find how far it is; where it does not
-        come, nothing is done."""
+        """Runs up to a world switch or a trap. A second bench at the same step first finds the number of steps; without any, nothing is done."""
         if what not in ("switch", "trap"):
-            self.tell(OWN["until"])
+            self.print(OWN["until"])
             return
         if what == "switch" and not self.setup.monitor:
-            self.tell("without the monitor there is one world: ./rvlook --monitor %s" % self.setup.image.name)
+            self.print("until switch requires the monitor; start with ./rvlook --monitor %s" % self.setup.image.name)
             return
         ahead = self.timeline.again(self.timeline.position)
         ahead.settle()
@@ -199,7 +198,7 @@ class Session:
         finally:
             ahead.close()
         if count is None:
-            self.tell("it does not come in %d steps; nothing is done" % MOST_STEPS)
+            self.print("not reached within %d steps; the state is unchanged" % MOST_STEPS)
         else:
             self.command("step %d" % count)
 
@@ -211,7 +210,7 @@ def steps_to(ahead: Timeline, usual: str) -> int | None:
         found = next((n for n, line in enumerate(lines) if usual not in line), None)
         if found is not None:
             return done + found + 1
-        if alike_at_end(lines) >= ALIKE:
+        if equal_at_end(lines) >= EQUAL:
             return None
     return None
 
@@ -221,14 +220,14 @@ def operands_of(name: str) -> tuple[Form, ...]:
     return COMMANDS[name].forms if name in COMMANDS else ()
 
 
-def completions(session: Session, words: Sequence[str]) -> Sequence[str]:
+def completions(session: Session, tokens: Sequence[str]) -> Sequence[str]:
     """Returns the completions of the last word."""
-    if len(words) <= 1:
+    if len(tokens) <= 1:
         return sorted([*COMMANDS, *OWN])
-    if words[0] == "until":
+    if tokens[0] == "until":
         return ["switch", "trap"]
-    forms = operands_of(words[0])
-    form = forms[len(words) - 2] if len(words) - 2 < len(forms) else None
+    forms = operands_of(tokens[0])
+    form = forms[len(tokens) - 2] if len(tokens) - 2 < len(forms) else None
     if form is Form.register:
         return names.ABI
     return sorted(session.symbols.by_name) if form in PLACES else []

@@ -16,17 +16,17 @@ import time
 from functools import lru_cache
 from typing import IO, Sequence
 
-from rvlook.protocol.bench_line import ended, has_reply, is_malformed, words_of
-from rvlook.errors import BenchEnded, Fault, Unfinished
+from rvlook.protocol.bench_line import ended, has_reply, is_malformed, tokens_of
+from rvlook.errors import BenchEnded, RvlookError, Unfinished
 
-# Of a clone of the repository in which this package is: finds or builds the program.
+# The script that finds or builds the program, if this package is in a clone of the repository.
 FINDER = os.path.join(os.path.dirname(os.path.abspath(__file__)), "..", "..", "..", "tools", "program")
 PIPE = 1 << 20
 SET_PIPE_SIZE = 1031  # F_SETPIPE_SZ of Linux
 MANY = 500  # lines of reply that are worth a pause, so that they are read together
 PAUSE = 0.001
 COUNTS = {"regs": 33, "pmp": 16}  # lines of reply; one for every other command
-MARK = "reg 0"  # stands behind `enclaves`, whose reply may have no line
+MARK = "reg 0"  # sent after `enclaves`, whose reply may have no line
 MARKED = b"x0=00000000"
 
 
@@ -35,7 +35,7 @@ def program_path() -> str:
     """Returns the path of the program: the one that RVBENCH names, or the one that ./rvbench runs."""
     path = os.environ.get("RVBENCH") or installed_program()
     if path and not os.path.exists(path):
-        raise Fault("there is no program at %s, which RVBENCH names" % path)
+        raise RvlookError("RVBENCH: no program at '%s'" % path)
     return path or built_program()
 
 
@@ -48,7 +48,7 @@ def built_program() -> str:
     """Returns the path of the program that ./prove has built, or builds one without proof. Ends the build on SIGTERM and Ctrl-C. Raises
     Unfinished."""
     if not os.path.exists(FINDER):
-        raise Unfinished("there is no program; RVBENCH names one, or it is rvbench on the PATH")
+        raise Unfinished("cannot find rvbench; add it to PATH, or set RVBENCH to its path")
     with subprocess.Popen([FINDER, "rvlook"], stdin=subprocess.DEVNULL, stdout=subprocess.PIPE, text=True) as building:
         old = signal.signal(signal.SIGTERM, lambda *_: sys.exit(128 + signal.SIGTERM))
         try:
@@ -59,13 +59,13 @@ def built_program() -> str:
         finally:
             signal.signal(signal.SIGTERM, old)
     if building.returncode:
-        raise Unfinished("there is no program; ./prove builds it, or RVBENCH names another")
+        raise Unfinished("cannot build rvbench; build it with ./prove, or set RVBENCH to its path")
     return path.rstrip("\n")
 
 
 def is_enclaves(command: str) -> bool:
     """Returns whether a command's reply may have any number of lines."""
-    return "enclaves" in command and words_of(command)[0] == "enclaves" and not is_malformed(command)
+    return "enclaves" in command and tokens_of(command)[0] == "enclaves" and not is_malformed(command)
 
 
 def widen(*pipes: IO[bytes]) -> None:
@@ -78,15 +78,15 @@ def widen(*pipes: IO[bytes]) -> None:
 
 
 class Bench:
-    """One process of the bench. `words` are its arguments, `image` the text of the image."""
+    """One process of the bench. `arguments` are its arguments, `image` the text of the image."""
 
-    def __init__(self, words: Sequence[str], image: bytes, harts: int = 1) -> None:
+    def __init__(self, arguments: Sequence[str], image: bytes, harts: int = 1) -> None:
         path = program_path()
         try:
-            self.process = subprocess.Popen([path, *words], stdin=subprocess.PIPE, stdout=subprocess.PIPE, bufsize=0,
+            self.process = subprocess.Popen([path, *arguments], stdin=subprocess.PIPE, stdout=subprocess.PIPE, bufsize=0,
                                             start_new_session=True)
         except OSError as error:
-            raise Unfinished("%s: %s" % (path, error.strerror)) from None
+            raise Unfinished("cannot run '%s': %s" % (path, error.strerror)) from None
         assert self.process.stdin and self.process.stdout
         self.stdin, self.stdout = self.process.stdin, self.process.stdout
         os.set_blocking(self.stdin.fileno(), False)
@@ -138,10 +138,10 @@ class Bench:
 
     def last_words(self) -> str:
         """Returns the last error of the program."""
-        said = b"".join(self.parts).decode("ascii", "replace").splitlines()
+        lines = b"".join(self.parts).decode("ascii", "replace").splitlines()
         self.process.wait()
-        faults = [line for line in said if line.startswith("rvbench: ")]
-        return faults[-1] if faults else "the bench ended with status %d" % self.process.returncode
+        faults = [line for line in lines if line.startswith("rvbench: ")]
+        return faults[-1] if faults else "rvbench exited with status %d" % self.process.returncode
 
     def block(self, text: bytes, count: int) -> bytes:
         """Sends commands whose replies have `count` lines; returns the replies."""
@@ -177,31 +177,31 @@ class Bench:
         first = self.line()
         if first.startswith(b"error "):
             return [first]
-        word = words_of(command)[0]
-        count = self.harts if word == "sched" else COUNTS.get(word, 1)
+        name = tokens_of(command)[0]
+        count = self.harts if name == "sched" else COUNTS.get(name, 1)
         return [first] + [self.line() for _ in range(count - 1)]
 
     def ask(self, *commands: str) -> list[list[str]]:
         """Sends commands; returns for each one the lines of its reply."""
-        self.give(*commands)
-        return self.told(*commands)
+        self.queue(*commands)
+        return self.read_replies(*commands)
 
-    def give(self, *commands: str) -> None:
-        """Queues commands whose replies `told` will read. Raises Fault for a command of more than one line."""
+    def queue(self, *commands: str) -> None:
+        """Queues commands whose replies `read_replies` will read. Raises RvlookError for a command of more than one line."""
         if any("\n" in it for it in commands):
-            raise Fault("a command of the bench is one line, and has no line feed")
+            raise RvlookError("a command must be a single line")
         text = "".join(ended(it) + (MARK + "\n" if is_enclaves(it) else "") for it in commands)
         self.send(text.encode("latin-1", "replace"))
 
     def begin(self, *commands: str) -> None:
-        """Sends commands now whose replies `told` will read."""
-        self.give(*commands)
+        """Sends commands now whose replies `read_replies` will read."""
+        self.queue(*commands)
         try:
             self.pending = self.pending[os.write(self.stdin.fileno(), self.pending[:PIPE]):]
         except (BlockingIOError, BrokenPipeError):
             pass
 
-    def told(self, *commands: str) -> list[list[str]]:
+    def read_replies(self, *commands: str) -> list[list[str]]:
         """Returns the replies to commands that were sent."""
         return [[line.decode("latin-1") for line in self.reply(it)] for it in commands]
 

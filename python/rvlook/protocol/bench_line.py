@@ -14,20 +14,20 @@ def is_malformed(line: str) -> bool:
     return not PLAIN.match(line)
 
 
-def words_of(line: str) -> list[str]:
+def tokens_of(line: str) -> list[str]:
     """Returns the words between spaces and tabs. No other character separates words, as some do for `str.split`."""
     return [it for it in BLANKS.split(line) if it]
 
 
 def has_reply(line: str) -> bool:
     """Returns whether the bench replies to a line: it does not to a well-formed comment or blank line."""
-    words = words_of(line)
-    return is_malformed(line) or bool(words) and not words[0].startswith("#")
+    tokens = tokens_of(line)
+    return is_malformed(line) or bool(tokens) and not tokens[0].startswith("#")
 
 
 def is_separator(line: str) -> bool:
     """Returns whether the line ends an image or a script: its only word is `--`."""
-    return words_of(line) == ["--"] and not is_malformed(line)
+    return tokens_of(line) == ["--"] and not is_malformed(line)
 
 
 def ended(line: str) -> str:
@@ -36,6 +36,6 @@ def ended(line: str) -> str:
 
 
 def lines_of(text: str) -> list[str]:
-    """Returns the lines of a text. What comes after the last line feed is a line if it is not empty, and keeps a carriage return."""
+    """Returns the lines of a text. Text after the last line feed is a line if it is not empty; it keeps a carriage return."""
     *whole, last = text.split("\n")
     return [it[:-1] if it.endswith("\r") else it for it in whole] + ([last] if last else [])

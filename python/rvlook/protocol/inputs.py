@@ -9,9 +9,9 @@ ELF_MAGIC = b"\x7fELF"
 
 @dataclass(frozen=True)
 class ScriptLine:
-    """A line of a script: its text in the file, its place, and its text in the syntax of the bench."""
+    """A line of a script: its text in the file, its file and line number, and its text in the syntax of the bench."""
     given: str
-    place: str
+    location: str
     text: str
     refused: str = ""  # why a name in it says no address, if one does not
 

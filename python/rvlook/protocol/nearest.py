@@ -12,8 +12,8 @@ LONGEST_NAME = 120  # characters of an unknown name; a longer one has no suggest
 
 
 def nearest(name: str, known: Iterable[str]) -> str | None:
-    """Returns the known name that is most similar to an unknown one, or None. Of many names only those that share the most pairs of
-    characters with it are compared."""
+    """Returns the known name that is most similar to an unknown one, or None. Among many names, only those that share the most pairs
+    of characters with it are compared."""
     if not name or len(name) > LONGEST_NAME:
         return None
     longest = len(name) * (2 / LEAST - 1)  # no longer name is similar enough

@@ -11,8 +11,8 @@ NO_TRAP = b"-"  # the trap of a step that has none
 STOPS = ("watch", "break")
 
 
-class Place(NamedTuple):
-    """Where a hart is: pc in eight hexadecimal digits, mode and world."""
+class Location(NamedTuple):
+    """The position of a hart: pc in eight hexadecimal digits, mode and world."""
     pc: str
     mode: str
     world: str

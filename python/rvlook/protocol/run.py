@@ -9,17 +9,17 @@ from dataclasses import dataclass, field, replace
 from typing import AnyStr, Generator, Iterable, Iterator, Sequence
 
 from rvlook.protocol.bench import Bench
-from rvlook.protocol.bench_line import has_reply, words_of
+from rvlook.protocol.bench_line import has_reply, tokens_of
 from rvlook.protocol.messages import INPUT_REPLIES, input_error
-from rvlook.errors import BenchEnded, Fault, Unfinished
+from rvlook.errors import BenchEnded, RvlookError, Unfinished
 from rvlook.protocol.inputs import Image, ScriptLine
 from rvlook.protocol.replies import ran_of, step_of
 from rvlook.protocol.symbols import Symbols
 
 CHUNK = 16384  # single steps in one exchange
 MOST_STEPS = 1000000  # of one command
-STATE_WORDS = ("poke", "setreg", "timer", "hart")  # commands that change what a step does, and are none
-ALIKE = 3  # so many steps that leave pc, mode, world and trap as they were, and the hart stays there
+STATE_COMMANDS = ("poke", "setreg", "timer", "hart")  # commands that change the state without a step
+EQUAL = 3  # equal replies (pc, mode, world and trap) after which a hart counts as halted
 SINGLE = b"step 1\n"
 
 
@@ -32,7 +32,7 @@ class Setup:
     ram: int = 1 << 20
     kind: str = "auto"
     harts: int = 1
-    limit: int = 1000000  # steps behind the script, at most
+    limit: int = 1000000  # the most steps after the script
     symbols: Symbols = field(default_factory=Symbols, compare=False)
 
     @property
@@ -40,12 +40,12 @@ class Setup:
         """Returns the lines of the script in the syntax of the bench."""
         return tuple(it.text for it in self.lines)
 
-    def words(self) -> list[str]:
+    def arguments(self) -> list[str]:
         """Returns the arguments of the program."""
-        words = ["run", "--ram", str(self.ram), "--kind", self.kind]
+        arguments = ["run", "--ram", str(self.ram), "--kind", self.kind]
         if self.monitor:
-            words.append("--monitor")
-        return words + (["--harts", str(self.harts)] if self.harts > 1 else [])
+            arguments.append("--monitor")
+        return arguments + (["--harts", str(self.harts)] if self.harts > 1 else [])
 
     def with_script(self, lines: Iterable[str], limit: int) -> Setup:
         """Returns the configuration with another script, and at most `limit` steps after it."""
@@ -53,7 +53,7 @@ class Setup:
 
     def bench(self) -> Bench:
         """Starts a bench."""
-        return Bench(self.words(), self.image.text, self.harts)
+        return Bench(self.arguments(), self.image.text, self.harts)
 
     @property
     def modes(self) -> str:
@@ -75,19 +75,19 @@ class Line:
         return bool(self.replies) and self.replies[0].startswith("error ")
 
     @property
-    def word(self) -> str:
+    def command(self) -> str:
         """Returns the command; empty if it was refused."""
-        return "" if self.is_refused else words_of(self.text)[0]
+        return "" if self.is_refused else tokens_of(self.text)[0]
 
     @property
     def changes_state(self) -> bool:
         """Returns whether the command changes what a step does."""
-        return self.word in STATE_WORDS
+        return self.command in STATE_COMMANDS
 
     @property
     def hart(self) -> int | None:
         """Returns the hart that the line chooses, or None."""
-        return int(words_of(self.text)[1]) if self.word == "hart" else None
+        return int(tokens_of(self.text)[1]) if self.command == "hart" else None
 
 
 @dataclass(frozen=True)
@@ -116,13 +116,13 @@ class Stretch:
 
 
 class Run:
-    """A configuration with the plan of its script. `hart` is the chosen hart after the script, `faults` the lines that the bench refused, each
+    """A configuration with the plan of its script. `hart` is the chosen hart after the script, `errors` the lines that rvbench rejected, each
     with its reply."""
 
     def __init__(self, setup: Setup) -> None:
         self.setup, self.hart, self.length = setup, 0, 0
         self.plan: list[Line | Steps] = []
-        self.faults: list[tuple[ScriptLine, str]] = []
+        self.errors: list[tuple[ScriptLine, str]] = []
         self.mode, self.world = ("S", "host") if setup.monitor else ("M", "bare")
         with setup.bench() as bench:
             self.pc = bench.ask("regs")[0][32][3:]
@@ -133,15 +133,15 @@ class Run:
         """Runs a line of the script, and adds it to the plan."""
         if not has_reply(line):
             return
-        words = words_of(line)
+        tokens = tokens_of(line)
         replies = bench.ask(line)[0]
         ran = ran_of(replies[0]) if replies else None
         if replies and replies[0].startswith("error "):
-            self.faults.append((script_line, replies[0]))
+            self.errors.append((script_line, replies[0]))
         if ran:
             self.add_steps(ran.steps)
-        elif words[:1] == ["sched"] and replies[0].startswith("hart "):
-            self.add_schedule(words[1])
+        elif tokens[:1] == ["sched"] and replies[0].startswith("hart "):
+            self.add_schedule(tokens[1])
         else:
             done = Line(line, tuple(replies), given=script_line.given)
             self.plan.append(done)
@@ -187,7 +187,7 @@ class Run:
             last = ("ran 0 pc=%s mode=%s world=%s why=done trap=-" % (self.pc, self.mode, self.world)).encode()
             for item in self.plan:
                 if isinstance(item, Line):
-                    hart = self.told(bench, item, hart)
+                    hart = self.apply(bench, item, hart)
                     yield item
                 else:
                     last = (yield from single_steps(bench, position, hart, item.count)) or last
@@ -195,26 +195,26 @@ class Run:
             yield from self.tail(bench, position, hart, last)
 
     @staticmethod
-    def told(bench: Bench, line: Line, hart: int) -> int:
-        """Tells the bench a line that changes its state; the hart that is chosen from then on."""
+    def apply(bench: Bench, line: Line, hart: int) -> int:
+        """Sends a line that changes the state; returns the hart that is chosen after it."""
         if line.changes_state:
             bench.ask(line.text)
         return hart if line.hart is None else line.hart
 
     def tail(self, bench: Bench, position: int, hart: int, last: bytes) -> Iterator[Stretch | End]:
         """Yields the steps after the script, until the hart does nothing more or the limit is reached, and then the end."""
-        held, left = b"", self.setup.limit
+        pending, left = b"", self.setup.limit
         why = "limit"
         while left > 0 and why == "limit":
             count = min(left, CHUNK)
             left -= count
-            lines = (held + bench.block(SINGLE * count, count)).splitlines(True)
-            alike = alike_at_end(lines)
-            if alike >= ALIKE:
-                why, kept = "stays", len(lines) - alike + 1
+            lines = (pending + bench.block(SINGLE * count, count)).splitlines(True)
+            equal = equal_at_end(lines)
+            if equal >= EQUAL:
+                why, kept = "halted", len(lines) - equal + 1
             else:
-                kept = len(lines) - (ALIKE - 1 if left else 0)
-            data, held = b"".join(lines[:kept]), b"".join(lines[kept:])
+                kept = len(lines) - (EQUAL - 1 if left else 0)
+            data, pending = b"".join(lines[:kept]), b"".join(lines[kept:])
             last = data or last
             yield Stretch(position + 1, hart, data, kept)
             position += kept
@@ -226,7 +226,7 @@ class Run:
         return Replay(self)
 
 
-def alike_at_end(lines: Sequence[AnyStr]) -> int:
+def equal_at_end(lines: Sequence[AnyStr]) -> int:
     """Returns how many lines at the end are the same."""
     count = 1
     while count < len(lines) and lines[-1 - count] == lines[-1]:
@@ -251,7 +251,7 @@ class Replay:
     position: int = 0
     hart: int = 0
     bench: Bench = field(init=False)
-    place: int = 0  # in the plan
+    index: int = 0  # in the plan
     inside: int = 0  # of the plan's part there
 
     def __post_init__(self) -> None:
@@ -267,17 +267,17 @@ class Replay:
         """Returns the commands from the present step to right after a step."""
         commands: list[str] = []
         while self.position < step:
-            item = self.run.plan[self.place] if self.place < len(self.run.plan) else Steps(step - self.position)
+            item = self.run.plan[self.index] if self.index < len(self.run.plan) else Steps(step - self.position)
             if isinstance(item, Line):
-                self.place += 1
+                self.index += 1
                 self.take(item, commands)
                 continue
             count = min(item.count - self.inside, step - self.position, MOST_STEPS)
             commands.append("step %d" % count)
             self.position, self.inside = self.position + count, self.inside + count
-            if self.inside >= item.count and self.place < len(self.run.plan):
-                self.place, self.inside = self.place + 1, 0
-            elif self.place >= len(self.run.plan):
+            if self.inside >= item.count and self.index < len(self.run.plan):
+                self.index, self.inside = self.index + 1, 0
+            elif self.index >= len(self.run.plan):
                 self.inside = 0
         return commands
 
@@ -290,31 +290,31 @@ class Replay:
     def lines_up_to_next(self) -> list[str]:
         """Returns the lines of the script before the next step."""
         commands: list[str] = []
-        while self.place < len(self.run.plan):
-            item = self.run.plan[self.place]
+        while self.index < len(self.run.plan):
+            item = self.run.plan[self.index]
             if not isinstance(item, Line):
                 break
             self.take(item, commands)
-            self.place += 1
+            self.index += 1
         return commands
 
     def go(self, step: int) -> str | None:
-        """Goes right behind a step; the reply of the last command, or None."""
+        """Goes right after a step; returns the reply of the last command, or None."""
         commands = self.lines_to(step)
         return self.bench.ask(*commands)[-1][0] if commands else None
 
 
 def run_of(setup: Setup) -> Run:
-    """Returns the run of a configuration; raises Fault or Unfinished if the bench ends."""
+    """Returns the run of a configuration; raises RvlookError or Unfinished if the bench ends."""
     try:
         return Run(setup)
     except BenchEnded as error:
-        raise told_fault(setup, error) from None
+        raise error_of(setup, error) from None
 
 
-def told_fault(setup: Setup, error: BenchEnded) -> Fault:
+def error_of(setup: Setup, error: BenchEnded) -> RvlookError:
     """Returns the error for a bench that ended, with its meaning if it refused the image."""
-    told = str(error)
-    if told not in INPUT_REPLIES:
-        return Unfinished("%s: %s" % (setup.image.name, told))
-    return Fault("%s: %s: %s" % (setup.image.name, told, input_error(told)[0]))
+    message = str(error)
+    if message not in INPUT_REPLIES:
+        return Unfinished("%s: %s" % (setup.image.name, message))
+    return RvlookError("cannot load '%s': %s: %s" % (setup.image.name, message, input_error(message)[0]))

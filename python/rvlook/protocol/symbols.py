@@ -6,7 +6,7 @@ from collections import defaultdict
 from dataclasses import dataclass
 from typing import Callable, Iterable, Iterator, Sequence, Tuple
 
-from rvlook.errors import NameRefused
+from rvlook.errors import SymbolError
 from rvlook.protocol.memory_map import RAM_BASE
 
 UNSIZED = 4096  # bytes that a symbol without a size has at most
@@ -35,10 +35,10 @@ class Symbols:
         self.ordered = [best[address] for address in sorted(best) if address >= RAM_BASE]
         self.addresses = [symbol.address for symbol in self.ordered]
         self.by_name = {it.name: it for it in reversed(symbols)}
-        self.places = defaultdict(set)  # of each name
+        self.addresses_by_name = defaultdict(set)  # of each name
         for it in symbols:
-            self.places[it.name].add(it.address)
-        # What the linker has dropped has lines too, at addresses where there is no memory.
+            self.addresses_by_name[it.name].add(it.address)
+        # Functions that the linker dropped have lines too, at addresses outside memory.
         self.lines = sorted((it for it in lines if it[0] >= RAM_BASE), key=lambda it: (it[0], it[1] is not None))
         self.line_starts = [address for address, _ in self.lines]
         self.read_inlined = inlined
@@ -49,14 +49,14 @@ class Symbols:
 
     def at(self, address: int) -> Symbol | None:
         """Returns the nearest symbol at or below an address whose size includes the address, or None."""
-        place = bisect_right(self.addresses, address) - 1
-        symbol = self.ordered[place] if place >= 0 else None
+        index = bisect_right(self.addresses, address) - 1
+        symbol = self.ordered[index] if index >= 0 else None
         return symbol if symbol and address < symbol.address + (symbol.size or UNSIZED) else None
 
     def size_of(self, symbol: Symbol) -> int:
         """Returns the size of a symbol in bytes: its own, or else up to the next symbol."""
-        place = bisect_right(self.addresses, symbol.address)
-        following = self.addresses[place] - symbol.address if place < len(self.addresses) else UNSIZED
+        index = bisect_right(self.addresses, symbol.address)
+        following = self.addresses[index] - symbol.address if index < len(self.addresses) else UNSIZED
         return symbol.size or min(following, UNSIZED)
 
     def name(self, address: int) -> str | None:
@@ -74,14 +74,14 @@ class Symbols:
 
     def source(self, address: int) -> str | None:
         """Returns the file and line of an instruction, or None."""
-        place = bisect_right(self.line_starts, address) - 1
-        return self.lines[place][1] if place >= 0 else None
+        index = bisect_right(self.line_starts, address) - 1
+        return self.lines[index][1] if index >= 0 else None
 
     def sources_in(self, first: int, end: int) -> Iterator[str | None]:
         """Yields the file and line, or None, of each row of the line table for the instructions from `first` up to before `end`. A damaged size
         may span all memory; there are never more results than rows."""
-        place = max(0, bisect_right(self.line_starts, first) - 1)
-        for at in range(place, len(self.lines)):
+        index = max(0, bisect_right(self.line_starts, first) - 1)
+        for at in range(index, len(self.lines)):
             start = max(self.line_starts[at], first)
             start += (first - start) % 4
             following = self.line_starts[at + 1] if at + 1 < len(self.lines) else end
@@ -94,8 +94,8 @@ class Symbols:
         """Returns the file and line of the call that was replaced by inlined code, or None."""
         if self.inlined is None:
             self.inlined = sorted(self.read_inlined())
-        place = bisect_right(self.inlined, (address, 1 << 32)) - 1
-        _, last, source = self.inlined[place] if place >= 0 else (0, -1, None)
+        index = bisect_right(self.inlined, (address, 1 << 32)) - 1
+        _, last, source = self.inlined[index] if index >= 0 else (0, -1, None)
         return source if address <= last else None
 
     def line(self, address: int) -> str | None:
@@ -104,25 +104,25 @@ class Symbols:
         return "%s, in %s" % (caller, source) if caller and source else source
 
     def address(self, text: str) -> int | None:
-        """Returns the address of a name, a name+offset or hexadecimal digits, or None. Of an ambiguous name, name@place is the first from a
-        place on. Raises NameRefused."""
+        """Returns the address of a name, a name+offset or hexadecimal digits, or None. For an ambiguous name, name@place is the first at or
+        after a place. Raises SymbolError."""
         named, plus, offset = text.partition("+")
-        name, at, place = named.partition("@")
+        name, at, start = named.partition("@")
         try:
-            if name in self.places:
-                return self.place_of(name, self.address(place) if at else None) + (int(offset, 16) if plus else 0)
+            if name in self.addresses_by_name:
+                return self.address_of(name, self.address(start) if at else None) + (int(offset, 16) if plus else 0)
             return int(text, 16) & 0xFFFFFFFF
         except ValueError:
             return None
 
-    def place_of(self, name: str, first: int | None) -> int:
-        """Returns the address of a name: the only one, or the first from an address on. Raises NameRefused."""
-        places = sorted(self.places[name])
+    def address_of(self, name: str, first: int | None) -> int:
+        """Returns the address of a name: the only one, or the first from an address on. Raises SymbolError."""
+        addresses = sorted(self.addresses_by_name[name])
         if first is not None:
-            places = [it for it in places if it >= first][:1]
-            if not places:
-                raise NameRefused("there is no %s from %08x on" % (name, first))
-        if len(places) == 1:
-            return places[0]
-        shown = " and ".join("%08x" % it for it in places)
-        raise NameRefused("%s is at %s; %s@PLACE is the first from a place on" % (name, shown, name))
+            addresses = [it for it in addresses if it >= first][:1]
+            if not addresses:
+                raise SymbolError("no symbol '%s' at or after %08x" % (name, first))
+        if len(addresses) == 1:
+            return addresses[0]
+        shown = " and ".join("%08x" % it for it in addresses)
+        raise SymbolError("symbol '%s' is ambiguous (%s); use %s@PLACE for the first at or after PLACE" % (name, shown, name))

@@ -5,7 +5,7 @@ from __future__ import annotations
 from dataclasses import dataclass
 from typing import Iterable, Iterator, Sequence, TYPE_CHECKING, Union
 
-from rvlook.protocol.bench_line import has_reply, words_of
+from rvlook.protocol.bench_line import has_reply, tokens_of
 from rvlook.protocol.replies import step_of
 from rvlook.protocol.run import MOST_STEPS
 
@@ -13,7 +13,7 @@ if TYPE_CHECKING:
     from rvlook.protocol.replies import Ran
     from rvlook.protocol.run import Setup
 
-CHANGING = ("poke", "setreg", "timer")  # commands that are no steps, and change what a step does
+CHANGING = ("poke", "setreg", "timer")  # commands that change the state without a step
 CONTRARY = {"break": "clear", "watch": "unwatch", "clear": "break", "unwatch": "watch"}
 TURNS = 64  # digits of a sched, at most
 
@@ -45,8 +45,8 @@ class Steps:
 
 
 @dataclass(frozen=True)
-class Told:
-    """A command that changed something and was no step, with the chosen hart."""
+class Change:
+    """A command that changed the state without a step, with the selected hart."""
     hart: int
     line: str
 
@@ -60,35 +60,35 @@ class Told:
         return [self.line]
 
 
-Part = Union[Steps, Told]  # of what was done on a bench
+Action = Union[Steps, Change]  # a part of the history of a bench
 
 
-def turned(turns: str, count: int) -> str:
+def rotated(turns: str, count: int) -> str:
     """Returns a schedule as it continues after some steps."""
-    place = count % len(turns)
-    return turns[place:] + turns[:place]
+    offset = count % len(turns)
+    return turns[offset:] + turns[:offset]
 
 
-def part(past: Iterable[Part], first: int, end: int) -> Iterator[Part]:
+def actions_between(past: Iterable[Action], first: int, end: int) -> Iterator[Action]:
     """Yields what was done after step `first`, up to step `end`, with the commands right after that."""
     at = 0
     for it in past:
-        if isinstance(it, Told):
+        if isinstance(it, Change):
             if first < at <= end:
                 yield it
             continue
         skipped, count = max(0, first - at), min(at + it.count, end) - max(at, first)
         if count > 0:
-            yield Steps(turned(it.turns, skipped), count)
+            yield Steps(rotated(it.turns, skipped), count)
         at += it.count
 
 
 def steps_within(steps: Steps, first: int, end: int) -> Steps:
     """Returns the steps from number `first` on up to, and not with, number `end`; the first of them has the number 0."""
-    return Steps(turned(steps.turns, first), max(0, min(steps.count, end) - first))
+    return Steps(rotated(steps.turns, first), max(0, min(steps.count, end) - first))
 
 
-def commands_of(past: Iterable[Part], chosen: int, hart: int) -> Iterator[str]:
+def commands_of(past: Iterable[Action], chosen: int, hart: int) -> Iterator[str]:
     """Yields the commands that repeat what was done; hart `chosen` is chosen before, and `hart` after them."""
     choice = ["hart %d" % chosen]
     for it in past:
@@ -100,21 +100,21 @@ def commands_of(past: Iterable[Part], chosen: int, hart: int) -> Iterator[str]:
         yield "hart %d" % hart
 
 
-def are_alike(one: str, other: str, count: int) -> bool:
+def agree(one: str, other: str, count: int) -> bool:
     """Returns whether two schedules agree for a number of steps."""
     period = len(one) * len(other)
     return all(one[n % len(one)] == other[n % len(other)] for n in range(min(count, period)))
 
 
 class Timeline:
-    """A bench after all that is in `past`. `future` is what had been done after that before one went back; it stays as long as the same is done
-    again. `modes` and `worlds` are those of each hart, `stops` the breaks and watches; `changes` counts what may have changed a register or a
-    byte, and `moved`, for each hart, what may have changed its world."""
+    """A bench after the actions in `past`. `future` has the actions that followed before the user went back, as long as the same ones are repeated.
+    `modes` and `worlds` are those of each hart, and `stops` the breakpoints and watchpoints. `changes` counts the actions that may have changed a
+    register or a byte, and `moved`, for each hart, those that may have changed its world."""
 
-    def __init__(self, setup: Setup, past: Iterable[Part] = (), hart: int = 0) -> None:
+    def __init__(self, setup: Setup, past: Iterable[Action] = (), hart: int = 0) -> None:
         self.setup = setup
-        self.past: list[Part] = []
-        self.future: list[Part] = []
+        self.past: list[Action] = []
+        self.future: list[Action] = []
         self.stops: dict[str, None] = {}
         self.position = self.hart = self.changes = 0
         mode, world = ("S", "host") if setup.monitor else ("M", "bare")
@@ -136,9 +136,9 @@ class Timeline:
         """Ends the bench."""
         self.bench.close()
 
-    # what is given, and read later
+    # queued commands
 
-    def follow(self, past: Iterable[Part], hart: int | None = None) -> None:
+    def follow(self, past: Iterable[Action], hart: int | None = None) -> None:
         """Repeats what was done elsewhere. The replies are read later."""
         past = list(past)
         lines = list(commands_of(past, self.hart, self.hart if hart is None else hart))
@@ -160,12 +160,12 @@ class Timeline:
         replies, left = block.splitlines(), set(range(self.setup.harts))
         while given and left:
             (line, hart), count = given.pop(), counts.pop()
-            told, replies = replies[-count:], replies[:-count]
+            reply, replies = replies[-count:], replies[:-count]
             if line.startswith(("step", "sched")):
-                self.take(line, hart, told)
+                self.take(line, hart, reply)
                 left -= {hart} if line.startswith("step") else set(left)
 
-    # what is asked
+    # commands
 
     def ask(self, *commands: str) -> list[list[str]]:
         """Sends commands that change nothing; returns the replies."""
@@ -181,12 +181,12 @@ class Timeline:
         """Runs commands in one exchange, and records those that change something; returns the reply to each. `turns` is the schedule from the
         first step on, if there is one."""
         replies = self.ask(*lines)
-        for line, told in zip(lines, replies):
-            if told and not told[0].startswith("error "):
-                word = words_of(line)[0]
-                self.hart = int(words_of(line)[1]) if word == "hart" else self.hart
-                self.take(line, self.hart, told)
-                self.keep(word, line, told, turns)
+        for line, reply in zip(lines, replies):
+            if reply and not reply[0].startswith("error "):
+                name = tokens_of(line)[0]
+                self.hart = int(tokens_of(line)[1]) if name == "hart" else self.hart
+                self.take(line, self.hart, reply)
+                self.keep(name, line, reply, turns)
         return replies
 
     def do_at_once(self, line: str, questions: Iterable[str], count: int, turns: str | None = None) -> list[str]:
@@ -225,55 +225,55 @@ class Timeline:
         self.moved[hart] += bool(trapped or world != self.worlds[hart])
         self.modes[hart], self.worlds[hart] = mode, world
 
-    def keep(self, word: str, line: str, replies: Sequence[str], turns: str | None = None) -> None:
+    def keep(self, name: str, line: str, replies: Sequence[str], turns: str | None = None) -> None:
         """Records what was done."""
-        if word in ("step", "run"):
+        if name in ("step", "run"):
             self.add(Steps(turns or str(self.hart), step_of(replies[0]).steps))
-        elif word == "sched":
+        elif name == "sched":
             self.add(Steps(line.split()[1], len(line.split()[1])))
-        elif word in CHANGING:
-            self.add(Told(self.hart, line))
-        elif word in ("break", "watch"):
-            self.stops["%s %x" % (word, int(line.split()[1], 16))] = None
-        elif word in CONTRARY:
-            self.stops.pop("%s %x" % (CONTRARY[word], int(line.split()[1], 16)), None)
+        elif name in CHANGING:
+            self.add(Change(self.hart, line))
+        elif name in ("break", "watch"):
+            self.stops["%s %x" % (name, int(line.split()[1], 16))] = None
+        elif name in CONTRARY:
+            self.stops.pop("%s %x" % (CONTRARY[name], int(line.split()[1], 16)), None)
 
-    def add(self, it: Part) -> None:
+    def add(self, it: Action) -> None:
         """Appends to what was done; joins steps that continue the schedule."""
         self.changes += 1
         self.spend(it)
         last = self.past[-1] if self.past else None
         if isinstance(it, Steps):
             self.position += it.count
-            if isinstance(last, Steps) and turned(last.turns, last.count) == it.turns:
+            if isinstance(last, Steps) and rotated(last.turns, last.count) == it.turns:
                 self.past[-1] = Steps(last.turns, last.count + it.count)
                 return
         self.past.append(it)
 
-    def spend(self, it: Part) -> None:
+    def spend(self, it: Action) -> None:
         """Removes what is done now from the future; drops the future if it differs."""
-        if isinstance(it, Told):
+        if isinstance(it, Change):
             self.future = self.future[1:] if self.future[:1] == [it] else []
             return
         while self.future and it.count:
             head = self.future[0]
             done = min(it.count, head.count) if isinstance(head, Steps) else 0
-            if isinstance(head, Told) or not done or not are_alike(it.turns, head.turns, done):
+            if isinstance(head, Change) or not done or not agree(it.turns, head.turns, done):
                 self.future = []
                 return
-            self.future[:1] = [Steps(turned(head.turns, done), head.count - done)] if done < head.count else []
-            it = Steps(turned(it.turns, done), it.count - done)
+            self.future[:1] = [Steps(rotated(head.turns, done), head.count - done)] if done < head.count else []
+            it = Steps(rotated(it.turns, done), it.count - done)
 
     @property
-    def was_told(self) -> bool:
+    def has_command(self) -> bool:
         """Returns whether the future has a command."""
-        return any(isinstance(it, Told) for it in self.future)
+        return any(isinstance(it, Change) for it in self.future)
 
     def room(self) -> int | None:
         """Returns the number of steps before the first command of the future, or None."""
         count = 0
         for it in self.future:
-            if isinstance(it, Told):
+            if isinstance(it, Change):
                 return count
             count += it.count
         return None
@@ -283,7 +283,7 @@ class Timeline:
         found = False
         while self.future:
             head = self.future[0]
-            if not isinstance(head, Told):
+            if not isinstance(head, Change):
                 break
             found = True
             self.choose(head.hart)
@@ -294,11 +294,11 @@ class Timeline:
 
     def again(self, position: int) -> Timeline:
         """Returns another timeline at an earlier step, without breaks and watches."""
-        return Timeline(self.setup, part(self.past, -1, position), self.hart)
+        return Timeline(self.setup, actions_between(self.past, -1, position), self.hart)
 
     def take_future(self, old: Timeline) -> None:
         """Takes what another timeline did after this step as the future."""
-        self.future = [*part(old.past, self.position, old.position), *old.future]
+        self.future = [*actions_between(old.past, self.position, old.position), *old.future]
 
     def set_stops(self, wanted: Iterable[str]) -> None:
         """Sets these breaks and watches, and removes all others."""
@@ -309,13 +309,13 @@ class Timeline:
         """Returns whether there is a break at pc."""
         return "break %x" % int(pc, 16) in self.stops
 
-    # whose turn it is
+    # schedules
 
     def turns_of(self, schedule: str) -> str:
         """Returns the schedule from the next step on, also if a hart ran alone meanwhile."""
         for it in reversed(self.past):
             if isinstance(it, Steps) and len(it.turns) == len(schedule) and it.turns in schedule * 2:
-                return turned(it.turns, it.count)
+                return rotated(it.turns, it.count)
         return schedule
 
     def step_before(self, hart: int) -> int | None:

@@ -20,10 +20,10 @@ if TYPE_CHECKING:
     from rvlook.trace.tracer import CallMade, Touch
     from rvlook.trace.tracer import Command
 
-SHOWN_REGISTERS = 2  # where more changed, as at a switch, a0 is shown and how many more
+SHOWN_REGISTERS = 2  # if more changed, as at a switch, a0 and the number of the others are shown
 SHOWN_REPLY = 60  # characters of a reply to a line of the script
 ARGUMENT_FORMS = {"base": "%x", "size": "%x", "window": " window %x", "window_size": "%x", "entry": " entry %x", "slot": "e%d",
-                  "address": " to %x"}  # of a call; each other one is told by its name
+                  "address": " to %x"}  # of the arguments of a call; every other one is printed with its name
 A0 = 10
 
 
@@ -167,17 +167,17 @@ class Lines:
         elif step.trap:
             self.aside("%s, value %s" % (names.cause_name(step.trap.cause), step.trap.value), Style.bad)
         if step.next.world != step.at.world:
-            self.aside("%s goes on in %s" % (step.next.world, step.next.mode))
+            self.aside("switch to %s in %s" % (step.next.world, step.next.mode))
 
     def site(self, step: Step) -> Site:
         """Returns the text of an instruction, with the target of a branch or jump in place of its offset."""
         pc, it = int(step.at.pc, 16), step.instruction
         text = it.abi if it else "(not fetched)"
         if it and it.offset is not None:
-            text = text[:text.rindex(" ") + 1] + self.place(step.target if step.target is not None else pc + it.offset)
+            text = text[:text.rindex(" ") + 1] + self.address_text(step.target if step.target is not None else pc + it.offset)
         return Site(short_form(text) if self.is_short else text, self.symbols.function(pc), self.symbols.line(pc))
 
-    def place(self, address: int) -> str:
+    def address_text(self, address: int) -> str:
         """Returns an address as objdump writes it."""
         name = self.symbols.name(address)
         return "%08x <%s>" % (address, name) if name else "%08x" % address
@@ -198,7 +198,7 @@ class Lines:
         if step.touch:
             changed.append(touch_text(step.touch, self.symbols))
         elif step.instruction and step.instruction.is_jalr and step.target is not None:
-            changed.append("to " + self.place(step.target))
+            changed.append("to " + self.address_text(step.target))
         return changed
 
     def aside(self, text: str, style: Style = Style.aside) -> None:
@@ -207,7 +207,7 @@ class Lines:
 
     def command(self, command: Command) -> None:
         """Prints a line of the script, and the first line of its reply."""
-        first = command.replies[0] if command.replies else "(nothing)"
+        first = command.replies[0] if command.replies else "(no reply)"
         shown = first if len(first) <= SHOWN_REPLY else first[:SHOWN_REPLY] + " .."
         more = len(command.replies) - 1
         made = "" if command.line == command.given else "  (%s)" % visible_line(command.line)
@@ -216,7 +216,7 @@ class Lines:
 
     def none(self) -> None:
         """Prints that no step is wanted."""
-        self.printer.line("no step is one of these")
+        self.printer.line("no step matches")
 
     def end(self, end: End) -> None:
         """Prints the end."""

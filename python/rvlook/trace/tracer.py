@@ -7,7 +7,7 @@ from typing import Iterator, NamedTuple, Optional, Sequence, TYPE_CHECKING, Tupl
 from rvlook.protocol import names
 from rvlook.errors import Unfinished
 from rvlook.protocol.instructions import Instruction, instruction_of
-from rvlook.protocol.replies import NO_TRAP, RAN_FIELDS, Place, Trap
+from rvlook.protocol.replies import NO_TRAP, RAN_FIELDS, Location, Trap
 from rvlook.protocol.run import End, Line
 
 if TYPE_CHECKING:
@@ -44,13 +44,13 @@ class Step(NamedTuple):
     """One step: `at` is before it and `next` after it; `changed` has the registers with another value after it."""
     number: int
     hart: int
-    at: Place
+    at: Location
     instruction: Optional[Instruction]
     changed: dict[int, str]
     touch: Optional[Touch]
     call: Optional[CallMade]
     trap: Optional[Trap]
-    next: Place
+    next: Location
     written: Optional[str] = None  # what the register that it writes is after it
 
     @property
@@ -92,7 +92,7 @@ class Command(NamedTuple):
     hart: int
     line: str
     replies: tuple[str, ...]
-    given: str  # as it stands in the script
+    given: str  # as in the script
 
 
 class Done(NamedTuple):
@@ -104,8 +104,8 @@ class Done(NamedTuple):
 class Hart:
     """A hart before its next step: where it is, and the digits of its registers, None if they must be read."""
 
-    def __init__(self, place: Place) -> None:
-        self.place = place
+    def __init__(self, location: Location) -> None:
+        self.location = location
         self.registers: list[str] | None = None
 
     def known(self) -> list[str]:
@@ -119,19 +119,19 @@ class Tracer:
 
     def __init__(self, run: Run, first: int = 1, last: int | None = None) -> None:
         self.run, self.first, self.last = run, first, last
-        start = Place(run.pc, run.mode, run.world)
+        start = Location(run.pc, run.mode, run.world)
         self.harts = [Hart(start) for _ in range(run.setup.harts)]
         self.position = self.hart = 0
-        self.places: dict[tuple[bytes, bytes, bytes], Place] = {}
+        self.locations: dict[tuple[bytes, bytes, bytes], Location] = {}
         self.traps: dict[bytes, Trap | None] = {NO_TRAP: None}
 
     def events(self) -> Iterator[Command | Step | End]:
         """Yields Command, Step and End in the order of the run. Two benches follow the first one, which reports each pc: one decodes the next
         instruction, the other reads the register that it writes."""
-        with self.run.replay() as reader, self.run.replay() as teller:
+        with self.run.replay() as decoder, self.run.replay() as reader:
             for item in self.run.stretches():
                 if isinstance(item, Line):
-                    if item.word == "setreg":
+                    if item.command == "setreg":
                         self.harts[self.hart].registers = None
                     self.hart = self.hart if item.hart is None else item.hart
                     if not item.hidden and self.position + 1 >= self.first:
@@ -139,35 +139,35 @@ class Tracer:
                 elif isinstance(item, End):
                     yield item
                 else:
-                    yield from self.steps(reader, teller, item)
+                    yield from self.steps(decoder, reader, item)
                     if self.last is not None and self.position >= self.last:
                         yield self.cut()
                         return
 
     def cut(self) -> End:
         """Returns the end after the last wanted step."""
-        place = self.harts[self.hart].place
-        return End(self.position if self.last is None else self.last, "limit", place.pc, place.mode, place.world)
+        location = self.harts[self.hart].location
+        return End(self.position if self.last is None else self.last, "limit", location.pc, location.mode, location.world)
 
-    def steps(self, reader: Replay, teller: Replay, stretch: Stretch) -> Iterator[Step]:
+    def steps(self, decoder: Replay, reader: Replay, stretch: Stretch) -> Iterator[Step]:
         """Yields the wanted steps of a stretch; raises Unfinished if the registers do not agree."""
         rans = RAN_FIELDS.findall(stretch.data)
         end = stretch.first + stretch.count - 1
         begin, stop = max(self.first, stretch.first), min(end, self.last or end)
         hart = self.harts[stretch.hart]
         if begin > end:
-            hart.place, hart.registers, self.position = self.place_of(rans[-1]), None, end
+            hart.location, hart.registers, self.position = self.location_of(rans[-1]), None, end
             return
         if begin > stretch.first:
-            hart.place, hart.registers = self.place_of(rans[begin - stretch.first - 1]), None
+            hart.location, hart.registers = self.location_of(rans[begin - stretch.first - 1]), None
         rans = rans[begin - stretch.first:stop - stretch.first + 1]
-        instructions = self.instructions(reader, hart, begin, rans)
-        replies = self.registers(teller, hart, begin, rans, instructions)
+        instructions = self.instructions(decoder, hart, begin, rans)
+        replies = self.registers(reader, hart, begin, rans, instructions)
         for number, done in enumerate(map(Done, rans, instructions), begin):
             yield self.step(number, stretch.hart, hart, done, replies)
         kept = [line.split(b"=")[1].decode() for line in (next(replies) for _ in range(REGISTERS - 1))]
         if kept != hart.registers:
-            raise Unfinished("the registers behind step %d are not those that its steps gave" % stop)
+            raise Unfinished("the registers after step %d differ from those derived from its steps" % stop)
         self.position = stop
 
     @staticmethod
@@ -175,39 +175,39 @@ class Tracer:
         """Brings a replay to before a step."""
         replay.bench.ask(*(replay.lines_to(begin - 1) + replay.lines_up_to_next() or ["reg 0"]))
 
-    def instructions(self, reader: Replay, hart: Hart, begin: int, rans: Sequence[RanFields]) -> list[Instruction | None]:
+    def instructions(self, decoder: Replay, hart: Hart, begin: int, rans: Sequence[RanFields]) -> list[Instruction | None]:
         """Returns the instruction at pc before each of these steps."""
-        self.begin(reader, begin)
-        pcs = [hart.place.pc.encode()] + [ran[0] for ran in rans[:-1]]
-        block = reader.bench.block(b"".join([b"dis %s\nstep 1\n" % pc for pc in pcs]), 2 * len(rans))
-        reader.lines_to(begin - 1 + len(rans))
+        self.begin(decoder, begin)
+        pcs = [hart.location.pc.encode()] + [ran[0] for ran in rans[:-1]]
+        block = decoder.bench.block(b"".join([b"dis %s\nstep 1\n" % pc for pc in pcs]), 2 * len(rans))
+        decoder.lines_to(begin - 1 + len(rans))
         return [instruction_of(line) for line in block.split(b"\n")[:-1:2]]
 
-    def registers(self, teller: Replay, hart: Hart, begin: int, rans: Sequence[RanFields],
+    def registers(self, reader: Replay, hart: Hart, begin: int, rans: Sequence[RanFields],
                   instructions: Sequence[Instruction | None]) -> Iterator[bytes]:
         """Returns the replies of these steps: each with what it may have changed, and all registers after the last."""
-        self.begin(teller, begin)
+        self.begin(reader, begin)
         if hart.registers is None:
-            hart.registers = [line.split("=")[1] for line in teller.bench.ask("regs")[0][:32]]
-        asked, count = [], REGISTERS
+            hart.registers = [line.split("=")[1] for line in reader.bench.ask("regs")[0][:32]]
+        queries, count = [], REGISTERS
         for ran, instruction in zip(rans, instructions):
             if ran[3] != NO_TRAP:
-                asked.append(STEP_AND_ALL)
+                queries.append(STEP_AND_ALL)
                 count += 1 + REGISTERS
             elif instruction is not None and instruction.writes:
-                asked.append(STEP_AND[instruction.writes])
+                queries.append(STEP_AND[instruction.writes])
                 count += 2
             else:
-                asked.append(STEP)
+                queries.append(STEP)
                 count += 1
-        block = teller.bench.block(b"".join(asked) + b"regs\n", count)
-        teller.lines_to(begin - 1 + len(rans))
+        block = reader.bench.block(b"".join(queries) + b"regs\n", count)
+        reader.lines_to(begin - 1 + len(rans))
         return iter(block.split(b"\n"))
 
     def step(self, number: int, hart_number: int, hart: Hart, done: Done, replies: Iterator[bytes]) -> Step:
         """Returns a step, from its replies and what was before it; `hart` becomes what is after it."""
-        at, (ran, instruction) = hart.place, done
-        next_place = hart.place = self.places.get(ran[:3]) or self.place_of(ran)
+        at, (ran, instruction) = hart.location, done
+        next_location = hart.location = self.locations.get(ran[:3]) or self.location_of(ran)
         next(replies)
         if ran[3] == NO_TRAP:
             touch, changed, value = None, {}, None
@@ -221,8 +221,8 @@ class Tracer:
                         changed = {instruction.writes: value}
                 if memory:
                     touch = self.touched(memory, address, registers[memory.register])
-            return Step(number, hart_number, at, instruction, changed, touch, None, None, next_place, value)
-        return self.trapped(Step(number, hart_number, at, instruction, {}, None, None, self.trap_of(ran[3]), next_place), hart, replies)
+            return Step(number, hart_number, at, instruction, changed, touch, None, None, next_location, value)
+        return self.trapped(Step(number, hart_number, at, instruction, {}, None, None, self.trap_of(ran[3]), next_location), hart, replies)
 
     @staticmethod
     def touched(memory: Memory, address: int, value: str) -> Touch:
@@ -244,9 +244,9 @@ class Tracer:
         call = call_of(at.world, [int(it, 16) for it in before], [int(it, 16) for it in after]) if is_call else None
         return step._replace(changed=changed, touch=touch, call=call)
 
-    def place_of(self, ran: RanFields) -> Place:
+    def location_of(self, ran: RanFields) -> Location:
         """Returns where a hart is after a step."""
-        return self.places.setdefault(ran[:3], Place(*(it.decode() for it in ran[:3])))
+        return self.locations.setdefault(ran[:3], Location(*(it.decode() for it in ran[:3])))
 
     def trap_of(self, text: bytes) -> Trap | None:
         """Decodes a trap, or a hyphen."""
@@ -260,12 +260,12 @@ def call_of(world: str, registers: Sequence[int], after: Sequence[int]) -> CallM
     call = names.call_of(registers)
     if call is None:
         return None
-    words = dict(zip(names.ARGUMENTS[call], registers[10:15]))
+    arguments = dict(zip(names.ARGUMENTS[call], registers[10:15]))
     slot: int | None
     if world != "host":
         slot = int(world[1:])
     elif call is names.Call.create:
         slot = after[11] if after[10] == 0 else None
     else:
-        slot = words.get("slot")
-    return CallMade(call, words, slot if slot is not None and slot <= names.LAST_SLOT else None)
+        slot = arguments.get("slot")
+    return CallMade(call, arguments, slot if slot is not None and slot <= names.LAST_SLOT else None)

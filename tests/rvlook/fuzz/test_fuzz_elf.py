@@ -1,4 +1,4 @@
-"""Mutated ELF files: each reader of one ends in time, with no error but a Fault, and every name that it gives can be printed."""
+"""Mutated ELF files: each reader ends in time, raises only RvlookError, and returns only printable names."""
 import struct
 
 from support.fuzzing import at_most, fuzz
@@ -27,8 +27,8 @@ def mutant(edits):
 
 
 def read(path, data):
-    """Reads all that rvlook reads of an ELF file."""
-    from rvlook.errors import Fault
+    """Reads everything that rvlook reads of an ELF file."""
+    from rvlook.errors import RvlookError
     from rvlook.page.sources import files_of
     from rvlook.image.symbols import symbols_of
     path.write_bytes(data)
@@ -38,7 +38,7 @@ def read(path, data):
         texts = [it for at in addresses for it in (symbols.name(at), symbols.line(at), symbols.function(at)) if it]
         texts += [it for symbol in symbols.ordered[:9] for it in symbols.sources_in(symbol.address, symbol.address + symbols.size_of(symbol)) if it]
         return texts + list(files_of(path))
-    except Fault:
+    except RvlookError:
         return []
 
 
@@ -47,8 +47,8 @@ def test_readers_of_mutated_elf_files(tmp_path, capsys, fuzz_seconds):
         with at_most(10):
             texts = read(tmp_path / "program.elf", data)
         assert all(it.isprintable() for it in texts), texts
-        told = capsys.readouterr().err
-        assert all(it.startswith("rvlook: ") and it.isprintable() for it in told.split("\n")[:-1]), told
+        errors = capsys.readouterr().err
+        assert all(it.startswith("rvlook: ") and it.isprintable() for it in errors.split("\n")[:-1]), errors
 
     fuzz(files, holds, 120, fuzz_seconds)
 

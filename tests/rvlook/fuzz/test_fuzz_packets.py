@@ -1,4 +1,4 @@
-"""Sessions of packets, right ones, mutated ones and noise: a request at their end is answered, and the server ends with the debugger."""
+"""Sessions of valid and mutated packets and noise: a request at the end has a reply, and the server ends with the debugger."""
 import re
 
 from support.fuzzing import fuzz
@@ -25,13 +25,13 @@ sessions = st.lists(packets, min_size=1, max_size=8)
 REGISTERS = re.compile(rb"[0-9a-f]{264}\Z")
 
 
-def test_server_answers_behind_any_session(bench, tmp_path, fuzz_seconds):
+def test_server_replies_after_any_session(bench, tmp_path, fuzz_seconds):
     path = tmp_path / "program.elf"
     path.write_bytes(HELLO)
 
     def holds(session):
-        found, told = replies(bench, path, *session, b"\x03#00", packet("g"))
-        assert REGISTERS.match(found[-1]), (found[-3:], told)
-        assert all(it.startswith("rvlook: ") for it in told.splitlines()), told
+        found, errors = replies(bench, path, *session, b"\x03#00", packet("g"))
+        assert REGISTERS.match(found[-1]), (found[-3:], errors)
+        assert all(it.startswith("rvlook: ") for it in errors.splitlines()), errors
 
     fuzz(sessions, holds, 5, fuzz_seconds)

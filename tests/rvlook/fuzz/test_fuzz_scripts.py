@@ -1,4 +1,4 @@
-"""Inputs of the bench with mutated images, scripts and listings: the program itself decides what is refused, and what is replied."""
+"""Inputs with mutated images, scripts and listings: rvlook refuses and replies exactly as the program does."""
 import json
 import subprocess
 

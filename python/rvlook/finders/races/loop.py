@@ -3,15 +3,15 @@ from __future__ import annotations
 
 from typing import Iterator, NamedTuple, TYPE_CHECKING
 
-from rvlook.errors import Fault
+from rvlook.errors import RvlookError
 from rvlook.finders.races.machine import Work, digest_of
 
 if TYPE_CHECKING:
-    from rvlook.finders.races.machine import Look, Machine, State, Way
+    from rvlook.finders.races.machine import Look, Machine, State, Schedule
 
 
 class Loop(NamedTuple):
-    """What a hart does in an endless loop: whether it accesses memory, whether it changes memory, and its steps."""
+    """An endless loop of a hart: whether it accesses memory, whether it changes memory, and its number of steps."""
     accesses: bool
     changes: bool
     length: int
@@ -39,20 +39,20 @@ def state_of(work: Work) -> tuple[int, int, int, tuple[int, ...]]:
     return work.pc, work.context, work.digest, tuple(work.registers)
 
 
-def do_steps(machine: Machine, work: Work, count: int, way: Way) -> Iterator[Look]:
+def do_steps(machine: Machine, work: Work, count: int, schedule: Schedule) -> Iterator[Look]:
     """Does so many steps of a hart; yields the access of each after it."""
     for _ in range(count):
         look = machine.look(work)
-        machine.step(work, look, way)
+        machine.step(work, look, schedule)
         yield look
 
 
-def loop_of(machine: Machine, work: Work, length: int, way: Way) -> tuple[Loop, tuple[int, int, int, tuple[int, ...]]]:
+def loop_of(machine: Machine, work: Work, length: int, schedule: Schedule) -> tuple[Loop, tuple[int, int, int, tuple[int, ...]]]:
     """Goes through a loop twice; returns what the hart does in it, and the state that represents the loop. This is the least by pc,
     registers and the bytes that the loop itself stores, so that it does not depend on what other harts store meanwhile."""
     digest, accesses, changes = work.digest, False, False
     stored: set[int] = set()
-    for look in do_steps(machine, work, length, way):
+    for look in do_steps(machine, work, length, schedule):
         accesses, changes = accesses or bool(look.kind), changes or work.digest != digest
         if look.kind == "w":
             stored.update(range(look.at, look.at + look.width))
@@ -60,7 +60,7 @@ def loop_of(machine: Machine, work: Work, length: int, way: Way) -> tuple[Loop, 
     for at in stored.intersection(work.memory):
         rest ^= digest_of(at, work.memory[at])
     states = []
-    for _ in do_steps(machine, work, length, way):
+    for _ in do_steps(machine, work, length, schedule):
         states.append((work.pc, tuple(work.registers), work.digest ^ rest, work.context))
     pc, registers, own, context = min(states)
     return Loop(accesses, changes, length), (pc, context, own ^ rest, registers)
@@ -71,6 +71,6 @@ def first_arrival(machine: Machine, state: State, work: Work, wanted: tuple[int,
     again, most = Work(machine, state, work.hart), work.done
     while again.done < first or state_of(again) != wanted:
         if again.done > most:
-            raise Fault("hart %d does not come back to the loop that was detected at %08x" % (work.hart, work.pc))
+            raise RvlookError("hart %d does not return to the loop detected at %08x" % (work.hart, work.pc))
         machine.step(again, machine.look(again), lambda: [])
     return again

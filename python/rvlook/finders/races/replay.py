@@ -1,5 +1,5 @@
-"""Replays a final state of `races` on the bench before it is reported, and compares all that the bench shows: registers, control registers,
-modes, worlds, PMP entries, the table of enclaves, and each byte of RAM. Also writes its schedule as an input of the bench."""
+"""Replays a final state of `races` on rvbench before it is reported. Compares registers, control registers, modes, worlds, PMP entries, the enclave
+table, and each byte of RAM. Also writes its schedule as an input of rvbench."""
 from __future__ import annotations
 
 import os
@@ -7,7 +7,7 @@ from typing import Callable, Sequence, TYPE_CHECKING
 
 from rvlook.protocol.bench_line import ended
 from rvlook.output.escapes import visible
-from rvlook.errors import Fault
+from rvlook.errors import RvlookError
 from rvlook.finders.outcomes import Bytes, Register
 from rvlook.finders.races.machine import ROW, commands_of
 from rvlook.protocol.replies import step_of
@@ -15,11 +15,11 @@ from rvlook.protocol.memory_map import RAM_BASE
 
 if TYPE_CHECKING:
     from rvlook.finders.outcomes import Observed
-    from rvlook.finders.races.ends import End
+    from rvlook.finders.races.final_states import FinalState
     from rvlook.finders.races.machine import Machine, Memory, State
     from rvlook.protocol.bench import Bench
 
-LONGEST_COMMENT = 118  # characters behind `# `
+LONGEST_COMMENT = 118  # characters after `# `
 
 
 class Replays:
@@ -36,31 +36,31 @@ class Replays:
         """Reads all rows of RAM."""
         return bench.block(self.question, self.count).decode().splitlines()
 
-    def check(self, end: End) -> None:
-        """Replays a final state, and its round twice; raises Fault if the bench comes to another state."""
+    def check(self, end: FinalState) -> None:
+        """Replays a final state, and its round twice; raises RvlookError if the bench comes to another state."""
         machine, state = self.machine, end.state
         with machine.at_start() as bench:
             if self.rows is None:
                 self.rows = self.ram(bench)
-            self.done(bench, end, commands_of(end.way(), machine.count), state)
+            self.done(bench, end, commands_of(end.schedule(), machine.count), state)
             for _ in range(2 if end.round else 0):
                 self.done(bench, end, commands_of(end.round, machine.count), state)
 
-    def done(self, bench: Bench, end: End, commands: Sequence[str], state: State) -> None:
-        """Does commands, and compares what they came to."""
-        machine, chosen, told = self.machine, 0, {}
+    def done(self, bench: Bench, end: FinalState, commands: Sequence[str], state: State) -> None:
+        """Runs commands, and compares the state after them."""
+        machine, chosen, reached = self.machine, 0, {}
         for command, lines in zip(commands, bench.ask(*commands)):
             chosen = int(command[5:]) if command.startswith("hart ") else chosen
             if command.startswith("step"):
                 ran = step_of(lines[0])
-                told[chosen] = ran.mode, ran.world
+                reached[chosen] = ran.mode, ran.world
         for hart in range(machine.count):
             replies = bench.ask(*machine.choose(hart), "regs", *machine.rest)[1:]
             registers = tuple(int(it.split("=")[1], 16) for it in replies[0])
             own, (_, pc, kept) = machine.own(state, hart), machine.harts[state.harts[hart]]
             rest = tuple(it.encode() for reply in replies[1:] for it in reply)
             self.expect(end, (registers, rest), ((*kept, pc), own.csrs))
-            self.expect(end, told.get(hart, (own.mode, own.world)), (own.mode, own.world))
+            self.expect(end, reached.get(hart, (own.mode, own.world)), (own.mode, own.world))
         self.expect(end, tuple(bench.ask("enclaves")[0]), machine.tables[state.table][0])
         self.expect(end, self.ram(bench), self.wanted(machine.memories[state.memory]))
 
@@ -73,10 +73,10 @@ class Replays:
         return rows
 
     @staticmethod
-    def expect(end: End, found: object, wanted: object) -> None:
-        """Raises Fault if the bench shows something unexpected."""
+    def expect(end: FinalState, found: object, wanted: object) -> None:
+        """Raises RvlookError if the bench shows something unexpected."""
         if found != wanted:
-            raise Fault("the order of end %d came otherwise on the bench: what a step depends on was not all seen" % end.number)
+            raise RvlookError("the replay of final state %d on rvbench differs from the search: a dependency was missed" % end.number)
 
 
 def questions_of(outcome: Observed, count: int) -> list[str]:
@@ -93,24 +93,25 @@ def comment(text: str) -> str:
     return "# " + visible(text).encode("ascii", "backslashreplace").decode("ascii")[:LONGEST_COMMENT]
 
 
-def script_of(machine: Machine, end: End, outcome: Sequence[Observed], heading: str) -> bytes:
+def script_of(machine: Machine, end: FinalState, outcome: Sequence[Observed], heading: str) -> bytes:
     """Returns an input of the bench that replays the schedule of a final state, and shows its outcome."""
     setup = machine.setup
-    lines = [comment(heading), comment("./rvbench %s < this file" % " ".join(setup.words()))]
-    lines += machine.lines_of_script() + commands_of(end.way(), machine.count)
+    lines = [comment(heading), comment("./rvbench %s < this file" % " ".join(setup.arguments()))]
+    lines += machine.lines_of_script() + commands_of(end.schedule(), machine.count)
     if end.round:
-        lines += ["# from here on it goes round: so it may go on for ever"] + 2 * commands_of(end.round, machine.count)
+        lines += ["# the loop that may repeat forever, twice"] + 2 * commands_of(end.round, machine.count)
     for it in outcome:
         lines += questions_of(it, machine.count)
     return setup.image.text + b"--\n" + "".join(map(ended, lines)).encode("latin-1", "replace")
 
 
-def write_scripts(folder: str, machine: Machine, ends: Sequence[End], outcome: Sequence[Observed], heading_of: Callable[[End], str]) -> None:
-    """Writes a file for each final state; raises Fault if that fails."""
+def write_scripts(folder: str, machine: Machine, ends: Sequence[FinalState], outcome: Sequence[Observed],
+                  heading_of: Callable[[FinalState], str]) -> None:
+    """Writes a file for each final state; raises RvlookError if that fails."""
     try:
         os.makedirs(folder, exist_ok=True)
         for end in ends:
-            with open(os.path.join(folder, "end_%d" % end.number), "wb") as file:
+            with open(os.path.join(folder, "final_state_%d" % end.number), "wb") as file:
                 file.write(script_of(machine, end, outcome, heading_of(end)))
     except OSError as error:
-        raise Fault("%s: %s" % (folder, error.strerror)) from None
+        raise RvlookError("cannot write to '%s': %s" % (folder, error.strerror)) from None

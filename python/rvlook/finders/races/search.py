@@ -1,6 +1,6 @@
 """The search of `races` over all orders of two harts and all timer interrupts, with partial-order reduction. It switches harts only before
 a dependent step: one that accesses a byte which both harts access and at least one writes, that calls the monitor, or that accesses memory
-which is ever part of a region. The search is repeated as long as more shared bytes are found. Equal places are joined; the simplest way to
+which is ever part of a region. The search is repeated as long as more shared bytes are found. Equal points are joined; the simplest schedule to
 each is found first, by preemptions, timer interrupts, switches and steps."""
 from __future__ import annotations
 
@@ -16,15 +16,15 @@ from rvlook.finders.races.machine import Called, State, Work
 from rvlook.finders.races.time_limit import OutOfTime, TimeLimit
 
 if TYPE_CHECKING:
-    from rvlook.finders.races.machine import Context, Look, Machine, Outcome, Piece, Way
+    from rvlook.finders.races.machine import Context, Look, Machine, Outcome, Segment, Schedule
     from rvlook.finders.races.loop import Loop
 
-MOST_PLACES = 500000  # states with the hart that stepped last; the search ends there, and is not whole
+MOST_STATES = 500000  # states with the hart that stepped last; the search ends there, and is not whole
 MOST_ALONE = 10000  # moves of one hart in succession; then it is reported as not ended, and the search is not whole
 SEARCH_SHARE = 0.85  # of the time limit; the rest is for the analysis of the graph and for the replays
 
 
-class Met(NamedTuple):
+class DependentStep(NamedTuple):
     """A dependent step: the number of steps before it in its move, its pc, its access, its world, and whether it took the timer interrupt."""
     before: int
     pc: Optional[int]
@@ -38,13 +38,13 @@ class Move(NamedTuple):
     steps, and whether memory or the table changed."""
     state: State
     steps: int
-    met: Met
+    dependent: DependentStep
     changes: bool
 
 
-class Place(NamedTuple):
-    """What decides how the search continues: the state, the last hart, the number of timer interrupts, and whether a switch or an interrupt
-    came yet."""
+class SearchPoint(NamedTuple):
+    """A state of the search: the state of the machine, the last hart, the number of timer interrupts, and whether a switch or an interrupt
+    has occurred."""
     state: State
     last: Optional[int]
     timers: int
@@ -58,26 +58,26 @@ class Origin(NamedTuple):
     is_timer: bool = False
 
 
-Vertex = Tuple[Any, ...]  # a place, or a part of one
+Vertex = Tuple[Any, ...]  # a point, or a part of one
 Edge = Tuple[Vertex, int, Move, int]  # where it leads, the hart, its move, and 1 for a preemption
 Agent = Union[int, Tuple[int, str]]  # a hart, or a hart in a world
 Cost = Tuple[int, int, int, int]  # preemptions, timers, switches and steps
 
 
 class Node:
-    """A place with the way to it. `cost` is that of the whole way. `alone` counts the moves of its hart in succession; `low` is the first step
-    that the next switch may be attributed to."""
-    __slots__ = ("place", "parent", "move", "is_timer", "alone", "cost", "low")
+    """A point with the simplest schedule that leads to it, whose cost is `cost`. `alone` counts the moves of its hart in succession; `low` is the
+    first step that the next switch may be attributed to."""
+    __slots__ = ("point", "parent", "move", "is_timer", "alone", "cost", "low")
 
-    def __init__(self, place: Place, cost: Cost = (0, 0, 0, 0), origin: Origin = Origin(), alone: int = 0, low: int = 0) -> None:
-        self.place, self.cost, self.alone, self.low = place, cost, alone, low
+    def __init__(self, point: SearchPoint, cost: Cost = (0, 0, 0, 0), origin: Origin = Origin(), alone: int = 0, low: int = 0) -> None:
+        self.point, self.cost, self.alone, self.low = point, cost, alone, low
         self.parent, self.move, self.is_timer = origin
 
     @property
     def hart(self) -> int:
         """The hart of the last move; the start has none."""
-        assert self.place.last is not None
-        return self.place.last
+        assert self.point.last is not None
+        return self.point.last
 
     @property
     def last_move(self) -> Move:
@@ -85,7 +85,7 @@ class Node:
         assert self.move is not None
         return self.move
 
-    def pieces(self) -> list[Node]:
+    def path(self) -> list[Node]:
         """Returns the nodes on the path from the start, without the start."""
         found, node = [], self
         while node.parent:
@@ -93,17 +93,17 @@ class Node:
             node = node.parent
         return found[::-1]
 
-    def way(self) -> list[Piece]:
+    def schedule(self) -> list[Segment]:
         """Returns the schedule that leads to the node."""
-        return way_of((it.hart, it.last_move, it.is_timer) for it in self.pieces())
+        return schedule_of((it.hart, it.last_move, it.is_timer) for it in self.path())
 
 
-def way_of(moves: Iterable[tuple[int, Move, bool]]) -> list[Piece]:
+def schedule_of(moves: Iterable[tuple[int, Move, bool]]) -> list[Segment]:
     """Returns moves as a schedule. On the bare bench the timer interrupt is cleared after it was taken."""
-    joined: list[Piece] = []
-    lowers = False
+    joined: list[Segment] = []
+    clears = False
     for hart, move, is_timer in moves:
-        if lowers:
+        if clears:
             joined.append((hart, 0, "off"))
         if is_timer:
             joined.append((hart, 0, "on"))
@@ -111,8 +111,8 @@ def way_of(moves: Iterable[tuple[int, Move, bool]]) -> list[Piece]:
             joined[-1] = (hart, joined[-1][1] + move.steps, joined[-1][2])
         else:
             joined.append((hart, move.steps, ""))
-        lowers = move.met.timed and move.met.world == "bare"
-    return joined + ([(joined[-1][0], 0, "off")] if lowers else [])
+        clears = move.dependent.timed and move.dependent.world == "bare"
+    return joined + ([(joined[-1][0], 0, "off")] if clears else [])
 
 
 class Touches:
@@ -123,13 +123,13 @@ class Touches:
         self.written: dict[Agent, set[int]] = defaultdict(set)
         self.executed: dict[Agent, set[int]] = defaultdict(set)
 
-    def met(self) -> set[int]:
+    def shared(self) -> set[int]:
         """Returns the bytes that two agents accessed, at least one of them by a store."""
-        met = set()
+        found = set()
         for one, other in itertools.permutations(set(self.read) | set(self.written) | set(self.executed), 2):
-            met |= self.written[one] & (self.read[other] | self.written[other])
-            met |= {at for at in self.written[one] if at & -4 in self.executed[other]}
-        return met
+            found |= self.written[one] & (self.read[other] | self.written[other])
+            found |= {at for at in self.written[one] if at & -4 in self.executed[other]}
+        return found
 
 
 class Graph:
@@ -162,7 +162,7 @@ class Bounds(NamedTuple):
 
 class Search:
     """All orders within bounds. `plain` switches harts before each step; `outcome` is what distinguishes final states; `progress`, which may
-    be set, is called with the search at each place."""
+    be set, is called with the search at each point."""
 
     def __init__(self, machine: Machine, bounds: Bounds = Bounds(), plain: bool = False, outcome: Watched = Watched(),
                  limit: TimeLimit = TimeLimit()) -> None:
@@ -171,7 +171,7 @@ class Search:
         self.watched = frozenset((*outcome.addresses, -1)) if bounds.timers else frozenset()
         self.plain = plain or not machine.monitor  # a handler of the bare bench shares its registers with what it stops
         self.is_outcome_visible = self.plain
-        self.met: frozenset[int] = frozenset()
+        self.shared: frozenset[int] = frozenset()
         self.touches, self.rounds, self.regions = Touches(), 0, 0
         self.why_cut: str | None = None
         self.whole: tuple[int, int] | None = None  # the last level, of preemptions and timers, of which all was searched
@@ -183,12 +183,12 @@ class Search:
     def reset(self) -> None:
         """Begins a new round."""
         self.cycles: dict[tuple[State, int], int] = {}
-        self.done: set[Place] = set()
+        self.done: set[SearchPoint] = set()
         self.graph = Graph()
         self.count, self.level, self.waiting = 0, (0, 0), 0
 
     def run(self) -> Search:
-        """Searches again as long as more bytes turn out to be met; what the bench has replied is known then."""
+        """Repeats the search until a round finds no new shared bytes, or until the time limit."""
         try:
             with self.limit.until(SEARCH_SHARE):
                 self.run_rounds()
@@ -199,7 +199,7 @@ class Search:
         return self
 
     def run_rounds(self) -> None:
-        """Does rounds of the search, up to one in which nothing more is met."""
+        """Repeats the search until a round finds no new shared bytes."""
         is_done = False
         while not is_done:
             self.rounds += 1
@@ -220,7 +220,7 @@ class Search:
             return True
         agents = [it for it in self.touches.written if hart in (it, it[0] if isinstance(it, tuple) else it)]
         stored = set().union(*(self.touches.written[it] for it in agents))
-        return any(it in stored or self.machine.meets(it, 1) for it in self.outcome.addresses - self.met)
+        return any(it in stored or self.machine.overlaps_region(it, 1) for it in self.outcome.addresses - self.shared)
 
     def is_whole(self) -> bool:
         """Returns whether all orders within the bounds were searched, and no hart was given up."""
@@ -228,20 +228,20 @@ class Search:
 
     def grows(self) -> bool:
         """Returns whether more bytes are shared, or are in a region, than this round was searched with."""
-        regions, met = len(self.machine.regions), self.touches.met()
-        if self.plain or met <= self.met and regions == self.regions:
+        regions, shared = len(self.machine.regions), self.touches.shared()
+        if self.plain or shared <= self.shared and regions == self.regions:
             return False
-        self.met |= met
+        self.shared |= shared
         return True
 
     def search(self) -> bool:
         """Searches one round; returns False if more bytes turned out to be shared."""
         order, self.regions = itertools.count(), len(self.machine.regions)
-        start = Node(Place(self.machine.start, None, 0, not self.bounds.is_part))
+        start = Node(SearchPoint(self.machine.start, None, 0, not self.bounds.is_part))
         heap = [(start.cost, next(order), start)]
         while heap:
             cost, _, node = heapq.heappop(heap)
-            if node.place in self.done:
+            if node.point in self.done:
                 continue
             if cost[:2] > self.level:
                 if self.grows():
@@ -249,13 +249,13 @@ class Search:
                 if self.whole is None or self.level >= self.whole:
                     self.whole, self.earlier = self.level, self.graph
                 self.level = cost[:2]
-            self.done.add(node.place)
+            self.done.add(node.point)
             self.graph.nodes.setdefault(self.vertex(node), node)
             self.waiting = len(heap)
             if self.progress:
                 self.progress(self)
-            if len(self.done) >= MOST_PLACES:
-                self.why_cut = "the bound of %d places" % MOST_PLACES
+            if len(self.done) >= MOST_STATES:
+                self.why_cut = "the limit of %d states" % MOST_STATES
                 return True
             for following in self.next_nodes(node):
                 heapq.heappush(heap, (following.cost, next(order), following))
@@ -264,8 +264,8 @@ class Search:
 
     def vertex(self, node: Node) -> Vertex:
         """Returns the vertex of a node in the graph of orders. The last hart does not matter if the preemptions are not bounded."""
-        place = node.place
-        return place if self.bounds.preemptions is not None else (place.state, place.timers, place.begun)
+        point = node.point
+        return point if self.bounds.preemptions is not None else (point.state, point.timers, point.begun)
 
     def edges_of(self, node: Node) -> list[Edge]:
         """Returns the list for the edges of a node; a discarded one if its vertex has edges already."""
@@ -274,40 +274,40 @@ class Search:
 
     def next_nodes(self, node: Node) -> Iterator[Node]:
         """Yields the nodes that follow, with their cost."""
-        state, last, timers, begun = node.place
+        state, last, timers, begun = node.point
         if node.alone > MOST_ALONE:
             self.graph.alone.add((state, node.hart))
             for hart in range(self.machine.count):
-                self.move(state, hart, node.way)  # so that it is known which harts have ended
+                self.move(state, hart, node.schedule)  # so that it is known which harts have ended
             return
         cost, edges = node.cost, self.edges_of(node)
         harts = range(self.machine.count)
-        free = last is None or all(it == last for it in harts) or self.is_free(state, last, node.way)
+        free = last is None or all(it == last for it in harts) or self.is_free(state, last, node.schedule)
         for hart in harts:
             is_switch = last is not None and hart != last
             preemptions = cost[0] + (is_switch and not free)
             if self.bounds.preemptions is not None and preemptions > self.bounds.preemptions:
                 continue
             for is_timer in (False, True)[:1 + (timers < self.bounds.timers)]:
-                move = self.move(state, hart, node.way, is_timer)
+                move = self.move(state, hart, node.schedule, is_timer)
                 if move is None or not begun and (is_switch or is_timer) and not self.is_in_part(node, hart):
                     continue
                 self.count += 1
                 comes = is_switch or is_timer
-                new = Node(Place(move.state, hart, timers + is_timer, begun or comes),
+                new = Node(SearchPoint(move.state, hart, timers + is_timer, begun or comes),
                            (preemptions, cost[1] + is_timer, cost[2] + is_switch, cost[3] + move.steps), Origin(node, move, is_timer),
-                           1 if comes else node.alone + 1, cost[3] + move.met.before + 1)
+                           1 if comes else node.alone + 1, cost[3] + move.dependent.before + 1)
                 edges.append((self.vertex(new), hart, move, preemptions - cost[0]))
                 yield new
 
     def is_in_part(self, node: Node, hart: int) -> bool:
-        """Returns whether the first switch or timer, which comes here, represents one within `first` and `last`. It may come as well before
-        any of the independent steps up to here, or up to the step of the hart's first move; and in an endless loop each time round."""
-        state, last = node.place.state, node.place.last
-        following = self.move(state, hart if last is None else last, node.way)
-        low, high = node.low, node.cost[3] + (following.met.before if following else 0)
+        """Returns whether the first switch or timer interrupt, which is here, represents one within `first` and `last`. It could also come before
+        any of the independent steps around here, and in an endless loop in each round."""
+        state, last = node.point.state, node.point.last
+        following = self.move(state, hart if last is None else last, node.schedule)
+        low, high = node.low, node.cost[3] + (following.dependent.before if following else 0)
         is_late = following is None or high >= self.bounds.first
-        if not is_late and last is not None and self.goes_round(state, last, node.way):
+        if not is_late and last is not None and self.is_in_loop(state, last, node.schedule):
             length = self.cycles[state, last]
             low += -((high - self.bounds.first) // length) * length
             is_late = True
@@ -315,15 +315,15 @@ class Search:
 
     # ---- moves
 
-    def move(self, state: State, hart: int, way: Way, is_timer: bool = False) -> Move | None:
-        """Returns the move of a hart, or None if it stops. `way` gives the schedule that leads here."""
+    def move(self, state: State, hart: int, schedule: Schedule, is_timer: bool = False) -> Move | None:
+        """Returns the move of a hart, or None if it stops. `schedule` gives the schedule that leads here."""
         key = (state, hart, is_timer)
         moves = self.graph.moves
         if key not in moves:
-            moves[key] = self.timer_move(state, hart, way) if is_timer else self.made(state, hart, way)
+            moves[key] = self.timer_move(state, hart, schedule) if is_timer else self.hart_move(state, hart, schedule)
         return moves[key]
 
-    def timer_move(self, state: State, hart: int, way: Way) -> Move | None:
+    def timer_move(self, state: State, hart: int, schedule: Schedule) -> Move | None:
         """Sets the timer interrupt pending; returns the move, or None. Under the monitor this matters only to enclaves, and stops one before its
         next instruction."""
         work = Work(self.machine, state, hart)
@@ -333,10 +333,10 @@ class Search:
         pc, before = work.pc, (work.digest, work.table)
         work.raise_line()
         look = self.machine.look(work)
-        done = self.machine.step(work, look, way)
+        done = self.machine.step(work, look, schedule)
         self.log(hart, world, pc, look, done)
-        met = Met(0, pc, look._replace(kind="timer"), world, is_taken(done))
-        return Move(self.kept(work, done), 1, met, (work.digest, work.table) != before)
+        dependent = DependentStep(0, pc, look._replace(kind="timer"), world, is_taken(done))
+        return Move(self.kept(work, done), 1, dependent, (work.digest, work.table) != before)
 
     @staticmethod
     def kept(work: Work, done: Outcome | None) -> State:
@@ -345,58 +345,58 @@ class Search:
             work.raise_line(False)
         return work.kept()
 
-    def made(self, state: State, hart: int, way: Way) -> Move | None:
+    def hart_move(self, state: State, hart: int, schedule: Schedule) -> Move | None:
         """Returns a move: independent steps, one dependent step, and the independent steps after it; or None."""
         machine, work, detector = self.machine, Work(self.machine, state, hart), LoopDetector()
-        met: Met | None = None
+        dependent: DependentStep | None = None
 
-        def behind() -> list[Piece]:
-            return way() + ([(hart, work.done, "")] if work.done else [])
+        def schedule_to_here() -> list[Segment]:
+            return schedule() + ([(hart, work.done, "")] if work.done else [])
 
         done, changes, before, skipped = None, False, (work.digest, work.table), 0
         while not machine.is_over(work):
             look = machine.look(work)
-            is_met = self.is_met(work, look)
-            if is_met and met:
+            is_dependent = self.is_dependent(work, look)
+            if is_dependent and dependent:
                 break
-            length = 0 if is_met else detector.length(work)
+            length = 0 if is_dependent else detector.length(work)
             if length and machine.limit:
                 skipped += work.skip(length)
                 detector = LoopDetector()
                 continue
             if length:
-                work = self.looped(state, work, length, met.before + 1 if met else 0, behind)
+                work = self.looped(state, work, length, dependent.before + 1 if dependent else 0, schedule_to_here)
                 break
             if work.done - skipped > self.bounds.steps:
                 self.graph.unended.add((state, hart))
                 return None
             world, pc = work.own.world, work.pc
-            done = machine.step(work, look, behind)
+            done = machine.step(work, look, schedule_to_here)
             changes = changes or (work.digest, work.table) != before
             self.log(hart, world, pc, look, done)
-            if is_met:
-                met, detector = Met(work.done - 1, pc, look, world, is_taken(done)), LoopDetector()
-                if met.timed and world == "bare":
+            if is_dependent:
+                dependent, detector = DependentStep(work.done - 1, pc, look, world, is_taken(done)), LoopDetector()
+                if dependent.timed and world == "bare":
                     break
-        found = self.kept(work, done if met and met.timed else None)
-        if not work.done or not met and found._replace(steps=()) == state._replace(steps=()):
+        found = self.kept(work, done if dependent and dependent.timed else None)
+        if not work.done or not dependent and found._replace(steps=()) == state._replace(steps=()):
             return None
-        return Move(found, work.done, met or Met(work.done, None, None, work.own.world, False), changes)
+        return Move(found, work.done, dependent or DependentStep(work.done, None, None, work.own.world, False), changes)
 
-    def looped(self, state: State, work: Work, length: int, first: int, way: Way) -> Work:
-        """Returns a hart that is in an endless loop where it first comes to the state that represents the loop, and keeps what it does in
-        the loop. So all its states in the loop are one for the search."""
-        loop, wanted = loop_of(self.machine, work, length, way)
+    def looped(self, state: State, work: Work, length: int, first: int, schedule: Schedule) -> Work:
+        """Runs a hart in an endless loop to the state that represents the loop, and records the loop. The search then treats all states of the loop
+        as one."""
+        loop, wanted = loop_of(self.machine, work, length, schedule)
         found = first_arrival(self.machine, state, work, wanted, first)
         self.graph.loops[found.kept()._replace(steps=()), work.hart] = loop
         return found
 
-    def is_met(self, work: Work, look: Look) -> bool:
+    def is_dependent(self, work: Work, look: Look) -> bool:
         """Returns whether the next step of a hart is dependent: another hart could affect it or be affected."""
-        if self.plain or look.asks_table:
+        if self.plain or look.uses_table:
             return True
-        met = self.met
-        if met and not met.isdisjoint(range(work.pc, work.pc + 4)):
+        shared = self.shared
+        if shared and not shared.isdisjoint(range(work.pc, work.pc + 4)):
             return True
         if self.watched and self.is_watched(work.own, look):
             return True
@@ -404,11 +404,11 @@ class Search:
             return True
         if not look.kind or is_inside(work.own, look):
             return False
-        return not met.isdisjoint(range(look.at, look.at + look.width)) or self.machine.meets(look.at, look.width)
+        return not shared.isdisjoint(range(look.at, look.at + look.width)) or self.machine.overlaps_region(look.at, look.width)
 
     def is_watched(self, own: Context, look: Look) -> bool:
-        """Returns whether a step of an enclave is dependent because the timer may come and the host not resume it: it stores a part of the
-        outcome, or the steps are limited."""
+        """Returns whether a step of an enclave is dependent because the host may not resume the enclave after a timer interrupt: it stores a part of
+        the outcome, or the steps are limited."""
         if own.world == "host":
             return False
         return bool(self.machine.limit) or look.kind == "w" and not self.watched.isdisjoint(range(look.at, look.at + look.width))
@@ -424,26 +424,26 @@ class Search:
         elif isinstance(done, Called) and look.kind == "call" and done.writes:
             self.touches.written[agent].update(at for at, _ in done.writes)
 
-    # ---- harts that do no more
+    # ---- harts that make no progress
 
-    def is_free(self, state: State, hart: int, way: Way) -> bool:
+    def is_free(self, state: State, hart: int, schedule: Schedule) -> bool:
         """Returns whether a switch from a hart is no preemption: the hart stops, or returns by itself to its state."""
-        return self.move(state, hart, way) is None or self.goes_round(state, hart, way)
+        return self.move(state, hart, schedule) is None or self.is_in_loop(state, hart, schedule)
 
-    def goes_round(self, state: State, hart: int, way: Way) -> bool:
+    def is_in_loop(self, state: State, hart: int, schedule: Schedule) -> bool:
         """Returns whether a hart returns by itself to this state; `cycles` has the number of steps, or 0."""
         chain: dict[State, int] = {}
-        passed, asked, move = [0], state, None
+        passed, runs, move = [0], state, None
         while (state, hart) not in self.cycles and state not in chain and len(chain) <= MOST_ALONE:
             chain[state] = len(chain)
-            move = self.move(state, hart, lambda: way() + ([(hart, passed[-1], "")] if passed[-1] else []))
+            move = self.move(state, hart, lambda: schedule() + ([(hart, passed[-1], "")] if passed[-1] else []))
             if move is None:
                 break
             state = move.state
             passed.append(passed[-1] + move.steps)
         first = chain[state] if state in chain and move else len(chain)
-        self.cycles.update({(it, hart): passed[-1] - passed[first] if place >= first else 0 for it, place in chain.items()})
-        return bool(self.cycles[asked, hart])
+        self.cycles.update({(it, hart): passed[-1] - passed[first] if index >= first else 0 for it, index in chain.items()})
+        return bool(self.cycles[runs, hart])
 
 
 def is_taken(done: Outcome | None) -> bool:

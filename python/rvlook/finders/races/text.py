@@ -5,10 +5,11 @@ from dataclasses import dataclass, field
 from typing import Callable, Iterator, List, Sequence, Set, TYPE_CHECKING, Tuple
 
 from rvlook.finders.outcomes import Condition, Table, condition_of, number_of, outcomes_of, ranges_of, value_text, watched_of
-from rvlook.errors import Fault, Unfinished, tell
+from rvlook.errors import RvlookError, Unfinished, warn
 from rvlook.output.progress import Progress
 from rvlook.finders.races.search import MOST_ALONE, Bounds, Search
-from rvlook.finders.races.ends import GOES_ON, GRACE, LEFT, LONG, OVER, SLACK, STAYS, WAITS, End, Ends, search_ends
+from rvlook.finders.races.final_states import (ENDED, GRACE, HALTS, NOT_SEARCHED, RUNS_ON, SLACK, UNFINISHED, WAITS, FinalState, FinalStates,
+                                               find_final_states)
 from rvlook.finders.races.machine import Machine, commands_of
 from rvlook.finders.races.replay import Replays, write_scripts
 from rvlook.output.printer import Style, hex8, place_text, run_object
@@ -19,12 +20,12 @@ from rvlook.finders.races.time_limit import OutOfTime, TimeLimit
 if TYPE_CHECKING:
     from argparse import Namespace
     from rvlook.finders.outcomes import Observed, Value
-    from rvlook.finders.races.search import Met, Node
+    from rvlook.finders.races.search import DependentStep, Node
     from rvlook.output.findings import Findings
     from rvlook.output.printer import Json, Printer
 
 SHOWN = 3  # accesses at the beginning and at the end of a hart's turn
-HOW_TEXT = {WAITS: "waits for ever", GOES_ON: "goes on for ever", LEFT: "is left"}
+HOW_TEXT = {WAITS: "waits forever", RUNS_ON: "runs forever", NOT_SEARCHED: "not searched further"}
 
 
 def counted(count: int, name: str) -> str:
@@ -35,30 +36,30 @@ def counted(count: int, name: str) -> str:
 class Story:
     """A final state with its text."""
 
-    def __init__(self, end: End, outcome: Sequence[Observed], search: Search, symbols: Symbols, places: Sequence[Set[int | None]]) -> None:
-        self.end, self.outcome, self.search, self.symbols, self.places = end, outcome, search, symbols, places
+    def __init__(self, end: FinalState, outcome: Sequence[Observed], search: Search, symbols: Symbols, end_pcs: Sequence[Set[int | None]]) -> None:
+        self.end, self.outcome, self.search, self.symbols, self.end_pcs = end, outcome, search, symbols, end_pcs
 
     def heading(self) -> str:
         """Returns a final state as a line: its values, and how the harts ended if the values do not show it."""
         parts = ["%s=%s" % (it.name, value_text(value)) for it, value in zip(self.outcome, self.end.values) if value != ()]
         for hart, (how, pc) in enumerate(self.end.harts):
-            if how == LONG:
-                parts.append("hart %d has not ended in %s" % (hart, self.limit(hart)))
-            elif how == STAYS:
-                parts.append("hart %d never comes to its end, and stays at %s" % (hart, self.place(pc)))
-            elif how != OVER:
+            if how == UNFINISHED:
+                parts.append("hart %d not finished after %s" % (hart, self.limit(hart)))
+            elif how == HALTS:
+                parts.append("hart %d halts at %s, which is not an --end" % (hart, self.location(pc)))
+            elif how != ENDED:
                 parts.append("hart %d %s" % (hart, HOW_TEXT[how]))
-            elif len(self.places[hart]) > 1:
-                parts.append("hart %d at %s" % (hart, self.place(pc)))
-        return "  ".join(parts) or "all is over"
+            elif len(self.end_pcs[hart]) > 1:
+                parts.append("hart %d at %s" % (hart, self.location(pc)))
+        return "  ".join(parts) or "all harts ended"
 
     def limit(self, hart: int) -> str:
         """Returns how far a hart was run."""
-        search, state = self.search, self.end.node.place.state
+        search, state = self.search, self.end.node.point.state
         is_alone = any((state, hart) in it.alone for it in search.graphs())
-        return "%d moves alone" % MOST_ALONE if is_alone else counted(search.bounds.steps, "step")
+        return "%d transitions alone" % MOST_ALONE if is_alone else counted(search.bounds.steps, "step")
 
-    def place(self, pc: int | None) -> str:
+    def location(self, pc: int | None) -> str:
         """Returns the source line of a pc, its symbol or its address; the pc must be known."""
         assert pc is not None
         return self.symbols.source(pc) or self.symbols.name(pc) or hex8(pc)
@@ -66,8 +67,8 @@ class Story:
     def turns(self) -> list[list[Node]]:
         """Returns the moves that lead to the final state, grouped by hart; a timer interrupt begins a group."""
         turns: list[list[Node]] = []
-        for it in self.end.node.pieces():
-            if turns and turns[-1][0].place.last == it.place.last and not it.is_timer:
+        for it in self.end.node.path():
+            if turns and turns[-1][0].point.last == it.point.last and not it.is_timer:
                 turns[-1].append(it)
             else:
                 turns.append([it])
@@ -78,72 +79,73 @@ class Story:
         turns = self.turns()
         for number, turn in enumerate(turns):
             if turn[0].is_timer:
-                yield "%s before %s" % (timer_text(turn[0].last_move.met), self.place(turn[0].last_move.met.pc))
+                yield "%s before %s" % (timer_text(turn[0].last_move.dependent), self.location(turn[0].last_move.dependent.pc))
             elif 0 < number < len(turns) - 1:
-                before, behind = turns[number - 1], turns[number + 1]
-                met = [[it.last_move.met.pc for it in part if it.last_move.met.pc is not None] for part in (before, turn, behind)]
-                if all(met) and before[0].hart == behind[0].hart != turn[0].hart and not behind[0].is_timer:
-                    yield "hart %d does %s between %s and %s of hart %d" % (
-                        turn[0].hart, self.span(met[1]), self.place(met[0][-1]), self.place(met[2][0]), before[0].hart)
+                before, after = turns[number - 1], turns[number + 1]
+                steps = [[it.last_move.dependent for it in part] for part in (before, turn, after)]
+                pcs = [[it.pc for it in part if it.pc is not None] for part in steps]
+                if all(pcs) and before[0].hart == after[0].hart != turn[0].hart and not after[0].is_timer:
+                    yield "hart %d executes %s between %s and %s of hart %d" % (
+                        turn[0].hart, self.span(pcs[1]), self.location(pcs[0][-1]), self.location(pcs[2][0]), before[0].hart)
 
     def span(self, pcs: Sequence[int]) -> str:
         """Returns the first and the last place of a group."""
-        first, last = self.place(pcs[0]), self.place(pcs[-1])
+        first, last = self.location(pcs[0]), self.location(pcs[-1])
         return first if first == last else "%s to %s" % (first, last)
 
     def access(self, node: Node) -> str:
         """Returns a move as a line: its access, and its place."""
-        _, pc, look, _, _ = met = node.last_move.met
+        _, pc, look, _, _ = dependent = node.last_move.dependent
         assert pc is not None and look is not None
         if node.is_timer:
-            what = timer_text(met)
+            what = timer_text(dependent)
         elif look.kind in ("r", "w"):
             what = "%s %08x %d  %s" % (look.kind, look.at, look.width, self.symbols.name(look.at) or "")
         else:
-            what = "calls the monitor" if look.kind == "call" else "x"
+            what = "monitor call" if look.kind == "call" else "x"
         return "      %-34s %s" % (what.rstrip(), place_text(hex8(pc), self.symbols))
 
     def lines(self, total: int) -> Iterator[str]:
         """Yields the lines of a final state after its heading."""
         preemptions, timers, switches, _ = self.end.node.cost
         parts = [counted(preemptions, "preemption")] + ([counted(timers, "timer")] if self.search.bounds.timers else [])
-        yield "  %d of %s; simplest: %s, %s, %s" % (self.end.orders, counted(total, "order"), ", ".join(parts),
+        yield "  %d of %s; simplest: %s, %s, %s" % (self.end.orders, counted(total, "schedule"), ", ".join(parts),
                                                     counted(switches, "switch").replace("switchs", "switches"), counted(self.end.steps, "step"))
         yield from ("  " + it for it in self.sentences())
         for turn in self.turns():
             yield "    hart %d, %s" % (turn[0].hart, counted(sum(it.last_move.steps for it in turn), "step"))
-            lines = [self.access(it) for it in turn if it.last_move.met.pc is not None]
+            lines = [self.access(it) for it in turn if it.last_move.dependent.pc is not None]
             yield from lines if len(lines) <= 2 * SHOWN + 1 else \
                 [*lines[:SHOWN], "      ... %d more" % (len(lines) - 2 * SHOWN), *lines[-SHOWN:]]
         for hart, steps, _ in self.end.tail:
             yield "    then hart %d, %s" % (hart, counted(steps, "step"))
         if self.end.round:
-            pieces = self.end.round
-            yield "    and from there, again and again: " + ", ".join("%s of hart %d" % (counted(steps, "step"), hart) for hart, steps, _ in pieces)
+            segments = ["%s of hart %d" % (counted(steps, "step"), hart) for hart, steps, _ in self.end.round]
+            yield "    then repeats " + ", ".join(segments)
 
     def object(self, printer: Printer) -> None:
         """Writes the final state as an object."""
         end, count = self.end, self.search.machine.count
         preemptions, timers, switches, _ = end.node.cost
         turns = [dict(hart=turn[0].hart, steps=sum(it.last_move.steps for it in turn),
-                      touched=[self.touched(it) for it in turn if it.last_move.met.pc is not None]) for turn in self.turns()]
-        printer.object("race", end=end.number, values={it.name: shown(value) for it, value in zip(self.outcome, end.values)},
-                       over=[dict(hart=hart, how=how, pc=hex8(pc)) for hart, (how, pc) in enumerate(end.harts)], orders=end.orders,
-                       preemptions=preemptions, timers=timers, switches=switches, steps=end.steps, told=list(self.sentences()),
-                       schedule=commands_of(end.way(), count), round=commands_of(end.round, count) if end.round else [],
+                      accesses=[self.access_object(it) for it in turn if it.last_move.dependent.pc is not None]) for turn in self.turns()]
+        printer.object("final_state", number=end.number, values={it.name: shown(value) for it, value in zip(self.outcome, end.values)},
+                       harts=[dict(hart=hart, how=how, pc=hex8(pc)) for hart, (how, pc) in enumerate(end.harts)], schedules=end.orders,
+                       preemptions=preemptions, timers=timers, switches=switches, steps=end.steps, summary=list(self.sentences()),
+                       schedule=commands_of(end.schedule(), count), loop=commands_of(end.round, count) if end.round else [],
                        turns=turns)
 
-    def touched(self, node: Node) -> dict[str, Json]:
+    def access_object(self, node: Node) -> dict[str, Json]:
         """Returns the access of a node as an object."""
-        look, pc = node.last_move.met.look, node.last_move.met.pc
+        look, pc = node.last_move.dependent.look, node.last_move.dependent.pc
         assert look is not None and pc is not None
         return dict(kind="timer" if node.is_timer else look.kind or "x", address=hex8(look.at) if look.kind in ("r", "w") else None,
                     symbol=self.symbols.name(look.at) if look.kind in ("r", "w") else None, pc=hex8(pc), source=self.symbols.source(pc))
 
 
-def timer_text(met: Met) -> str:
+def timer_text(step: DependentStep) -> str:
     """Returns what the timer interrupt does. On the bare bench it may be masked."""
-    return "the timer rises" if met.world == "bare" else "the timer stops " + met.world
+    return "timer interrupt pending" if step.world == "bare" else "timer interrupt in " + step.world
 
 
 def shown(value: Value) -> Json:
@@ -162,23 +164,23 @@ def bound_text(bounds: Bounds) -> str:
         bound.append("at most " + counted(bounds.timers, "timer"))
     what = " with " + " and ".join(bound) if bound else ""
     if bounds.is_part:
-        what += ", left for the first time behind step %d%s" % (bounds.first, " or later" if bounds.last is None else " to %d" % bounds.last)
+        what += ", first switch after step %d%s" % (bounds.first, " or later" if bounds.last is None else " to %d" % bounds.last)
     return what
 
 
-def covered_text(search: Search, found: Ends) -> str:
+def covered_text(search: Search, found: FinalStates) -> str:
     """Returns what was searched in words. `all` is used only if no order is missing."""
     what, graph = bound_text(search.bounds), search.graph
     given_up = len(graph.alone) + len(graph.unended)
     if search.why_cut:
-        text = "cut by %s behind %s%s; wholly searched: %s" % (search.why_cut, counted(found.orders, "order"), what, level_text(search))
+        text = "stopped by %s after %s%s; completely searched: %s" % (search.why_cut, counted(found.orders, "schedule"), what, level_text(search))
     elif found.is_cut:
-        text = "cut by --seconds after the search, before each end was done again on the bench; %s%s" % (counted(found.orders, "order"), what)
+        text = "stopped by --seconds before every final state was replayed; %s%s" % (counted(found.orders, "schedule"), what)
     elif given_up:
-        text = counted(found.orders, "order") + what
+        text = counted(found.orders, "schedule") + what
     else:
-        text = "all %d of %s%s" % (found.orders, counted(found.orders, "order"), what)
-    return text + ("; not what comes behind one hart that has not ended alone, %s" % counted(given_up, "place") if given_up else "")
+        text = "all %d of %s%s" % (found.orders, counted(found.orders, "schedule"), what)
+    return text + ("; not beyond %s in which a hart did not finish" % counted(given_up, "state") if given_up else "")
 
 
 def level_text(search: Search) -> str:
@@ -195,17 +197,17 @@ def show_races(run: Run, symbols: Symbols, printer: Printer, options: Namespace)
     """Searches all orders, and reports the final states. Raises Unfinished if the program cannot be searched."""
     conditions = [condition_of(it, symbols) for it in options.forbid or ()]
     outcome = outcomes_of(options.outcome, conditions, symbols, run.setup.harts)
-    ends = [place_of(it, symbols) for it in options.end or ()]
+    ends = [address_of(it, symbols) for it in options.end or ()]
     bounds = Bounds(options.preemptions, options.timers, run.setup.limit, options.first, options.last)
     limit = TimeLimit(options.seconds)
     machine = Machine(run, ends, options.limit)
     try:
         with Progress() as progress:
             search = Search(machine, bounds, options.plain, watched_of(outcome), limit)
-            search.progress = teller(progress)
-            found = search_ends(search, lambda it: outcome or [*ranges_of(it.met, symbols), Table()])
-        told(Report(run, symbols, search, found, conditions), printer, options)
-    except Fault as fault:  # the arguments are right, but the program cannot be searched
+            search.progress = progress_of(progress)
+            found = find_final_states(search, lambda it: outcome or [*ranges_of(it.shared, symbols), Table()])
+        print_report(Report(run, symbols, search, found, conditions), printer, options)
+    except RvlookError as fault:  # the arguments are right, but the program cannot be searched
         raise Unfinished(str(fault)) from None
     finally:
         machine.close()
@@ -213,22 +215,22 @@ def show_races(run: Run, symbols: Symbols, printer: Printer, options: Namespace)
         raise KeyboardInterrupt
 
 
-def place_of(text: str, symbols: Symbols) -> int:
-    """Returns the address of a place; raises Fault."""
+def address_of(text: str, symbols: Symbols) -> int:
+    """Returns the address of a place; raises RvlookError."""
     at = symbols.address(text)
     if at is None:
-        raise Fault("%s is no hexadecimal number and no symbol" % text)
+        raise RvlookError("'%s' is neither a hexadecimal address nor a symbol" % text)
     return at
 
 
-def teller(progress: Progress) -> Callable[[Search], None]:
+def progress_of(progress: Progress) -> Callable[[Search], None]:
     """Returns a function that shows the progress of a search."""
-    def tell(search: Search) -> None:
+    def show(search: Search) -> None:
         """Shows the progress of a search."""
         if progress.is_shown:
-            progress.tell("round %d: %d places, %d more wait, %d preemptions, %d timers, %d runs of the bench", search.rounds,
-                          len(search.done), search.waiting, *search.level, search.machine.asked)
-    return tell
+            progress.show("round %d: %d states, %d queued, %d preemptions, %d timers, %d runs of rvbench", search.rounds,
+                          len(search.done), search.waiting, *search.level, search.machine.runs)
+    return show
 
 
 @dataclass
@@ -238,21 +240,21 @@ class Report:
     run: Run
     symbols: Symbols
     search: Search
-    found: Ends
+    found: FinalStates
     conditions: List[Condition]
     stories: List[Story] = field(default_factory=list)
-    bad: List[Tuple[Condition, End]] = field(default_factory=list)
+    bad: List[Tuple[Condition, FinalState]] = field(default_factory=list)
 
 
-def told(report: Report, printer: Printer, options: Namespace) -> None:
+def print_report(report: Report, printer: Printer, options: Namespace) -> None:
     """Reports all final states, each replayed on the bench first."""
     search, found, conditions = report.search, report.found, report.conditions
     machine, named = search.machine, found.outcome
     replay(search, found, conditions)
-    places = [{pc for it in found.ends for how, pc in it.harts[hart:hart + 1]} for hart in range(machine.count)]
-    stories = report.stories = [Story(it, named, search, report.symbols, places) for it in found.ends]
+    end_pcs = [{pc for it in found.ends for how, pc in it.harts[hart:hart + 1]} for hart in range(machine.count)]
+    stories = report.stories = [Story(it, named, search, report.symbols, end_pcs) for it in found.ends]
     if options.scripts:
-        write_scripts(options.scripts, machine, found.ends, named, lambda end: "end %d: %s" % (
+        write_scripts(options.scripts, machine, found.ends, named, lambda end: "final state %d: %s" % (
             end.number, stories[end.number - 1].heading()))
     bad = report.bad = forbidden(conditions, found)
     (objects if printer.as_json else texts)(report, printer)
@@ -261,40 +263,41 @@ def told(report: Report, printer: Printer, options: Namespace) -> None:
         note_cut(options.findings, stories, search, found, conditions)
 
 
-def note(findings: Findings, stories: Sequence[Story], bad: Sequence[tuple[Condition, End]], conditions: Sequence[Condition]) -> None:
+def note(findings: Findings, stories: Sequence[Story], bad: Sequence[tuple[Condition, FinalState]], conditions: Sequence[Condition]) -> None:
     """Notes what counts as found: with --forbid the ends that are forbidden, else each end but the first, and each in which a hart does
     not come to its end."""
     if conditions:
         note_forbidden(findings, stories, bad, conditions)
         return
     for story in stories:
-        is_finding = story.end.number > 1 or not {how for how, _ in story.end.harts} <= {OVER, LONG, LEFT}
-        findings.add("end %d" % story.end.number, story.heading() if is_finding else "")
+        is_finding = story.end.number > 1 or not {how for how, _ in story.end.harts} <= {ENDED, UNFINISHED, NOT_SEARCHED}
+        findings.add("final state %d" % story.end.number, story.heading() if is_finding else "")
 
 
-def note_cut(findings: Findings, stories: Sequence[Story], search: Search, found: Ends, conditions: Sequence[Condition]) -> None:
+def note_cut(findings: Findings, stories: Sequence[Story], search: Search, found: FinalStates, conditions: Sequence[Condition]) -> None:
     """Notes whether a part of the orders was not searched: by --seconds, or because a hart was given up."""
     if is_whole(search, found) or search.why_cut == "Ctrl-C":
         return
-    long = [story for story in stories if any(how == LONG for how, _ in story.end.harts)]
+    long = [story for story in stories if any(how == UNFINISHED for how, _ in story.end.harts)]
     if conditions:
-        findings.cut_short("--forbid is not decided: not all was searched")
+        findings.cut_short("--forbid is undecided: the search is incomplete")
     elif long:
-        findings.cut_short("not all was searched: " + long[0].heading())
+        findings.cut_short("the search is incomplete: " + long[0].heading())
     else:
-        findings.cut_short("races was cut by %s: not all was searched" % (search.why_cut or "--seconds"))
+        findings.cut_short("the search is incomplete: it was stopped by %s" % (search.why_cut or "--seconds"))
 
 
-def note_forbidden(findings: Findings, stories: Sequence[Story], bad: Sequence[tuple[Condition, End]], conditions: Sequence[Condition]) -> None:
+def note_forbidden(findings: Findings, stories: Sequence[Story], bad: Sequence[tuple[Condition, FinalState]],
+                   conditions: Sequence[Condition]) -> None:
     """Notes the ends that --forbid names; no other counts as found."""
     for condition, end in bad:
-        tell("--forbid %s: end %d is so" % (condition.text, end.number))
+        warn("--forbid %s: final state %d matches" % (condition.text, end.number))
     for condition in conditions:
-        ends = ["end %d: %s" % (it.end.number, it.heading()) for it in stories if (condition, it.end) in bad]
+        ends = ["final state %d: %s" % (it.end.number, it.heading()) for it in stories if (condition, it.end) in bad]
         findings.add("--forbid " + condition.text, "\n".join(ends))
 
 
-def replay(search: Search, found: Ends, conditions: Sequence[Condition]) -> None:
+def replay(search: Search, found: FinalStates, conditions: Sequence[Condition]) -> None:
     """Replays the final states on the bench, forbidden ones first. Leaves out those for which no time is left."""
     replayed, is_forbidden = [], {id(end) for _, end in forbidden(conditions, found)}
     try:
@@ -309,13 +312,13 @@ def replay(search: Search, found: Ends, conditions: Sequence[Condition]) -> None
         found.keep(replayed)
 
 
-def forbidden(conditions: Sequence[Condition], found: Ends) -> list[tuple[Condition, End]]:
+def forbidden(conditions: Sequence[Condition], found: FinalStates) -> list[tuple[Condition, FinalState]]:
     """Returns the conditions that hold, each with the final state."""
     named = [it.name for it in found.outcome]
     return [(condition, end) for condition in conditions for end in found.ends if condition.holds(end, named)]
 
 
-def is_whole(search: Search, found: Ends) -> bool:
+def is_whole(search: Search, found: FinalStates) -> bool:
     """Returns whether all orders within the bounds were searched, and all final states reported."""
     return search.is_whole() and not found.is_cut
 
@@ -327,26 +330,26 @@ def objects(report: Report, printer: Printer) -> None:
     for story in stories:
         story.object(printer)
     machine, bounds = search.machine, search.bounds
-    printer.object("races", ends=len(stories), orders=found.orders, whole=is_whole(search, found), covered=covered_text(search, found),
+    printer.object("races", final_states=len(stories), schedules=found.orders, complete=is_whole(search, found), covered=covered_text(search, found),
                    forbidden=sorted({end.number for _, end in bad}), preemptions=bounds.preemptions, timers=bounds.timers,
-                   met=[dict(address=hex8(it.at), size=it.count, symbol=it.name) for it in ranges_of(search.met, symbols)],
-                   places=len(search.done), moves=search.count, rounds=search.rounds, runs=machine.asked, asked=machine.learned)
+                   shared=[dict(address=hex8(it.at), size=it.count, symbol=it.name) for it in ranges_of(search.shared, symbols)],
+                   states=len(search.done), transitions=search.count, rounds=search.rounds, runs=machine.runs, steps=machine.steps_run)
 
 
 def texts(report: Report, printer: Printer) -> None:
     """Writes a report as lines."""
     search, found, stories, bad = report.search, report.found, report.stories, report.bad
-    for it in ranges_of(search.met, report.symbols):
-        printer.line("both touch  %08x %d  %s" % (it.at, it.count, it.name))
+    for it in ranges_of(search.shared, report.symbols):
+        printer.line("shared memory  %08x %d  %s" % (it.at, it.count, it.name))
     forbidden = {end.number for _, end in bad}
     for story in stories:
         printer.line()
         style = Style.bad if story.end.number in forbidden else Style.heading
-        printer.line(printer.styled("end %d: %s" % (story.end.number, story.heading()), style))
+        printer.line(printer.styled("final state %d: %s" % (story.end.number, story.heading()), style))
         for line in story.lines(found.orders):
             printer.line(line)
     printer.line()
-    printer.line("%s, each done again on the bench. Covered: %s" % (counted(len(stories), "end"), covered_text(search, found)))
-    printer.line("%s, %s, in %s; %s of the bench with %s" % (
-        counted(len(search.done), "place"), counted(search.count, "move"), counted(search.rounds, "round"),
-        counted(search.machine.asked, "run"), counted(search.machine.learned, "step")))
+    printer.line("%s, each replayed on rvbench. Covered: %s" % (counted(len(stories), "final state"), covered_text(search, found)))
+    printer.line("%s and %s in %s; %s of rvbench with %s" % (
+        counted(len(search.done), "state"), counted(search.count, "transition"), counted(search.rounds, "round"),
+        counted(search.machine.runs, "run"), counted(search.machine.steps_run, "step")))

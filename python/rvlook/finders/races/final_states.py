@@ -7,10 +7,10 @@ from collections import defaultdict, deque
 from dataclasses import dataclass
 from typing import Any, Callable, Iterable, Iterator, Mapping, Optional, Sequence, Set, TYPE_CHECKING, Tuple
 
-from rvlook.errors import Fault
-from rvlook.finders.races.search import Graph, Vertex, way_of
+from rvlook.errors import RvlookError
+from rvlook.finders.races.search import Graph, Vertex, schedule_of
 from rvlook.finders.races.loop import do_steps
-from rvlook.finders.races.machine import Piece, State, Work
+from rvlook.finders.races.machine import Segment, State, Work
 from rvlook.finders.races.time_limit import OutOfTime
 
 if TYPE_CHECKING:
@@ -19,25 +19,25 @@ if TYPE_CHECKING:
     from rvlook.finders.races.machine import Machine
     from rvlook.finders.races.search import Edge, Move, Node, Search
 
-OVER, STAYS, WAITS, GOES_ON, LONG, LEFT = "over", "stays", "waits", "goes on", "has not ended", "is left"
+ENDED, HALTS, WAITS, RUNS_ON, UNFINISHED, NOT_SEARCHED = "ended", "halts", "waits", "runs on", "unfinished", "not searched"
 GRACE, SLACK = 0.01, 0.3  # beyond the time limit for the analysis and the replays: a share of it, and seconds
 
 
 HartEnd = Tuple[str, Optional[int]]  # how a hart ended, and the address at which
-Found = Tuple[Vertex, State, Tuple[Piece, ...]]  # a vertex, a state after it, and the schedule from the vertex to the state
+Found = Tuple[Vertex, State, Tuple[Segment, ...]]  # a vertex, a state after it, and the schedule from the vertex to the state
 
 
 @dataclass
-class End:
-    """A final state: how and where each hart ended, the values, the node with the simplest schedule, the schedule of a round from there, the
-    number of orders, the state, and the schedule from the node to it if a hart runs on alone."""
+class FinalState:
+    """A final state: how and where each hart ended, the values, and the number of schedules that lead to it. `node` has the simplest schedule, and
+    `tail` the schedule from there to `state` if a hart runs on alone. `round` is the schedule of an endless loop from the state."""
     harts: tuple[HartEnd, ...]
     values: tuple[Value, ...]
     node: Node
-    round: tuple[Piece, ...]
+    round: tuple[Segment, ...]
     orders: int
     state: State
-    tail: tuple[Piece, ...] = ()
+    tail: tuple[Segment, ...] = ()
     number: int = 0
 
     @property
@@ -50,18 +50,18 @@ class End:
         """Returns the number of steps of the schedule."""
         return self.node.cost[3] + sum(steps for _, steps, _ in self.tail)
 
-    def way(self) -> list[Piece]:
+    def schedule(self) -> list[Segment]:
         """Returns the schedule that leads to the final state."""
-        return self.node.way() + list(self.tail)
+        return self.node.schedule() + list(self.tail)
 
 
-class Ends:
+class FinalStates:
     """All final states of a search. `orders` is the number of all orders. `are_hidden` says that values may be missing, as harts run on that
     change the outcome by independent steps; `is_cut` says that the time limit was reached."""
 
     def __init__(self, search: Search, outcome: Sequence[Observed]) -> None:
         self.search, self.machine, self.outcome, self.orders = search, search.machine, outcome, 0
-        self.found: dict[tuple[tuple[HartEnd, ...], tuple[Value, ...]], End] = {}
+        self.found: dict[tuple[tuple[HartEnd, ...], tuple[Value, ...]], FinalState] = {}
         self.are_hidden = self.is_cut = False
         try:
             with search.limit.until(1 + GRACE, SLACK):
@@ -79,13 +79,13 @@ class Ends:
         for number, end in enumerate(self.ends, 1):
             end.number = number
 
-    def keep(self, wanted: Sequence[End]) -> None:
+    def keep(self, wanted: Sequence[FinalState]) -> None:
         """Leaves out all but these, as the time was over before they were replayed."""
         self.is_cut = self.is_cut or len(wanted) < len(self.ends)
         self.ends = [it for it in self.ends if it in wanted]
         self.renumber()
 
-    def add(self, end: End) -> None:
+    def add(self, end: FinalState) -> None:
         """Adds a final state. Joins those with the same report, and keeps the simplest schedule."""
         old = self.found.setdefault(end.key, end)
         if old is not end:
@@ -93,42 +93,42 @@ class Ends:
             best.orders = old.orders + end.orders
             self.found[end.key] = best
 
-    def of_graph(self, graph: Graph) -> Iterator[End]:
+    def of_graph(self, graph: Graph) -> Iterator[FinalState]:
         """Yields the final states of one round of the search."""
         if self.search.bounds.preemptions is not None:
             graph = counted(graph, self.search.bounds.preemptions)
         found = Components(graph)
-        parts, place_of = found.parts, found.place_of
-        ways = ways_of(graph, parts, place_of)
-        for place, vertices in enumerate(parts):
-            part = Part(self.search, graph, vertices, place_of)
+        parts, component_of = found.parts, found.component_of
+        paths = paths_of(graph, parts, component_of)
+        for index, vertices in enumerate(parts):
+            part = Component(self.search, graph, vertices, component_of)
             harts = part.ended()
             if harts:
-                self.orders += ways[place]
-                yield from self.of_part(part, harts, ways[place])
+                self.orders += paths[index]
+                yield from self.of_component(part, harts, paths[index])
 
-    def of_part(self, part: Part, harts: Sequence[str], orders: int) -> Iterator[End]:
+    def of_component(self, part: Component, harts: Sequence[str], orders: int) -> Iterator[FinalState]:
         """Yields the final states of a component: one for each set of values, or one if the values are not known."""
-        over = tuple(part.over(hart) if how == OVER else (how, None) for hart, how in enumerate(harts))
+        over = tuple(part.over(hart) if how == ENDED else (how, None) for hart, how in enumerate(harts))
         vertex = part.vertices[0]
-        found: dict[tuple[Value, ...], Found] = {(): (vertex, part.graph.nodes[vertex].place.state, ())}
-        if LEFT not in harts and (LONG not in harts or OVER in harts):
+        found: dict[tuple[Value, ...], Found] = {(): (vertex, part.graph.nodes[vertex].point.state, ())}
+        if NOT_SEARCHED not in harts and (UNFINISHED not in harts or ENDED in harts):
             found, is_hidden = part.values(self.outcome)
             self.are_hidden = self.are_hidden or is_hidden
-        goes_on = [hart for hart, how in enumerate(harts) if how in (WAITS, GOES_ON)]
+        goes_on = [hart for hart, how in enumerate(harts) if how in (WAITS, RUNS_ON)]
         for values, (vertex, state, tail) in found.items():
-            yield End(over, values, part.graph.nodes[vertex], part.round(vertex, state, goes_on, tail), orders, state, tail)
+            yield FinalState(over, values, part.graph.nodes[vertex], part.round(vertex, state, goes_on, tail), orders, state, tail)
 
 
-class Part:
+class Component:
     """A strongly connected component of the graph of orders, its vertices by cost."""
 
-    def __init__(self, search: Search, graph: Graph, vertices: Iterable[Vertex], place_of: Mapping[Vertex, int]) -> None:
+    def __init__(self, search: Search, graph: Graph, vertices: Iterable[Vertex], component_of: Mapping[Vertex, int]) -> None:
         self.search, self.machine, self.graph = search, search.machine, graph
         self.vertices = sorted((it for it in vertices if it in graph.nodes), key=lambda it: graph.nodes[it].cost)
         self.all = set(vertices)
-        self.moves = moves_inside(graph, vertices, place_of) if self.vertices else {}
-        self.state = graph.nodes[self.vertices[0]].place.state if self.vertices else search.machine.start
+        self.moves = moves_inside(graph, vertices, component_of) if self.vertices else {}
+        self.state = graph.nodes[self.vertices[0]].point.state if self.vertices else search.machine.start
 
     def loop(self, hart: int) -> Loop | None:
         """Returns the endless loop of a hart that no other hart can affect, or None."""
@@ -148,36 +148,36 @@ class Part:
 
     def how(self, hart: int, is_still: bool, is_given_up: bool) -> str | None:
         """Returns how a hart ended in this component, or None."""
-        state, graph, going = self.state, self.graph, WAITS if is_still else GOES_ON
+        state, graph, going = self.state, self.graph, WAITS if is_still else RUNS_ON
         if hart in self.moves:
-            return going if any(move.met.look and move.met.look.kind for move in self.moves[hart]) else OVER
+            return going if any(move.dependent.look and move.dependent.look.kind for move in self.moves[hart]) else ENDED
         if (state, hart) in graph.alone:
-            return LONG
+            return UNFINISHED
         if graph.moves.get((state, hart, False), self) is None:
             if (state, hart) in graph.unended:
-                return LONG
+                return UNFINISHED
             loop = self.loop(hart)
-            return going if loop and loop.accesses else OVER
-        return LEFT if is_given_up else None
+            return going if loop and loop.accesses else ENDED
+        return NOT_SEARCHED if is_given_up else None
 
     def over(self, hart: int) -> HartEnd:
-        """Returns how and where a hart ended. It STAYS if it was expected to end elsewhere."""
+        """Returns how and where a hart ended. It HALTS if it was expected to end elsewhere."""
         machine, nodes = self.machine, self.graph.nodes
-        pc = min(machine.pc(nodes[it].place.state, hart) for it in self.vertices)
+        pc = min(machine.pc(nodes[it].point.state, hart) for it in self.vertices)
         if hart in self.moves:
             pc = min(pc, *(work.pc for work in self.alone(hart)))
-        return (STAYS if machine.ends and not machine.limit and pc not in machine.ends else OVER), pc
+        return (HALTS if machine.ends and not machine.limit and pc not in machine.ends else ENDED), pc
 
     def alone(self, hart: int) -> Iterator[Work]:
         """Runs a hart alone from the first state of the component until it returns there; yields it after each step."""
         work, loop = Work(self.machine, self.state, hart), self.loop(hart)
         start = full_state(work)
         most = loop.length if loop and hart not in self.moves else sum(move.steps for move in self.moves[hart])
-        for _ in do_steps(self.machine, work, most, lambda: self.graph.nodes[self.vertices[0]].way() + [(hart, work.done, "")]):
+        for _ in do_steps(self.machine, work, most, lambda: self.graph.nodes[self.vertices[0]].schedule() + [(hart, work.done, "")]):
             yield work
             if full_state(work) == start:
                 return
-        raise Fault("hart %d does not come back to its state in an endless loop at %08x" % (hart, work.pc))
+        raise RvlookError("hart %d does not return to its state in the endless loop at %08x" % (hart, work.pc))
 
     def values(self, outcome: Sequence[Observed]) -> tuple[dict[tuple[Value, ...], Found], bool]:
         """Returns the sets of values that hold again and again, each with a vertex, the state and the schedule from the vertex to it; and
@@ -185,15 +185,15 @@ class Part:
         machine = self.machine
         found: dict[tuple[Value, ...], Found] = {}
         for vertex in self.vertices:
-            state = self.graph.nodes[vertex].place.state
+            state = self.graph.nodes[vertex].point.state
             found.setdefault(values_in(machine, outcome, state), (vertex, state, ()))
         if self.search.is_outcome_visible:
             return found, False
         loops = [it for it in range(machine.count) if it not in self.moves and self.loop(it) and len(self.values_alone(it, outcome)) > 1]
         going = [*self.moves, *loops]
         if len(going) == 1:
-            for values, place in self.values_alone(going[0], outcome).items():
-                found.setdefault(values, place)
+            for values, index in self.values_alone(going[0], outcome).items():
+                found.setdefault(values, index)
         return found, len(going) > 1 and any(self.search.is_hidden(hart) for hart in going)
 
     def values_alone(self, hart: int, outcome: Sequence[Observed]) -> dict[tuple[Value, ...], Found]:
@@ -201,7 +201,7 @@ class Part:
         watched, first = self.search.outcome, self.vertices[0]
         found: dict[tuple[Value, ...], Found] = {values_in(self.machine, outcome, self.state): (first, self.state, ())}
         if not watched.registers and not watched.addresses:
-            return found  # all of it is met, and each value has a node
+            return found  # all of it is shared, so each value has a node
         last: object = None
         for work in self.alone(hart):
             now = work.digest, work.table, [work.registers[number] for of, number in watched.registers if of == hart]
@@ -210,14 +210,14 @@ class Part:
                 found.setdefault(values_in(self.machine, outcome, state), (first, state, ((hart, work.done, ""),)))
         return found
 
-    def round(self, vertex: Vertex, state: State, harts: Sequence[int], tail: Sequence[Piece]) -> tuple[Piece, ...]:
+    def round(self, vertex: Vertex, state: State, harts: Sequence[int], tail: Sequence[Segment]) -> tuple[Segment, ...]:
         """Returns the schedule from a state back to it in which each of these harts moves."""
         moving = [it for it in harts if it in self.moves]
         if len(moving) == 1 and tail:
             return ((moving[0], sum(1 for _ in self.alone(moving[0])), ""),)
         if not moving and tail:
             return ((tail[0][0], sum(1 for _ in self.alone(tail[0][0])), ""),)
-        return tuple(way_of((hart, move, False) for hart, move in round_of(self.graph, vertex, moving, self.all)))
+        return tuple(schedule_of((hart, move, False) for hart, move in round_of(self.graph, vertex, moving, self.all)))
 
 
 def values_in(machine: Machine, outcome: Sequence[Observed], state: State) -> tuple[Value, ...]:
@@ -231,25 +231,25 @@ def full_state(work: Work) -> tuple[Any, ...]:
     return work.pc, work.context, work.digest, work.table, work.host, tuple(work.registers)
 
 
-def search_ends(search: Search, outcome_of: Callable[[Search], Sequence[Observed]]) -> Ends:
+def find_final_states(search: Search, outcome_of: Callable[[Search], Sequence[Observed]]) -> FinalStates:
     """Searches, and returns the final states; `outcome_of` gives the outcome after a search. If two harts go on, and change the outcome by
     independent steps, these steps become dependent ones, and it is searched again."""
     search.run()
-    found = Ends(search, outcome_of(search))
+    found = FinalStates(search, outcome_of(search))
     if found.are_hidden and not search.why_cut:
         search.show_outcome()
-        found = Ends(search.run(), outcome_of(search))
+        found = FinalStates(search.run(), outcome_of(search))
     if found.are_hidden:
         search.whole = None  # of no level are all values known
     return found
 
 
-def moves_inside(graph: Graph, part: Iterable[Vertex], place_of: Mapping[Vertex, int]) -> dict[int, list[Move]]:
+def moves_inside(graph: Graph, part: Iterable[Vertex], component_of: Mapping[Vertex, int]) -> dict[int, list[Move]]:
     """Returns the moves of each hart that stay in a component."""
     found = defaultdict(list)
     for vertex in part:
         for target, hart, move, _ in graph.edges.get(vertex, ()):
-            if place_of.get(target) == place_of[vertex]:
+            if component_of.get(target) == component_of[vertex]:
                 found[hart].append(move)
     return found
 
@@ -261,10 +261,10 @@ def counted(graph: Graph, bound: int) -> Graph:
     waiting: list[Vertex] = [start]
     while waiting:
         vertex = waiting.pop()
-        place, came = vertex
-        if place in graph.nodes and vertex not in new.nodes:
-            new.nodes[vertex] = graph.nodes[place]
-            new.edges[vertex] = [((target, came + more), hart, move, more) for target, hart, move, more in graph.edges.get(place, ())
+        index, came = vertex
+        if index in graph.nodes and vertex not in new.nodes:
+            new.nodes[vertex] = graph.nodes[index]
+            new.edges[vertex] = [((target, came + more), hart, move, more) for target, hart, move, more in graph.edges.get(index, ())
                                  if came + more <= bound]
             waiting += [target for target, *_ in new.edges[vertex]]
     return new
@@ -309,7 +309,7 @@ class Components:
         self.stack: list[Vertex] = []
         self.on_stack: set[Vertex] = set()
         self.parts: list[list[Vertex]] = []
-        self.place_of: dict[Vertex, int] = {}
+        self.component_of: dict[Vertex, int] = {}
         for root in list(graph.nodes):
             if root not in self.number:
                 self.walk(root)
@@ -347,20 +347,20 @@ class Components:
             while part[-1] != vertex:
                 part.append(self.stack.pop())
             self.on_stack.difference_update(part)
-            self.place_of.update(dict.fromkeys(part, len(self.parts)))
+            self.component_of.update(dict.fromkeys(part, len(self.parts)))
             self.parts.append(part)
 
 
-def ways_of(graph: Graph, parts: Sequence[Sequence[Vertex]], place_of: Mapping[Vertex, int]) -> dict[int, int]:
+def paths_of(graph: Graph, parts: Sequence[Sequence[Vertex]], component_of: Mapping[Vertex, int]) -> dict[int, int]:
     """Returns for each component the number of paths from the start."""
     if not graph.nodes:
         return {}
-    ways, start = defaultdict(int), next(iter(graph.nodes))
-    ways[place_of[start]] = 1
-    for place in range(len(parts) - 1, -1, -1):
-        if ways[place]:
-            for vertex in parts[place]:
+    paths, start = defaultdict(int), next(iter(graph.nodes))
+    paths[component_of[start]] = 1
+    for index in range(len(parts) - 1, -1, -1):
+        if paths[index]:
+            for vertex in parts[index]:
                 for target, *_ in graph.edges.get(vertex, ()):
-                    if place_of[target] != place:
-                        ways[place_of[target]] += ways[place]
-    return ways
+                    if component_of[target] != index:
+                        paths[component_of[target]] += paths[index]
+    return paths
