@@ -27,8 +27,8 @@ pub record EntersFrom (hart_state : HartState) (h : Handled) : Type 0 where
 -- the host receives two return values
 pub record LeavesFor (hart_state : HartState) (trap : Trap) (h : Handled) : Type 0 where
   pub world : h.hart_state.world ≡ Host
-  pub regs : h.hart_state.hart.regs ≡ with_return_values (saved_host hart_state).regs (reason trap.cause hart_state.hart.regs)
-  (value trap.cause hart_state.hart.regs)
+  pub regs : h.hart_state.hart.regs
+      ≡ with_return_values (saved_host hart_state).regs (reason trap.cause hart_state.hart.regs) (value trap.cause hart_state.hart.regs)
   pub pc : h.next.pc ≡ (saved_host hart_state).pc
   pub mode : h.next.mode ≡ (saved_host hart_state).mode
   pub supervisor : s_context h.hart_state.hart.csrs ≡ s_context (with_s_context hart_state.hart.csrs (saved_host hart_state).supervisor)
