@@ -1,6 +1,6 @@
-# The host tries to create a second enclave that overlaps the first: one with the same region or a larger region around it, and one
-# whose window is the region of the first or a larger range around it. Each of these could disclose the secret, because an enclave can
-# access its region and its window, and because create measures the whole region.
+# The host tries to create a second enclave that overlaps the first. First its region is the region of the first enclave, or a larger
+# one that contains it. Then its window is. Each of these could disclose the secret: an enclave can access its region and its window,
+# and create measures the whole region.
 attack: li    a6, 1
         li    a0, 0x80020000            # the same region
         li    a1, 4096
