@@ -1,9 +1,9 @@
-# The common first part of the attacks on a running enclave. The host of hart 0 creates an enclave and runs it, and the enclave counts.
-# The attack.s of the folder follows this file. The host of hart 1 begins at its label attack.
+# The common first part of the attacks on a running enclave. The host of hart 0 creates and runs an enclave, which
+# counts. The folder's attack.s follows this file. The host of hart 1 begins there, at the label attack.
         jal   zero, both
 
-# The trap handler of both hosts puts the cause into s2 and the address into s3. After a failed load or store it returns to the next
-# instruction. After a failed fetch it returns to the address in t6, the link register of the jump.
+# The trap handler of both hosts puts the cause into s2 and the address into s3. After a failed load or store it returns
+# to the next instruction. After a failed fetch it returns to the address in t6, the link register of the jump.
 trapped:                                # 80010004
         csrrs s2, scause, zero
         csrrs s3, stval, zero
@@ -14,8 +14,8 @@ trapped:                                # 80010004
 back:   csrrw zero, sepc, t6
         sret
 
-# The enclave, which the host copies to the region. a0 is the base of the region, a1 its size in bytes, a2 the base of the window.
-# The enclave exits with 32, or with 0 if a word in the region or on the stack is not the one that it stored.
+# The enclave, which the host copies to the region. a0 is the base of the region, a1 its size, a2 the base of the
+# window. It exits with 32, or with 0 if a word in the region or on the stack is not the one that it stored.
 enclave:                                # 80010024
         add   sp, a0, a1                # the stack grows down from the end of the region
         li    s1, 0

@@ -1,9 +1,9 @@
-# The common first part of the attacks on an enclave that does not run. The host creates and runs an enclave. The enclave stores a
-# secret in its region and in its registers, and stops. The attack.s of the folder follows this file, and begins at the label attack.
+# The common first part of the other attacks. The host creates and runs an enclave, which stores a secret in its region
+# and registers, and stops. The folder's attack.s follows this file, and begins at the label attack.
         jal   zero, host
 
-# The trap handler of the host puts the cause into s2 and the address into s3. After a failed load or store it returns to the next
-# instruction. After a failed fetch it returns to the address in t6, the link register of the jump.
+# The trap handler of the host puts the cause into s2 and the address into s3. After a failed load or store it returns
+# to the next instruction. After a failed fetch it returns to the address in t6, the link register of the jump.
 trapped:                                # 80010004
         csrrs s2, scause, zero
         csrrs s3, stval, zero

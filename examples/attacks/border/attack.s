@@ -1,5 +1,5 @@
-# The host makes accesses that are partly in its own memory and partly in the region. A simulator that checks only the first byte
-# of an access would permit those that begin in the host's memory.
+# The host makes accesses that are partly in its own memory and partly in the region. A simulator that checks only the
+# first byte of an access would permit those that begin in the host's memory.
 attack: li    t5, 0x80020000            # the region's first byte
         lw    t4, -4(t5)                # the host's last word before the region: succeeds
         lw    t4, -1(t5)

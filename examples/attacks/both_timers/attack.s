@@ -1,5 +1,5 @@
-# The timer interrupts are pending on both harts. Both hosts look for traces of the enclave. The first of them creates a second enclave
-# and runs it. The first enclave is then resumed.
+# The timer interrupts are pending on both harts. Both hosts look for traces of the enclave. The first of them creates a
+# second enclave and runs it. The first enclave is then resumed.
 attack: li    t5, 0x80020100
         lw    t4, 0(t5)
         csrrs t0, sscratch, zero

@@ -1,5 +1,5 @@
-# The host destroys the enclave and reuses its memory, first as ordinary memory, then as the region of a new enclave at the same
-# address.
+# The host destroys the enclave and reuses its memory, first as ordinary memory, then as the region of a new enclave at
+# the same address.
 attack: li    a6, 2                     # destroy slot 0
         li    a0, 0
         ecall

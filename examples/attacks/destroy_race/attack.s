@@ -1,5 +1,5 @@
-# The host of hart 1 destroys the enclave one step before hart 0 resumes it. It then loads from the address of the secret twice: one
-# step before hart 0 creates a new enclave at the same address, and one step after.
+# The host of hart 1 destroys the enclave one step before hart 0 resumes it. It then loads from the address of the
+# secret twice: one step before hart 0 creates a new enclave at the same address, and one step after.
 attack: li    t5, 0x80020100            # the address of the secret
         li    t0, 1                     # status 1: the enclave has stopped on hart 0
         bne   a0, t0, second

@@ -1,4 +1,4 @@
-# The host tries to load the secret as a word, a half word and a byte, and to overwrite it. It then tries the first and the last byte.
+# The host tries to load the secret (word, half word, byte) and to overwrite it, and tries both ends of the region.
 attack: li    t5, 0x80020100            # the address of the secret
         lw    t4, 0(t5)
         lhu   t4, 0(t5)

@@ -1,5 +1,5 @@
-# Both hosts look for the secret of an enclave that has stopped on hart 0. They access its region, ask the monitor to write there, and
-# read a register that the enclave has used (sscratch).
+# Both hosts look for the secret of an enclave that has stopped on hart 0. They access its region, ask the monitor to
+# write there, and read a register that the enclave has used (sscratch).
 attack: li    t5, 0x80020100            # the address of the secret
         lw    t4, 0(t5)
         sw    zero, 0(t5)

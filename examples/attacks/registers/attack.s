@@ -1,5 +1,5 @@
-# After the enclave has stopped, the host looks for the secret in the registers and in the CSRs of mode S. Then it runs a second enclave
-# on the same hart, which does not get the secret either.
+# After the enclave has stopped, the host looks for the secret in the registers and in the CSRs of mode S. Then it runs
+# a second enclave on the same hart, which does not get the secret either.
 attack: csrrs t0, sscratch, zero
         csrrs t1, sepc, zero
         csrrs t2, scause, zero

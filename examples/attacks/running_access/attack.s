@@ -1,5 +1,5 @@
-# The host of hart 1 tries to load from, store to and jump to the region, and to access memory across its boundaries. It also loads
-# from and stores to the window, which is the host's own memory.
+# The host of hart 1 tries to load from, store to and jump to the region, and to access memory across its boundaries. It
+# also loads from and stores to the window, which is the host's own memory.
 attack: li    t5, 0x80020100            # the number of the enclave
         lw    t4, 0(t5)
         lbu   t4, 3(t5)

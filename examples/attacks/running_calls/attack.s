@@ -1,4 +1,4 @@
-# The host of hart 1 makes monitor calls about the enclave that runs on hart 0. It measures the enclave, and tries to have the result
+# The host of hart 1 makes monitor calls about the enclave on hart 0. It measures it, and tries to get the result
 # written over it. It tries to create enclaves over it and over its window, and to destroy, run and resume it.
 attack: li    a7, 0x0a454e43
         li    a6, 5                     # measure slot 0, to memory of the host: succeeds

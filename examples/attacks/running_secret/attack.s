@@ -1,5 +1,5 @@
-# The host of hart 1 tries to get the region and the registers of the enclave that runs on hart 0. It accesses the region and its
-# boundaries, and makes monitor calls about the slot. The script then shows all of hart 1's own state.
+# The host of hart 1 tries to get the region and the registers of the enclave on hart 0. It accesses the region and its
+# boundaries, and makes monitor calls about the slot. The script then shows all state of hart 1.
 attack: li    t5, 0x80020100            # the address of the secret
         lw    t4, 0(t5)
         lbu   t4, 3(t5)

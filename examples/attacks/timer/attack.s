@@ -1,5 +1,5 @@
-# The timer interrupts the enclave before each of its instructions. The host looks for traces of the enclave in memory and registers,
-# runs a second enclave, and resumes the first.
+# The timer interrupts the enclave before each of its instructions. The host looks for traces of the enclave in memory
+# and registers, runs a second enclave, and resumes the first.
 attack: li    t5, 0x80020100
         lw    t4, 0(t5)
         csrrs t0, sscratch, zero

@@ -1,5 +1,5 @@
-# The host creates a second enclave of its own, with a window that ends where the region of the first begins. The second enclave tries
-# to load across this boundary.
+# The host creates a second enclave of its own, with a window that ends where the region of the first begins. The second
+# enclave tries to load across this boundary.
 attack: li    t0, 0x80010124            # copy the code of the second enclave
         li    t1, 0x80030000            # to its region
         li    t2, 12

@@ -1,5 +1,5 @@
-# Two hosts, one on each hart. The host of hart 0 creates an enclave and runs it. The host of hart 1 destroys slot 0. Both do this again
-# and again. The schedule, that is the order of the steps of the harts, decides which of two calls is first.
+# Two hosts, one on each hart. The host of hart 0 creates and runs an enclave, again and again. The host of hart 1
+# destroys slot 0, again and again. The schedule of the two harts decides which of two calls is first.
         li    a7, 0x0a454e43
         bne   a0, zero, second
 
