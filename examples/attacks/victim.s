@@ -1,9 +1,9 @@
-# The start of every attack: the host lays out an enclave, which makes a secret, keeps it in its region and in its
-# registers, and stops. The attack.s of a folder stands behind it, from the label attack on.
+# The common first part of the other attacks. The host creates and runs an enclave, which stores a secret in its region
+# and registers, and stops. The folder's attack.s follows this file, and begins at the label attack.
         jal   zero, host
 
-# The host's handler of traps keeps the cause in s2 and the address in s3, and goes on behind the attempt: behind a
-# load or a store, and after a fetch behind the jump, where t6 tells.
+# The trap handler of the host puts the cause into s2 and the address into s3. After a failed load or store it returns
+# to the next instruction. After a failed fetch it returns to the address in t6, the link register of the jump.
 trapped:                                # 80010004
         csrrs s2, scause, zero
         csrrs s3, stval, zero
@@ -14,7 +14,7 @@ trapped:                                # 80010004
 back:   csrrw zero, sepc, t6
         sret
 
-# The enclave, once the host has copied it to its region. It has the region's base in a0.
+# The enclave, which the host copies to the region. a0 is the base of the region.
 enclave:                                # 80010024
         lui   s1, 0x5ec0d               # the secret
         sw    s1, 256(a0)
@@ -23,11 +23,11 @@ enclave:                                # 80010024
         li    a6, 6                     # stop
         li    a0, 0
         ecall
-        jal   zero, -4                  # resumed, it stops again
+        jal   zero, -4                  # after a resume it stops again
 
 host:   li    t0, 0x80010004
         csrrw zero, stvec, t0
-        li    t0, 0x80010024            # copy the enclave's nine words
+        li    t0, 0x80010024            # copy the nine words of the enclave
         li    t1, 0x80020000            # to the region
         li    t2, 9
 copy:   lw    t3, 0(t0)
@@ -37,19 +37,19 @@ copy:   lw    t3, 0(t0)
         addi  t2, t2, -1
         bne   t2, zero, copy
         li    a7, 0x0a454e43
-        li    a6, 1                     # create: 4096 bytes without a window
+        li    a6, 1                     # create: a region of 4096 bytes, without a window
         li    a0, 0x80020000
         li    a1, 4096
         li    a2, 0
         li    a3, 0
         li    a4, 0x80020000
         ecall
-        li    a6, 3                     # run: the enclave comes back by its stop, or by the timer
+        li    a6, 3                     # run: returns when the enclave stops or the timer interrupts it
         li    a0, 0
         ecall
 again:  li    t0, 2
         bne   a0, t0, attack
-        li    a6, 4                     # the timer: resume
+        li    a6, 4                     # interrupted by the timer: resume it
         li    a0, 0
         ecall
         jal   zero, again

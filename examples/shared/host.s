@@ -7,8 +7,8 @@ _start: la      sp, host_stack_top
         call    main
 halt:   j       halt
 
-# Stores cause and value of a trap, and continues after the instruction; after a fetch access fault at the return address of the
-# call that led there. Overwrites t0 and t1.
+# Stores cause and value of a trap, and continues after the instruction. After a fetch access fault it continues at the return address of
+# the call that led there. Overwrites t0 and t1.
         .balign 4
 trapped:
         la      t1, trap

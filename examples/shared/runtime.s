@@ -1,5 +1,5 @@
-# The start of an enclave in mode S: it sets its stack and its trap handler, calls runtime(base, size, window, window size), and
-# then application(result of runtime) in mode U.
+# The start of an enclave in mode S. It sets its stack and its trap handler, and calls runtime(base, size, window, window size).
+# Then it calls application(result of runtime) in mode U.
         .section .text.start, "ax"
         .globl  enclave_entry
 enclave_entry:

@@ -1,9 +1,9 @@
-# The timer is up on both harts before every step: both hosts look for what is left, the first of them makes a second
-# enclave, which runs there, and the other resumes the first one.
+# The timer interrupts are pending on both harts. Both hosts look for traces of the enclave. The first of them creates a
+# second enclave and runs it. The first enclave is then resumed.
 attack: li    t5, 0x80020100
         lw    t4, 0(t5)
         csrrs t0, sscratch, zero
-        li    a6, 1                     # a second enclave, of no code
+        li    a6, 1                     # create a second enclave, without code
         li    a0, 0x80030000
         li    a1, 4096
         li    a2, 0
@@ -13,7 +13,7 @@ attack: li    t5, 0x80020100
         li    a6, 3
         li    a0, 1
         ecall
-        li    a6, 4                     # and back into the first
+        li    a6, 4                     # resume the first enclave
         li    a0, 0
         ecall
 end:    jal   zero, end

@@ -1,5 +1,5 @@
-# The host jumps into the region: to the entry, into the middle, and where the secret stands, whose bytes a trap on
-# an illegal word would tell.
+# The host jumps into the region: to the entry, to the middle of the code, to the secret, and to the last word. If the
+# fetch of the secret were permitted, the trap of an illegal instruction could show its bytes.
 attack: li    t5, 0x80020000
         jalr  t6, 0(t5)
         jalr  t6, 24(t5)

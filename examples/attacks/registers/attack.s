@@ -1,11 +1,11 @@
-# The host looks for the secret in what the enclave has left behind: its registers, and those of mode S. Then it
-# gives the hart to a second enclave, which finds nothing either.
+# After the enclave has stopped, the host looks for the secret in the registers and in the CSRs of mode S. Then it runs
+# a second enclave on the same hart, which does not get the secret either.
 attack: csrrs t0, sscratch, zero
         csrrs t1, sepc, zero
         csrrs t2, scause, zero
         csrrs t3, stval, zero
         csrrs t4, sstatus, zero
-        li    a6, 1                     # a second enclave, of no code
+        li    a6, 1                     # create a second enclave, without code
         li    a0, 0x80030000
         li    a1, 4096
         li    a2, 0

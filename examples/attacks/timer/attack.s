@@ -1,9 +1,9 @@
-# The timer takes the enclave away at every step, and the host looks at each of them for what is left in a register
-# or in memory.
+# The timer interrupts the enclave before each of its instructions. The host looks for traces of the enclave in memory
+# and registers, runs a second enclave, and resumes the first.
 attack: li    t5, 0x80020100
         lw    t4, 0(t5)
         csrrs t0, sscratch, zero
-        li    a6, 1                     # a second enclave, of no code
+        li    a6, 1                     # create a second enclave, without code
         li    a0, 0x80030000
         li    a1, 4096
         li    a2, 0
@@ -13,7 +13,7 @@ attack: li    t5, 0x80020100
         li    a6, 3
         li    a0, 1
         ecall
-        li    a6, 4                     # and back into the first
+        li    a6, 4                     # resume the first enclave
         li    a0, 0
         ecall
 end:    jal   zero, end

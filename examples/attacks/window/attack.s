@@ -1,7 +1,7 @@
-# The host makes a second enclave, of its own, with a window that ends where the region begins, and lets it load
-# across the border.
-attack: li    t0, 0x80010124            # copy its words
-        li    t1, 0x80030000            # to a region of its own
+# The host creates a second enclave of its own, with a window that ends where the region of the first begins. The second
+# enclave tries to load across this boundary.
+attack: li    t0, 0x80010124            # copy the code of the second enclave
+        li    t1, 0x80030000            # to its region
         li    t2, 12
 more:   lw    t3, 0(t0)
         sw    t3, 0(t1)
@@ -19,20 +19,20 @@ more:   lw    t3, 0(t0)
         li    a6, 3                     # run it
         li    a0, 1
         ecall
-        li    a6, 4                     # and once more
+        li    a6, 4                     # resume it
         li    a0, 1
         ecall
 end:    jal   zero, end
 
-# The second enclave. a2 and a3 are its window.
+# The second enclave. a2 is the base of its window, a3 the size.
 other:  auipc t0, 0
-        addi  t0, t0, 24                # its traps come to its stop
+        addi  t0, t0, 24                # its trap handler: the code from csrrs on
         csrrw zero, stvec, t0
-        add   t1, a2, a3                # where the window ends
-        lw    t2, -4(t1)                # the window's last word: done
+        add   t1, a2, a3                # the end of the window
+        lw    t2, -4(t1)                # the window's last word: succeeds
         lw    t2, -2(t1)                # two bytes of the window, and two of the region
-        csrrs a0, scause, zero          # the stop tells the host the cause
+        csrrs a0, scause, zero          # stop with the cause as the value
         li    a7, 0x0a454e43
         li    a6, 6
         ecall
-        lw    t2, 0(t1)                 # resumed: the region alone
+        lw    t2, 0(t1)                 # after a resume: only the region

@@ -1,4 +1,4 @@
-// The application, in mode U: it reaches its region and its window, and nothing else.
+// The application, in mode U: it can access its region and its window, and nothing else.
 
 unsigned application(volatile unsigned *window)
 {

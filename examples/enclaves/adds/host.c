@@ -1,4 +1,4 @@
-// The host of a first enclave: it puts two numbers into the window, runs the enclave, and finds their sum behind them.
+// The host of a first enclave. It writes two numbers to the window, runs the enclave, and reads their sum from the next word.
 #include "calls.h"
 #include "memory.h"
 

@@ -1,5 +1,5 @@
-// The runtime, in mode S: it puts the enclave's measurement into the window, gives the window to the application, and leaves the
-// enclave when the application is done.
+// The runtime, in mode S: it writes the enclave's measurement to the window, passes the window to the application, and exits when the
+// application is done.
 #include "calls.h"
 
 unsigned runtime(unsigned base, unsigned size, unsigned window, unsigned window_size)

@@ -1,4 +1,4 @@
-# What is in the region: two words of code, and a secret.
+# The content of the region: two instructions and a secret.
         .section .text.start, "ax"
         .globl  enclave_entry
 enclave_entry:

@@ -1,5 +1,5 @@
-// A host that makes an enclave and never runs it: it is refused the enclave's bytes, reads its measurement, destroys it, and finds
-// zeros where it was.
+// A host that creates an enclave and never runs it. Its accesses to the region trap. It reads the measurement of the enclave,
+// destroys the enclave, and finds zeros in its place.
 #include "attempts.h"
 #include "calls.h"
 #include "memory.h"
@@ -12,7 +12,7 @@ int main(void)
 {
     const volatile unsigned *region = (const volatile unsigned *)REGION;
 
-    before = region[2]; // before create the region is the host's
+    before = region[2]; // before create the region belongs to the host
     created = enclave_create(REGION, REGION_SIZE, 0, 0, ENTRY);
 
     load = attempt_load(REGION + 8);
@@ -25,7 +25,7 @@ int main(void)
 
     destroyed = enclave_destroy(created.value);
     gone = enclave_measure(created.value, (unsigned)measurement);
-    left = region[2]; // and the host's again, without what was there
+    left = region[2]; // the region belongs to the host again, without its old content
     last = region[3];
     return destroyed.status;
 }

@@ -1,5 +1,5 @@
-// The application, in mode U. It counts the orders of each kind; but it takes the kind from the window as it is, and anyone may have
-// written that.
+// The application, in mode U. It counts the orders of each kind. The bug: it does not check the kind that it reads from the window,
+// and the host can write any value there.
 #include "services.h"
 
 static volatile struct {

@@ -1,5 +1,5 @@
-// The host of a shop: each order in the window has an amount and a kind, and the enclave tells what it costs. There are four kinds,
-// from 0 to 3. Two customers order one that there is not.
+// The host of a shop. Each order in the window has an amount and a kind, and the enclave returns its cost. There are four kinds, 0 to 3.
+// Two of the orders have a kind that does not exist.
 #include "calls.h"
 #include "memory.h"
 

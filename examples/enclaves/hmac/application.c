@@ -1,5 +1,5 @@
-// The application, in mode U: HMAC-SHA-256 (RFC 2104) of each message in the window, under a key that is in the region alone. Whoever
-// has the image knows this key: a real enclave would be sent one.
+// The application, in mode U. It computes the HMAC-SHA-256 (RFC 2104) of each message in the window, with a key that is only in the
+// region. Anyone who has the image knows this key; a real enclave would receive its key.
 #include "../hmac/mailbox.h"
 #include "../hmac/sha256.h"
 #include "services.h"
@@ -31,7 +31,7 @@ static void authenticate(volatile struct mailbox *window, unsigned length)
     sha256_end(&hash, window->code);
 }
 
-// How many messages were answered. The length is read once: the host may write another meanwhile, from another hart.
+// Returns how many messages were answered. It reads each length once, because the host on another hart may change it meanwhile.
 unsigned application(volatile struct mailbox *window)
 {
     unsigned answered = 0;

@@ -1,4 +1,4 @@
-// A host that has its enclave authenticate two messages, and is refused a third, which is too long.
+// A host whose enclave authenticates two messages, and refuses a third, which is too long.
 #include "calls.h"
 #include "mailbox.h"
 #include "memory.h"
@@ -9,7 +9,7 @@ unsigned interrupts, refusals;
 
 static const char *const messages[2] = {"hello, enclave", "a message of more than one block of sixty-four bytes, and so of a third round of blocks"};
 
-// The enclave is run or resumed until it stops or exits by itself.
+// Resumes the enclave after each timer interrupt, until it stops or exits.
 static void go_on(struct monitor_answer first)
 {
     for (left = first; left.status == INTERRUPTED; left = enclave_resume(created.value))

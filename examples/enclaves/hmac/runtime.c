@@ -1,4 +1,4 @@
-// The runtime, in mode S: it gives the application the window, stops for it, and exits when it is done or has failed.
+// The runtime, in mode S: it passes the window to the application, stops at its request, and exits when it is done or has failed.
 #include "calls.h"
 #include "services.h"
 

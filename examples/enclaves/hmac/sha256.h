@@ -1,4 +1,4 @@
-/* SHA-256 (FIPS 180-4) of bytes that come one by one. */
+/* SHA-256 (FIPS 180-4), fed byte by byte. */
 #ifndef SHA256_H
 #define SHA256_H
 
@@ -27,7 +27,7 @@ static inline unsigned rotate_right(unsigned word, int count)
     return word >> count | word << (32 - count);
 }
 
-/* The words of a block, the highest byte first, and those that follow from them. */
+/* Computes the message schedule: the 16 big-endian words of a block, and 48 words derived from them. */
 static void expand(const unsigned char *block, unsigned *words)
 {
     for (int i = 0; i < ROUNDS; i++) {
@@ -74,7 +74,7 @@ static void sha256_put(struct sha256 *hash, unsigned char byte)
     }
 }
 
-/* The end: a bit 1, zeros, and the length in bits, in 8 bytes. */
+/* Pads the message with a bit 1, zeros, and its length in bits (8 bytes), and writes the digest. */
 static void sha256_end(struct sha256 *hash, volatile unsigned char *digest)
 {
     unsigned bits = hash->length * 8;

@@ -1,2 +1,2 @@
-// The application of enclave_hmac, as it is there.
+// The application of the example hmac, unchanged.
 #include "../hmac/application.c"

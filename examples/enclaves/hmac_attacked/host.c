@@ -1,11 +1,11 @@
-// A host that wants the key of the enclave of enclave_hmac. It has it authenticate a message, and while it has stopped tries to load, to
-// store and to execute at and across its borders, and each call that might give its bytes away. Then it lets the enclave go on.
+// A host that tries to get the key of the enclave in the example hmac. When the enclave has stopped after a message, the host tries to load,
+// store and execute at and across its boundaries. It also tries each call that might disclose its bytes. Then it resumes the enclave.
 #include "../hmac/mailbox.h"
 #include "attempts.h"
 #include "calls.h"
 #include "memory.h"
 
-extern unsigned char key[]; // the application's; where it is everyone may know
+extern unsigned char key[]; // in the application; its address is not secret
 #define KEY ((unsigned)key)
 #define LAST (REGION + REGION_SIZE - 1)
 
@@ -22,14 +22,14 @@ static void access_it(void)
     causes_of_loads[0] = attempt_load(KEY);
     causes_of_loads[1] = attempt_load_byte(REGION);
     causes_of_loads[2] = attempt_load_byte(LAST);
-    causes_of_loads[3] = attempt_load(REGION - 2); // half of it is the host's
+    causes_of_loads[3] = attempt_load(REGION - 2); // half of the word is the host's
     causes_of_loads[4] = attempt_load(LAST - 1);
-    causes_of_loads[5] = attempt_load_byte(REGION - 1); // the host's own
+    causes_of_loads[5] = attempt_load_byte(REGION - 1); // the host's own byte
     causes_of_stores[0] = attempt_store(KEY);
     causes_of_stores[1] = attempt_store(REGION - 2);
     causes_of_stores[2] = attempt_store(LAST - 1);
     causes_of_calls[0] = attempt_call(ENTRY);
-    causes_of_calls[1] = attempt_call(KEY + 2); // no multiple of 4
+    causes_of_calls[1] = attempt_call(KEY + 2); // not a multiple of 4
     causes_of_calls[2] = attempt_call(LAST - 3);
 }
 
@@ -50,7 +50,7 @@ static void call_for_it(void)
     of_measures[2] = enclave_measure(created.value, LAST).status;
     of_others[0] = enclave_run(created.value).status;
     of_others[1] = enclave_resume(created.value + 1).status;
-    of_others[2] = monitor_call(MONITOR_EXIT, 0, 0).status; // an enclave's call
+    of_others[2] = monitor_call(MONITOR_EXIT, 0, 0).status; // a call for enclaves only
     of_others[3] = monitor_call(NO_CALL, 0, 0).status;
 }
 

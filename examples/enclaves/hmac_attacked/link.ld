@@ -1,2 +1,2 @@
-/* The enclave lies where that of enclave_hmac does. */
+/* The memory layout of the example hmac. */
 INCLUDE ../hmac/link.ld

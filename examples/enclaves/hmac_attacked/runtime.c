@@ -1,2 +1,2 @@
-// The runtime of enclave_hmac, as it is there.
+// The runtime of the example hmac, unchanged.
 #include "../hmac/runtime.c"

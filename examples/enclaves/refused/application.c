@@ -1,4 +1,4 @@
-// The application, in mode U: it makes a secret, keeps it, lets the host have the hart, and looks whether it is still there.
+// The application, in mode U. It computes a secret and stops. After the resume it checks that the secret is unchanged.
 #include "services.h"
 
 volatile unsigned secret;

@@ -1,10 +1,10 @@
-// A hostile host. It runs an enclave, and each time that it has the hart again, because the timer interrupted the enclave or because
-// it stopped by itself, it tries to read, to write and to execute the enclave's bytes, and to lay another enclave over them.
+// A hostile host. It runs an enclave, which the timer interrupts and which later stops. Each time, the host tries to read, write and
+// execute the enclave's bytes, to create another enclave over them, to measure into them, and to run the enclave again.
 #include "attempts.h"
 #include "calls.h"
 #include "memory.h"
 
-extern volatile unsigned secret; // the application's; where it is everyone may know
+extern volatile unsigned secret; // in the application; its address is not secret
 #define SECRET ((unsigned)&secret)
 
 struct tried {
@@ -18,7 +18,7 @@ static void attack(struct tried *tried)
     tried->load = attempt_load(SECRET);
     tried->store = attempt_store(SECRET);
     tried->call = attempt_call(ENTRY);
-    tried->last_load = attempt_load(REGION + REGION_SIZE - 2); // half of it is the host's
+    tried->last_load = attempt_load(REGION + REGION_SIZE - 2); // half of the word is the host's
     tried->region = enclave_create(REGION, REGION_SIZE, 0, 0, REGION).status;
     tried->larger = enclave_create(REGION, 2 * REGION_SIZE, 0, 0, REGION + REGION_SIZE).status;
     tried->window = enclave_create(REGION + REGION_SIZE, REGION_SIZE, REGION, REGION_SIZE, REGION + REGION_SIZE).status;

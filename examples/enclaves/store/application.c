@@ -1,5 +1,5 @@
-// A key store, in mode U: who has the PIN gets an HMAC-SHA-256 (RFC 2104) of a challenge, under a key that is in the region alone. With
-// LEAKING it does so in ways that tell key and PIN: README.md says where, and which command finds each.
+// A key store, in mode U. For a caller with the PIN it computes the HMAC-SHA-256 (RFC 2104) of a challenge, with a key that is only in the
+// region. If LEAKING is defined, it leaks the key and the PIN. README.md lists the leaks, and the command that finds each of them.
 #include "../store/store.h"
 #include "../hmac/sha256.h"
 #include "services.h"
@@ -34,7 +34,7 @@ static void authenticate(const unsigned char *challenge, volatile unsigned char 
 
 #ifndef LEAKING
 
-// As long for each PIN: no branch, no index and no division goes by it.
+// Runs in constant time: no branch, index or division depends on the PIN.
 static int is_pin(const unsigned char *given)
 {
     unsigned differs = 0;
@@ -43,7 +43,7 @@ static int is_pin(const unsigned char *given)
     return !differs;
 }
 
-// The request is read once, each byte of it, and only what was read is used.
+// Reads each byte of the request only once, and uses only these copies.
 static unsigned answered(volatile struct request *window, unsigned command)
 {
     unsigned char given[PIN_SIZE], challenge[CHALLENGE_SIZE];
@@ -66,7 +66,7 @@ static const unsigned check_table[16] = {
     0xedb88320, 0xf00f9344, 0xd6d6a3e8, 0xcb61b38c, 0x9b64c2b0, 0x86d3d2d4, 0xa00ae278, 0xbdbdf21c};
 static volatile unsigned buckets = 61;
 
-// Leak 1: it ends at the first digit that is wrong, and so its time tells how many are right.
+// Leak 1: the loop ends at the first wrong digit, so its time shows how many digits before that are right.
 static int is_pin(volatile unsigned char *given)
 {
     for (int i = 0; i < PIN_SIZE; i++)
@@ -75,7 +75,7 @@ static int is_pin(volatile unsigned char *given)
     return 1;
 }
 
-// Leak 2: the key is an index into a table, and so the addresses of these loads tell it.
+// Leak 2: the key is used as an index into a table, so the addresses of these loads depend on it.
 static unsigned check_of_key(void)
 {
     unsigned check = ~0u;
@@ -91,20 +91,20 @@ static unsigned answered(volatile struct request *window, unsigned command)
     unsigned char challenge[CHALLENGE_SIZE];
     if (command != OPEN && window->command != OPEN)
         return TOLD;
-    if (command == OPEN && !is_pin(window->pin)) // the race: where the command has become OPEN meanwhile, no PIN is asked for
+    if (command == OPEN && !is_pin(window->pin)) // the race: if the command becomes OPEN only now, the PIN is not checked
         return REFUSED;
-    unsigned bucket = check_of_key() % buckets; // leak 3: a division takes as long as its operands say
+    unsigned bucket = check_of_key() % buckets; // leak 3: the time of a division depends on its operands
     for (int i = 0; i < KEY_SIZE; i++)
-        window->work[i] = key[i] ^ INNER_PAD; // leak 4: what was worked on stays in the window
+        window->work[i] = key[i] ^ INNER_PAD; // leak 4: intermediate data stays in the window
     for (int i = 0; i < CHALLENGE_SIZE; i++)
         challenge[i] = window->challenge[i];
     authenticate(challenge, window->code);
-    return OPENED | bucket << 8; // leak 5: the answer tells a part of a sum over the key
+    return OPENED | bucket << 8; // leak 5: the answer shows a part of a checksum of the key
 }
 
 #endif
 
-// How many requests were answered.
+// Returns how many requests were answered.
 unsigned application(volatile struct request *window)
 {
     unsigned count = 0;

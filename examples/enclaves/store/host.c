@@ -1,5 +1,5 @@
-// Two hosts, one on each hart. That of hart 0 asks the key store for its status, without a PIN, and then to open, with a wrong PIN and with
-// the right one. That of hart 1 wants it opened without a PIN: it makes of whatever command stands in the window one to open.
+// Two hosts, one on each hart. The host of hart 0 sends three requests to the key store: a status without a PIN, an open with a wrong PIN,
+// and an open with the right PIN. The host of hart 1 wants it to open without a PIN: it overwrites the command in the window with OPEN.
 #include "calls.h"
 #include "memory.h"
 #include "../store/store.h"

@@ -1,5 +1,5 @@
-/* A host behind the monitor's range, and the region of an enclave, with what both know of it. The sections of an enclave begin
-   with .enclave (build gives them these names), so that nothing of the host comes into the region. */
+/* A host after the range of the monitor, the region of an enclave, and the symbols that both use. The names of the sections of an
+   enclave begin with .enclave (examples/build renames them), so that nothing of the host is placed in the region. */
 ENTRY(_start)
 
 MEMORY

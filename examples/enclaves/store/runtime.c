@@ -1,2 +1,2 @@
-// The runtime, in mode S: that of enclave_hmac.
+// The runtime, in mode S: the same as in the example hmac.
 #include "../hmac/runtime.c"

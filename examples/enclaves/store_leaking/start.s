@@ -1,2 +1,2 @@
-# Two hosts, as those of two_harts begin.
+# The entry code of two hosts: the same as in the example two_harts.
         .include "../two_harts/start.s"

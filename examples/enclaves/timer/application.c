@@ -1,4 +1,4 @@
-// The application, in mode U: it adds the numbers up to 100, and tells in the window how far it is. It never learns of the timer.
+// The application, in mode U: it adds the numbers up to 100, and writes each of them to the window. It does not notice the timer.
 
 unsigned application(volatile unsigned *window)
 {

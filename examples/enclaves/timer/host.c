@@ -1,4 +1,4 @@
-// A host that resumes its enclave as often as the timer interrupts it.
+// A host that resumes its enclave after each timer interrupt, and counts the interrupts.
 #include "calls.h"
 #include "memory.h"
 

@@ -1,4 +1,4 @@
-// The application, in mode U: it tells that it runs, and waits for a number from the other hart.
+// The application, in mode U: it reports in the window that it runs, and waits there for a number from the other hart.
 #include "meeting.h"
 
 unsigned application(volatile unsigned *window)

@@ -1,5 +1,5 @@
-// Two hosts, one on each hart. That of hart 0 creates an enclave, runs it and destroys it. That of hart 1 waits until the enclave runs,
-// tries its region, asks the monitor to destroy and to run it, and then gives it the number that it waits for.
+// Two hosts, one on each hart. The host of hart 0 creates an enclave, runs it and destroys it. The host of hart 1 waits until the enclave
+// runs. It tries to access the region, and to destroy and run the enclave. Then it sends the number for which the enclave waits.
 #include "attempts.h"
 #include "calls.h"
 #include "meeting.h"

@@ -1,4 +1,4 @@
-/* The words of the window by which the hosts of both harts and the enclave meet. */
+/* The words of the window by which the hosts of both harts and the enclave synchronise. */
 #ifndef MEETING_H
 #define MEETING_H
 

@@ -1,4 +1,4 @@
-/* The bench's RAM, and two segments: what the program executes and reads, and what it writes. */
+/* The RAM, and two segments: one that the program executes and reads, and one that it writes. */
 ENTRY(_start)
 
 MEMORY

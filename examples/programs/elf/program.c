@@ -1,9 +1,9 @@
-// Sorts an array, and keeps how often each remainder modulo 4 stands in it.
+// Sorts an array, adds its numbers, and counts how often each remainder modulo 4 occurs.
 
 #define COUNT 8
 
-unsigned numbers[COUNT] = {31, 4, 15, 92, 65, 35, 89, 79}; // .data: the file has these bytes
-unsigned remainders[4];                                    // .bss: zeros that the file does not have
+unsigned numbers[COUNT] = {31, 4, 15, 92, 65, 35, 89, 79}; // .data: these bytes are in the file
+unsigned remainders[4];                                    // .bss: zeros, which are not in the file
 unsigned sum;
 
 static void sort(unsigned *first, unsigned count)

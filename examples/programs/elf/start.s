@@ -1,4 +1,4 @@
-# Where execution begins: the stack, then main, and an ebreak once it has returned.
+# The entry code: sets the stack pointer, calls main, and executes an ebreak when main has returned.
         .section .text.start, "ax"
         .globl  _start
 _start: la      sp, stack_top

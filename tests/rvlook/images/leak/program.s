@@ -1,5 +1,5 @@
-# An enclave that tells its secret in each way that there is: by a branch, by its window and by its exit. The
-# host copies this page into the region, makes an enclave of it, and runs it; the secret is the word at 80020800.
+# An enclave that leaks its secret by a branch, by its window and by its exit value. The host copies this page into the
+# region, creates an enclave there, and runs it. The secret is the word at 80020800.
           jal  x0, host
 enclave:  auipc x5, 0
           lw   x6, 2044(x5)

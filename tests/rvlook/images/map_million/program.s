@@ -1,4 +1,4 @@
-# A host that counts for some 200000 steps, creates an enclave, and destroys it, and this five times: a million steps.
+# A host that five times counts for about 200000 steps, creates an enclave and destroys it: a million steps in all.
           addi x20, x0, 5
 again:    lui  x5, 24
           addi x5, x5, 1680

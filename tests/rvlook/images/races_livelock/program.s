@@ -1,5 +1,5 @@
-# Two that give way to each other: each puts up its flag, and takes it down again where the other's is up. Who comes in
-# counts. They may give way for ever.
+# A livelock. Each hart sets its own flag, and clears it again if the flag of the other hart is set. A counter counts
+# the entries. The harts may give way to each other forever.
         lui  x8, 0x80011
         slli x5, x10, 2
         add  x9, x8, x5         # its own flag

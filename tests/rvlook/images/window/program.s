@@ -1,13 +1,13 @@
-# An enclave that does with its window what there is to tell: it reads a word twice, writes one and reads that again,
-# writes its secret for a time, and leaves a word behind for its second stay. The host copies this page into the region,
-# makes an enclave of it, runs it, writes one word of what it left, and resumes it. The secret is the word at 80020800,
-# and an index, too.
+# An enclave with each kind of finding in its window. It reads a word twice, writes one and reads that again, writes its
+# secret for a time, and leaves a word for its second activation. The host copies this page into the region, creates an
+# enclave there, runs it, writes one of the words that it left, and resumes it. The secret is the word at 80020800. It
+# is also used as an index.
           jal  x0, host
 enclave:  auipc x5, 0                   # 80020004
           lw   x6, 0(x12)               # reads, 80020008
           lw   x7, 0(x12)               # reads again, 8002000c
           sw   x6, 4(x12)               # writes, 80020010
-          lw   x7, 4(x12)               # of its own: no input, 80020014
+          lw   x7, 4(x12)               # its own word: no input, 80020014
           lbu  x8, 8(x12)               # reads a byte, 80020018
           lw   x9, 2044(x5)             # the secret, 8002001c
           andi x18, x9, 60              # 80020020
@@ -16,14 +16,14 @@ enclave:  auipc x5, 0                   # 80020004
           sw   x0, 1024(x18)            # and stores at such a one, 8002002c
           divu x20, x6, x9              # 80020030
           sw   x9, 16(x12)              # writes it, 80020034
-          sw   x0, 16(x12)              # and wipes it, 80020038
+          sw   x0, 16(x12)              # and clears it, 80020038
           sw   x6, 20(x12)              # 8002003c
           addi x10, x0, 0               # 80020040
           addi x16, x0, 6               # 80020044
           lui  x17, 42069
           addi x17, x17, -445
           ecall                         # stop, 80020050
-          sw   x6, 12(x12)              # writes in its second stay, 80020054
+          sw   x6, 12(x12)              # writes in its second activation, 80020054
           addi x16, x0, 7
           ecall                         # exit, 8002005c
 host:     lui  x5, 0x80010

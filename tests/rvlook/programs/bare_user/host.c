@@ -1,4 +1,4 @@
-// What runs in mode U.
+// The code that runs in mode U.
 
 volatile unsigned count;
 

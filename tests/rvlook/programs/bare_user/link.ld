@@ -1,4 +1,4 @@
-/* A bare image: it begins where the bench does. */
+/* A bare image: it begins at the reset address of a bare machine. */
 ENTRY(_start)
 
 MEMORY

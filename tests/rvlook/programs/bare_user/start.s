@@ -1,4 +1,4 @@
-# A monitor of one's own, in mode M: all memory is permitted to U by one PMP entry; main runs in U, and its ecall ends the run.
+# A minimal monitor in mode M. One PMP entry permits all memory to U. main runs in U, and the ecall after it ends the run.
         .section .text.start, "ax"
         .globl  _start
 _start: la      sp, host_stack_top

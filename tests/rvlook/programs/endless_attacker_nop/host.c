@@ -1,4 +1,4 @@
-// Hart 0 reads a word of the window and ends. Hart 1 stores two values there in turn, and never ends.
+// Hart 0 reads a word of the window and ends. Hart 1 stores two values there alternately, in an endless loop.
 #include "memory.h"
 
 unsigned seen; // what hart 0 has read

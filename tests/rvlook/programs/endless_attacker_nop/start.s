@@ -1,4 +1,4 @@
-# Where the hosts of both harts begin, in mode S, with the hart's number in a0. A trap ends the hart.
+# The entry code of the hosts of both harts, in mode S, with the hart's number in a0. A trap halts the hart.
         .section .text.start, "ax"
         .globl  _start
 _start: la      sp, host_stack_top

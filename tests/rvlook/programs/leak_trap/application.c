@@ -1,4 +1,4 @@
-// The application, in mode U: the secret is the offset in the window of its only store. A large one is outside the window, and the store traps.
+// The application, in mode U. The secret is the offset of its only store in the window. A large secret is outside the window: the store traps.
 
 volatile unsigned secret = 16;
 

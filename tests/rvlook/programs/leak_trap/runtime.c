@@ -1,5 +1,5 @@
-// The runtime, in mode S: it leaves the enclave with the same answer after the application's ecall and after a trap of the application. On
-// the way it loads one of two bytes, by a bit of the secret.
+// The runtime, in mode S: it exits with the same value after the application's ecall and after a trap of the application. Before the
+// exit it loads one of two bytes, selected by a bit of the secret.
 #include "calls.h"
 
 extern volatile unsigned secret;

@@ -1,4 +1,4 @@
-// Sums two numbers by way of a local buffer of SIZE words, which is larger than the stack that the table leaves.
+// Adds two numbers through a local buffer of SIZE words, which is larger than the space that the table leaves for the stack.
 #ifndef SIZE
 #define SIZE 256
 #endif

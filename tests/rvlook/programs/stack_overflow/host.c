@@ -1,4 +1,4 @@
-// Runs the enclave once over two numbers in the window.
+// Runs the enclave once, with two numbers in the window.
 #include "calls.h"
 #include "memory.h"
 

@@ -1,4 +1,4 @@
-// The application, in mode U: it adds the numbers up to 8, and what the window has at 4. Then it stops `stops` times with the sum.
+// The application, in mode U. It adds the numbers up to 8 and the word at offset 4 of the window. Then it stops `stops` times with the sum.
 #include "services.h"
 
 volatile unsigned stops;

@@ -1,4 +1,4 @@
-// A host that resumes its enclave as often as `patience` says. A script pokes other numbers.
+// A host that resumes its enclave after at most `patience` timer interrupts. Scripts change these numbers by poke.
 #include "calls.h"
 #include "memory.h"
 
@@ -23,7 +23,7 @@ int main(void)
         }
         left = enclave_resume(slot);
     }
-    window[2] = left.value; // the host goes on, with other registers and another window
+    window[2] = left.value; // the host continues, with other registers and another content of the window
     for (unsigned place = 0; place < 8; place++) log[place] = place;
     return 0;
 }

@@ -1,4 +1,4 @@
-// The runtime, in mode S: it stops or leaves the enclave as the application asks.
+// The runtime, in mode S: it stops or exits, as the application requests.
 #include "calls.h"
 #include "services.h"
 

@@ -1,5 +1,5 @@
-// The application, in mode U: it answers the challenge with a number that depends on the key; that is its purpose. `leaks` has a bit for
-// each way in which it gives away more.
+// The application, in mode U. Its purpose is to answer the challenge with a number that depends on the key. `leaks` has a bit for each
+// further leak.
 
 volatile unsigned leaks;
 volatile unsigned char key[20] = {0xa1, 0xb2, 0xc3, 0xd4, 0xe5, 0xf6, 0x07, 0x18, 0x29, 0x3a, 0x4b, 0x5c, 0, 0, 0, 0, 0, 0x6d, 0x7e, 0x8f};
@@ -15,7 +15,7 @@ unsigned application(volatile unsigned char *window)
     for (unsigned place = 0; place < sizeof key; place++) answer = answer * 31 + key[place];
     *(volatile unsigned *)(window + 0x10) = answer;
     if (leaks & 1) copy(window + 0x800, 5, 20);  // the last 15 bytes
-    if (leaks & 2) copy(window + 0x900, 3, 7);   // 4 bytes, the least that is told
+    if (leaks & 2) copy(window + 0x900, 3, 7);   // 4 bytes, the fewest that are reported
     if (leaks & 4) copy(window + 0xa00, 6, 9);   // 3 bytes
     if (leaks & 8) copy(window + 0xb00, 12, 17); // zeros
     if (leaks & 16) copy(window + 0xc00, 0, 20); // all of it

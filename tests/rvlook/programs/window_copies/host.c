@@ -1,9 +1,9 @@
-// A host that gives its enclave a challenge in the window, and runs it once. A script pokes other numbers.
+// A host that writes a challenge to the window and runs its enclave once. Scripts change its numbers by poke.
 #include "calls.h"
 #include "memory.h"
 
 const unsigned char guess[8] = {0xa1, 0xb2, 0xc3, 0xd4, 0xe5, 0xf6, 0x07, 0x18};
-volatile unsigned guesses; // whether the host writes to the window what the key begins with
+volatile unsigned guesses; // whether the host writes the first bytes of the key to the window
 
 int main(void)
 {

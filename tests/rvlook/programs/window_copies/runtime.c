@@ -1,4 +1,4 @@
-// The runtime, in mode S: it gives the application the window, and leaves the enclave when the application is done.
+// The runtime, in mode S: it passes the window to the application, and exits when the application is done.
 #include "calls.h"
 
 unsigned runtime(unsigned base, unsigned size, unsigned window, unsigned window_size)
