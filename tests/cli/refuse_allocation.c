@@ -1,5 +1,5 @@
 // Preloaded under a program: refuses its Nth allocation, N being the number in the variable REFUSE_AT.
-// It stands on no header, so that any C compiler with the GNU C library underneath builds it.
+// It includes no header, so that any C compiler can build it with the GNU C library.
 extern void *__libc_malloc(unsigned long size);
 extern void *__libc_calloc(unsigned long count, unsigned long size);
 extern void *__libc_realloc(void *block, unsigned long size);

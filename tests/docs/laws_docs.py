@@ -52,7 +52,7 @@ def names_in(text):
 
 
 def check_places(sources, carried, defined):
-    """The names right before a file's name stand in that file."""
+    """Checks that the names right before the name of a file are in that file."""
     for names, path in re.findall(rf"({NAMES})(?: of `\w+`)? \(`([\w/]+\.antt)`\)", defined):
         for name in names_in(names):
             sources.ask(name in defined_in(os.path.join(ROOT, "crates", path)), f"LAWS: {name} is not in {path}")

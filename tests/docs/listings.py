@@ -1,6 +1,7 @@
 #!/usr/bin/env python3
-"""python3 -m docs.listings --check: compares the lists of registers, instructions and monitor calls in the definitions with those that no proof
-checks: in the tests, rvlook, the examples and the documentation. Also checks the numbers of instructions in the documentation.
+"""python3 -m docs.listings --check: compares the lists of registers, instructions and monitor calls in the definitions with other lists.
+These are in the tests, rvlook, the examples and the documentation, and no proof checks them. Also checks the numbers of instructions in the
+documentation.
 """
 import os
 import re

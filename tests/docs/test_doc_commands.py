@@ -1,8 +1,8 @@
 """The commands of README.md and of the tutorial work in a fresh clone, in order.
 
 bash runs each block of indented lines in the clone. Each command exits with status 0, or 1 if it is a subcommand of rvlook that reports
-findings. The text below a line with `$` is its output; a line `...` matches any lines. ./check, ./prove, installations and debugger sessions
-are skipped; the tests of gdb run the sessions.
+findings. The text below a line with `$` is its output; a line `...` matches any lines. The tests skip ./check,
+./prove, installations and debugger sessions. The tests of gdb run the sessions.
 """
 import os
 import re

@@ -1,5 +1,6 @@
-"""Random inputs for the program, of eight kinds: image texts, scripts of a bare bench, self-modifying programs, ELF files, assembler texts, images to
-disassemble, and scripts of one and of two monitored benches, with one hart and with two. Each input has arguments and bytes, and is made from a
+"""Random inputs for the program, of eight kinds. Five are texts or images: image texts, ELF files, assembler texts,
+images to disassemble, and self-modifying programs. Three are scripts: of a bare bench, and of one and of two monitored benches, with one hart and
+with two. Each input has arguments and bytes, and is made from a
 random number generator. Independent of the code under test.
 """
 import re

@@ -3,8 +3,8 @@
 monitor_bench.py. Regions and windows come from a small pool, so that several enclaves run, stop, exit and are destroyed in one script. The code
 of all worlds consists of ecalls, accesses, returns, jumps and illegal words. With --harts 2 both harts run, and race. With --twin the second part
 of the script goes to two benches that differ in one enclave, whose replies must be equal. With --other-hart the script is split while an enclave runs
-on one of two harts. Each of several secrets is then written to its region and its registers, and the replies to the second part, for the other
-hart, must be the same for all secrets.
+on one of two harts. Each of several secrets is then written to its region and its registers. The second part is for the other hart, and its
+replies must be the same for all secrets.
 
     python3 -m fuzz.monitor_play PROGRAM [--twin | --other-hart] [--harts H] [--seed S] [--count N] [--lines L]
                                                                                                   N scripts of L lines, from this seed

@@ -1,7 +1,9 @@
 #!/usr/bin/env python3
-"""Builds the attacks of examples/attacks, and examples/programs/race. assembly_model.py assembles victim.s (runner.s without twin) and the
-attack.s of a folder, or its program.s, into the image and the listing of the folder. The stdin of the folder is the image and the script, and the
-model of monitor_bench.py writes its stdout. If the script has a secret, a second input `other` has its complement.
+"""Builds the files `image` and `stdout` of each attack in examples/attacks, and of examples/programs/race.
+
+The source of an attack is victim.s, or runner.s if the attack is not a twin run, and its attack.s. The source of the race is its program.s. The
+module assembly_model.py assembles the image. The input is the image and the script, and the model in monitor_bench.py computes the output. If the
+script has a secret, the output for its complement must be the same.
 
     python3 -m generators.attacks            builds all of them
     python3 -m generators.attacks --check    checks that they are up to date and that each attack fails: both benches reply the same to each

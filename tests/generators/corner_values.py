@@ -8,8 +8,8 @@ privileged ones.
     python3 -m generators.corner_values --check-with-llvm    checks each instruction word against llvm-mc
 
 Independent of the code under test. instruction_results.py computes the results, which are then cut to 32 bits. The next pc, the accessed
-bytes and the traps of each group are written out below. instruction_words.py encodes the instructions by the tables of the manual. llvm-mc
-agrees on all of them except a fence with reserved fields, which it cannot express.
+bytes and the traps of each group are written out below. The module instruction_words.py encodes the instructions by the tables of the manual.
+The encodings are those of llvm-mc, except for a fence with reserved fields, which llvm-mc cannot express.
 """
 import sys
 

@@ -1,6 +1,6 @@
 #!/usr/bin/env python3
-"""Generates the cases of debugger: runs that breakpoints and watchpoints end at each boundary of an access, their order, sets of 32 and 33
-addresses, poke, hart and sched with one hart, every malformed line of these commands, and long scripts of them.
+"""Generates the cases of debugger. Breakpoints and watchpoints end runs at each boundary of an access, in order, and in sets of 32 and 33
+addresses. The other cases are poke, hart and sched with one hart, every malformed line of these commands, and long scripts of them.
 
     python3 -m generators.debugger                      writes its digest and sample
     python3 -m generators.debugger --check              checks that they are up to date

@@ -1,7 +1,7 @@
 #!/usr/bin/env python3
 """Generates the cases of elf_header, elf_cut, elf_segments, elf_entry, elf_loaded, elf_company, elf_kind and elf_mutated, and
-tests/fuzz/mutated_images: each fault of an ELF file, alone and with others, the boundaries of each field, a file truncated to each length, the
-loaded bytes, and the fields that are ignored.
+tests/fuzz/mutated_images. They have each fault of an ELF file, alone and with others, and the boundaries of each field. They also have a file
+truncated to each length, the loaded bytes, and the fields that are ignored.
 
     python3 -m generators.elf                      writes them
     python3 -m generators.elf --check              checks that they are up to date

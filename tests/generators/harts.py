@@ -1,6 +1,8 @@
 #!/usr/bin/env python3
-"""Generates the cases of two harts, harts_*: races of every two calls, one on each hart; the boundaries of hart and sched, with two harts, with
-one, and with two benches; private and shared state of the harts; a host concurrent with a running enclave.
+"""Generates the cases of two harts, harts_*.
+
+They have races of every two calls, one on each hart, and the boundaries of hart and sched, with two harts, with one, and with two benches.
+They also have private and shared state of the harts, and a host concurrent with a running enclave.
 
     python3 -m generators.harts                      writes their digests and samples
     python3 -m generators.harts --check              checks that they are up to date

@@ -1,5 +1,5 @@
-"""The cases of two benches with two harts that differ in one enclave: the end of a run on either hart, missing enclaves, and every command and call
-of the other hart around it."""
+"""The cases of two benches with two harts that differ in one enclave. They have the end of a run on either hart, missing enclaves, and every command
+and call of the other hart around it."""
 from generators.harts_case import HartsTwinCase, divided
 from models.monitor_model import BAD_ADDRESS, BAD_STATE, CREATE, DESTROY, MEASURE, OVERLAP, RESUME, RUN, STOP, STOPPED
 from generators.twin_case import WholeTwins

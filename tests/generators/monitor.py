@@ -1,6 +1,6 @@
 #!/usr/bin/env python3
-"""Generates the cases of the monitored profile, monitor_*: every refusal of every call at its boundary and together with the next one, the PMP
-entries, world switches, timer interrupts, redirected traps, the debugger commands, and images.
+"""Generates the cases of the monitored profile, monitor_*. They have every refusal of every call, at its boundary and together with the next
+one. They also have the PMP entries, world switches, timer interrupts, redirected traps, the debugger commands, and images.
 
     python3 -m generators.monitor                      writes their digests and samples
     python3 -m generators.monitor --check              checks that they are up to date

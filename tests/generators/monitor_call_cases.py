@@ -1,5 +1,5 @@
-"""The cases of destroy, run, resume, measure, stop and exit: accepted and refused calls, from the host and from an enclave, and the state that a
-refused call does not change."""
+"""The cases of destroy, run, resume, measure, stop and exit. They have accepted and refused calls, from the host and from an enclave, and the state
+that a refused call does not change."""
 from generators.monitor_case import Case
 from models.monitor_model import (BAD_ADDRESS, BAD_STATE, CREATE, DESTROY, EXIT, EXITED, KEY, MEASURE, NOT_SUPPORTED, NO_ENCLAVE,
                            RESUME, RUN, STOP, STOPPED)

@@ -1,6 +1,6 @@
 #!/usr/bin/env python3
-"""Generates the cases of pmp: verdicts at the boundaries of sets of PMP entries, writes to pmpcfg and pmpaddr under locks, and fetches, loads and
-stores across the boundaries in each mode and with MPRV.
+"""Generates the cases of pmp: verdicts at the boundaries of sets of PMP entries, and writes to pmpcfg and pmpaddr under locks. There are also
+fetches, loads and stores across the boundaries in each mode and with MPRV.
 
     python3 -m generators.pmp                      writes its digest and sample
     python3 -m generators.pmp --check              checks that they are up to date

@@ -1,6 +1,6 @@
 #!/usr/bin/env python3
-"""Generates the cases of traps, returns, interrupts and counters: each cause from each mode, mret and sret, instructions that are illegal below a
-mode, the priority of interrupts, and the steps that count.
+"""Generates the cases of traps, returns, interrupts and counters. They have each cause from each mode, mret and sret, and instructions that are
+illegal below a mode. They also have the priority of interrupts, and the steps that count.
 
     python3 -m generators.traps                      writes their digests and samples
     python3 -m generators.traps --check              checks that they are up to date

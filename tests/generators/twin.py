@@ -1,6 +1,6 @@
 #!/usr/bin/env python3
-"""Generates the cases of two benches that differ in one enclave, twin_*: every command and every monitor call, commands that are not blind at each
-boundary of a region, the ends of a run, lines, images, and worked examples with handwritten output.
+"""Generates the cases of two benches that differ in one enclave, twin_*. They have every command and every monitor call, and commands that are not
+blind at each boundary of a region. They also have the ends of a run, lines, images, and worked examples with handwritten output.
 
     python3 -m generators.twin                      writes their digests and samples
     python3 -m generators.twin --check              checks that they are up to date

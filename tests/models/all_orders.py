@@ -1,5 +1,5 @@
-"""Enumerates all schedules of two harts and of timer interrupts over the model of the bench: the final states, the number of schedules that lead
-to each, and the fewest preemptions and timer interrupts. Independent of the code under test."""
+"""Enumerates all schedules of two harts and of timer interrupts over the model of the bench. Returns the final states, and for each the number of
+schedules that lead to it, and the fewest preemptions and timer interrupts. Independent of the code under test."""
 import copy
 
 from models.monitor_bench import Bench

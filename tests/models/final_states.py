@@ -119,8 +119,9 @@ def components(edges):
 
 
 def final_states(program, registers=()):
-    """Returns the final states: how each hart ends, the least pc of its loop if it has ended, the values of the words at DATA, and the values of
-    these registers, each a pair of hart and number."""
+    """Returns the final states. `registers` has pairs of a hart and a number.
+
+    A final state has how each hart ends, the least pc of its loop if it has ended, the words at DATA, and the values of the registers."""
     edges, found = explored(program), set()
     for part in components(edges):
         inside = [(state, *edge) for state in part for edge in edges[state] if edge[1] in part]

@@ -1,6 +1,6 @@
-"""Encodes the instructions that corner_values.py, csr_table.py, traps.py, pmp.py and debugger.py use, by the tables of
-opcode, funct3 and funct7 of the RISC-V Unprivileged ISA 20191213, sections 2.2, 2.3 and chapter 24, and of the Privileged
-Architecture 20211203. Independent of the code under test. differing_from_llvm compares them with LLVM's assembler.
+"""Encodes the instructions that corner_values.py, csr_table.py, traps.py, pmp.py and debugger.py use. The tables of opcode, funct3 and funct7
+are those of the RISC-V Unprivileged ISA 20191213 (sections 2.2, 2.3 and chapter 24) and of the Privileged Architecture 20211203.
+Independent of the code under test. The function differing_from_llvm compares them with LLVM's assembler.
 """
 import re
 import subprocess

@@ -1,6 +1,5 @@
-"""A reference model of rvbench over the machine of monitor_model.py with one or two harts, or over a bare hart: images, commands, and the replies
-to a script, from one bench or from two that differ in one enclave, by docs/IMAGES.md and docs/COMMANDS.md. Independent of
-the code under test.
+"""A reference model of rvbench, by docs/IMAGES.md and docs/COMMANDS.md: images, commands, and the replies to a script. It models one bench, or two
+that differ in one enclave. The machine is that of monitor_model.py with one or two harts, or a bare hart. Independent of the code under test.
 
     tests/models/monitor_bench.py [run --monitor --harts 2 .. | twin --slot K ..] < stdin    writes the expected output
 """

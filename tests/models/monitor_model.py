@@ -1,6 +1,6 @@
-"""The monitored machine: one or two harts under a security monitor in the style of Keystone (EuroSys 2020), by the tables of docs/MONITOR.md: the
-enclave table, the PMP entries, the calls with their refusals in order, world switches, timer interrupts, and redirected traps. SHA-256 is that
-of hashlib. Independent of the code under test.
+"""The monitored machine: one or two harts under a security monitor in the style of Keystone (EuroSys 2020), by the tables of docs/MONITOR.md. It has
+the enclave table, the PMP entries, the calls with their refusals in order, world switches, timer interrupts, and redirected traps. SHA-256 is
+that of hashlib. Independent of the code under test.
 """
 import hashlib
 

@@ -1,5 +1,5 @@
-"""The sixteen PMP entries, by the RISC-V Privileged Architecture 20211203, section 3.7.1: the bytes that an entry covers, the verdict on an access,
-computed byte by byte, and the effect of a write. Independent of the code under test.
+"""The sixteen PMP entries, by the RISC-V Privileged Architecture 20211203, section 3.7.1. The model has the bytes that an entry covers, the verdict
+on an access, computed byte by byte, and the effect of a write. Independent of the code under test.
 """
 
 OFF, TOR, NA4, NAPOT = 0x00, 0x08, 0x10, 0x18

@@ -1,5 +1,5 @@
-# The host tries to create a second enclave that overlaps the first: its region or its window is the region of the first
-# enclave, or a larger range that contains it. Each of these could disclose the secret. An enclave can access its region
+# The host tries to create a second enclave that overlaps the first. Its region or its window is the region of the first
+# enclave, or a larger range that contains it. Each of these could disclose the secret: an enclave can access its region
 # and its window, and create measures the whole region.
 attack: li    a6, 1
         li    a0, 0x80020000            # the same region

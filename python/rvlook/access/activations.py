@@ -30,8 +30,10 @@ ROW = 64  # bytes that `mem` shows at once
 
 
 class Operation(NamedTuple):
-    """A load (`r`), a store (`w`) or a division (`d`) of a step: address and width, 0 for a division; the value that is stored, or the operands; and
-    whether it was done."""
+    """A load (`r`), a store (`w`) or a division (`d`) of a step.
+
+    `address` and `width` are 0 for a division. `values` has the bytes of a store or the operands of a division, and is empty for a load. `done` is
+    false if the step trapped."""
     step: int
     pc: int
     kind: str

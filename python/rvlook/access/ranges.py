@@ -1,5 +1,5 @@
-"""Access rights to ranges of RAM: the replies of `access` between the boundaries that `pmp` shows, and the rights that the table of
-enclaves gives to worlds that run on no hart."""
+"""Access rights to ranges of RAM. They are the replies of `access` between the boundaries that `pmp` shows. For worlds that run on no hart,
+the enclave table gives them."""
 from __future__ import annotations
 
 from dataclasses import dataclass

@@ -1,6 +1,7 @@
-"""The subcommand `leak`: compares runs that differ only in a secret of an enclave, in the channels that a host can observe: pc, number of steps,
-addresses of loads and stores, operands of divisions with --strict, results, and the window. After two runs diverge, they are compared from where
-they converge again."""
+"""The subcommand `leak`: compares runs that differ only in a secret of an enclave, in the channels that a host can observe.
+
+The channels are the pc, the number of steps, the addresses of loads and stores, the operands of divisions with --strict, the results, and the
+window. After two runs diverge, they are compared from where they converge again."""
 from __future__ import annotations
 
 from array import array

@@ -70,8 +70,10 @@ class View:
 
 @dataclass
 class Byte:
-    """A byte of the window in one activation: the last and the first instruction that read it before a store of the enclave, the pairs that reread
-    it, the last one that stored to it, and the stored values."""
+    """A byte of the window in one activation, and the instructions that accessed it.
+
+    `read_at` and `input_at` are the last and the first one that read it before a store of the enclave. `again` has the pairs that reread it.
+    `stored_at` is the last one that stored to it, and `values` has the stored values."""
     read_at: Optional[int] = None
     input_at: Optional[int] = None
     again: dict[tuple[int, int], bool] = field(default_factory=dict)  # of pairs of instructions

@@ -1,6 +1,7 @@
-"""Loaded by gdb with `-x python/rvlook/gdb/client.py`, for what the protocol cannot express: a backtrace continues from a trap handler to
-the interrupted code, and from an enclave to the host that entered it; registers are read again after each `monitor`, which may step; and
-gdb waits as long as a run of the bench may take."""
+"""Loaded by gdb with `-x python/rvlook/gdb/client.py`, for what the protocol cannot express.
+
+A backtrace continues from a trap handler to the interrupted code, and from an enclave to the host that entered it. Registers are read again
+after each `monitor`, which may step. gdb waits as long as a run of the bench may take."""
 from __future__ import annotations
 
 import gdb

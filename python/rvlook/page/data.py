@@ -1,6 +1,6 @@
-"""Packs the objects of a run for the page: repeated values are numbers in a table, and numbers are columns of bytes. The result is
-compressed by zlib, in base 64: the length of a JSON object in four bytes, little-endian; the object; and the columns, at the offsets that
-the object names."""
+"""Packs the objects of a run for the page: repeated values are numbers in a table, and numbers are columns of bytes. The result
+is compressed by zlib, in base 64. It has the length of a JSON object in four bytes, little-endian, then the object, then the columns. The
+object names their offsets."""
 from __future__ import annotations
 
 import base64

@@ -1,5 +1,6 @@
-"""Reads the source files that the line tables of an ELF file name. A line table can name any file of this machine, and pages are passed on,
-so only regular files below the folder of the ELF file, or below a folder of `--sources`, are read. Each is reported on standard error."""
+"""Reads the source files that the line tables of an ELF file name. A line table can name any file of this machine, and pages are passed
+on. Therefore only regular files below the folder of the ELF file, or below a folder of `--sources`, are read. Each is reported on standard
+error."""
 from __future__ import annotations
 
 import os

@@ -1,5 +1,5 @@
-"""Prints a trace in the format of Spike's --log-commits: a line for each instruction that did not trap, with the register and the control
-register that it wrote, and its load or store."""
+"""Prints a trace in the format of Spike's --log-commits. It has a line for each instruction that did not trap, with the register and the
+control register that it wrote, and its load or store."""
 from __future__ import annotations
 
 from typing import TYPE_CHECKING

@@ -1,7 +1,7 @@
 """The search of `races` over all orders of two harts and all timer interrupts, with partial-order reduction. It switches harts only before
-a dependent step: one that accesses a byte which both harts access and at least one writes, that calls the monitor, or that accesses memory
-which is ever part of a region. The search is repeated as long as more shared bytes are found. Equal points are joined; the simplest schedule to
-each is found first, by preemptions, timer interrupts, switches and steps."""
+a dependent step. A step is dependent if it calls the monitor, if it accesses memory that is ever part of a region, or if it accesses a shared
+byte. A byte is shared if both harts access it and at least one writes it. The search is repeated as long as more shared bytes are found. Equal
+points are joined; the simplest schedule to each is found first, by preemptions, timer interrupts, switches and steps."""
 from __future__ import annotations
 
 import heapq
@@ -34,8 +34,9 @@ class DependentStep(NamedTuple):
 
 
 class Move(NamedTuple):
-    """A dependent step with the independent steps around it, or only independent steps if `pc` is None: the state after it, the number of
-    steps, and whether memory or the table changed."""
+    """A dependent step with the independent steps around it, or only independent steps if its `pc` is None.
+
+    Has the state after it, the number of steps, and whether memory or the table changed."""
     state: State
     steps: int
     dependent: DependentStep
@@ -133,8 +134,10 @@ class Touches:
 
 
 class Graph:
-    """The orders of a round: the first node of each vertex, and its edges; the moves of each state; the endless loops in which no other hart
-    can affect a hart; and the states in which a hart was given up, within a move or after many moves alone."""
+    """The orders of a round.
+
+    Has the first node of each vertex, its edges, and the moves of each state. `loops` has the endless loops in which no other hart can affect a hart.
+    `unended` and `alone` have the states in which a hart was given up: within a move, or after many moves alone."""
 
     def __init__(self) -> None:
         self.nodes: dict[Vertex, Node] = {}
@@ -407,8 +410,9 @@ class Search:
         return not shared.isdisjoint(range(look.at, look.at + look.width)) or self.machine.overlaps_region(look.at, look.width)
 
     def is_watched(self, own: Context, look: Look) -> bool:
-        """Returns whether a step of an enclave is dependent because the host may not resume the enclave after a timer interrupt: it stores a part of
-        the outcome, or the steps are limited."""
+        """Returns whether a step of an enclave is dependent because the host may not resume the enclave after a timer interrupt.
+
+        This is so if the step stores a part of the outcome, or if the steps are limited."""
         if own.world == "host":
             return False
         return bool(self.machine.limit) or look.kind == "w" and not self.watched.isdisjoint(range(look.at, look.at + look.width))
