@@ -48,6 +48,17 @@ def test_help_is_printed_after_other_options(help_of, words):
     assert has_line(help_of(*words.split()), "Usage: rvbench run")
 
 
+@pytest.mark.parametrize("words", ["run --help --bad", "--help --bad", "run --harts 2 --help"])
+def test_help_before_a_mistake_is_printed(help_of, words):
+    assert has_line(help_of(*words.split()), "Usage: rvbench")
+
+
+@pytest.mark.parametrize("words", ["run --bad --help", "--bad --help", "run --ram x --help", "help bogus"])
+def test_a_mistake_before_help_is_refused(bench, words):
+    done = subprocess.run([bench, *words.split()], stdin=subprocess.DEVNULL, capture_output=True, text=True, timeout=60, check=False)
+    assert (done.returncode, done.stdout, done.stderr) == (2, "rvbench: command line\n", "")
+
+
 @pytest.mark.parametrize("name", ENTRIES)
 def test_the_help_of_run_lists_the_commands(help_of, name):
     assert re.search("^  %s " % re.escape(name), help_of("run", "--help"), re.M)

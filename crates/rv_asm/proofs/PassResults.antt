@@ -1,5 +1,5 @@
 -- The results of both passes.
-use Rattle.std.proofs.Common.{◌≡◌, ◌⊎◌, inl, inr, ◌∙◌, sym, ap, ℕ, ◌+◌, ◌≤◌, List, [], ◌∷◌, ◌++◌, length, length-append, Option, Some, None}
+use Rattle.std.proofs.Common.{◌≡◌, ◌⊎◌, inl, inr, ◌∙◌, sym, ap, ℕ, ◌+◌, ◌-◌, ◌≤◌, ◌<◌, List, [], ◌∷◌, ◌++◌, length, length-append, Option, Some, None}
 use Rattle.std.proofs.Common.{Result, Ok, Err, IfOk, IfErr, Vec, option_map, arith, refl, take}
 use Rattle.std.proofs.lemmas.List.{length-map}
 use Rattle.rv_word.specs.Cases.{option_case}
@@ -8,7 +8,7 @@ use Rattle.rv_asm.specs.OutOfMemory.{FailsFor, OutOfMemoryForLabel}
 use Rattle.rv_asm.specs.LineReading.{line_read}
 use Rattle.rv_text.specs.Lines.{lines_of}
 use Rattle.rv_asm.specs.Passes.{HasRead, label_twice}
-use Rattle.rv_asm.specs.Program.{Reading, readings, own_fault, label_fault, name_fault, first_line_fault, place_in, words_from, words_of_lines, assembled}
+use Rattle.rv_asm.specs.Program.{Reading, readings, own_fault, label_fault, name_fault, first_line_fault, place_in, words_in, words_from, words_of_lines, assembled}
 use Rattle.rv_asm.specs.declared.first_pass.FirstPass.{FirstPass}
 use Rattle.rv_asm.specs.declared.fault.AsmFault.{AsmFault}
 use Rattle.rv_asm.specs.declared.fault.AsmFaultKind.{AsmFaultKind}
@@ -102,11 +102,13 @@ own_fails text fault (inr out_of_memory) = inr (inl out_of_memory)
 pub name_fails_if : {A : Type 0} (text : List ℕ) (pass : FirstPass) (r : Result A AsmFault) → HasRead pass (readings text)
     → first_line_fault own_fault [] (readings text) ≡ None → pass.repeated ≡ None
     → IfErr r (λ fault. (first_line_fault (name_fault (places_of pass.labels)) [] (readings text) ≡ Some fault)
-    ⊎ ((fault.kind ≡ NoMemory) × (first_line_fault (name_fault (places_of pass.labels)) [] (take fault.line (readings text)) ≡ None))) → IfErr r (FailsFor text)
+    ⊎ ((fault.kind ≡ NoMemory) × (first_line_fault (name_fault (places_of pass.labels)) [] (take fault.line (readings text)) ≡ None)
+    × (words_in (take (fault.line - 1) (readings text)) < words_in (take fault.line (readings text))))) → IfErr r (FailsFor text)
 name_fails_if text pass (Ok words) has none once found = tt
 name_fails_if text pass (Err fault) has none once (inl named) = inl (name_decides text pass fault has none once named)
 name_fails_if text pass (Err fault) has none once (inr out_of_memory) = inr (inr (record {
   memory = out_of_memory.0;
+  some = out_of_memory.2;
   own = none;
   labels = not_twice text pass has once;
   names = ap (λ labels. first_line_fault (name_fault labels) [] (take fault.line (readings text))) (sym has.labels) ∙ out_of_memory.1;

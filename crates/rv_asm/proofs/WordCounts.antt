@@ -1,12 +1,13 @@
 -- The number of words of a line is its size.
-use Rattle.std.proofs.Common.{◌≡◌, ◌∙◌, sym, ap, ℕ, List, [], ◌∷◌, length, Option, Some, None, Result, Ok, Err}
+use Rattle.std.proofs.Common.{◌≡◌, ◌<◌, ◌∙◌, sym, ap, arith, lit<, ℕ, Bool, true, false, if◌then◌else◌, List, [], ◌∷◌, length, Option, Some, None, Result, Ok, Err}
 use Rattle.std.specs.Option.{ok_or}
 use Rattle.std.proofs.lemmas.List.{length-map}
 use Rattle.rv_word.specs.Cases.{option_case}
 use Rattle.rv_encoding.specs.Rows.{word_of}
+use Rattle.rv_encoding.specs.declared.instr.Instr.{Instr}
 use Rattle.rv_encoding.specs.declared.instr.Instr.TheVariants.{Jal, Branch}
 use Rattle.rv_asm.specs.OperandRanges.{jump_offset_of, branch_offset_of}
-use Rattle.rv_asm.specs.Program.{Reading, li_code, statement_size, statement_words, distance, line_size, line_words}
+use Rattle.rv_asm.specs.Program.{Reading, is_short, li_code, statement_size, statement_words, distance, line_size, line_words}
 use Rattle.rv_asm.specs.Statements.{◌>>=◌}
 use Rattle.rv_asm.specs.declared.statement.Statement.{Statement}
 use Rattle.rv_asm.specs.declared.statement.Statement.TheVariants.{Instruction, JumpTo, BranchTo, Li, Word}
@@ -45,3 +46,16 @@ pub length-line_words : (labels : List ℕ → Option ℕ) (place : ℕ) (line :
     → length words ≡ line_size line
 length-line_words labels place (Ok line) words is = length-optional labels place line.statement words is
 length-line_words labels place (Err kind) words is = cc
+
+some_code : (b : Bool) (one two : Instr) (others : List Instr) → 0 < length (if b then one ∷ [] else two ∷ others)
+some_code true one two others = lit< tt
+some_code false one two others = omega (arith, length others)
+
+-- every statement has at least one word
+pub has_words : (s : Statement) → 0 < statement_size s
+unfolding statement_size li_code
+has_words (Instruction instruction) = lit< tt
+has_words (JumpTo rd name) = lit< tt
+has_words (BranchTo kind rs1 rs2 name) = lit< tt
+has_words (Li rd value) = some_code (is_short value) _ _ _
+has_words (Word word) = lit< tt

@@ -1,5 +1,5 @@
 -- Lemmas about the second pass, line by line.
-use Rattle.std.proofs.Common.{◌≡◌, ◌⊎◌, inl, inr, ◌∙◌, sym, ap, refl, ℕ, ◌+◌, ◌≤◌, nat_lt, Bool, true, false, if◌then◌else◌, List, [], ◌∷◌, ◌++◌}
+use Rattle.std.proofs.Common.{◌≡◌, ◌⊎◌, inl, inr, ◌∙◌, sym, ap, refl, ℕ, ◌+◌, ◌-◌, ◌≤◌, ◌<◌, nat_lt, Bool, true, false, if◌then◌else◌, List, [], ◌∷◌, ◌++◌}
 use Rattle.std.proofs.Common.{length, length-append, take, Option, Some, None, Result, Ok, Err, IsOk, append_assoc, map, arith}
 use Rattle.std.proofs.lemmas.Bool.Decides.{nat_tests}
 use Rattle.std.proofs.lemmas.List.{take_at}
@@ -81,30 +81,59 @@ no_name_fault : (words : Result (List ℕ) AsmFaultKind) → IsOk words → resu
 no_name_fault (Ok found) is = refl
 no_name_fault (Err kind) is = cc
 
+-- the lines up to and including this one
+lines_through : (labels : List ℕ → Option ℕ) (words : List ℕ) (lines : ℕ) (text rest after line : List ℕ)
+    → (has : HasWrittenUpTo labels words lines text rest) → lines_of rest ≡ line ∷ lines_of after
+    → take (lines + 1) (readings text) ≡ has.before ++ line_read line ∷ []
+lines_through labels words lines text rest after line has is =
+    let this = line_read line in
+    let whole : readings text ≡ (has.before ++ this ∷ []) ++ readings after =
+    has.split ∙ (ap (λ ls. has.before ++ map line_read ls) is ∙ sym (append_assoc has.before (this ∷ []) (readings after))) in
+    ap (take (lines + 1)) whole
+    ∙ take_at (has.before ++ this ∷ []) (readings after) (lines + 1) (omega (arith, has.count, length-append has.before (this ∷ [])))
+
 -- no line up to and including this one has an error in a name
 none_through : (labels : List ℕ → Option ℕ) (words : List ℕ) (lines : ℕ) (text rest after line : List ℕ)
     → (has : HasWrittenUpTo labels words lines text rest) → lines_of rest ≡ line ∷ lines_of after
     → IsOk (line_words labels (length words) (line_read line)) → first_line_fault (name_fault labels) [] (take (lines + 1) (readings text)) ≡ None
 none_through labels words lines text rest after line has is gives =
     let this = line_read line in
-    let whole : readings text ≡ (has.before ++ this ∷ []) ++ readings after =
-    has.split ∙ (ap (λ ls. has.before ++ map line_read ls) is ∙ sym (append_assoc has.before (this ∷ []) (readings after))) in
-    let prefix : take (lines + 1) (readings text) ≡ has.before ++ this ∷ [] =
-    ap (take (lines + 1)) whole
-    ∙ take_at (has.before ++ this ∷ []) (readings after) (lines + 1) (omega (arith, has.count, length-append has.before (this ∷ []))) in
+    let prefix = lines_through labels words lines text rest after line has is in
     let here : name_fault labels has.before this ≡ None = no_name_fault (line_words labels (words_in has.before) this) (rw (← has.place) gives) in
     ap (first_line_fault (name_fault labels) []) prefix ∙ (first_fault-push (name_fault labels) [] has.before this ∙ rw (has.none, here) refl)
+
+-- this line has words, and they follow those of the lines before it
+words_through : (labels : List ℕ → Option ℕ) (words : List ℕ) (lines : ℕ) (text rest after line : List ℕ)
+    → (has : HasWrittenUpTo labels words lines text rest) → lines_of rest ≡ line ∷ lines_of after → 0 < line_size (line_read line)
+    → words_in (take (lines + 1 - 1) (readings text)) < words_in (take (lines + 1) (readings text))
+words_through labels words lines text rest after line has is some =
+    let this = line_read line in
+    let whole : readings text ≡ has.before ++ this ∷ readings after = has.split ∙ ap (λ ls. has.before ++ map line_read ls) is in
+    let count : length has.before ≡ lines + 1 - 1 = omega (arith, has.count) in
+    let shorter : take (lines + 1 - 1) (readings text) ≡ has.before = ap (take (lines + 1 - 1)) whole
+    ∙ take_at has.before (this ∷ readings after) (lines + 1 - 1) count in
+    let sum : words_in (has.before ++ this ∷ []) ≡ words_in has.before + line_size this = sum_by_push line_size has.before this in
+    let fewer : words_in (take (lines + 1 - 1) (readings text)) ≡ words_in has.before = ap words_in shorter in
+    let more : words_in (take (lines + 1) (readings text)) ≡ words_in (has.before ++ this ∷ []) =
+    ap words_in (lines_through labels words lines text rest after line has is) in
+    omega (arith, fewer, more, sum, some)
 
 -- the second pass fails at a line because of its error, or because memory is exhausted
 pub fails_or_out_of_memory : (labels : List ℕ → Option ℕ) (words : List ℕ) (lines : ℕ) (text rest after line : List ℕ) (kind : AsmFaultKind)
     → (has : HasWrittenUpTo labels words lines text rest) → lines_of rest ≡ line ∷ lines_of after
-    → (line_words labels (length words) (line_read line) ≡ Err kind) ⊎ ((kind ≡ NoMemory) × IsOk (line_words labels (length words) (line_read line)))
+    → (line_words labels (length words) (line_read line) ≡ Err kind)
+    ⊎ ((kind ≡ NoMemory) × IsOk (line_words labels (length words) (line_read line)) × (0 < line_size (line_read line)))
     → (first_line_fault (name_fault labels) [] (readings text) ≡ Some (record { line = lines + 1; kind = kind }))
-    ⊎ ((kind ≡ NoMemory) × (first_line_fault (name_fault labels) [] (take (lines + 1) (readings text)) ≡ None))
+    ⊎ ((kind ≡ NoMemory) × (first_line_fault (name_fault labels) [] (take (lines + 1) (readings text)) ≡ None)
+    × (words_in (take (lines + 1 - 1) (readings text)) < words_in (take (lines + 1) (readings text))))
 fails_or_out_of_memory labels words lines text rest after line kind has is (inl gives) =
     inl (fails_at labels words lines text rest after line kind has is gives)
 fails_or_out_of_memory labels words lines text rest after line kind has is (inr out_of_memory) =
-    inr (out_of_memory.0, none_through labels words lines text rest after line has is out_of_memory.1)
+    inr (
+      out_of_memory.0,
+      none_through labels words lines text rest after line has is out_of_memory.1,
+      words_through labels words lines text rest after line has is out_of_memory.2,
+    )
 
 pub is_line_of : (labels : List ℕ → Option ℕ) (words : List ℕ) (lines : ℕ) (text rest after line : List ℕ)
     → (has : HasWrittenUpTo labels words lines text rest) → lines_of rest ≡ line ∷ lines_of after → lines + 1 ≤ length (readings text)

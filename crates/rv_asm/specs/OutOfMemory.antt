@@ -1,13 +1,18 @@
 -- The lines at which the assembler may run out of memory. (This project's own assembler.)
-use Rattle.std.specs.Prelude.{◌≡◌, ◌⊎◌, ℕ, ◌+◌, List, [], ◌∷◌, ◌++◌, length, take, Some, None, Err}
-use Rattle.rv_asm.specs.Program.{Reading, readings, own_fault, label_fault, name_fault, first_line_fault, place_in, assembled}
+use Rattle.std.specs.Prelude.{◌≡◌, ◌⊎◌, ◌<◌, ℕ, ◌+◌, ◌-◌, Bool, true, false, is_some, List, [], ◌∷◌, ◌++◌, length, take, Some, None, Ok, Err}
+use Rattle.rv_asm.specs.Program.{Reading, readings, own_fault, label_fault, name_fault, first_line_fault, place_in, words_in, assembled}
 use Rattle.rv_asm.specs.declared.fault.AsmFault.{AsmFault}
 use Rattle.rv_asm.specs.declared.fault.AsmFaultKind.{AsmFaultKind}
 use Rattle.rv_asm.specs.declared.fault.AsmFaultKind.TheVariants.{NoMemory}
 
+abbrev pub is_labelled : Reading → Bool
+is_labelled (Ok line) = is_some line.label
+is_labelled (Err kind) = false
+
 -- memory is exhausted at the label of a line, which has no error of its own and whose label does not repeat one
 pub record OutOfMemoryAt (before : List Reading) (line : Reading) (told : AsmFaultKind) : Type 0 where
   pub memory : told ≡ NoMemory
+  pub labelled : is_labelled line ≡ true
   pub own : own_fault before line ≡ None
   pub label : label_fault before line ≡ None
 
@@ -25,10 +30,11 @@ pub record OutOfMemoryForLabel (lines : List Reading) (fault : AsmFault) : Type 
   pub none : first_line_fault own_fault [] before ≡ None
   pub here : OutOfMemoryAt before line fault.kind
 
--- Memory is exhausted at the words of one of the lines. No line has an error of its own or repeats a label. No line up to and including this one
+-- Memory is exhausted at the words of one of the lines, which has at least one. No line has an error of its own or repeats a label. No line up to and including this one
 -- uses a label that is undefined or too far away.
 pub record OutOfMemoryForWords (lines : List Reading) (fault : AsmFault) : Type 0 where
   pub memory : fault.kind ≡ NoMemory
+  pub some : words_in (take (fault.line - 1) lines) < words_in (take fault.line lines)
   pub own : first_line_fault own_fault [] lines ≡ None
   pub labels : first_line_fault label_fault [] lines ≡ None
   pub names : first_line_fault (name_fault (place_in lines)) [] (take fault.line lines) ≡ None

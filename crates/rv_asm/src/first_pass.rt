@@ -1,6 +1,6 @@
 //! The first pass of the assembler. It reads each line, and finds the errors of each line by itself and the addresses of the labels.
 
-ghost use Rattle.std.specs.Prelude.{◌≡◌, ◌⊎◌, ◌≤◌, ◌<◌, ◌+◌, ◌^◌, ◌-◌, ◌∷◌, [], ◌++◌, IfOk, IfErr, OnOk, OnErr, Some, None, length, List, false, is_some};
+ghost use Rattle.std.specs.Prelude.{◌≡◌, ◌⊎◌, ◌≤◌, ◌<◌, ◌+◌, ◌^◌, ◌-◌, ◌∷◌, [], ◌++◌, IfOk, IfErr, OnOk, OnErr, Some, None, length, List, true, false, is_some};
 ghost use Rattle.rv_word.specs.Cases.{option_case};
 ghost use Rattle.rv_asm.specs.LabelMap.{places_of};
 ghost use Rattle.rv_asm.specs.OutOfMemory.{FailsAt, OutOfMemoryForLabel};
@@ -87,6 +87,7 @@ impl FirstPass {
         requires { self.old.lines < 2 ^ 64 - 1 }
         ensures ok { OnOk result (AddsLabel self.old self.new label) }
         ensures err { OnErr result (option_case label false (λ name. is_some (places_of self.old.labels name)) ≡ false) }
+        ensures labelled { OnErr result (is_some label ≡ true) }
     {
         match label {
             Some(name) => self.add_name(name),

@@ -17,7 +17,7 @@ use Rattle.rv_streams.specs.declared.separator.ScriptEnd.TheVariants.{Input}
 use Rattle.rv_streams.specs.Calls.{SinkFailed, SinkFlushed}
 use Rattle.rv_streams.specs.Transfer.{WritesPrefix}
 use Rattle.rv_streams.specs.Unread.{unread, EndsWithSource}
-use Rattle.rv_streams.proofs.Ends.{SinkFailed-after}
+use Rattle.rv_streams.proofs.Ends.{SinkFailed-after, SinkFlushed-after}
 use Rattle.rv_streams.proofs.ScriptLemmas.{FindsEnd-whole}
 use Rattle.rv_bench.specs.declared.pair.Pair.{Pair}
 use Rattle.rv_bench.specs.Responses.{RespondsToAll, RespondsToEnd, RespondsUntilOver}
@@ -31,9 +31,8 @@ use Rattle.rv_bench.proofs.Runs.{RespondsToNext-going, RespondsToNext-state, Res
 
 -- ---- the same, for equal written bytes
 
-StopsAtRead-after : {A : Type 0} {by : Responding A} {start : A} {is_specified : Type 0} {unread left kept old other new : List ℕ}
-    → (is_specified → old ≡ other)
-    → StopsAtRead by Input start is_specified unread left kept old new → StopsAtRead by Input start is_specified unread left kept other new
+StopsAtRead-after : {A : Type 0} {by : Responding A} {start : A} {unread left kept old other new : List ℕ}
+    → old ≡ other → StopsAtRead by Input start unread left kept old new → StopsAtRead by Input start unread left kept other new
 StopsAtRead-after {by = by} {start = start} same stops = record {
   text = stops.text;
   begun = stops.begun;
@@ -43,17 +42,17 @@ StopsAtRead-after {by = by} {start = start} same stops = record {
   prefix = stops.prefix;
   inside = stops.inside;
   going = stops.going;
-  written = λ told. stops.written told ∙ ap (λ (t : List ℕ). t ++ replies by.respond start (lines_of stops.text)) (same told);
+  written = stops.written ∙ ap (λ (t : List ℕ). t ++ replies by.respond start (lines_of stops.text)) same;
 }
 
-pub read_after : (slot : ℕ) (pair : Option Pair) (is_specified : Type 0) (unread left kept old other new : List ℕ) → (is_specified → old ≡ other)
-    → IsSomeAnd pair (λ pair. StopsAtRead (both_benches slot) Input pair is_specified unread left kept old new)
-    → IsSomeAnd pair (λ pair. StopsAtRead (both_benches slot) Input pair is_specified unread left kept other new)
-read_after slot None is_specified unread left kept old other new same never = never
-read_after slot (Some pair) is_specified unread left kept old other new same stops = StopsAtRead-after same stops
+pub read_after : (slot : ℕ) (pair : Option Pair) (unread left kept old other new : List ℕ) → old ≡ other
+    → IsSomeAnd pair (λ pair. StopsAtRead (both_benches slot) Input pair unread left kept old new)
+    → IsSomeAnd pair (λ pair. StopsAtRead (both_benches slot) Input pair unread left kept other new)
+read_after slot None unread left kept old other new same never = never
+read_after slot (Some pair) unread left kept old other new same stops = StopsAtRead-after same stops
 
-StopsAtWrite-after : {A : Type 0} {by : Responding A} {start : A} {is_specified : Type 0} {unread left old other new : List ℕ} → (is_specified → old ≡ other)
-    → StopsAtWrite by Input start is_specified unread left old new → StopsAtWrite by Input start is_specified unread left other new
+StopsAtWrite-after : {A : Type 0} {by : Responding A} {start : A} {unread left old other new : List ℕ} → old ≡ other
+    → StopsAtWrite by Input start unread left old new → StopsAtWrite by Input start unread left other new
 StopsAtWrite-after {by = by} {start = start} {new = new} same stops =
     let texts = replies by.respond start stops.responded in record {
       text = stops.text;
@@ -64,21 +63,20 @@ StopsAtWrite-after {by = by} {start = start} {new = new} same stops =
       are_lines = stops.are_lines;
       all = stops.all;
       going = stops.going;
-      written = λ told. subst (λ t. WritesPrefix (t ++ texts) new (replies by.respond (state_after by.respond start stops.responded) stops.next)) (same told)
-          (stops.written told);
+      written = subst (λ t. WritesPrefix (t ++ texts) new (replies by.respond (state_after by.respond start stops.responded) stops.next)) same
+          stops.written;
     }
 
-pub write_after : (slot : ℕ) (pair : Option Pair) (is_specified : Type 0) (unread left old other new : List ℕ) → (is_specified → old ≡ other)
-    → StopsSecondAtWrite slot pair is_specified unread left old new → StopsSecondAtWrite slot pair is_specified unread left other new
-write_after slot None is_specified unread left old other new same stopped =
-    (stopped.0, λ told. subst (λ (t : List ℕ). WritesPrefix t new no_slot_text) (same told) (stopped.1 told))
-write_after slot (Some pair) is_specified unread left old other new same (inl stops) = inl (StopsAtWrite-after same stops)
-write_after slot (Some pair) is_specified unread left old other new same (inr stopped) =
+pub write_after : (slot : ℕ) (pair : Option Pair) (unread left old other new : List ℕ) → old ≡ other
+    → StopsSecondAtWrite slot pair unread left old new → StopsSecondAtWrite slot pair unread left other new
+write_after slot None unread left old other new same stopped =
+    (stopped.0, subst (λ (t : List ℕ). WritesPrefix t new no_slot_text) same stopped.1)
+write_after slot (Some pair) unread left old other new same (inl stops) = inl (StopsAtWrite-after same stops)
+write_after slot (Some pair) unread left old other new same (inr stopped) =
     let last = end_text (state_after (pair_line slot) pair (lines_of unread)).ran in inr (record {
       used_up = stopped.used_up;
       going = stopped.going;
-      written = λ told. subst (λ (t : List ℕ). WritesPrefix (t ++ replies (pair_line slot) pair (lines_of unread)) new last) (same told)
-          (stopped.written told);
+      written = subst (λ (t : List ℕ). WritesPrefix (t ++ replies (pair_line slot) pair (lines_of unread)) new last) same stopped.written;
     })
 
 -- ---- a line that enters the slot
@@ -116,31 +114,31 @@ two_benches-stop h slot start old new before after Write stops =
         source = stops.0.source;
         sink = stops.0.sink;
         emptied = stops.0.emptied;
-        prefix = λ is_specified told. prefix_more (h.taken before) (h.taken after) (replies (pair_line slot) start lines)
-            (last_text (state_after (pair_line slot) start lines)) (stops.0.prefix is_specified told);
+        prefix = λ follows. prefix_more (h.taken before) (h.taken after) (replies (pair_line slot) start lines)
+            (last_text (state_after (pair_line slot) start lines)) (stops.0.prefix follows);
       },
-      λ is_specified. inl (stops.1 is_specified),
+      λ follows. inl (stops.1 follows),
     )
 two_benches-stop h slot start old new before after _ stops = absurd stops
 
 module _ {S W : Type 0} {g : SourceGhosts S} (h : SinkGhosts W) (slot : ℕ) {start now : Pair} {old new : Lines S g} {before mid : W} where
   -- to the end of the script
-  module _ (run : RespondsToEnd h (both_benches slot) Input start now old new before mid) (is_specified : g.is_specified) where
+  module _ (run : RespondsToEnd h (both_benches slot) Input start now old new before mid) (follows : g.follows_input new.source) where
     all_state : now ≡ state_after (pair_line slot) start (lines_of (unread old))
     all_state =
-        RespondsToLines-state (run.responded is_specified) (FindsEnd-whole old run.last new Input _ run.found (run.responded is_specified).taken is_specified)
+        RespondsToLines-state (run.responded follows) (FindsEnd-whole old run.last new Input _ run.found (run.responded follows).taken follows)
 
-    all_wrote : h.is_specified → h.taken mid ≡ h.taken before ++ replies (pair_line slot) start (lines_of (unread old))
+    all_wrote : h.taken mid ≡ h.taken before ++ replies (pair_line slot) start (lines_of (unread old))
     all_wrote =
-        RespondsToLines-all (run.responded is_specified) (FindsEnd-whole old run.last new Input _ run.found (run.responded is_specified).taken is_specified)
+        RespondsToLines-all (run.responded follows) (FindsEnd-whole old run.last new Input _ run.found (run.responded follows).taken follows)
 
     never_entered : (state_after (pair_line slot) start (lines_of (unread old))).entered ≡ false
     never_entered = ap (λ (pair : Pair). pair.entered) (sym all_state) ∙ run.going
 
   -- to the line that enters the slot
   module _ (run : RespondsUntilOver h (both_benches slot) Input start now old new before mid) where
-    enters : g.is_specified → EntersSlot slot start (unread old) (unread new) new.is_at_end
-    enters is_specified = let next = run.next is_specified in record {
+    enters : g.follows_input new.source → EntersSlot slot start (unread old) (unread new) new.is_at_end
+    enters follows = let next = run.next follows in record {
       lines = next.so_far.lines;
       line = next.takes.line;
       reads = (RespondsToNext-taken next).reads;
@@ -148,10 +146,10 @@ module _ {S W : Type 0} {g : SourceGhosts S} (h : SinkGhosts W) (slot : ℕ) {st
       entered = ap (λ (pair : Pair). pair.entered) (sym (RespondsToNext-state next)) ∙ run.over;
     }
 
-    over_wrote : g.is_specified → h.is_specified → h.taken mid ≡ h.taken before ++ script_text slot start (lines_of (unread old))
-    over_wrote is_specified told =
-        let all = RespondsToNext-wrote (run.next is_specified) run.told in
-        entered_all slot start now _ _ _ _ _ _ all.taken.reads all.state run.over (all.written told)
+    over_wrote : g.follows_input new.source → h.taken mid ≡ h.taken before ++ script_text slot start (lines_of (unread old))
+    over_wrote follows =
+        let all = RespondsToNext-wrote (run.next follows) run.told in
+        entered_all slot start now _ _ _ _ _ _ all.taken.reads all.state run.over all.written
 
   -- and the last text
   module _ (responds : RespondsToAll h (both_benches slot) Input start now old new before mid) {last : List ℕ} (last_is : last ≡ last_text now) where
@@ -161,14 +159,14 @@ module _ {S W : Type 0} {g : SourceGhosts S} (h : SinkGhosts W) (slot : ℕ) {st
     last_over : now.entered ≡ true → last ≡ []
     last_over over = last_is ∙ ap (λ b. cond b [] (end_text now.ran)) over
 
-    module _ {after : W} (ends : EndsWithSource old new) (wrote : h.is_specified → h.taken after ≡ h.taken mid ++ last) where
-      nothing_more : now.entered ≡ true → h.is_specified → h.taken after ≡ h.taken mid
-      nothing_more over told = wrote told ∙ (ap (λ t. h.taken mid ++ t) (last_over over) ∙ append-nil (h.taken mid))
+    module _ {after : W} (ends : EndsWithSource old new) (wrote : h.taken after ≡ h.taken mid ++ last) where
+      nothing_more : now.entered ≡ true → h.taken after ≡ h.taken mid
+      nothing_more over = wrote ∙ (ap (λ t. h.taken mid ++ t) (last_over over) ∙ append-nil (h.taken mid))
 
       pub two_benches-report : SinkFlushed h mid after → RunsSecond h slot (Some start) old new before after (Ok tt)
       two_benches-report last = record {
         source = responds.source;
-        sink = record { worked = (last.worked.0 ∙ responds.sink.0, last.worked.1 ∙ responds.sink.1); flushed = last.flushed };
+        sink = SinkFlushed-after h responds.sink last;
         emptied = responds.emptied;
         read = elim responds.stopped [
           | inl run ↦ let at_end = at_input_end run.found in inl (record {
@@ -176,30 +174,30 @@ module _ {S W : Type 0} {g : SourceGhosts S} (h : SinkGhosts W) (slot : ℕ) {st
             ended = ends.ended at_end.at_end;
             used_up = at_end.left;
             going = never_entered run;
-            told = λ told. (now.ran, (h.taken mid, wrote told ∙ ap (λ t. h.taken mid ++ t) (last_going run.going)));
+            told = (now.ran, (h.taken mid, wrote ∙ ap (λ t. h.taken mid ++ t) (last_going run.going)));
           })
           | inr run ↦ inr (
             enters run,
-            λ told. inr (
+            inr (
               now.ran,
               (
                 run.mid,
-                nothing_more run.over told ∙ (run.told told
+                nothing_more run.over ∙ (run.told
                     ∙ ap (λ t. run.mid ++ t) (told_entered slot _ _ _ _ run.is run.going run.over)),
               ),
             ),
           )
         ];
-        written = λ is_specified told. elim responds.stopped [
-          | inl run ↦ wrote told ∙ ended_all slot start now _ _ _ _ (all_state run is_specified) (all_wrote run is_specified told) last_is
-          | inr run ↦ nothing_more run.over told ∙ over_wrote run is_specified told
+        written = λ follows. elim responds.stopped [
+          | inl run ↦ wrote ∙ ended_all slot start now _ _ _ _ (all_state run follows) (all_wrote run follows) last_is
+          | inr run ↦ nothing_more run.over ∙ over_wrote run follows
         ];
       }
 
     -- the sink fails in the last text
-    module _ {after : W} (stops : h.is_specified → WritesPrefix (h.taken mid) (h.taken after) last) where
-      nothing_wrote : now.entered ≡ true → h.is_specified → h.taken after ≡ h.taken mid
-      nothing_wrote over told = prefix_none (h.taken mid) (h.taken after) (subst (WritesPrefix (h.taken mid) (h.taken after)) (last_over over) (stops told))
+    module _ {after : W} (stops : WritesPrefix (h.taken mid) (h.taken after) last) where
+      nothing_wrote : now.entered ≡ true → h.taken after ≡ h.taken mid
+      nothing_wrote over = prefix_none (h.taken mid) (h.taken after) (subst (WritesPrefix (h.taken mid) (h.taken after)) (last_over over) stops)
 
       pub two_benches-fail : SinkFailed h mid after → RunsSecond h slot (Some start) old new before after (Err Write)
       two_benches-fail failed = (
@@ -207,21 +205,21 @@ module _ {S W : Type 0} {g : SourceGhosts S} (h : SinkGhosts W) (slot : ℕ) {st
           source = responds.source;
           sink = SinkFailed-after h responds.sink failed;
           emptied = responds.emptied;
-          prefix = λ is_specified told. elim responds.stopped [
-            | inl run ↦ ended_prefix slot start now _ _ _ _ (all_state run is_specified) (all_wrote run is_specified told) last_is _ (stops told)
-            | inr run ↦ prefix_all _ _ _ (nothing_wrote run.over told ∙ over_wrote run is_specified told)
+          prefix = λ follows. elim responds.stopped [
+            | inl run ↦ ended_prefix slot start now _ _ _ _ (all_state run follows) (all_wrote run follows) last_is _ stops
+            | inr run ↦ prefix_all _ _ _ (nothing_wrote run.over ∙ over_wrote run follows)
           ];
         },
-        λ is_specified. elim responds.stopped [
+        λ follows. elim responds.stopped [
           | inl run ↦ inr (record {
-            used_up = (at_input_end run.found).left is_specified;
-            going = never_entered run is_specified;
-            written = λ told.
+            used_up = (at_input_end run.found).left follows;
+            going = never_entered run follows;
+            written =
                 let ended = end_text (state_after (pair_line slot) start (lines_of (unread old))).ran in
-                subst (λ t. WritesPrefix t (h.taken after) ended) (all_wrote run is_specified told)
+                subst (λ t. WritesPrefix t (h.taken after) ended) (all_wrote run follows)
                 (subst (WritesPrefix (h.taken mid) (h.taken after)) (last_going run.going
-                ∙ ap (λ (pair : Pair). end_text pair.ran) (all_state run is_specified)) (stops told));
+                ∙ ap (λ (pair : Pair). end_text pair.ran) (all_state run follows)) stops);
           })
-          | inr run ↦ inl (RespondsToNext-stops (run.next is_specified) (λ told. prefix_all _ _ _ (nothing_wrote run.over told ∙ run.told told)))
+          | inr run ↦ inl (RespondsToNext-stops (run.next follows) (prefix_all _ _ _ (nothing_wrote run.over ∙ run.told)))
         ],
       )

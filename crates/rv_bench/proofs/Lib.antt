@@ -6,6 +6,9 @@ mod RepliesLemmas
 mod Runs
 mod SecretExample
 mod IntegrityLemmas
+mod JobResults
+mod ProgramResults
+mod StandardResults
 mod Starts
 mod Streams
 mod LoopTurns

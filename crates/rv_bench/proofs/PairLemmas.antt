@@ -108,9 +108,9 @@ prefix_none old new (rest, (byte ∷ prefix, wrote, split)) = cc
 
 -- the last text follows the replies to all lines of the script
 module _ (slot : ℕ) (start now : Pair) (lines : List (List ℕ)) (old mid last : List ℕ) (is : now ≡ state_after (pair_line slot) start lines)
-    (wrote : mid ≡ old ++ replies (pair_line slot) start lines) (is_specified : last ≡ last_text now) where
+    (wrote : mid ≡ old ++ replies (pair_line slot) start lines) (reports : last ≡ last_text now) where
   last_is : last ≡ last_text (state_after (pair_line slot) start lines)
-  last_is = is_specified ∙ ap last_text is
+  last_is = reports ∙ ap last_text is
 
   pub ended_all : mid ++ last ≡ old ++ script_text slot start lines
   ended_all = ap₂ (λ (m l : List ℕ). m ++ l) wrote last_is

@@ -1,5 +1,5 @@
 -- A run, line by line.
-use Rattle.std.proofs.Common.{◌≡◌, ℕ, Bool, true, false, not, length, inl, inr, Result, Ok, arith, List, [], ◌∷◌, ◌++◌, take, refl, sym}
+use Rattle.std.proofs.Common.{◌≡◌, ℕ, Bool, false, not, length, inl, inr, Result, Ok, arith, List, [], ◌∷◌, ◌++◌, take, refl, sym}
 use Rattle.std.proofs.Common.{◌∙◌, ap, subst, append_assoc, append-nil, lit≤}
 use Rattle.std.proofs.lemmas.Bool.{false≢true}
 use Rattle.std.proofs.lemmas.List.{take-take, length-append}
@@ -11,12 +11,12 @@ use Rattle.rv_streams.specs.declared.fault.BenchFault.TheVariants.{Write}
 use Rattle.rv_streams.specs.declared.lines.Lines.{Lines}
 use Rattle.rv_streams.specs.declared.separator.ScriptEnd.{ScriptEnd}
 use Rattle.rv_streams.specs.declared.separator.ScriptEnd.TheVariants.{Input, Separator}
-use Rattle.rv_streams.specs.Calls.{SourceWorked, SinkWorked, SinkFailed}
+use Rattle.rv_streams.specs.Calls.{SourceWorked, SinkWorked, SinkFlushed, SinkFailed}
 use Rattle.rv_streams.specs.LineText.{ReadsLineText}
 use Rattle.rv_streams.specs.Script.{script_lines, is_script_line, FindsEnd, TakesScript}
 use Rattle.rv_streams.specs.Transfer.{WritesPrefix}
 use Rattle.rv_streams.specs.Unread.{held, unread, EndsWithSource}
-use Rattle.rv_streams.proofs.Ends.{SinkFailed-after}
+use Rattle.rv_streams.proofs.Ends.{SinkFailed-after, SinkFlushed-after, SinkWorked-more}
 use Rattle.rv_streams.proofs.LineTextLemmas.{ReadsLines-none, ReadsLines-more}
 use Rattle.rv_streams.proofs.ScriptLemmas.{ends_script-shown, script_lines-all, script_lines-prefix, ReadsScript, FindsEnd-separator, FindsEnd-whole}
 use Rattle.rv_streams.proofs.TakeWhileLemmas.{list_all-push}
@@ -37,24 +37,24 @@ RespondsToLine-same {old = old} {now = now} {line = line} {responded = responded
 
 -- ---- the lines so far
 
-module _ {A : Type 0} {by : Responding A} {end : ScriptEnd} {start : A} {is_specified : Type 0} {unread old : List ℕ} where
-  pub RespondsToLines-none : {is_at_end : Bool} → RespondsToLines by end start is_specified unread old start unread is_at_end old
+module _ {A : Type 0} {by : Responding A} {end : ScriptEnd} {start : A} {unread old : List ℕ} where
+  pub RespondsToLines-none : {is_at_end : Bool} → RespondsToLines by end start unread old start unread is_at_end old
   RespondsToLines-none {is_at_end = is_at_end} = record {
     lines = [];
     taken = record { reads = ReadsLines-none unread is_at_end; inside = refl };
     state = refl;
-    written = λ _. sym (append-nil old);
+    written = sym (append-nil old);
   }
 
   module _ {now : A} {left new : List ℕ} where
     -- if the input is not at its end after the lines, it is not at its end
-    pub RespondsToLines-going : {is_at_end : Bool} → is_at_end ≡ false → RespondsToLines by end start is_specified unread old now left is_at_end new
-        → RespondsToLines by end start is_specified unread old now left false new
-    RespondsToLines-going going so_far = subst (λ b. RespondsToLines by end start is_specified unread old now left b new) going so_far
+    pub RespondsToLines-going : {is_at_end : Bool} → is_at_end ≡ false → RespondsToLines by end start unread old now left is_at_end new
+        → RespondsToLines by end start unread old now left false new
+    RespondsToLines-going going so_far = subst (λ b. RespondsToLines by end start unread old now left b new) going so_far
 
     -- the source fails in a line
-    pub RespondsToLines-read : {rest kept : List ℕ} → RespondsToLines by end start is_specified unread old now left false new → by.is_over now ≡ false
-        → ReadsLineText left rest kept → StopsAtRead by end start is_specified unread rest kept old new
+    pub RespondsToLines-read : {rest kept : List ℕ} → RespondsToLines by end start unread old now left false new → by.is_over now ≡ false
+        → ReadsLineText left rest kept → StopsAtRead by end start unread rest kept old new
     RespondsToLines-read so_far going begun = let reads = so_far.taken.reads in record {
       text = reads.text;
       begun = begun.text;
@@ -64,22 +64,22 @@ module _ {A : Type 0} {by : Responding A} {end : ScriptEnd} {start : A} {is_spec
       prefix = begun.prefix;
       inside = ap (script_lines end) reads.are_lines ∙ (script_lines-all end so_far.lines so_far.taken.inside ∙ sym reads.are_lines);
       going = ap by.is_over (ap (state_after by.respond start) reads.are_lines ∙ sym so_far.state) ∙ going;
-      written = λ told. so_far.written told ∙ ap (λ lines. old ++ replies by.respond start lines) (sym reads.are_lines);
+      written = so_far.written ∙ ap (λ lines. old ++ replies by.respond start lines) (sym reads.are_lines);
     }
 
-    module _ {is_at_end : Bool} {rest : List ℕ} (so_far : RespondsToLines by end start is_specified unread old now left is_at_end new)
+    module _ {is_at_end : Bool} {rest : List ℕ} (so_far : RespondsToLines by end start unread old now left is_at_end new)
         (whole : ReadsScript end unread rest so_far.lines) where
       -- at the end every line of the script has its reply
-      pub RespondsToLines-all : is_specified → new ≡ old ++ replies by.respond start (script_lines end (lines_of unread))
-      RespondsToLines-all told = so_far.written told ∙ ap (λ lines. old ++ replies by.respond start lines) (sym whole.all)
+      pub RespondsToLines-all : new ≡ old ++ replies by.respond start (script_lines end (lines_of unread))
+      RespondsToLines-all = so_far.written ∙ ap (λ lines. old ++ replies by.respond start lines) (sym whole.all)
 
       -- the state is that after all of them
       pub RespondsToLines-state : now ≡ state_after by.respond start (script_lines end (lines_of unread))
       RespondsToLines-state = so_far.state ∙ ap (state_after by.respond start) (sym whole.all)
 
       -- and if the sink fails then, they have their replies
-      pub RespondsToLines-written : {last : List ℕ} → by.is_over now ≡ false → (is_specified → last ≡ new)
-          → StopsAtWrite by end start is_specified unread rest old last
+      pub RespondsToLines-written : {last : List ℕ} → by.is_over now ≡ false → last ≡ new
+          → StopsAtWrite by end start unread rest old last
       RespondsToLines-written going kept = let reads = whole.reads in record {
         text = reads.text;
         responded = so_far.lines;
@@ -89,14 +89,14 @@ module _ {A : Type 0} {by : Responding A} {end : ScriptEnd} {start : A} {is_spec
         are_lines = ap (script_lines end) reads.are_lines ∙ (whole.inside ∙ sym (append-nil so_far.lines));
         all = reads.all ∙ ap (λ lines. lines ++ lines_of rest) (sym reads.are_lines);
         going = ap by.is_over (sym so_far.state) ∙ going;
-        written = λ told. ([], ([], kept told ∙ (so_far.written told ∙ sym (append-nil (old ++ replies by.respond start so_far.lines))), refl));
+        written = ([], ([], kept ∙ (so_far.written ∙ sym (append-nil (old ++ replies by.respond start so_far.lines))), refl));
       }
 
   -- the written bytes, if the sink fails, are a prefix of all replies
-  pub StopsAtWrite-prefix : {left new : List ℕ} → StopsAtWrite by end start is_specified unread left old new → is_specified
+  pub StopsAtWrite-prefix : {left new : List ℕ} → StopsAtWrite by end start unread left old new
       → WritesPrefix old new (replies by.respond start (script_lines end (lines_of unread)))
-  StopsAtWrite-prefix {left = left} stops told =
-      let (more, (prefix, wrote, said)) = stops.written told in
+  StopsAtWrite-prefix {left = left} stops =
+      let (more, (prefix, wrote, said)) = stops.written in
       let (following, split) = script_lines-prefix end (lines_of stops.text) (lines_of left) in
       let before = replies by.respond start stops.responded in
       let read = script_lines end (lines_of stops.text) in
@@ -116,8 +116,8 @@ module _ {A : Type 0} {by : Responding A} {end : ScriptEnd} {start : A} {is_spec
 
 -- ---- one more line
 
-module _ {A : Type 0} {by : Responding A} {end : ScriptEnd} {start : A} {is_specified : Type 0} {unread old mid : List ℕ} {after : A} {rest : List ℕ}
-    {ends : Bool} {reply : List ℕ} (next : RespondsToNext by end start is_specified unread old mid after rest ends reply) where
+module _ {A : Type 0} {by : Responding A} {end : ScriptEnd} {start : A} {unread old mid : List ℕ} {after : A} {rest : List ℕ}
+    {ends : Bool} {reply : List ℕ} (next : RespondsToNext by end start unread old mid after rest ends reply) where
   abbrev lines : List (List ℕ)
   lines = next.so_far.lines ++ next.takes.line ∷ []
 
@@ -141,21 +141,21 @@ module _ {A : Type 0} {by : Responding A} {end : ScriptEnd} {start : A} {is_spec
   }
 
   -- its reply is written
-  pub RespondsToNext-wrote : {new : List ℕ} → (is_specified → new ≡ mid ++ reply) → RespondsToLines by end start is_specified unread old after rest ends new
+  pub RespondsToNext-wrote : {new : List ℕ} → new ≡ mid ++ reply → RespondsToLines by end start unread old after rest ends new
   RespondsToNext-wrote wrote = let so_far = next.so_far in record {
     lines = lines;
     taken = RespondsToNext-taken;
     state = RespondsToNext-state;
-    written = λ told.
-        wrote told
-        ∙ (ap (λ t. t ++ reply) (so_far.written told)
+    written =
+        wrote
+        ∙ (ap (λ t. t ++ reply) so_far.written
         ∙ (append_assoc old (replies by.respond start so_far.lines) reply
         ∙ ap (λ t. old ++ t) (sym (replies-more by.respond start so_far.lines next.takes.line
         ∙ ap (λ (a : Replied A). replies by.respond start so_far.lines ++ a.reply) next_response))));
   }
 
   -- the sink stops within it
-  pub RespondsToNext-stops : {new : List ℕ} → (is_specified → WritesPrefix mid new reply) → StopsAtWrite by end start is_specified unread rest old new
+  pub RespondsToNext-stops : {new : List ℕ} → WritesPrefix mid new reply → StopsAtWrite by end start unread rest old new
   RespondsToNext-stops stops =
       let so_far = next.so_far in
       let reads = RespondsToNext-taken.reads in
@@ -169,66 +169,74 @@ module _ {A : Type 0} {by : Responding A} {end : ScriptEnd} {start : A} {is_spec
         are_lines = ap (script_lines end) reads.are_lines ∙ script_lines-all end lines RespondsToNext-taken.inside;
         all = reads.all ∙ ap (λ lines. lines ++ lines_of rest) (sym reads.are_lines);
         going = RespondsToNext-going;
-        written = λ told.
-            let (more, (prefix, wrote, split)) = stops told in
-            (more, (prefix, wrote ∙ ap (λ t. t ++ prefix) (so_far.written told), said ∙ split));
+        written =
+            let (more, (prefix, wrote, split)) = stops in
+            (more, (prefix, wrote ∙ ap (λ t. t ++ prefix) so_far.written, said ∙ split));
       }
 
 -- ---- the responses to a script
 
+module _ {W : Type 0} (h : SinkGhosts W) where
+  -- the calls of a sink in a script: it is flushed once at the end of the input, and not at a separator
+  abbrev pub SinkAt : ScriptEnd → W → W → Type 0
+  SinkAt Input = SinkFlushed h
+  SinkAt Separator = SinkWorked h
+
+  SinkAt-after : (end : ScriptEnd) (old mid new : W) → SinkWorked h old mid → SinkAt end mid new → SinkAt end old new
+  SinkAt-after Input old mid new = SinkFlushed-after h
+  SinkAt-after Separator old mid new = SinkWorked-more h
+
 module _ {S W : Type 0} {g : SourceGhosts S} (h : SinkGhosts W) where
   -- no line of the script was left, and its replies are written
-  RunsScript-whole : (end : ScriptEnd) (output : Result (List ℕ) BenchFault) {old mid new : Lines S g} {before after : W}
-      → SourceWorked g old.source new.source → held new ≡ [] → SinkWorked h before after → (end ≡ Input → h.is_flushed after ≡ true)
-      → EndsWithSource old new → FindsEnd end mid new
-      → (g.is_specified → (lines : List (List ℕ)) × TakesScript end (unread old) (unread mid) mid.is_at_end lines)
-      → (g.is_specified → IsOkAnd output (λ text. h.is_specified → h.taken after ≡ h.taken before ++ text))
+  RunsScript-whole : (end : ScriptEnd) (output : Result (List ℕ) BenchFault) (before after : W) {old mid new : Lines S g}
+      → SourceWorked g old.source new.source → held new ≡ [] → SinkAt h end before after → EndsWithSource old new → FindsEnd end mid new
+      → (g.follows_input new.source → (lines : List (List ℕ)) × TakesScript end (unread old) (unread mid) mid.is_at_end lines)
+      → (g.follows_input new.source → IsOkAnd output (λ text. h.taken after ≡ h.taken before ++ text))
       → RunsScript h end output old new before after
-  RunsScript-whole Input output source emptied sink flushed ends (inl at_end) taken written = record {
+  RunsScript-whole Input output before after source emptied sink ends (inl at_end) taken written = record {
     at_end = at_end.at_end;
     ended = ends.ended at_end.at_end;
     emptied = emptied;
     source = source;
-    sink = record { worked = sink; flushed = flushed refl };
+    sink = sink;
     used_up = at_end.left;
     written = written;
   }
-  RunsScript-whole Input output source emptied sink flushed ends (inr reads) taken written = absurd (false≢true reads.ends)
-  RunsScript-whole Separator output {old = old} {mid = mid} {new = new} source emptied sink flushed ends found taken written =
+  RunsScript-whole Input output before after source emptied sink ends (inr reads) taken written = absurd (false≢true reads.ends)
+  RunsScript-whole Separator output before after {old = old} {mid = mid} {new = new} source emptied sink ends found taken written =
       record { reads = FindsEnd-separator old mid new source emptied found taken; sink = sink; written = written }
 
   -- The sink may be flushed after the replies; if it fails then, it has all replies.
   module _ {end : ScriptEnd} {start now : BenchState} {old new : Lines S g} {before mid : W}
       (responds : RespondsToAll h one_bench end start now old new before mid) (ends : EndsWithSource old new) where
-    pub one_bench-state : g.is_specified → now ≡ state_after bench_line start (script_lines end (lines_of (unread old)))
-    one_bench-state is_specified = elim responds.stopped [
-      | inl run ↦ RespondsToLines-state (run.responded is_specified)
-          (FindsEnd-whole old run.last new end _ run.found (run.responded is_specified).taken is_specified)
+    pub one_bench-state : g.follows_input new.source → now ≡ state_after bench_line start (script_lines end (lines_of (unread old)))
+    one_bench-state follows = elim responds.stopped [
+      | inl run ↦ RespondsToLines-state (run.responded follows)
+          (FindsEnd-whole old run.last new end _ run.found (run.responded follows).taken follows)
       | inr run ↦ absurd (false≢true run.over)
     ]
 
-    module _ {after : W} (same : h.is_specified → h.taken after ≡ h.taken mid) where
-      pub one_bench-runs : SinkWorked h mid after → (end ≡ Input → h.is_flushed after ≡ true)
-          → RunsScript h end (Ok (replies bench_line start (script_lines end (lines_of (unread old))))) old new before after
-      one_bench-runs worked flushed = elim responds.stopped [
+    module _ {after : W} (same : h.taken after ≡ h.taken mid) where
+      pub one_bench-runs : SinkAt h end mid after → RunsScript h end (Ok (replies bench_line start (script_lines end (lines_of (unread old))))) old new before after
+      one_bench-runs sink = elim responds.stopped [
         | inl run ↦
-            RunsScript-whole end _ responds.source responds.emptied (worked.0 ∙ responds.sink.0, worked.1 ∙ responds.sink.1) flushed ends run.found
-            (λ is_specified. ((run.responded is_specified).lines, (run.responded is_specified).taken))
-            (λ is_specified told. same told ∙ RespondsToLines-all (run.responded is_specified)
-            (FindsEnd-whole old run.last new end _ run.found (run.responded is_specified).taken is_specified) told)
+            RunsScript-whole end _ before after responds.source responds.emptied (SinkAt-after h end before mid after responds.sink sink) ends run.found
+            (λ follows. ((run.responded follows).lines, (run.responded follows).taken))
+            (λ follows. same ∙ RespondsToLines-all (run.responded follows)
+            (FindsEnd-whole old run.last new end _ run.found (run.responded follows).taken follows))
         | inr run ↦ absurd (false≢true run.over)
       ]
 
       pub one_bench-fails : SinkFailed h mid after → FailsIn h one_bench end start old new before after Write
       one_bench-fails failed = elim responds.stopped [
         | inl run ↦
-            let stops = λ (is_specified : g.is_specified). RespondsToLines-written (run.responded is_specified)
-            (FindsEnd-whole old run.last new end _ run.found (run.responded is_specified).taken is_specified) refl same in (
+            let stops = λ (follows : g.follows_input new.source). RespondsToLines-written (run.responded follows)
+            (FindsEnd-whole old run.last new end _ run.found (run.responded follows).taken follows) refl same in (
               record {
                 source = responds.source;
                 sink = SinkFailed-after h responds.sink failed;
                 emptied = responds.emptied;
-                prefix = λ is_specified told. StopsAtWrite-prefix (stops is_specified) told;
+                prefix = λ follows. StopsAtWrite-prefix (stops follows);
               },
               stops,
             )

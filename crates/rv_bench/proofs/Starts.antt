@@ -13,22 +13,29 @@ use Rattle.rv_elf.specs.declared.elf_fault.ElfFault.{ElfFault}
 use Rattle.rv_command_line.specs.declared.setup.Setup.{Setup}
 use Rattle.rv_memory.specs.declared.ram_fault.RamFault.TheVariants.{BadSize}
 use Rattle.rv_streams.specs.declared.fault.BenchFault.TheVariants.{Image, Ram}
-use Rattle.rv_bench.specs.Loaded.{memory_loaded, planned, reset_over, started}
+use Rattle.rv_bench.specs.Loaded.{bench_of, memory_loaded, planned, reset_over, started}
 
--- a RAM is created, loaded by the image's plan and given to a bench
-pub started_ok : (image : List ℕ) (setup : Setup) (plan : LoadPlan) (zeros memory : List ℕ) (entry : ℕ) (bench : BenchState)
-    → is_ram_size setup.ram ≡ true → planned image setup ≡ Ok plan → zeros ≡ replicate setup.ram 0
+-- a RAM is loaded by the image's plan and given to a bench
+pub bench_of-ok : (image : List ℕ) (setup : Setup) (plan : LoadPlan) (zeros memory : List ℕ) (entry : ℕ) (bench : BenchState)
+    → planned image setup ≡ Ok plan → zeros ≡ replicate setup.ram 0
     → memory ≡ loaded_memory image plan.segments zeros → entry ≡ plan.entry
-    → bench ≡ reset_over setup memory entry → started image setup ≡ Ok bench
-unfolding started
-started_ok image setup plan zeros memory entry bench valid plans made loads enters is =
-    rw (valid, plans, is, enters, loads, made) refl
+    → bench ≡ reset_over setup memory entry → Ok bench ≡ bench_of image setup
+bench_of-ok image setup plan zeros memory entry bench plans made loads enters is = rw (plans, is, enters, loads, made) refl
 
 -- an image that cannot be loaded
-pub started_err : (image : List ℕ) (setup : Setup) (fault : ElfFault) → is_ram_size setup.ram ≡ true → planned image setup ≡ Err fault
+pub bench_of-err : (image : List ℕ) (setup : Setup) (fault : ElfFault) → planned image setup ≡ Err fault → Err fault ≡ bench_of image setup
+bench_of-err image setup fault faulty = rw faulty refl
+
+-- the result if there is a RAM
+pub started_ok : (image : List ℕ) (setup : Setup) (bench : BenchState) → is_ram_size setup.ram ≡ true → Ok bench ≡ bench_of image setup
+    → started image setup ≡ Ok bench
+unfolding started
+started_ok image setup bench valid is = rw (valid, ← is) refl
+
+pub started_err : (image : List ℕ) (setup : Setup) (fault : ElfFault) → is_ram_size setup.ram ≡ true → Err fault ≡ bench_of image setup
     → started image setup ≡ Err (Image fault)
 unfolding started
-started_err image setup fault valid faulty = rw (valid, faulty) refl
+started_err image setup fault valid is = rw (valid, ← is) refl
 
 -- a RAM of an invalid size
 pub no_ram : (image : List ℕ) (setup : Setup) → is_ram_size setup.ram ≡ false → started image setup ≡ Err (Ram BadSize)
@@ -40,8 +47,7 @@ pub has_ram : (image : List ℕ) (setup : Setup) (bench : BenchState) → starte
 unfolding started
 has_ram image setup bench is = go (is_ram_size setup.ram) is where
   go : (b : Bool)
-      → cond b (result_case (planned image setup) (λ plan. Ok (reset_over setup (memory_loaded image setup plan) plan.entry)) (λ fault. Err (Image fault)))
-      (Err (Ram BadSize)) ≡ Ok bench → b ≡ true
+      → cond b (result_case (bench_of image setup) Ok (λ fault. Err (Image fault))) (Err (Ram BadSize)) ≡ Ok bench → b ≡ true
   go true e = refl
   go false e = cc
 
@@ -50,8 +56,7 @@ pub fault_has_ram : (image : List ℕ) (setup : Setup) (fault : ElfFault) → st
 unfolding started
 fault_has_ram image setup fault is = go (is_ram_size setup.ram) is where
   go : (b : Bool)
-      → cond b (result_case (planned image setup) (λ plan. Ok (reset_over setup (memory_loaded image setup plan) plan.entry)) (λ fault. Err (Image fault)))
-      (Err (Ram BadSize)) ≡ Err (Image fault) → b ≡ true
+      → cond b (result_case (bench_of image setup) Ok (λ fault. Err (Image fault))) (Err (Ram BadSize)) ≡ Err (Image fault) → b ≡ true
   go true e = refl
   go false e = cc
 
@@ -73,8 +78,8 @@ unfolding started
 started_keeps image setup = go (is_ram_size setup.ram) refl (planned image setup) where
   go : (valid : Bool) → is_ram_size setup.ram ≡ valid → (plan : Result LoadPlan ElfFault)
       → IfOk
-      (cond valid (result_case plan (λ plan. Ok (reset_over setup (memory_loaded image setup plan) plan.entry)) (λ fault. Err (Image fault)))
-      (Err (Ram BadSize))) (λ state. TargetInvariant state.target)
+      (cond valid (result_case (result_case plan (λ plan. Ok (reset_over setup (memory_loaded image setup plan) plan.entry)) Err) Ok
+      (λ fault. Err (Image fault))) (Err (Ram BadSize))) (λ state. TargetInvariant state.target)
   go false is plan = tt
   go true is (Err fault) = tt
   go true is (Ok plan) = reset_keeps setup (memory_loaded image setup plan) plan.entry (rw (loaded_size image setup plan) is)

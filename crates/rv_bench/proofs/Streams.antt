@@ -31,20 +31,20 @@ ok_and (Ok x) P h = (x, refl, h)
 ok_and (Err e) P h = absurd h
 
 module _ {S W : Type 0} {g : SourceGhosts S} (h : SinkGhosts W) (setup : Setup) (image : List ℕ) (old mid new : Lines S g) (before after : W)
-    (reads : ReadsThroughSeparator old mid) (is : g.is_specified → image_in (unread old) ≡ Ok image) (image_end : EndsWithSource old mid)
+    (reads : ReadsThroughSeparator old mid) (is : g.follows_input mid.source → image_in (unread old) ≡ Ok image) (image_end : EndsWithSource old mid)
     (script_end : EndsWithSource mid new) where
   -- the bench of the input is that of the image
-  bench_is : (r : Result BenchState BenchFault) → started image setup ≡ r → g.is_specified → bench_in setup (unread old) ≡ r
-  bench_is r starts is_specified = rw (is is_specified) starts
+  bench_is : (r : Result BenchState BenchFault) → started image setup ≡ r → g.follows_input mid.source → bench_in setup (unread old) ≡ r
+  bench_is r starts follows = rw (is follows) starts
 
-  output_is : (state : BenchState) → started image setup ≡ Ok state → g.is_specified
+  output_is : (state : BenchState) → started image setup ≡ Ok state → g.follows_input mid.source
       → output setup (unread old) ≡ Ok (replies bench_line state (lines_of (unread mid)))
-  output_is state starts is_specified =
-      ap (λ m. replies_of m (lines_of (after_separator (unread old)))) (bench_is (Ok state) starts is_specified)
-      ∙ ap (λ t. Ok (replies bench_line state (lines_of t))) (sym (reads.rest is_specified))
+  output_is state starts follows =
+      ap (λ m. replies_of m (lines_of (after_separator (unread old)))) (bench_is (Ok state) starts follows)
+      ∙ ap (λ t. Ok (replies bench_line state (lines_of t))) (sym (reads.rest follows))
 
-  fault_is : (fault : BenchFault) → started image setup ≡ Err fault → g.is_specified → output setup (unread old) ≡ Err fault
-  fault_is fault starts is_specified = ap (λ m. replies_of m (lines_of (after_separator (unread old)))) (bench_is (Err fault) starts is_specified)
+  fault_is : (fault : BenchFault) → started image setup ≡ Err fault → g.follows_input mid.source → output setup (unread old) ≡ Err fault
+  fault_is fault starts follows = ap (λ m. replies_of m (lines_of (after_separator (unread old)))) (bench_is (Err fault) starts follows)
 
   failed : SourceFailed g mid.source new.source → SourceFailed g old.source new.source
   failed risen = let same = reads.source in omega (arith, risen, same)
@@ -61,19 +61,19 @@ module _ {S W : Type 0} {g : SourceGhosts S} (h : SinkGhosts W) (setup : Setup) 
           source = run.source ∙ reads.source;
           sink = run.sink;
           used_up = run.used_up;
-          written = λ is_specified. subst (λ o. IsOkAnd o (λ text. h.is_specified → h.taken after ≡ h.taken before ++ text))
-              (sym (output_is state starts is_specified)) (run.written is_specified);
+          written = λ follows. subst (λ o. IsOkAnd o (λ text. h.taken after ≡ h.taken before ++ text))
+              (sym (output_is state starts (script_end.before follows))) (run.written follows);
         },
       )
   streamed (Err Read) runs =
       let (state, starts, run) = ok_and (started image setup) _ runs in (
         record { source = failed run.0.source; sink = run.0.sink; going = run.0.going },
-        λ is_specified. inr (
-          separator_read old mid new reads script_end run.0.going is_specified,
-          subst (λ m. IsOkAnd m (λ state. StopsAtRead one_bench Input state h.is_specified (after_separator (unread old)) (g.remaining new.source) (held new)
-              (h.taken before) (h.taken after))) (sym (bench_is (Ok state) starts is_specified))
-              (subst (λ t. StopsAtRead one_bench Input state h.is_specified t (g.remaining new.source) (held new) (h.taken before) (h.taken after))
-              (reads.rest is_specified) (run.1 is_specified)),
+        λ follows. inr (
+          separator_read old mid new reads script_end run.0.going follows,
+          subst (λ m. IsOkAnd m (λ state. StopsAtRead one_bench Input state (after_separator (unread old)) (g.remaining new.source) (held new)
+              (h.taken before) (h.taken after))) (sym (bench_is (Ok state) starts (script_end.before follows)))
+              (subst (λ t. StopsAtRead one_bench Input state t (g.remaining new.source) (held new) (h.taken before) (h.taken after))
+              (reads.rest (script_end.before follows)) (run.1 follows)),
         ),
       )
   streamed (Err Write) runs =
@@ -83,19 +83,19 @@ module _ {S W : Type 0} {g : SourceGhosts S} (h : SinkGhosts W) (setup : Setup) 
           source = run.0.source ∙ reads.source;
           sink = run.0.sink;
           emptied = run.0.emptied;
-          prefix = λ is_specified. subst (λ o. IsOkAnd o (λ text. h.is_specified → WritesPrefix (h.taken before) (h.taken after) text))
-              (sym (output_is state starts is_specified)) (run.0.prefix is_specified);
+          prefix = λ follows. subst (λ o. IsOkAnd o (λ text. WritesPrefix (h.taken before) (h.taken after) text))
+              (sym (output_is state starts (script_end.before follows))) (run.0.prefix follows);
         },
-        λ is_specified.
-            subst (λ m. IsOkAnd m (λ state. StopsAtWrite one_bench Input state h.is_specified (after_separator (unread old)) (unread new) (h.taken before)
-            (h.taken after))) (sym (bench_is (Ok state) starts is_specified))
-            (subst (λ t. StopsAtWrite one_bench Input state h.is_specified t (unread new) (h.taken before) (h.taken after)) (reads.rest is_specified)
-            (run.1 is_specified)),
+        λ follows.
+            subst (λ m. IsOkAnd m (λ state. StopsAtWrite one_bench Input state (after_separator (unread old)) (unread new) (h.taken before)
+            (h.taken after))) (sym (bench_is (Ok state) starts (script_end.before follows)))
+            (subst (λ t. StopsAtWrite one_bench Input state t (unread new) (h.taken before) (h.taken after)) (reads.rest (script_end.before follows))
+            (run.1 follows)),
       )
   streamed (Err (Ram BadSize)) (none, same, unwritten) =
-      (none, subst (ReadsThroughSeparator old) (sym same) reads, fault_is (Ram BadSize) (no_ram image setup none), unwritten)
-  streamed (Err (Ram NoRamMemory)) (some, same, unwritten) =
-      (some, subst (ReadsThroughSeparator old) (sym same) reads, λ is_specified. rw (is is_specified) refl, unwritten)
+      (none, subst (ReadsThroughSeparator old) (sym same) reads, λ follows. fault_is (Ram BadSize) (no_ram image setup none) (script_end.before follows), unwritten)
+  streamed (Err (Ram (NoRamMemory refused))) (some, size, same, unwritten) =
+      (some, size, subst (ReadsThroughSeparator old) (sym same) reads, λ follows. rw (is (script_end.before follows)) refl, unwritten)
   streamed (Err (Image fault)) (faulty, same, unwritten) =
-      (fault_has_ram image setup fault faulty, subst (ReadsThroughSeparator old) (sym same) reads, fault_is (Image fault) faulty, unwritten)
+      (fault_has_ram image setup fault faulty, subst (ReadsThroughSeparator old) (sym same) reads, λ follows. fault_is (Image fault) faulty (script_end.before follows), unwritten)
   streamed (Err _) runs = absurd (ok_and (started image setup) _ runs).2

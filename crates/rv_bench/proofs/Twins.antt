@@ -28,7 +28,7 @@ use Rattle.rv_streams.specs.Script.{ReadsThroughSeparator}
 use Rattle.rv_streams.specs.Separator.{after_separator}
 use Rattle.rv_streams.specs.Transfer.{WritesPrefix}
 use Rattle.rv_streams.specs.Unread.{held, unread, EndsWithSource}
-use Rattle.rv_streams.proofs.Ends.{SinkFailed-after, EndsWithSource-more, separator_read}
+use Rattle.rv_streams.proofs.Ends.{SinkFailed-after, SinkFlushed-after, SinkWorked-more, EndsWithSource-more, separator_read}
 use Rattle.rv_bench.specs.declared.pair.Pair.{Pair}
 use Rattle.rv_bench.specs.declared.pair.PairOnSlot.{PairOnSlot}
 use Rattle.rv_bench.specs.Pair.{make_pair, both_benches}
@@ -70,7 +70,7 @@ not_numbered number bench kept none = sym (not_pair number bench (none_numbered 
 -- the image was read, and the text after it, through the separator
 pub record ReadsImage {S : Type 0} {g : SourceGhosts S} (old mid : Lines S g) (image : List ℕ) : Type 0 where
   pub through : ReadsThroughSeparator old mid
-  pub gives : g.is_specified → image_in (unread old) ≡ Ok image
+  pub gives : g.follows_input mid.source → image_in (unread old) ≡ Ok image
   pub ends : EndsWithSource old mid
 
 -- the first script was run on the bench of the image, whose state it changed
@@ -79,31 +79,31 @@ pub record RunsFirst {S W : Type 0} {g : SourceGhosts S} (h : SinkGhosts W) (ben
   pub between : W
   pub then : BenchState
   pub runs : RunsLines h Separator bench mid next before between (Ok tt)
-  pub state : g.is_specified → then ≡ after_first_script bench (unread mid)
+  pub state : g.follows_input next.source → then ≡ after_first_script bench (unread mid)
   pub ends : EndsWithSource mid next
 
 module _ {S W : Type 0} {g : SourceGhosts S} (h : SinkGhosts W) (setup : Setup) (slot : ℕ) (image : List ℕ) (old mid : Lines S g) (before : W)
     (read : ReadsImage old mid image) where
   -- the bench of the input is that of the image
-  bench_is : (r : Result BenchState BenchFault) → started image (monitored_setup setup) ≡ r → g.is_specified → bench_in (monitored_setup setup) (unread old) ≡ r
-  bench_is r starts is_specified = rw (read.gives is_specified) starts
+  bench_is : (r : Result BenchState BenchFault) → started image (monitored_setup setup) ≡ r → g.follows_input mid.source → bench_in (monitored_setup setup) (unread old) ≡ r
+  bench_is r starts follows = rw (read.gives follows) starts
 
-  fault_is : (fault : BenchFault) → started image (monitored_setup setup) ≡ Err fault → g.is_specified → twin_output setup slot (unread old) ≡ Err fault
-  fault_is fault starts is_specified =
+  fault_is : (fault : BenchFault) → started image (monitored_setup setup) ≡ Err fault → g.follows_input mid.source → twin_output setup slot (unread old) ≡ Err fault
+  fault_is fault starts follows =
       ap (λ (m : Result BenchState BenchFault). result_case m (λ bench. Ok (scripts_text slot bench (after_separator (unread old)))) Err)
-      (bench_is (Err fault) starts is_specified)
+      (bench_is (Err fault) starts follows)
 
-  output_is : (bench : BenchState) → started image (monitored_setup setup) ≡ Ok bench → g.is_specified
+  output_is : (bench : BenchState) → started image (monitored_setup setup) ≡ Ok bench → g.follows_input mid.source
       → twin_output setup slot (unread old) ≡ Ok (scripts_text slot bench (unread mid))
-  output_is bench starts is_specified =
+  output_is bench starts follows =
       ap (λ (m : Result BenchState BenchFault). result_case m (λ bench. Ok (scripts_text slot bench (after_separator (unread old)))) Err)
-      (bench_is (Ok bench) starts is_specified)
-      ∙ ap (λ (t : List ℕ). Ok (scripts_text slot bench t)) (sym (read.through.rest is_specified))
+      (bench_is (Ok bench) starts follows)
+      ∙ ap (λ (t : List ℕ). Ok (scripts_text slot bench t)) (sym (read.through.rest follows))
 
   -- the bench does not start
   pub not_started : (fault : BenchFault) → Starts image (monitored_setup setup) (Err fault) → RunsTwin h setup slot old mid before before (Err fault)
   not_started (Ram BadSize) none = (none, read.through, fault_is (Ram BadSize) (no_ram image (monitored_setup setup) none), refl)
-  not_started (Ram NoRamMemory) some = (some, read.through, λ is_specified. rw (read.gives is_specified) refl, refl)
+  not_started (Ram (NoRamMemory refused)) some = (some.0, some.1, read.through, λ follows. rw (read.gives follows) refl, refl)
   not_started (Image fault) faulty = (fault_has_ram image (monitored_setup setup) fault faulty, read.through, fault_is (Image fault) faulty, refl)
   not_started _ never = absurd never
 
@@ -119,12 +119,12 @@ module _ {S W : Type 0} {g : SourceGhosts S} (h : SinkGhosts W) (setup : Setup) 
           let risen = run.0.source in
           let failed : SourceFailed g old.source new.source = omega (arith, risen, same) in (
             record { source = failed; sink = run.0.sink; going = run.0.going },
-            λ is_specified. inr (
-              separator_read old mid new read.through script_end run.0.going is_specified,
+            λ follows. inr (
+              separator_read old mid new read.through script_end run.0.going follows,
               subst (λ (m : Result BenchState BenchFault). IsOkAnd m (StopsInScripts h setup slot old new before after (after_separator (unread old))))
-                  (sym (bench_is (Ok bench) starts is_specified))
-                  (inl (subst (λ (t : List ℕ). StopsAtRead one_bench Separator bench h.is_specified t (g.remaining new.source) (held new)
-                  (h.taken before) (h.taken after)) (read.through.rest is_specified) (run.1 is_specified))),
+                  (sym (bench_is (Ok bench) starts (script_end.before follows)))
+                  (inl (subst (λ (t : List ℕ). StopsAtRead one_bench Separator bench t (g.remaining new.source) (held new)
+                  (h.taken before) (h.taken after)) (read.through.rest (script_end.before follows)) (run.1 follows))),
             ),
           )
 
@@ -136,15 +136,15 @@ module _ {S W : Type 0} {g : SourceGhosts S} (h : SinkGhosts W) (setup : Setup) 
           source = run.0.source ∙ read.through.source;
           sink = run.0.sink;
           emptied = run.0.emptied;
-          prefix = λ is_specified. subst (λ o. IsOkAnd o (λ text. h.is_specified → WritesPrefix (h.taken before) (h.taken after) text))
-              (sym (output_is bench starts is_specified))
-              (λ told. prefix_more (h.taken before) (h.taken after) (first_text bench (unread mid)) _ (run.0.prefix is_specified told));
+          prefix = λ follows. subst (λ o. IsOkAnd o (λ text. WritesPrefix (h.taken before) (h.taken after) text))
+              (sym (output_is bench starts (script_end.before follows)))
+              (prefix_more (h.taken before) (h.taken after) (first_text bench (unread mid)) _ (run.0.prefix follows));
         },
-        λ is_specified.
+        λ follows.
             subst (λ (m : Result BenchState BenchFault). IsOkAnd m (StopsInScriptsAtWrite h setup slot old new before after (after_separator (unread old))))
-            (sym (bench_is (Ok bench) starts is_specified))
-            (inl (subst (λ (t : List ℕ). StopsAtWrite one_bench Separator bench h.is_specified t (unread new) (h.taken before) (h.taken after))
-            (read.through.rest is_specified) (run.1 is_specified))),
+            (sym (bench_is (Ok bench) starts (script_end.before follows)))
+            (inl (subst (λ (t : List ℕ). StopsAtWrite one_bench Separator bench t (unread new) (h.taken before) (h.taken after))
+            (read.through.rest (script_end.before follows)) (run.1 follows))),
       )
 
       pub first_fails : (fault : BenchFault) → RunsLines h Separator bench mid new before after (Err fault)
@@ -168,34 +168,34 @@ module _ {S W : Type 0} {g : SourceGhosts S} (h : SinkGhosts W) (setup : Setup) 
       abbrev pair_at : List ℕ → Option Pair
       pair_at scripts = make_pair slot (after_first_script bench scripts)
 
-      pair_is : g.is_specified → make_pair slot then ≡ pair_at (unread mid)
-      pair_is is_specified = ap (make_pair slot) (ran.state is_specified)
+      pair_is : g.follows_input next.source → make_pair slot then ≡ pair_at (unread mid)
+      pair_is follows = ap (make_pair slot) (ran.state follows)
 
-      text_is : (text : List ℕ) → (is_specified : g.is_specified) → second_text slot (make_pair slot then) (unread next) ≡ text
+      text_is : (text : List ℕ) → (follows : g.follows_input next.source) → second_text slot (make_pair slot then) (unread next) ≡ text
           → first_text bench (unread mid) ++ text ≡ scripts_text slot bench (unread mid)
-      text_is text is_specified same =
+      text_is text follows same =
           ap (λ (t : List ℕ). first_text bench (unread mid) ++ t)
-          (sym same ∙ (ap (λ (pair : Option Pair). second_text slot pair (unread next)) (pair_is is_specified)
-          ∙ ap (second_text slot (pair_at (unread mid))) (first.reads.rest is_specified)))
+          (sym same ∙ (ap (λ (pair : Option Pair). second_text slot pair (unread next)) (pair_is follows)
+          ∙ ap (second_text slot (pair_at (unread mid))) (first.reads.rest follows)))
 
       rest_end : EndsWithSource mid new
       rest_end = EndsWithSource-more mid next new ran.ends second_end
 
       -- a property of the second script and the pair holds of both scripts
-      of_rest : g.is_specified → (P : Option Pair → List ℕ → Type 0) → P (make_pair slot then) (unread next)
+      of_rest : g.follows_input next.source → (P : Option Pair → List ℕ → Type 0) → P (make_pair slot then) (unread next)
           → P (pair_at (unread mid)) (after_separator (unread mid))
-      of_rest is_specified P holds =
-          subst (P (pair_at (unread mid))) (first.reads.rest is_specified) (subst (λ (pair : Option Pair). P pair (unread next)) (pair_is is_specified) holds)
+      of_rest follows P holds =
+          subst (P (pair_at (unread mid))) (first.reads.rest follows) (subst (λ (pair : Option Pair). P pair (unread next)) (pair_is follows) holds)
 
       -- and of the whole input
-      of_scripts : g.is_specified → (P : Option Pair → List ℕ → Type 0) → P (make_pair slot then) (unread next)
+      of_scripts : g.follows_input next.source → (P : Option Pair → List ℕ → Type 0) → P (make_pair slot then) (unread next)
           → IsOkAnd (bench_in (monitored_setup setup) (unread old))
           (λ bench. P (make_pair slot (after_first_script bench (after_separator (unread old)))) (after_separator (after_separator (unread old))))
-      of_scripts is_specified P holds =
+      of_scripts follows P holds =
           subst (λ (m : Result BenchState BenchFault). IsOkAnd m
           (λ bench. P (make_pair slot (after_first_script bench (after_separator (unread old)))) (after_separator (after_separator (unread old))))) (sym
-          (bench_is (Ok bench) starts is_specified))
-          (subst (λ (t : List ℕ). P (pair_at t) (after_separator t)) (read.through.rest is_specified) (of_rest is_specified P holds))
+          (bench_is (Ok bench) starts (ran.ends.before follows)))
+          (subst (λ (t : List ℕ). P (pair_at t) (after_separator t)) (read.through.rest (ran.ends.before follows)) (of_rest follows P holds))
 
       pub second_part : (outcome : Outcome) → RunsSecond h slot (make_pair slot then) next new ran.between after outcome
           → RunsTwin h setup slot old new before after outcome
@@ -203,50 +203,50 @@ module _ {S W : Type 0} {g : SourceGhosts S} (h : SinkGhosts W) (setup : Setup) 
         has_size,
         record {
           source = run.source ∙ (first.reads.source ∙ read.through.source);
-          sink = record { worked = (run.sink.worked.0 ∙ first.sink.0, run.sink.worked.1 ∙ first.sink.1); flushed = run.sink.flushed };
+          sink = SinkFlushed-after h first.sink run.sink;
           emptied = run.emptied;
           read = elim run.read [
             | inl ended ↦ inl (record {
               at_end = ended.at_end;
               ended = (EndsWithSource-more old mid new read.ends rest_end).ended ended.at_end;
               used_up = ended.used_up;
-              going = λ is_specified. of_scripts is_specified (IsNeverEntered slot) (ended.going is_specified);
+              going = λ follows. of_scripts (second_end.before follows) (IsNeverEntered slot) (ended.going follows);
               told = ended.told;
             })
             | inr (over, told) ↦ inr (
-              λ is_specified. of_scripts is_specified (λ pair script. IsOver slot pair script (unread new) new.is_at_end)
-                  (over is_specified),
+              λ follows. of_scripts (second_end.before follows) (λ pair script. IsOver slot pair script (unread new) new.is_at_end)
+                  (over follows),
               told,
             )
           ];
-          written = λ is_specified. subst (λ o. IsOkAnd o (λ text. h.is_specified → h.taken after ≡ h.taken before ++ text))
-              (sym (output_is bench starts is_specified))
-              (λ told. run.written is_specified told
-              ∙ (ap (λ (t : List ℕ). t ++ second_text slot (make_pair slot then) (unread next)) (first.written is_specified told)
+          written = λ follows. subst (λ o. IsOkAnd o (λ text. h.taken after ≡ h.taken before ++ text))
+              (sym (output_is bench starts (rest_end.before follows)))
+              (run.written follows
+              ∙ (ap (λ (t : List ℕ). t ++ second_text slot (make_pair slot then) (unread next)) (first.written (second_end.before follows))
               ∙ (append_assoc (h.taken before) (first_text bench (unread mid)) (second_text slot (make_pair slot then) (unread next))
-              ∙ ap (λ (t : List ℕ). h.taken before ++ t) (text_is _ is_specified refl))));
+              ∙ ap (λ (t : List ℕ). h.taken before ++ t) (text_is _ (second_end.before follows) refl))));
         },
       )
       second_part (Err Read) run =
           let same = first.reads.source ∙ read.through.source in
           let risen = run.0.source in
           let failed : SourceFailed g old.source new.source = omega (arith, risen, same) in (
-            record { source = failed; sink = (run.0.sink.0 ∙ first.sink.0, run.0.sink.1 ∙ first.sink.1); going = run.0.going },
-            λ is_specified. inr (
-              separator_read old mid new read.through rest_end run.0.going is_specified,
+            record { source = failed; sink = SinkWorked-more h first.sink run.0.sink; going = run.0.going },
+            λ follows. inr (
+              separator_read old mid new read.through rest_end run.0.going follows,
               subst (λ (m : Result BenchState BenchFault). IsOkAnd m (StopsInScripts h setup slot old new before after (after_separator (unread old))))
-                  (sym (bench_is (Ok bench) starts is_specified))
-                  (subst (λ (scripts : List ℕ). StopsInScripts h setup slot old new before after scripts bench) (read.through.rest is_specified)
+                  (sym (bench_is (Ok bench) starts (rest_end.before follows)))
+                  (subst (λ (scripts : List ℕ). StopsInScripts h setup slot old new before after scripts bench) (read.through.rest (rest_end.before follows))
                   (inr (
-                    separator_read mid next new first.reads second_end run.0.going is_specified,
-                    of_rest is_specified Stops
-                        (read_after slot (make_pair slot then) h.is_specified _ _ _ _ _ _ (first.written is_specified) (run.1 is_specified)),
+                    separator_read mid next new first.reads second_end run.0.going follows,
+                    of_rest (second_end.before follows) Stops
+                        (read_after slot (make_pair slot then) _ _ _ _ _ _ (first.written (second_end.before follows)) (run.1 follows)),
                   ))),
             ),
           ) where
             Stops : Option Pair → List ℕ → Type 0
             Stops pair script = IsSomeAnd pair
-                (λ pair. StopsAtRead (both_benches slot) Input pair h.is_specified script (g.remaining new.source) (held new)
+                (λ pair. StopsAtRead (both_benches slot) Input pair script (g.remaining new.source) (held new)
                 (h.taken before ++ first_text bench (unread mid)) (h.taken after))
       second_part (Err Write) run = (
         has_size,
@@ -254,19 +254,20 @@ module _ {S W : Type 0} {g : SourceGhosts S} (h : SinkGhosts W) (setup : Setup) 
           source = run.0.source ∙ (first.reads.source ∙ read.through.source);
           sink = SinkFailed-after h first.sink run.0.sink;
           emptied = run.0.emptied;
-          prefix = λ is_specified. subst (λ o. IsOkAnd o (λ text. h.is_specified → WritesPrefix (h.taken before) (h.taken after) text))
-              (sym (output_is bench starts is_specified))
-              (λ told. subst (WritesPrefix (h.taken before) (h.taken after)) (text_is _ is_specified refl)
-              (prefix_after (h.taken before) (h.taken ran.between) (h.taken after) (first_text bench (unread mid)) _ (first.written is_specified told)
-              (run.0.prefix is_specified told)));
+          prefix = λ follows. subst (λ o. IsOkAnd o (λ text. WritesPrefix (h.taken before) (h.taken after) text))
+              (sym (output_is bench starts (rest_end.before follows)))
+              (subst (WritesPrefix (h.taken before) (h.taken after)) (text_is _ (second_end.before follows) refl)
+              (prefix_after (h.taken before) (h.taken ran.between) (h.taken after) (first_text bench (unread mid)) _
+              (first.written (second_end.before follows)) (run.0.prefix follows)));
         },
-        λ is_specified.
+        λ follows.
             subst (λ (m : Result BenchState BenchFault). IsOkAnd m (StopsInScriptsAtWrite h setup slot old new before after (after_separator (unread old))))
-            (sym (bench_is (Ok bench) starts is_specified))
-            (subst (λ (scripts : List ℕ). StopsInScriptsAtWrite h setup slot old new before after scripts bench) (read.through.rest is_specified)
-            (inr (of_rest is_specified Stops
-            (write_after slot (make_pair slot then) h.is_specified _ _ _ _ _ (first.written is_specified) (run.1 is_specified))))),
+            (sym (bench_is (Ok bench) starts (rest_end.before follows)))
+            (subst (λ (scripts : List ℕ). StopsInScriptsAtWrite h setup slot old new before after scripts bench)
+            (read.through.rest (rest_end.before follows))
+            (inr (of_rest (second_end.before follows) Stops
+            (write_after slot (make_pair slot then) _ _ _ _ _ (first.written (second_end.before follows)) (run.1 follows))))),
       ) where
         Stops : Option Pair → List ℕ → Type 0
-        Stops pair script = StopsSecondAtWrite slot pair h.is_specified script (unread new) (h.taken before ++ first_text bench (unread mid)) (h.taken after)
+        Stops pair script = StopsSecondAtWrite slot pair script (unread new) (h.taken before ++ first_text bench (unread mid)) (h.taken after)
       second_part (Err _) run = absurd run

@@ -1,14 +1,17 @@
 pub mod Responses
 pub mod Pair
 pub mod Noninterference
+pub mod FaultText
 pub mod InMemory
 pub mod Integrity
 pub mod Jobs
 pub mod Loaded
 pub mod Output
 pub mod Performing
+pub mod ProgramOutput
 pub mod Replies
 pub mod Run
+pub mod Standard
 pub mod Stream
 pub mod Twin
 pub mod TwinLaws

@@ -39,17 +39,19 @@ reset_over setup memory entry =
     if setup.monitored then monitored_bench (at_start memory entry setup.harts)
     else bare (record { hart = at_reset entry M; memory = memory })
 
+-- the bench at reset, with the image in its RAM, or the error of the image
+abbrev pub bench_of : List ℕ → Setup → Result BenchState ElfFault
+bench_of image setup = result_case (planned image setup) (λ plan. Ok (reset_over setup (memory_loaded image setup plan) plan.entry)) Err
+
 -- the bench at reset, or the first error: of the RAM's size, then of the image
 unfoldable pub started : List ℕ → Setup → Result BenchState BenchFault
 started image setup =
-    if is_ram_size setup.ram
-    then result_case (planned image setup) (λ plan. Ok (reset_over setup (memory_loaded image setup plan) plan.entry)) (λ fault. Err (Image fault))
-    else Err (Ram BadSize)
+    if is_ram_size setup.ram then result_case (bench_of image setup) Ok (λ fault. Err (Image fault)) else Err (Ram BadSize)
 
 -- the meaning of each result of starting a bench; the size of the RAM is checked before the image
 abbrev pub Starts : List ℕ → Setup → Result BenchState BenchFault → Type 0
 Starts image setup (Ok bench) = started image setup ≡ Ok bench
 Starts image setup (Err (Ram BadSize)) = is_ram_size setup.ram ≡ false
-Starts image setup (Err (Ram NoRamMemory)) = is_ram_size setup.ram ≡ true
+Starts image setup (Err (Ram (NoRamMemory refused))) = (is_ram_size setup.ram ≡ true) × (refused.bytes ≡ setup.ram)
 Starts image setup (Err (Image fault)) = started image setup ≡ Err (Image fault)
 Starts image setup (Err _) = ⊥

@@ -1,12 +1,11 @@
 -- The replies of a pair, line by line: two benches that differ in what is private to the enclave of a slot. (This project's own commands.)
-use Rattle.std.specs.Prelude.{ℕ, ◌==◌, Bool, true, false, List, [], ◌∷◌, ◌++◌, codes, decimal, Option, None, Some, if◌then◌else◌}
+use Rattle.std.specs.Prelude.{ℕ, ◌+◌, ◌-◌, ◌^◌, min, ◌==◌, Bool, true, false, List, [], ◌∷◌, ◌++◌, codes, decimal, Option, None, Some, if◌then◌else◌}
 use Rattle.rv_text.specs.Characters.{line_feed}
 use Rattle.rv_debug.specs.BenchState.{BenchState}
 use Rattle.rv_debug.specs.BothBenches.{BothLineExecuted, both_execute_line, can_scramble, scrambled}
 use Rattle.rv_debug.specs.declared.both.BothLine.{BothLine}
 use Rattle.rv_debug.specs.declared.both.BothLine.TheVariants.{Faulty, Given}
 use Rattle.rv_debug.specs.declared.both.BothWhy.TheVariants.{All, Entered, NotBlind}
-use Rattle.rv_streams.specs.Device.{one_more}
 use Rattle.rv_bench.specs.Replies.{Responding, Replied, replies, state_after}
 use Rattle.rv_bench.specs.declared.pair.Pair.{Pair}
 
@@ -34,6 +33,10 @@ unfoldable pub end_text : ℕ → List ℕ
 end_text ran = codes "twin end " ++ (decimal ran ++ codes "\n")
 
 -- ---- one line
+
+-- the count after one more command; it saturates at the largest `u64`
+abbrev pub one_more : ℕ → ℕ
+one_more count = min (count + 1) (2 ^ 64 - 1)
 
 -- the number of commands with that of this line; a blank line has none
 abbrev pub with_line : Bool → ℕ → ℕ

@@ -1,10 +1,7 @@
 -- The program: what it does with its arguments and its streams, and its exit status. (This project's own program; the text is ASCII, ISO/IEC
 -- 646.)
-use Rattle.std.specs.Prelude.{◌≡◌, ◌⊎◌, ℕ, List, [], ◌++◌, codes, decimal, string_bytes, Ok, Err}
+use Rattle.std.specs.Prelude.{◌≡◌, ◌⊎◌, ℕ, List, [], ◌++◌, codes, string_bytes, Ok, Err}
 use Rattle.clap.specs.Words.{Text}
-use Rattle.rv_asm.specs.Faults.{asm_fault_number}
-use Rattle.rv_elf.specs.Faults.{elf_fault_number}
-use Rattle.rv_memory.specs.Faults.{ram_fault_number}
 use Rattle.rv_command_line.specs.declared.job.Job.{Job}
 use Rattle.rv_command_line.specs.declared.words_fault.WordsFault.{WordsFault}
 use Rattle.rv_command_line.specs.declared.words_fault.WordsFault.TheVariants as words
@@ -13,26 +10,12 @@ use Rattle.rv_command_line.specs.Job.{job_of}
 use Rattle.rv_command_line.specs.Refusals.{refusals_of}
 use Rattle.rv_streams.specs.declared.device.Sink.{Ghosts as SinkGhosts}
 use Rattle.rv_streams.specs.declared.device.Source.{Ghosts as SourceGhosts}
-use Rattle.rv_streams.specs.declared.fault.BenchFault.{BenchFault}
-use Rattle.rv_streams.specs.declared.fault.BenchFault.TheVariants.{Image, Ram, Read, Write, Hex, TooLong, NoMemory, Asm}
+use Rattle.rv_streams.specs.declared.fault.BenchFault.TheVariants.{Write}
 use Rattle.rv_streams.specs.Calls.{SinkFlushed, SinkFailed}
 use Rattle.rv_streams.specs.Faults.{Outcome}
 use Rattle.rv_streams.specs.Transfer.{WritesPrefix}
+use Rattle.rv_bench.specs.FaultText.{fault_text}
 use Rattle.rv_bench.specs.Jobs.{DoesJob}
-
--- ---- the lines of errors
-
--- an error of the output has no line
-unfoldable pub fault_text : BenchFault → List ℕ
-fault_text (Image fault) = codes "rvbench: image " ++ (decimal (elf_fault_number fault) ++ codes "\n")
-fault_text (Ram fault) = codes "rvbench: ram " ++ (decimal (ram_fault_number fault) ++ codes "\n")
-fault_text Read = codes "rvbench: read\n"
-fault_text Write = []
-fault_text Hex = codes "rvbench: hex\n"
-fault_text TooLong = codes "rvbench: too long\n"
-fault_text NoMemory = codes "rvbench: memory\n"
-fault_text (Asm fault) =
-    codes "rvbench: line " ++ (decimal fault.line ++ (codes " fault " ++ (decimal (asm_fault_number fault.kind) ++ codes "\n")))
 
 -- ---- exit statuses
 
@@ -46,12 +29,12 @@ module _ {W : Type 0} (h : SinkGhosts W) where
   -- A text was written after what the sink had taken, and the sink was flushed.
   pub record WritesAll (before after : W) (text : List ℕ) : Type 0 where
     pub sink : SinkFlushed h before after
-    pub written : h.is_specified → h.taken after ≡ h.taken before ++ text
+    pub written : h.taken after ≡ h.taken before ++ text
 
   -- The sink failed, and took a prefix of the text.
   pub record WritesOnlyPrefix (before after : W) (text : List ℕ) : Type 0 where
     pub sink : SinkFailed h before after
-    pub prefix : h.is_specified → WritesPrefix (h.taken before) (h.taken after) text
+    pub prefix : WritesPrefix (h.taken before) (h.taken after) text
 
   -- a text was written, or a prefix of it if the sink failed; the status is the same
   abbrev pub TriesToWrite : W → W → List ℕ → Type 0

@@ -18,13 +18,13 @@ abbrev pub RespondsToLine : {A : Type 0} → Responding A → A → List ℕ →
 RespondsToLine by now line responded =
     (by.respond now line ≡ responded) × ((other : List ℕ) → take 121 other ≡ take 121 line → by.respond now other ≡ by.respond now line)
 
-module _ {A : Type 0} (by : Responding A) (end : ScriptEnd) (start : A) (is_specified : Type 0) (unread old : List ℕ) where
-  -- The lines of the script that were taken have their replies, if the bytes of the sink are specified.
+module _ {A : Type 0} (by : Responding A) (end : ScriptEnd) (start : A) (unread old : List ℕ) where
+  -- The lines of the script that were taken have their replies.
   pub record RespondsToLines (now : A) (left : List ℕ) (is_at_end : Bool) (new : List ℕ) : Type 0 where
     pub lines : List (List ℕ)
     pub taken : TakesScript end unread left is_at_end lines
     pub state : now ≡ state_after by.respond start lines
-    pub written : is_specified → new ≡ old ++ replies by.respond start lines
+    pub written : new ≡ old ++ replies by.respond start lines
 
   -- After these lines the responder is not over. One more line was taken, which has this reply.
   pub record RespondsToNext (mid : List ℕ) (after : A) (rest : List ℕ) (ends : Bool) (reply : List ℕ) : Type 0 where
@@ -44,8 +44,8 @@ module _ {S W : Type 0} {g : SourceGhosts S} (h : SinkGhosts W) {A : Type 0} (by
     pub last : Lines S g
     pub found : FindsEnd end last new
     pub going : by.is_over now ≡ false
-    pub responded : g.is_specified
-        → RespondsToLines by end start h.is_specified (unread old) (h.taken before) now (unread last) last.is_at_end (h.taken after)
+    pub responded : g.follows_input new.source
+        → RespondsToLines by end start (unread old) (h.taken before) now (unread last) last.is_at_end (h.taken after)
 
   -- After the last line that was read, the responder is over.
   pub record RespondsUntilOver : Type 0 where
@@ -56,8 +56,8 @@ module _ {S W : Type 0} {g : SourceGhosts S} (h : SinkGhosts W) {A : Type 0} (by
     pub is : by.respond was shown ≡ record { state = now; reply = reply }
     pub going : by.is_over was ≡ false
     pub over : by.is_over now ≡ true
-    pub told : h.is_specified → h.taken after ≡ mid ++ reply
-    pub next : g.is_specified → RespondsToNext by end start h.is_specified (unread old) (h.taken before) mid now (unread new) new.is_at_end reply
+    pub told : h.taken after ≡ mid ++ reply
+    pub next : g.follows_input new.source → RespondsToNext by end start (unread old) (h.taken before) mid now (unread new) new.is_at_end reply
 
   -- All lines that were read have their responses.
   pub record RespondsToAll : Type 0 where

@@ -22,8 +22,8 @@ use Rattle.rv_bench.specs.Replies.{Responding, bench_line, one_bench, replies, s
 
 module _ {A : Type 0} (by : Responding A) where
   -- The source failed. A text of whole lines of the script has its replies, and the responder is not over after it. At most 122 bytes of the
-  -- line that was begun are held, so that a later call continues from there. The written bytes are known if those of the sink are specified.
-  pub record StopsAtRead (end : ScriptEnd) (start : A) (is_specified : Type 0) (unread left kept old new : List ℕ) : Type 0 where
+  -- line that was begun are held, so that a later call continues from there.
+  pub record StopsAtRead (end : ScriptEnd) (start : A) (unread left kept old new : List ℕ) : Type 0 where
     pub text : List ℕ
     pub begun : List ℕ
     pub split : unread ≡ text ++ (begun ++ left)
@@ -32,12 +32,12 @@ module _ {A : Type 0} (by : Responding A) where
     pub prefix : kept ≡ take 122 begun
     pub inside : script_lines end (lines_of text) ≡ lines_of text
     pub going : by.is_over (state_after by.respond start (lines_of text)) ≡ false
-    pub written : is_specified → new ≡ old ++ replies by.respond start (lines_of text)
+    pub written : new ≡ old ++ replies by.respond start (lines_of text)
 
   -- The sink failed, or took nothing. Some lines of the script have their responses, and the responder is not over after them. At most one more
   -- line was read: the next line of the script, of whose reply a prefix was written, or the line that ends the script. A later call continues
   -- after these.
-  pub record StopsAtWrite (end : ScriptEnd) (start : A) (is_specified : Type 0) (unread left old new : List ℕ) : Type 0 where
+  pub record StopsAtWrite (end : ScriptEnd) (start : A) (unread left old new : List ℕ) : Type 0 where
     pub text : List ℕ
     pub responded : List (List ℕ)
     pub next : List (List ℕ)
@@ -46,8 +46,7 @@ module _ {A : Type 0} (by : Responding A) where
     pub are_lines : script_lines end (lines_of text) ≡ responded ++ next
     pub all : lines_of unread ≡ lines_of text ++ lines_of left
     pub going : by.is_over (state_after by.respond start responded) ≡ false
-    pub written : is_specified
-        → WritesPrefix (old ++ replies by.respond start responded) new (replies by.respond (state_after by.respond start responded) next)
+    pub written : WritesPrefix (old ++ replies by.respond start responded) new (replies by.respond (state_after by.respond start responded) next)
 
 module _ {S W : Type 0} {g : SourceGhosts S} (h : SinkGhosts W) where
   -- All was read, to the end that the source reported. Exactly the output was written, and the sink was flushed afterwards.
@@ -57,14 +56,14 @@ module _ {S W : Type 0} {g : SourceGhosts S} (h : SinkGhosts W) where
     pub emptied : held new ≡ []
     pub source : SourceWorked g old.source new.source
     pub sink : SinkFlushed h before after
-    pub used_up : g.is_specified → unread new ≡ []
-    pub written : g.is_specified → IsOkAnd output (λ text. h.is_specified → h.taken after ≡ h.taken before ++ text)
+    pub used_up : g.follows_input new.source → unread new ≡ []
+    pub written : g.follows_input new.source → IsOkAnd output (λ text. h.taken after ≡ h.taken before ++ text)
 
   -- All was read through the first separator, or to the end that the source reported. Exactly the output was written.
   pub record RunsToSeparator (output : Result (List ℕ) BenchFault) (old new : Lines S g) (before after : W) : Type 0 where
     pub reads : ReadsThroughSeparator old new
     pub sink : SinkWorked h before after
-    pub written : g.is_specified → IsOkAnd output (λ text. h.is_specified → h.taken after ≡ h.taken before ++ text)
+    pub written : g.follows_input new.source → IsOkAnd output (λ text. h.taken after ≡ h.taken before ++ text)
 
   -- the script was run, up to its end
   abbrev pub RunsScript : ScriptEnd → Result (List ℕ) BenchFault → Lines S g → Lines S g → W → W → Type 0
@@ -82,16 +81,16 @@ module _ {S W : Type 0} {g : SourceGhosts S} (h : SinkGhosts W) where
     pub source : SourceWorked g old.source new.source
     pub sink : SinkFailed h before after
     pub emptied : held new ≡ []
-    pub prefix : g.is_specified → IsOkAnd output (λ text. h.is_specified → WritesPrefix (h.taken before) (h.taken after) text)
+    pub prefix : g.follows_input new.source → IsOkAnd output (λ text. WritesPrefix (h.taken before) (h.taken after) text)
 
   -- the meaning of each failure of a run over the lines of a script, from the state before it
   abbrev pub FailsIn : {A : Type 0} → Responding A → ScriptEnd → A → Lines S g → Lines S g → W → W → BenchFault → Type 0
   FailsIn by end start old new before after Read =
       FailsToRead old new before after
-      × (g.is_specified → StopsAtRead by end start h.is_specified (unread old) (g.remaining new.source) (held new) (h.taken before) (h.taken after))
+      × (g.follows_input new.source → StopsAtRead by end start (unread old) (g.remaining new.source) (held new) (h.taken before) (h.taken after))
   FailsIn by end start old new before after Write =
       FailsToWrite (Ok (replies by.respond start (script_lines end (lines_of (unread old))))) old new before after
-      × (g.is_specified → StopsAtWrite by end start h.is_specified (unread old) (unread new) (h.taken before) (h.taken after))
+      × (g.follows_input new.source → StopsAtWrite by end start (unread old) (unread new) (h.taken before) (h.taken after))
   FailsIn by end start old new before after _ = ⊥
 
   -- the meaning of each result of a run of one bench over the lines of a script, from the state of the bench before it
@@ -104,6 +103,7 @@ module _ {S W : Type 0} {g : SourceGhosts S} (h : SinkGhosts W) where
   -- image starts runs the lines.
   abbrev pub RunsBench : List ℕ → Setup → Lines S g → Lines S g → W → W → Outcome → Type 0
   RunsBench image setup old new before after (Err (Ram BadSize)) = (is_ram_size setup.ram ≡ false) × (new ≡ old) × (after ≡ before)
-  RunsBench image setup old new before after (Err (Ram NoRamMemory)) = (is_ram_size setup.ram ≡ true) × (new ≡ old) × (after ≡ before)
+  RunsBench image setup old new before after (Err (Ram (NoRamMemory refused))) =
+      (is_ram_size setup.ram ≡ true) × (refused.bytes ≡ setup.ram) × (new ≡ old) × (after ≡ before)
   RunsBench image setup old new before after (Err (Image fault)) = (started image setup ≡ Err (Image fault)) × (new ≡ old) × (after ≡ before)
   RunsBench image setup old new before after outcome = IsOkAnd (started image setup) (λ state. RunsLines Input state old new before after outcome)

@@ -76,17 +76,16 @@ abbrev pub IsNeverEntered : ℕ → Option Pair → List ℕ → Type 0
 IsNeverEntered slot pair input = IsSomeAnd pair (λ pair. (state_after (pair_line slot) pair (lines_of input)).entered ≡ false)
 
 -- The sink failed in the line that reports the end of the input, and no line entered the slot.
-pub record StopsInEnd (slot : ℕ) (pair : Pair) (is_specified : Type 0) (unread left old new : List ℕ) : Type 0 where
+pub record StopsInEnd (slot : ℕ) (pair : Pair) (unread left old new : List ℕ) : Type 0 where
   pub used_up : left ≡ []
   pub going : (state_after (pair_line slot) pair (lines_of unread)).entered ≡ false
-  pub written : is_specified
-      → WritesPrefix (old ++ replies (pair_line slot) pair (lines_of unread)) new (end_text (state_after (pair_line slot) pair (lines_of unread)).ran)
+  pub written : WritesPrefix (old ++ replies (pair_line slot) pair (lines_of unread)) new (end_text (state_after (pair_line slot) pair (lines_of unread)).ran)
 
 -- the sink failed in the second script, or in the line `twin no slot`
-abbrev pub StopsSecondAtWrite : ℕ → Option Pair → Type 0 → List ℕ → List ℕ → List ℕ → List ℕ → Type 0
-StopsSecondAtWrite slot None is_specified unread left old new = (left ≡ unread) × (is_specified → WritesPrefix old new no_slot_text)
-StopsSecondAtWrite slot (Some pair) is_specified unread left old new =
-    StopsAtWrite (both_benches slot) Input pair is_specified unread left old new ⊎ StopsInEnd slot pair is_specified unread left old new
+abbrev pub StopsSecondAtWrite : ℕ → Option Pair → List ℕ → List ℕ → List ℕ → List ℕ → Type 0
+StopsSecondAtWrite slot None unread left old new = (left ≡ unread) × WritesPrefix old new no_slot_text
+StopsSecondAtWrite slot (Some pair) unread left old new =
+    StopsAtWrite (both_benches slot) Input pair unread left old new ⊎ StopsInEnd slot pair unread left old new
 
 -- the written bytes end in this text
 abbrev pub EndsIn : List ℕ → List ℕ → Type 0
@@ -94,24 +93,24 @@ EndsIn last written = (prefix : List ℕ) × (written ≡ prefix ++ last)
 
 -- the last line, if the run was over before the end
 abbrev pub ReportsEnd : {W : Type 0} → SinkGhosts W → W → Type 0
-ReportsEnd h after = h.is_specified → EndsIn no_slot_text (h.taken after) ⊎ ((ran : ℕ) × EndsIn (entered_text ran) (h.taken after))
+ReportsEnd h after = EndsIn no_slot_text (h.taken after) ⊎ ((ran : ℕ) × EndsIn (entered_text ran) (h.taken after))
 
 module _ {S W : Type 0} {g : SourceGhosts S} (h : SinkGhosts W) where
   -- The run reached the end of the input, which the source reported, and no line entered the slot. The last line reports it.
   pub record GoesToEnd (NeverEntered : Type 0) (old new : Lines S g) (after : W) : Type 0 where
     pub at_end : new.is_at_end ≡ true
     pub ended : HasEnded old new
-    pub used_up : g.is_specified → unread new ≡ []
-    pub going : g.is_specified → NeverEntered
-    pub told : h.is_specified → (ran : ℕ) × EndsIn (end_text ran) (h.taken after)
+    pub used_up : g.follows_input new.source → unread new ≡ []
+    pub going : g.follows_input new.source → NeverEntered
+    pub told : (ran : ℕ) × EndsIn (end_text ran) (h.taken after)
 
   -- The text was written, and the sink flushed afterwards. The input was read to its end, or as far as the run continued.
   pub record TellsTwin (output : Result (List ℕ) BenchFault) (NeverEntered Over : Type 0) (old new : Lines S g) (before after : W) : Type 0 where
     pub source : SourceWorked g old.source new.source
     pub sink : SinkFlushed h before after
     pub emptied : held new ≡ []
-    pub read : GoesToEnd NeverEntered old new after ⊎ ((g.is_specified → Over) × ReportsEnd h after)
-    pub written : g.is_specified → IsOkAnd output (λ text. h.is_specified → h.taken after ≡ h.taken before ++ text)
+    pub read : GoesToEnd NeverEntered old new after ⊎ ((g.follows_input new.source → Over) × ReportsEnd h after)
+    pub written : g.follows_input new.source → IsOkAnd output (λ text. h.taken after ≡ h.taken before ++ text)
 
   -- The meaning of each result of the second part, for the pair after the scramble.
   abbrev pub RunsSecond : ℕ → Option Pair → Lines S g → Lines S g → W → W → Outcome → Type 0
@@ -120,24 +119,24 @@ module _ {S W : Type 0} {g : SourceGhosts S} (h : SinkGhosts W) where
       old new before after
   RunsSecond slot pair old new before after (Err Read) =
       FailsToRead h old new before after
-      × (g.is_specified → IsSomeAnd pair (λ pair.
-      StopsAtRead (both_benches slot) Input pair h.is_specified (unread old) (g.remaining new.source) (held new) (h.taken before) (h.taken after)))
+      × (g.follows_input new.source → IsSomeAnd pair (λ pair.
+      StopsAtRead (both_benches slot) Input pair (unread old) (g.remaining new.source) (held new) (h.taken before) (h.taken after)))
   RunsSecond slot pair old new before after (Err Write) =
       FailsToWrite h (Ok (second_text slot pair (unread old))) old new before after
-      × (g.is_specified → StopsSecondAtWrite slot pair h.is_specified (unread old) (unread new) (h.taken before) (h.taken after))
+      × (g.follows_input new.source → StopsSecondAtWrite slot pair (unread old) (unread new) (h.taken before) (h.taken after))
   RunsSecond slot pair old new before after (Err _) = ⊥
 
 module _ {S W : Type 0} {g : SourceGhosts S} (h : SinkGhosts W) (setup : Setup) (slot : ℕ) (old new : Lines S g) (before after : W) where
   -- the input has this error instead of a text
   abbrev pub HasFault : BenchFault → Type 0
-  HasFault fault = g.is_specified → twin_output setup slot (unread old) ≡ Err fault
+  HasFault fault = g.follows_input new.source → twin_output setup slot (unread old) ≡ Err fault
 
   -- the source failed in the first script, or in the second, which follows a separator
   abbrev pub StopsInScripts : List ℕ → BenchState → Type 0
   StopsInScripts scripts bench =
-      StopsAtRead one_bench Separator bench h.is_specified scripts (g.remaining new.source) (held new) (h.taken before) (h.taken after)
+      StopsAtRead one_bench Separator bench scripts (g.remaining new.source) (held new) (h.taken before) (h.taken after)
       ⊎ (IsTrue (has_separator scripts) × IsSomeAnd (make_pair slot (after_first_script bench scripts)) (λ pair.
-      StopsAtRead (both_benches slot) Input pair h.is_specified (after_separator scripts) (g.remaining new.source) (held new)
+      StopsAtRead (both_benches slot) Input pair (after_separator scripts) (g.remaining new.source) (held new)
       (h.taken before ++ first_text bench scripts) (h.taken after)))
 
   -- The source failed: in the image, and then nothing is written, or in a script, which follows a separator.
@@ -149,8 +148,8 @@ module _ {S W : Type 0} {g : SourceGhosts S} (h : SinkGhosts W) (setup : Setup) 
   -- the sink failed in the first script, or after it
   abbrev pub StopsInScriptsAtWrite : List ℕ → BenchState → Type 0
   StopsInScriptsAtWrite scripts bench =
-      StopsAtWrite one_bench Separator bench h.is_specified scripts (unread new) (h.taken before) (h.taken after)
-      ⊎ StopsSecondAtWrite slot (make_pair slot (after_first_script bench scripts)) h.is_specified (after_separator scripts) (unread new)
+      StopsAtWrite one_bench Separator bench scripts (unread new) (h.taken before) (h.taken after)
+      ⊎ StopsSecondAtWrite slot (make_pair slot (after_first_script bench scripts)) (after_separator scripts) (unread new)
       (h.taken before ++ first_text bench scripts) (h.taken after)
 
   abbrev pub StopsTwinAtWrite : Type 0
@@ -174,14 +173,14 @@ module _ {S W : Type 0} {g : SourceGhosts S} (h : SinkGhosts W) (setup : Setup) 
   -- is written.
   abbrev pub RunsTwin : Outcome → Type 0
   RunsTwin (Ok _) = (is_ram_size setup.ram ≡ true) × TellsTwin h (twin_output setup slot (unread old)) IsTwinNeverEntered IsTwinOver old new before after
-  RunsTwin (Err Read) = FailsToRead h old new before after × (g.is_specified → StopsTwinAtRead)
+  RunsTwin (Err Read) = FailsToRead h old new before after × (g.follows_input new.source → StopsTwinAtRead)
   RunsTwin (Err Write) =
-      (is_ram_size setup.ram ≡ true) × FailsToWrite h (twin_output setup slot (unread old)) old new before after × (g.is_specified → StopsTwinAtWrite)
+      (is_ram_size setup.ram ≡ true) × FailsToWrite h (twin_output setup slot (unread old)) old new before after × (g.follows_input new.source → StopsTwinAtWrite)
   RunsTwin (Err Hex) = FindsFault Hex old new × HasFault Hex × (after ≡ before)
   RunsTwin (Err TooLong) = FindsFault TooLong old new × HasFault TooLong × (after ≡ before)
   RunsTwin (Err NoMemory) = RunsOutOfMemory old new × (after ≡ before)
   RunsTwin (Err (Ram BadSize)) = (is_ram_size setup.ram ≡ false) × ReadsThroughSeparator old new × HasFault (Ram BadSize) × (after ≡ before)
-  RunsTwin (Err (Ram NoRamMemory)) =
-      (is_ram_size setup.ram ≡ true) × ReadsThroughSeparator old new × (g.is_specified → IsOk (image_in (unread old))) × (after ≡ before)
+  RunsTwin (Err (Ram (NoRamMemory refused))) =
+      (is_ram_size setup.ram ≡ true) × (refused.bytes ≡ setup.ram) × ReadsThroughSeparator old new × (g.follows_input new.source → IsOk (image_in (unread old))) × (after ≡ before)
   RunsTwin (Err (Image fault)) = (is_ram_size setup.ram ≡ true) × ReadsThroughSeparator old new × HasFault (Image fault) × (after ≡ before)
   RunsTwin (Err _) = ⊥

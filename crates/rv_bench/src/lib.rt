@@ -21,17 +21,19 @@ mod pair;
 mod program;
 mod responder;
 mod run;
+mod standard;
 mod start;
 mod twin;
 
 pub use in_memory::run_in_memory;
 pub use job::run_job;
-pub use program::{perform, refuse};
+pub use program::{perform, perform_arguments, refuse};
 pub use run::{run_bench, run_stream};
 pub use rv_command_line::{Harts, ImageKind, Job, Setup, WordsFault, read_words};
 pub use rv_elf::ElfFault;
 pub use rv_streams::{
-    ASM_TEXT_MAX, BenchFault, DeviceFault, IMAGE_MAX, Line, Lines, MemorySink, MemorySource, Sink,
-    Source, StandardSink, StandardSource, read_image, run_asm, run_dis,
+    ASM_TEXT_MAX, BenchFault, BufferedSource, DeviceFault, IMAGE_MAX, Line, Lines, MemorySink,
+    MemorySource, ReaderSource, Sink, Source, VecSink, WriterSink, read_image, run_asm, run_dis,
 };
+pub use standard::run_over_streams;
 pub use twin::run_twin;

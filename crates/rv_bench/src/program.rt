@@ -1,16 +1,18 @@
 //! The program, from its arguments to its exit status.
 
-ghost use Rattle.std.specs.Prelude.{◌≡◌, ◌≤◌, ◌++◌, OnOk, OnErr, codes, decimal, length};
+ghost use Rattle.std.specs.Prelude.{◌≡◌, ◌≤◌, ◌++◌, IfOk, OnOk, OnErr, codes, decimal, length, map, string_bytes};
 ghost use Rattle.clap.specs.Walk.{texts};
 ghost use Rattle.rv_asm.specs.Faults.{asm_fault_number};
-ghost use Rattle.rv_bench.specs.Performing.{DoesAndReports, fault_text, Performs, Refuses, WritesAll, WritesOnlyPrefix};
+ghost use Rattle.rv_bench.specs.FaultText.{fault_text};
+ghost use Rattle.rv_bench.specs.Performing.{DoesAndReports, Performs, Refuses, WritesAll, WritesOnlyPrefix};
+ghost use Rattle.rv_bench.specs.ProgramOutput.{given_by, Means, MeansGiven, RunsProgram};
 
 use crate::job::run_job;
 use rv_asm::AsmFault;
 use rv_command_line::{Job, WordsFault, read_words};
 use rv_streams::{BenchFault, DeviceFault, Sink, Source, write_all};
 use rv_text::{Reply, push_count, push_text};
-use std::alloc::Global;
+use std::alloc::{AllocError, Global};
 
 /// The status of a job that succeeded, and of help.
 const DONE: u8 = 0;
@@ -57,7 +59,7 @@ fn asm_line(fault: AsmFault) -> Reply
 }
 
 /// Returns the line of an error. It is empty for an error of the output.
-#[tactic(auto, unfolding(crate::specs::Performing::fault_text))]
+#[tactic(auto, unfolding(crate::specs::FaultText::fault_text))]
 fn fault_line(fault: BenchFault) -> Reply
     ensures { result.items ≡ fault_text fault }
 {
@@ -123,12 +125,8 @@ fn done<S: Source, W: Sink>(alloc: Global, job: &Job, source: S, sink: &mut W) -
     }
 }
 
-/// Performs the job that the arguments request, from a source to a sink. The first argument is the name of the program. Returns the source
-/// and the status. The source is as the job left it. If the arguments are refused or request help, nothing was read from it. The status is:
-/// - 0 if the job succeeded, or the requested help was written, and the sink was flushed afterwards;
-/// - 1 after an error. Its line follows the output of the job. An error of the output itself has no line;
-/// - 2 if the arguments are refused. A line reports this too.
-pub fn perform<'a, S: Source, W: Sink>(
+/// Performs the job that the arguments request, as `perform` does.
+fn performed<'a, S: Source, W: Sink>(
     alloc: Global,
     words: &'a [&'a str],
     source: S,
@@ -140,6 +138,61 @@ pub fn perform<'a, S: Source, W: Sink>(
         Ok(job) => done(alloc, &job, source, sink),
         Err(fault) => {
             let status = refuse(&fault, sink);
+            (source, status)
+        }
+    }
+}
+
+/// Performs the job that the arguments request, from a source to a sink. The first argument is the name of the program. Returns the source
+/// and the status. The source is as the job left it. If the arguments are refused or request help, nothing was read from it. The status is:
+/// - 0 if the job succeeded, or the requested help was written, and the sink was flushed afterwards;
+/// - 1 after an error. Its line follows the output of the job. An error of the output itself has no line;
+/// - 2 if the arguments are refused. A line reports this too.
+///
+/// `effects` has every effect on the source and the sink. `output` says what is written: the output of the program (`program_output`), unless a
+/// device fails or memory is refused.
+pub fn perform<'a, S: Source, W: Sink>(
+    alloc: Global,
+    words: &'a [&'a str],
+    source: S,
+    sink: &mut W,
+) -> (S, u8)
+    ensures effects { Performs S.Source W.Sink source result.0 sink.old sink.new (texts words.entry.now) result.1 }
+    ensures output { RunsProgram S.Source W.Sink source result.0 sink.old sink.new (Means (texts words.entry.now)) result.1 }
+{
+    performed(alloc, words, source, sink)
+}
+
+/// Returns the texts of strings.
+fn texts_of<'a>(alloc: Global, words: &'a [String]) -> Result<Vec<&'a str>, AllocError>
+    ensures { IfOk result (λ found. texts found.items ≡ map string_bytes words.entry.now) }
+{
+    let mut found = Vec::new(alloc);
+    for word in words {
+        found.push(word.as_str())?;
+    }
+    Ok(found)
+}
+
+/// Performs the job that the arguments of a process request, as `perform` does. If they could not be read, a line reports the reason.
+pub fn perform_arguments<S: Source, W: Sink>(
+    alloc: Global,
+    arguments: &Result<Vec<String>, WordsFault>,
+    source: S,
+    sink: &mut W,
+) -> (S, u8)
+    ensures { RunsProgram S.Source W.Sink source result.0 sink.old sink.new (MeansGiven (given_by arguments.now)) result.1 }
+{
+    match arguments {
+        Ok(words) => match texts_of(alloc, words.as_slice()) {
+            Ok(texts) => perform(alloc, texts.as_slice(), source, sink),
+            Err(AllocError) => {
+                let status = refuse(&WordsFault::NoMemory, sink);
+                (source, status)
+            }
+        },
+        Err(fault) => {
+            let status = refuse(fault, sink);
             (source, status)
         }
     }

@@ -1,7 +1,7 @@
 //! The bench that an image starts.
 
-ghost use Rattle.std.specs.Prelude.{◌≡◌, ◌%◌, length, IfOk};
-ghost use Rattle.rv_bench.specs.Loaded.{is_read_as_elf as is_read_as_elf_of, planned as planned_of, reset_over, Starts};
+ghost use Rattle.std.specs.Prelude.{◌≡◌, ◌%◌, length, replicate, IfOk};
+ghost use Rattle.rv_bench.specs.Loaded.{is_read_as_elf as is_read_as_elf_of, planned as planned_of, bench_of, reset_over, Starts};
 
 use rv_command_line::{ImageKind, Setup};
 use rv_debug::Bench;
@@ -53,6 +53,20 @@ fn reset(ram: Ram, entry: u32, setup: &Setup) -> Bench
     }
 }
 
+/// Loads the image into a RAM that is all zeros, and returns the bench at reset.
+///
+/// # Errors
+///
+/// The error of the lowest number that the image has.
+fn loaded(mut ram: Ram, image: &[u8], setup: &Setup) -> Result<Bench, ElfFault>
+    requires { ram ≡ replicate setup.now.ram 0 }
+    ensures { result ≡ bench_of image.now setup.now }
+{
+    let plan = planned(image, setup)?;
+    load(&plan, image, &mut ram);
+    Ok(reset(ram, plan.entry(), setup))
+}
+
 /// Returns the bench at reset, with the image in its RAM.
 ///
 /// # Errors
@@ -64,15 +78,12 @@ fn reset(ram: Ram, entry: u32, setup: &Setup) -> Bench
 pub(crate) fn start(alloc: Global, image: &[u8], setup: &Setup) -> Result<Bench, BenchFault>
     ensures { Starts image.now setup.now result }
 {
-    let mut ram = match Ram::new(alloc, setup.ram) {
+    let ram = match Ram::new(alloc, setup.ram) {
         Ok(ram) => ram,
         Err(fault) => return Err(BenchFault::Ram(fault)),
     };
-    match planned(image, setup) {
-        Ok(plan) => {
-            load(&plan, image, &mut ram);
-            Ok(reset(ram, plan.entry(), setup))
-        }
+    match loaded(ram, image, setup) {
+        Ok(bench) => Ok(bench),
         Err(fault) => Err(BenchFault::Image(fault)),
     }
 }

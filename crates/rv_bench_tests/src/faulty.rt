@@ -1,8 +1,9 @@
 //! A source and a sink over memory for tests. They move few bytes in each call, and fail at a given call.
 ghost use Rattle.std.specs.Prelude.{◌≡◌, ◌<◌, [], ⊤, length};
-ghost use Rattle.rv_streams.specs.MemoryStreams.{rest_in_memory, bytes_taken, has_flushed};
+ghost use Rattle.rv_streams.specs.MemoryStreams.{rest_in_memory, bytes_taken};
 
 use rv_bench::{DeviceFault, MemorySink, MemorySource, Sink, Source};
+use rv_streams::CallLog;
 
 /// The behaviour of a sink at the given call.
 #[derive(Clone, Copy, Debug, PartialEq, Eq)]
@@ -19,7 +20,7 @@ pub(crate) struct FaultySource<'a> {
     most: usize,
     set_call: u64,
     calls: u64,
-    failed_calls: u64,
+    log: CallLog,
     ghost some: { 0 < most },
 }
 
@@ -33,7 +34,7 @@ impl<'a> FaultySource<'a> {
             most,
             set_call,
             calls: 0,
-            failed_calls: 0,
+            log: CallLog::new(),
         }
     }
 
@@ -49,23 +50,22 @@ impl<'a> FaultySource<'a> {
 }
 
 impl<'a> Source for FaultySource<'a> {
-    ghost is_specified = { ⊤ };
+    ghost input = { λ _. [] };
+
+    ghost follows_input = { λ _. ⊤ };
 
     ghost remaining = { λ faulty. rest_in_memory faulty.source };
 
-    ghost ends = { λ faulty. faulty.source.end_count };
+    ghost ends = { λ faulty. faulty.source.log.empty_calls };
 
-    ghost failures = { λ faulty. faulty.failed_calls };
+    ghost failures = { λ faulty. faulty.log.failures };
 
     ghost calls_left = { λ faulty. length (rest_in_memory faulty.source) };
 
     fn read_some(&mut self, buffer: &mut [u8]) -> Result<usize, DeviceFault> {
-        if self.failed_calls == u64::MAX {
-            return Err(DeviceFault);
-        }
         self.calls = self.calls.saturating_add(1);
         if self.calls == self.set_call {
-            self.failed_calls += 1;
+            self.log.failed();
             return Err(DeviceFault);
         }
         let room = buffer.len().min(self.most);
@@ -82,8 +82,7 @@ pub(crate) struct FaultySink<'a> {
     set_call: u64,
     at_set_call: AtSetCall,
     calls: u64,
-    failed_calls: u64,
-    refused_parts: u64,
+    log: CallLog,
 }
 
 impl<'a> FaultySink<'a> {
@@ -100,8 +99,7 @@ impl<'a> FaultySink<'a> {
             set_call,
             at_set_call,
             calls: 0,
-            failed_calls: 0,
-            refused_parts: 0,
+            log: CallLog::new(),
         }
     }
 
@@ -117,41 +115,35 @@ impl<'a> FaultySink<'a> {
 }
 
 impl<'a> Sink for FaultySink<'a> {
-    ghost is_specified = { ⊤ };
-
     ghost taken = { λ faulty. bytes_taken faulty.sink };
 
-    ghost is_flushed = { λ faulty. has_flushed faulty.sink };
+    ghost is_flushed = { λ faulty. faulty.sink.log.is_flushed };
 
-    ghost refusals = { λ faulty. faulty.refused_parts };
+    ghost flushes = { λ faulty. faulty.sink.log.flushes };
 
-    ghost failures = { λ faulty. faulty.failed_calls };
+    ghost refusals = { λ faulty. faulty.log.empty_calls };
+
+    ghost failures = { λ faulty. faulty.log.failures };
 
     fn write_some(&mut self, part: &[u8]) -> Result<usize, DeviceFault> {
-        if self.failed_calls == u64::MAX {
-            return Err(DeviceFault);
-        }
         self.calls = self.calls.saturating_add(1);
         let is_set_call = self.calls == self.set_call;
         if is_set_call && self.at_set_call == AtSetCall::Fail {
-            self.failed_calls += 1;
+            self.log.failed();
             return Err(DeviceFault);
         }
         let most = if is_set_call { 0 } else { self.most };
         let count = self.sink.write_some(&part[..part.len().min(most)])?;
         if count == 0 && !part.is_empty() {
-            self.refused_parts = self.refused_parts.saturating_add(1);
+            self.log.moved_none();
         }
         Ok(count)
     }
 
     fn flush(&mut self) -> Result<(), DeviceFault> {
-        if self.failed_calls == u64::MAX {
-            return Err(DeviceFault);
-        }
         self.calls = self.calls.saturating_add(1);
         if self.calls == self.set_call && self.at_set_call == AtSetCall::Fail {
-            self.failed_calls += 1;
+            self.log.failed();
             return Err(DeviceFault);
         }
         self.sink.flush()
@@ -163,7 +155,7 @@ impl<'a> Sink for FaultySink<'a> {
 pub(crate) struct FeedSource {
     left: usize,
     given: usize,
-    end_count: u64,
+    log: CallLog,
 }
 
 impl FeedSource {
@@ -172,7 +164,7 @@ impl FeedSource {
         FeedSource {
             left,
             given: 0,
-            end_count: 0,
+            log: CallLog::new(),
         }
     }
 
@@ -183,11 +175,13 @@ impl FeedSource {
 }
 
 impl Source for FeedSource {
-    ghost is_specified = { ⊥ };
+    ghost input = { λ _. [] };
+
+    ghost follows_input = { λ _. ⊥ };
 
     ghost remaining = { λ _. [] };
 
-    ghost ends = { λ source. source.end_count };
+    ghost ends = { λ source. source.log.empty_calls };
 
     ghost failures = { λ _. 0 };
 
@@ -199,7 +193,7 @@ impl Source for FeedSource {
         self.left -= count;
         self.given = self.given.saturating_add(count);
         if count == 0 && !buffer.is_empty() {
-            self.end_count = self.end_count.saturating_add(1);
+            self.log.moved_none();
         }
         Ok(count)
     }

@@ -16,6 +16,8 @@ mod job_tests;
 #[cfg(test)]
 mod program_tests;
 #[cfg(test)]
+mod recording;
+#[cfg(test)]
 mod run_tests;
 #[cfg(test)]
 mod standard_tests;

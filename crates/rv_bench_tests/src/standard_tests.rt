@@ -1,8 +1,11 @@
 //! Tests of jobs with the program's own devices, over readers and writers of std: slices, cursors, vectors, and some that move one byte in each
 //! call.
 use crate::byte_by_byte::{ByteReader, ByteWriter};
-use crate::expecting::{expect_bytes, expect_outcome};
-use rv_bench::{BenchFault, StandardSink, StandardSource, run_in_memory, run_job};
+use crate::expecting::{expect_bytes, expect_number, expect_outcome};
+use crate::recording::{RecordingReader, RecordingWriter};
+use rv_bench::{
+    BenchFault, BufferedSource, ReaderSource, Source, WriterSink, run_in_memory, run_job,
+};
 use rv_command_line::{Harts, ImageKind, Job, Setup};
 use std::alloc::Global;
 use std::io::{Cursor, Read, Write};
@@ -60,8 +63,13 @@ fn written<R: Read + Drop, W: Write>(
     reader: R,
     writer: W,
 ) -> W {
-    let mut sink = StandardSink::new(writer);
-    let (_, outcome) = run_job(alloc, job, StandardSource::new(reader), &mut sink);
+    let mut sink = WriterSink::new(writer);
+    let (_, outcome) = run_job(
+        alloc,
+        job,
+        BufferedSource::new(ReaderSource::new(reader)),
+        &mut sink,
+    );
     expect_outcome(rt, outcome, Ok(()), 0);
     sink.into_writer()
 }
@@ -111,6 +119,59 @@ fn assembles_over_readers_and_writers(rt: HostRuntime) {
 #[test]
 fn disassembles_over_readers_and_writers(rt: HostRuntime) {
     expect_everywhere(&rt, rt.alloc(), &DIS);
+}
+
+/// Executes a job over a reader that fails at a call, and a writer. Expects this outcome and this number of flushes, and returns the writer.
+fn recorded(
+    rt: &impl Abort,
+    alloc: Global,
+    example: &Example,
+    set_call: u64,
+    want: (Result<(), BenchFault>, u64),
+) -> RecordingWriter {
+    let mut sink = WriterSink::new(RecordingWriter::new(Vec::new(alloc), false));
+    let reader = RecordingReader::new(example.input, set_call);
+    let source = BufferedSource::new(ReaderSource::new(reader));
+    let (_, outcome) = run_job(alloc, &example.job, source, &mut sink);
+    expect_outcome(rt, outcome, want.0, set_call);
+    let writer = sink.into_writer();
+    expect_number(rt, writer.flushes(), want.1, set_call);
+    writer
+}
+
+#[test]
+fn flush_reaches_the_writer_once(rt: HostRuntime) {
+    for example in [&RUN, &TWIN, &ASM, &DIS] {
+        let writer = recorded(&rt, rt.alloc(), example, 0, (Ok(()), 1));
+        expect_bytes(&rt, writer.bytes(), example.output, 0);
+    }
+}
+
+#[test]
+fn failure_of_the_reader_is_reported(rt: HostRuntime) {
+    for example in [&RUN, &TWIN, &ASM, &DIS] {
+        recorded(&rt, rt.alloc(), example, 1, (Err(BenchFault::Read), 0));
+    }
+}
+
+#[test]
+fn failure_of_a_flush_is_reported(rt: HostRuntime) {
+    let mut sink = WriterSink::new(RecordingWriter::new(Vec::new(rt.alloc()), true));
+    let source = BufferedSource::new(ReaderSource::new(RUN.input));
+    let (_, outcome) = run_job(rt.alloc(), &RUN.job, source, &mut sink);
+    expect_outcome(&rt, outcome, Err(BenchFault::Write), 0);
+    expect_bytes(&rt, sink.into_writer().bytes(), RUN.output, 0);
+}
+
+#[test]
+fn reader_that_ended_is_not_called_again(rt: HostRuntime) {
+    let mut source = BufferedSource::new(ReaderSource::new(RecordingReader::new(b"ab", 0)));
+    let mut buffer = [0u8; 8];
+    for want in [2usize, 0, 0, 0] {
+        assert!(rt; source.read_some(&mut buffer) == Ok(want), "{want}");
+    }
+    let reader = source.into_source().into_reader();
+    expect_number(&rt, reader.calls(), 2, 0);
 }
 
 #[test]

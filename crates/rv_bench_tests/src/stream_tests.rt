@@ -5,8 +5,8 @@ use crate::expecting::{
 use crate::faulty::{AtSetCall, FaultySink, FaultySource};
 use rv_asm::{AsmFault, AsmFaultKind};
 use rv_bench::{
-    BenchFault, DeviceFault, Lines, MemorySink, MemorySource, Sink, Source, StandardSink,
-    StandardSource, read_image, run_asm,
+    BenchFault, BufferedSource, DeviceFault, Lines, MemorySink, MemorySource, ReaderSource, Sink,
+    Source, WriterSink, read_image, run_asm,
 };
 use rv_elf::ElfFault;
 use rv_memory::RamFault;
@@ -233,7 +233,7 @@ fn an_image_stops_at_a_failed_read(rt: HostRuntime) {
 
 /// Writes a thousand lines to a queue.
 fn write_lines(rt: &impl Abort, queue: &mut VecDeque<u8>) {
-    let mut sink = StandardSink::new(queue);
+    let mut sink = WriterSink::new(queue);
     for _ in 0..1000 {
         assert!(rt; sink.write_some(b"0123456789\n") == Ok(11));
     }
@@ -245,7 +245,7 @@ fn streams_of_std_pass_all_bytes(rt: HostRuntime) {
     let mut queue = VecDeque::new(rt.alloc());
     write_lines(&rt, &mut queue);
     assert!(rt; queue.len() == 11000usize);
-    let mut lines = Lines::new(StandardSource::new(queue));
+    let mut lines = Lines::new(BufferedSource::new(ReaderSource::new(queue)));
     for _ in 0..1000 {
         expect_line(&rt, &mut lines, b"0123456789", 0);
     }

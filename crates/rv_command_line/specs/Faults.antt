@@ -4,6 +4,8 @@ use Rattle.std.specs.List.{list_any}
 use Rattle.clap.specs.Kinds.{Kinds}
 use Rattle.clap.specs.declared.error.kind.ErrorKind.{ErrorKind}
 use Rattle.clap.specs.declared.error.kind.ErrorKind.TheVariants as kind
+use Rattle.std.specs.declared.io.ErrorKind.{ErrorKind as IoErrorKind}
+use Rattle.std.specs.declared.io.ErrorKind.TheVariants as io
 use Rattle.rv_command_line.specs.declared.words_fault.WordsFault.{WordsFault}
 use Rattle.rv_command_line.specs.declared.words_fault.WordsFault.TheVariants as fault
 
@@ -11,6 +13,11 @@ abbrev pub words_fault_number : WordsFault → ℕ
 words_fault_number fault.Refused = 1
 words_fault_number fault.NoMemory = 2
 words_fault_number (fault.Help text) = 3
+
+-- the error of arguments that the system does not give
+abbrev pub unreadable : IoErrorKind → WordsFault
+unreadable io.OutOfMemory = fault.NoMemory
+unreadable _ = fault.Refused
 
 abbrev pub is_help : ErrorKind → Bool
 is_help kind.DisplayHelp = true

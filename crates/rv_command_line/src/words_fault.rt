@@ -1,7 +1,11 @@
 //! The errors of arguments that give no job.
 
 ghost use Rattle.std.specs.Prelude.{◌≡◌};
-ghost use Rattle.rv_command_line.specs.Faults.{words_fault_number};
+ghost use Rattle.std.specs.IoError.{error_kind};
+ghost use Rattle.rv_command_line.specs.Faults.{unreadable, words_fault_number};
+
+use std::io;
+use std::io::ErrorKind;
 
 /// Why arguments give no job.
 #[derive(Debug, Drop)]
@@ -15,6 +19,16 @@ pub enum WordsFault {
 }
 
 impl WordsFault {
+    /// Returns the error of arguments that the system does not give, because memory is exhausted or because they are not UTF-8.
+    pub fn of_unreadable(error: &io::Error) -> WordsFault
+        ensures { result ≡ unreadable (error_kind error.now) }
+    {
+        match error.kind() {
+            ErrorKind::OutOfMemory => WordsFault::NoMemory,
+            _ => WordsFault::Refused,
+        }
+    }
+
     /// Returns the number of the error, 1 to 3.
     pub fn number(&self) -> u8
         ensures { result ≡ words_fault_number self.now }

@@ -7,7 +7,7 @@ use Rattle.rv_memory.specs.declared.ram_fault.RamFault.TheVariants.{BadSize, NoM
 
 abbrev pub ram_fault_number : RamFault → ℕ
 ram_fault_number BadSize = 1
-ram_fault_number NoMemory = 2
+ram_fault_number (NoMemory refused) = 2
 
 abbrev pub access_fault_number : AccessFault → ℕ
 access_fault_number Outside = 1

@@ -17,5 +17,5 @@ mod touched;
 
 pub use access_fault::AccessFault;
 pub use ram::{RAM_BASE, Ram, number_in, put_in};
-pub use ram_fault::RamFault;
+pub use ram_fault::{RamFault, RefusedRam};
 pub use touched::{Span, Touched};

@@ -9,7 +9,7 @@ ghost use Rattle.rv_memory.specs.Accesses.{loaded, stored, fetched, verdict_on};
 ghost use Rattle.rv_memory.specs.Changes.{ChangesOnly};
 
 use crate::access_fault::AccessFault;
-use crate::ram_fault::RamFault;
+use crate::ram_fault::{RamFault, RefusedRam};
 use rv_pmp::{Access, Mode, Pmp};
 use rv_word::{Width, le_bytes, le_word};
 use std::alloc::{AllocError, Global};
@@ -51,19 +51,19 @@ impl Ram {
     /// # Errors
     ///
     /// - `BadSize`, if the number is not a multiple of 65536 from 65536 to 16777216.
-    /// - `NoMemory` otherwise, if memory is exhausted.
+    /// - `NoMemory` with this number otherwise, if memory is exhausted.
     pub fn new(alloc: Global, bytes: u32) -> Result<Self, RamFault>
         ensures made { IfOk result (λ ram. ram ≡ replicate bytes 0) }
         ensures ok_size { OnOk result (is_ram_size bytes ≡ true) }
         ensures bad_size { result ≡ Err RamFault.BadSize → is_ram_size bytes ≡ false }
-        ensures no_memory { result ≡ Err RamFault.NoMemory → is_ram_size bytes ≡ true }
+        ensures no_memory { (refused : _) → result ≡ Err (RamFault.NoMemory refused) → (is_ram_size bytes ≡ true) × (refused.bytes ≡ bytes) }
     {
         if bytes % 65536 != 0 || bytes < 65536 || bytes > 16_777_216 {
             return Err(RamFault::BadSize);
         }
         match vec![in alloc; 0; bytes as usize] {
             Ok(bytes) => Ok(Ram { bytes }),
-            Err(AllocError) => Err(RamFault::NoMemory),
+            Err(AllocError) => Err(RamFault::NoMemory(RefusedRam::of(bytes))),
         }
     }
 

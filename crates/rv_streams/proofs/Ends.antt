@@ -1,13 +1,13 @@
 -- Lemmas about the end of the lines.
-use Rattle.std.proofs.Common.{◌≡◌, ℕ, Bool, true, false, ◌||◌, inl, inr, Result, Ok, refl, sym, ap, ◌∙◌, arith, IsTrue}
+use Rattle.std.proofs.Common.{◌≡◌, ℕ, ◌+◌, Bool, true, false, ◌||◌, inl, inr, Result, Ok, Err, refl, sym, ap, ◌∙◌, arith, IsTrue}
 use Rattle.std.proofs.lemmas.Bool.{false≢true}
 use Rattle.std.proofs.Math.Bool.{or-true}
-use Rattle.std.specs.Result.{is_err, is_ok}
+use Rattle.std.specs.Result.{is_err, is_ok, OnOk}
 use Rattle.rv_streams.specs.declared.device.Source.{Ghosts}
 use Rattle.rv_streams.specs.declared.lines.Lines.{Lines}
 use Rattle.rv_streams.specs.declared.device.Sink.{Ghosts as SinkGhosts}
-use Rattle.rv_streams.specs.Calls.{SinkFailed, SinkWorked}
-use Rattle.rv_streams.specs.Device.{counted_if, one_more, HasRisen}
+use Rattle.rv_streams.specs.Calls.{NoneFailed, SinkFailed, SinkFlushed, SinkWorked}
+use Rattle.rv_streams.specs.Device.{counted_if, HasRisen}
 use Rattle.rv_streams.specs.Script.{ReadsThroughSeparator}
 use Rattle.rv_streams.specs.Separator.{has_separator}
 use Rattle.rv_streams.specs.Unread.{unread, HasEnded, EndsWithSource}
@@ -18,16 +18,21 @@ EndsWithSource-none lines = record {
   stays = λ e. (e, refl);
   going = λ _. refl;
   ended = λ e. inl e;
+  same = refl;
+  before = λ follows. follows;
 }
 
 -- the lines end when the source has just returned its end
 pub EndsWithSource-ends : {S : Type 0} {g : Ghosts S} (old new : Lines S g) → old.is_at_end ≡ false → new.is_at_end ≡ true
-    → g.ends new.source ≡ one_more (g.ends old.source) → EndsWithSource old new
-EndsWithSource-ends {S} {g} old new before after count =
+    → g.ends new.source ≡ g.ends old.source + 1 → g.input new.source ≡ g.input old.source
+    → (g.follows_input new.source → g.follows_input old.source) → EndsWithSource old new
+EndsWithSource-ends {S} {g} old new before after count same back =
     let risen : HasRisen (g.ends old.source) (g.ends new.source) = omega (arith, count) in record {
       stays = λ e. cc;
       going = λ e. cc;
       ended = λ _. inr risen;
+      same = same;
+      before = back;
     }
 
 -- a read that does not fail leaves the count of failures unchanged
@@ -36,12 +41,37 @@ no_failure old mid new r a count ok same = count ∙ (ap (λ r. counted_if (is_e
 
 -- a sink that worked and then failed has failed
 pub SinkFailed-after : {W : Type 0} (h : SinkGhosts W) {old mid new : W} → SinkWorked h old mid → SinkFailed h mid new → SinkFailed h old new
-SinkFailed-after h worked (inl risen) = let same = worked.0 in inl (omega (arith, risen, same))
-SinkFailed-after h worked (inr risen) = let same = worked.1 in inr (omega (arith, risen, same))
+SinkFailed-after h worked (inl risen) = let same = worked.worked.0 in inl (omega (arith, risen, same))
+SinkFailed-after h worked (inr risen) = let same = worked.worked.1 in inr (omega (arith, risen, same))
 
--- a sink is flushed after a flush that succeeded
-pub is_flushed-at_ok : {A E : Type 0} (old new : Bool) (r : Result A E) (a : A) → new ≡ (old || is_ok r) → r ≡ Ok a → new ≡ true
-is_flushed-at_ok old new r a is ok = is ∙ (ap (λ r. old || is_ok r) ok ∙ or-true old)
+-- a sink that worked in two calls, one after the other
+pub SinkWorked-more : {W : Type 0} (h : SinkGhosts W) {old mid new : W} → SinkWorked h old mid → SinkWorked h mid new → SinkWorked h old new
+SinkWorked-more h first next = record {
+  worked = (next.worked.0 ∙ first.worked.0, next.worked.1 ∙ first.worked.1);
+  unflushed = next.unflushed ∙ first.unflushed;
+}
+
+-- a sink that worked, and was flushed once after that
+pub SinkFlushed-after : {W : Type 0} (h : SinkGhosts W) {old mid new : W} → SinkWorked h old mid → SinkFlushed h mid new → SinkFlushed h old new
+SinkFlushed-after h first last = record {
+  worked = (last.worked.0 ∙ first.worked.0, last.worked.1 ∙ first.worked.1);
+  flushed = last.flushed;
+  once = last.once ∙ ap (λ n. n + 1) first.unflushed;
+}
+
+-- a text was written, and the sink flushed once after it
+pub flushed_once : {W A E : Type 0} (h : SinkGhosts W) {old new : W} (r : Result A E) {a : A} → r ≡ Ok a → OnOk r (NoneFailed h old new)
+    → OnOk r ((h.is_flushed new ≡ true) × (h.flushes new ≡ h.flushes old + 1)) → SinkFlushed h old new
+flushed_once h (Ok a) is worked flushed = record { worked = worked; flushed = flushed.0; once = flushed.1 }
+flushed_once h (Err e) is worked flushed = let never : Err e ≡ Ok _ = is in cc
+
+-- a flush that succeeded
+pub SinkFlushed-flush : {W A E : Type 0} (h : SinkGhosts W) {old new : W} (r : Result A E) {a : A} → r ≡ Ok a
+    → h.failures new ≡ counted_if (is_err r) (h.failures old) → h.refusals new ≡ h.refusals old → h.is_flushed new ≡ (h.is_flushed old || is_ok r)
+    → h.flushes new ≡ counted_if (is_ok r) (h.flushes old) → SinkFlushed h old new
+SinkFlushed-flush h {old = old} (Ok a) is failures refusals flushed once =
+    record { worked = (failures, refusals); flushed = flushed ∙ or-true (h.is_flushed old); once = once }
+SinkFlushed-flush h (Err e) is failures refusals flushed once = let never : Err e ≡ Ok _ = is in cc
 
 -- the property holds for two calls, one after the other
 pub EndsWithSource-more : {S : Type 0} {g : Ghosts S} (old mid new : Lines S g) → EndsWithSource old mid → EndsWithSource mid new → EndsWithSource old new
@@ -49,6 +79,8 @@ EndsWithSource-more {S} {g} old mid new first next = record {
   stays = λ e. let was = first.stays e in let is = next.stays was.0 in (is.0, is.1 ∙ was.1);
   going = λ e. go_on mid.is_at_end refl e;
   ended = λ e. go_to mid.is_at_end refl e;
+  same = next.same ∙ first.same;
+  before = λ follows. first.before (next.before follows);
 } where
   go_on : (b : Bool) → mid.is_at_end ≡ b → new.is_at_end ≡ false → g.ends new.source ≡ g.ends old.source
   go_on true was e = let is = (next.stays was).0 in cc
@@ -66,8 +98,8 @@ EndsWithSource-more {S} {g} old mid new first next = record {
 
 -- if lines were read through the separator, and not to the end of the input, the input has a separator
 pub separator_read : {S : Type 0} {g : Ghosts S} (old mid new : Lines S g) → ReadsThroughSeparator old mid → EndsWithSource mid new → new.is_at_end ≡ false
-    → g.is_specified → IsTrue (has_separator (unread old))
-separator_read old mid new reads end going is_specified = elim reads.ended [
+    → g.follows_input new.source → IsTrue (has_separator (unread old))
+separator_read old mid new reads end going follows = elim reads.ended [
   | inl at_end ↦ absurd (false≢true (sym going ∙ (end.stays at_end).0))
-  | inr has ↦ has is_specified
+  | inr has ↦ has (end.before follows)
 ]

@@ -26,31 +26,31 @@ other_word line word is other = ap is_dashes (sym is) ∙ other
 module _ {S : Type 0} {g : Ghosts S} (Z : Type 0) (old new : Lines S g) (source : SourceWorked g old.source new.source) (emptied : held new ≡ []) where
   -- the result at a line whose bytes are not appended
   pub refused : (left image added shown word : List ℕ) (fault : BenchFault)
-      → (g.is_specified → TakesInImage (unread old) left (unread new) new.is_at_end image shown)
+      → (g.follows_input new.source → TakesInImage (unread old) left (unread new) new.is_at_end image shown)
       → Some word ≡ line_word shown → AddsBytes word image added (Err fault)
       → ReadsImage {Z = Z} old new (Err fault)
   refused left image added shown word Hex at is adds = record {
     source = source;
     emptied = emptied;
-    image = λ is_specified. (EncodesImage-no_digits (at is_specified) is adds.0).0;
-    reads = λ is_specified. (EncodesImage-no_digits (at is_specified) is adds.0).1;
+    image = λ follows. (EncodesImage-no_digits (at follows) is adds.0).0;
+    reads = λ follows. (EncodesImage-no_digits (at follows) is adds.0).1;
   }
   refused left image added shown word TooLong at is adds = record {
     source = source;
     emptied = emptied;
-    image = λ is_specified. (EncodesImage-many (at is_specified) is adds.0).0;
-    reads = λ is_specified. (EncodesImage-many (at is_specified) is adds.0).1;
+    image = λ follows. (EncodesImage-many (at follows) is adds.0).0;
+    reads = λ follows. (EncodesImage-many (at follows) is adds.0).1;
   }
   refused left image added shown word NoMemory at is adds =
-      record { source = source; emptied = emptied; reads = λ is_specified. EncodesImage-refused (at is_specified) is adds.0 }
+      record { source = source; emptied = emptied; reads = λ follows. EncodesImage-refused (at follows) is adds.0 }
   refused left image added shown word _ at is adds = absurd adds
 
   -- the result if no line of the image is left
   pub image_read : (mid : Lines S g) (image : Vec ℕ Z) → FindsEnd Separator mid new → vec_len image ≤ 33554432
-      → (g.is_specified → EncodesImage (unread old) (unread mid) mid.is_at_end image.items) → ReadsImage old new (Ok image)
+      → (g.follows_input new.source → EncodesImage (unread old) (unread mid) mid.is_at_end image.items) → ReadsImage old new (Ok image)
   image_read mid image found few encodes = (
-    FindsEnd-separator old mid new source emptied found (λ is_specified. ((encodes is_specified).lines, EncodesImage-taken (encodes is_specified))),
+    FindsEnd-separator old mid new source emptied found (λ follows. ((encodes follows).lines, EncodesImage-taken (encodes follows))),
     few,
-    λ is_specified. EncodesImage-whole _ _ _ _ _ (encodes is_specified) (omega arith)
-        (FindsEnd-whole old mid new Separator _ found (EncodesImage-taken (encodes is_specified)) is_specified),
+    λ follows. EncodesImage-whole _ _ _ _ _ (encodes follows) (omega arith)
+        (FindsEnd-whole old mid new Separator _ found (EncodesImage-taken (encodes follows)) follows),
   )

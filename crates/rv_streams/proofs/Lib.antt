@@ -1,4 +1,5 @@
 pub mod Assembling
+pub mod BufferedLemmas
 pub mod Ends
 pub mod Examples
 pub mod ImageLemmas
@@ -6,7 +7,6 @@ pub mod ImageResults
 pub mod LineTextLemmas
 pub mod Mapped
 pub mod ScriptLemmas
-pub mod StandardStreamsLemmas
 pub mod TakeWhileLemmas
 pub mod WordLengths
 pub mod Writing

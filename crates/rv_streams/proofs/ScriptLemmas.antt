@@ -123,35 +123,35 @@ ReadsScript-through end unread left rest ends shown lines so_far takes e =
 module _ {S : Type 0} {g : Ghosts S} (old mid new : Lines S g) where
   -- if no line of the script is left, the lines taken are all of its lines
   pub FindsEnd-whole : (end : ScriptEnd) (lines : List (List ℕ)) → FindsEnd end mid new → TakesScript end (unread old) (unread mid) mid.is_at_end lines
-      → g.is_specified → ReadsScript end (unread old) (unread new) lines
-  FindsEnd-whole end lines (inl at_end) so_far is_specified =
-      ReadsScript-ended end (unread old) (unread mid) (unread new) mid.is_at_end lines so_far (at_end.none is_specified) (at_end.left is_specified)
-  FindsEnd-whole end lines (inr reads) so_far is_specified =
+      → g.follows_input new.source → ReadsScript end (unread old) (unread new) lines
+  FindsEnd-whole end lines (inl at_end) so_far follows =
+      ReadsScript-ended end (unread old) (unread mid) (unread new) mid.is_at_end lines so_far (at_end.none follows) (at_end.left follows)
+  FindsEnd-whole end lines (inr reads) so_far follows =
       ReadsScript-through end (unread old) (unread mid) (unread new) new.is_at_end reads.shown lines
-      (subst (λ b. TakesScript end (unread old) (unread mid) b lines) reads.going so_far) (reads.takes is_specified) reads.ends
+      (subst (λ b. TakesScript end (unread old) (unread mid) b lines) reads.going so_far) (reads.takes follows) reads.ends
 
   -- the input has a separator if a line ended the script
   ends-there : (lines : List (List ℕ)) → ReadsScriptEnd Separator mid new → TakesScript Separator (unread old) (unread mid) mid.is_at_end lines
-      → g.is_specified → IsTrue (has_separator (unread old))
-  ends-there lines reads so_far is_specified =
-      let takes = reads.takes is_specified in
+      → g.follows_input new.source → IsTrue (has_separator (unread old))
+  ends-there lines reads so_far follows =
+      let takes = reads.takes follows in
       has_separator-there lines (lines_of (unread new)) takes.line (unread old)
       (lines_with (unread old) (unread mid) (unread new) mid.is_at_end new.is_at_end reads.shown lines so_far.reads takes)
       (ends_script-shown Separator (unread mid) (unread new) new.is_at_end reads.shown takes ∙ reads.ends)
 
   -- after the separator, the bytes that follow it are left
   pub FindsEnd-separator : SourceWorked g old.source new.source → held new ≡ [] → FindsEnd Separator mid new
-      → (g.is_specified → (lines : List (List ℕ)) × TakesScript Separator (unread old) (unread mid) mid.is_at_end lines)
+      → (g.follows_input new.source → (lines : List (List ℕ)) × TakesScript Separator (unread old) (unread mid) mid.is_at_end lines)
       → ReadsThroughSeparator old new
   FindsEnd-separator source emptied found taken = record {
     source = source;
     emptied = emptied;
-    rest = λ is_specified.
-        let (lines, so_far) = taken is_specified in
-        let whole = FindsEnd-whole Separator lines found so_far is_specified in
+    rest = λ follows.
+        let (lines, so_far) = taken follows in
+        let whole = FindsEnd-whole Separator lines found so_far follows in
         whole.rest ∙ ap (λ ls. after_lines (length ls + 1) (unread old)) (sym whole.all);
     ended = elim found [
       | inl at_end ↦ inl at_end.at_end
-      | inr reads ↦ inr (λ is_specified. let (lines, so_far) = taken is_specified in ends-there lines reads so_far is_specified)
+      | inr reads ↦ inr (λ follows. let (lines, so_far) = taken follows in ends-there lines reads so_far follows)
     ];
   }

@@ -24,33 +24,37 @@ AddsPart part old new (Err _) = ⊥
 module _ {S : Type 0} (g : SourceGhosts S) where
   -- The whole text was read, until the source returned its end.
   pub record ReadsWholeText (old new : S) : Type 0 where
+    pub same : g.input new ≡ g.input old
     pub source : SourceWorked g old new
     pub ended : HasRisen (g.ends old) (g.ends new)
-    pub few : g.is_specified → length (g.remaining old) ≤ 4194304
-    pub used_up : g.is_specified → g.remaining new ≡ []
+    pub few : g.follows_input new → length (g.remaining old) ≤ 4194304
+    pub used_up : g.follows_input new → g.remaining new ≡ []
 
   -- The source failed before it returned its end.
   pub record FailsInText (old new : S) : Type 0 where
+    pub same : g.input new ≡ g.input old
     pub source : SourceFailed g old new
     pub going : g.ends new ≡ g.ends old
-    pub reads : g.is_specified → ReadsAtMost 4194304 (g.remaining old) (g.remaining new)
+    pub reads : g.follows_input new → ReadsAtMost 4194304 (g.remaining old) (g.remaining new)
 
   -- The text is too long, and this was found before the source returned its end.
   pub record FindsTooMuch (old new : S) : Type 0 where
+    pub same : g.input new ≡ g.input old
     pub source : SourceWorked g old new
     pub going : g.ends new ≡ g.ends old
-    pub reads : g.is_specified → ReadsMoreThan 4194304 (g.remaining old) (g.remaining new)
+    pub reads : g.follows_input new → ReadsMoreThan 4194304 (g.remaining old) (g.remaining new)
 
   -- Memory for the text was exhausted before the source returned its end, after at least one byte was read.
   pub record RunsOutOfMemoryForText (old new : S) : Type 0 where
+    pub same : g.input new ≡ g.input old
     pub source : SourceWorked g old new
     pub going : g.ends new ≡ g.ends old
-    pub some : g.is_specified → length (g.remaining new) < length (g.remaining old)
-    pub reads : g.is_specified → ReadsAtMost 4194304 (g.remaining old) (g.remaining new)
+    pub some : g.follows_input new → length (g.remaining new) < length (g.remaining old)
+    pub reads : g.follows_input new → ReadsAtMost 4194304 (g.remaining old) (g.remaining new)
 
   -- the meaning of each result of reading a text
   abbrev pub ReadsText : {Z : Type 0} → S → S → Result (Vec ℕ Z) BenchFault → Type 0
-  ReadsText old new (Ok text) = ReadsWholeText old new × (length text.items ≤ 4194304) × (g.is_specified → text.items ≡ g.remaining old)
+  ReadsText old new (Ok text) = ReadsWholeText old new × (length text.items ≤ 4194304) × (g.follows_input new → text.items ≡ g.remaining old)
   ReadsText old new (Err Read) = FailsInText old new
   ReadsText old new (Err TooLong) = FindsTooMuch old new
   ReadsText old new (Err NoMemory) = RunsOutOfMemoryForText old new
@@ -66,16 +70,16 @@ module _ {S W : Type 0} (g : SourceGhosts S) (h : SinkGhosts W) (old new : S) (b
   abbrev pub RunsAsm : Outcome → Type 0
   RunsAsm (Ok _) =
       ReadsWholeText g old new × SinkFlushed h before after
-      × (g.is_specified → IsOkAnd (asm_output (g.remaining old)) (λ text. h.is_specified → h.taken after ≡ h.taken before ++ text))
+      × (g.follows_input new → IsOkAnd (asm_output (g.remaining old)) (λ text. h.taken after ≡ h.taken before ++ text))
   RunsAsm (Err Read) = FailsInText g old new × (after ≡ before)
-  RunsAsm (Err TooLong) = FindsTooMuch g old new × (g.is_specified → asm_output (g.remaining old) ≡ Err TooLong) × (after ≡ before)
+  RunsAsm (Err TooLong) = FindsTooMuch g old new × (g.follows_input new → asm_output (g.remaining old) ≡ Err TooLong) × (after ≡ before)
   RunsAsm (Err NoMemory) = RunsOutOfMemoryForText g old new × (after ≡ before)
   RunsAsm (Err (Asm fault)) =
       ReadsWholeText g old new
-      × (g.is_specified → (1 ≤ fault.line) × (fault.line ≤ length (lines_of (g.remaining old))))
-      × (g.is_specified → FailsAsm (g.remaining old) fault)
+      × (g.follows_input new → (1 ≤ fault.line) × (fault.line ≤ length (lines_of (g.remaining old))))
+      × (g.follows_input new → FailsAsm (g.remaining old) fault)
       × (after ≡ before)
   RunsAsm (Err Write) =
       ReadsWholeText g old new × SinkFailed h before after
-      × (g.is_specified → IsOkAnd (asm_output (g.remaining old)) (λ text. h.is_specified → WritesPrefix (h.taken before) (h.taken after) text))
+      × (g.follows_input new → IsOkAnd (asm_output (g.remaining old)) (λ text. WritesPrefix (h.taken before) (h.taken after) text))
   RunsAsm (Err _) = ⊥

@@ -6,7 +6,8 @@ pub mod Separator
 pub mod Script
 pub mod Unread
 pub mod MemoryStreams
-pub mod StandardStreams
+pub mod CallLog
+pub mod Buffered
 pub mod Faults
 pub mod Image
 pub mod ReadImage

@@ -1,5 +1,5 @@
 -- The remaining bytes of a source in memory, and the bytes taken by a sink in memory. (This project's own streams.)
-use Rattle.std.specs.Prelude.{ℕ, Bool, ◌-◌, List, length, take}
+use Rattle.std.specs.Prelude.{ℕ, ◌-◌, List, length, take}
 use Rattle.rv_streams.specs.declared.memory.MemorySource.{MemorySource}
 use Rattle.rv_streams.specs.declared.memory.MemorySink.{MemorySink}
 
@@ -14,7 +14,3 @@ bytes_taken sink = take sink.taken_len sink.buffer.now
 -- the number of further bytes that fit
 abbrev pub room_of : MemorySink → ℕ
 room_of sink = length sink.buffer.now - sink.taken_len
-
--- no byte was taken since the last flush, or none at all
-abbrev pub has_flushed : MemorySink → Bool
-has_flushed sink = sink.is_flushed

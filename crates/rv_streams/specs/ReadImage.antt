@@ -14,25 +14,25 @@ module _ {S : Type 0} {g : Ghosts S} where
   pub record FailsInImage (old new : Lines S g) : Type 0 where
     pub source : SourceFailed g old.source new.source
     pub going : new.is_at_end ≡ false
-    pub reads : g.is_specified → ReadsInImage (unread old) (g.remaining new.source) (held new)
+    pub reads : g.follows_input new.source → ReadsInImage (unread old) (g.remaining new.source) (held new)
 
   -- The text of the image has this error, at the last line that was read.
   pub record FindsFault (fault : BenchFault) (old new : Lines S g) : Type 0 where
     pub source : SourceWorked g old.source new.source
     pub emptied : held new ≡ []
-    pub image : g.is_specified → image_in (unread old) ≡ Err fault
-    pub reads : g.is_specified → StopsAtFault (unread old) (unread new) fault
+    pub image : g.follows_input new.source → image_in (unread old) ≡ Err fault
+    pub reads : g.follows_input new.source → StopsAtFault (unread old) (unread new) fault
 
   -- Memory is exhausted at the last line that was read.
   pub record RunsOutOfMemory (old new : Lines S g) : Type 0 where
     pub source : SourceWorked g old.source new.source
     pub emptied : held new ≡ []
-    pub reads : g.is_specified → ReadsPrefixOfImage (unread old) (unread new)
+    pub reads : g.follows_input new.source → ReadsPrefixOfImage (unread old) (unread new)
 
   -- the meaning of each result of `read_image`
   abbrev pub ReadsImage : {Z : Type 0} → Lines S g → Lines S g → Result (Vec ℕ Z) BenchFault → Type 0
   ReadsImage old new (Ok image) =
-      ReadsThroughSeparator old new × (vec_len image ≤ 33554432) × (g.is_specified → image_in (unread old) ≡ Ok image.items)
+      ReadsThroughSeparator old new × (vec_len image ≤ 33554432) × (g.follows_input new.source → image_in (unread old) ≡ Ok image.items)
   ReadsImage old new (Err Read) = FailsInImage old new
   ReadsImage old new (Err Hex) = FindsFault Hex old new
   ReadsImage old new (Err TooLong) = FindsFault TooLong old new

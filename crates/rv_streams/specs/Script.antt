@@ -33,14 +33,14 @@ module _ {S : Type 0} {g : Ghosts S} where
   -- The source has returned its end, and no line is left.
   pub record IsAtEnd (old new : Lines S g) : Type 0 where
     pub at_end : new.is_at_end ≡ true
-    pub none : g.is_specified → unread old ≡ []
-    pub left : g.is_specified → unread new ≡ []
+    pub none : g.follows_input new.source → unread old ≡ []
+    pub left : g.follows_input new.source → unread new ≡ []
 
   -- A line was read that ends the script.
   pub record ReadsScriptEnd (end : ScriptEnd) (old new : Lines S g) : Type 0 where
     pub shown : List ℕ
     pub going : old.is_at_end ≡ false
-    pub takes : g.is_specified → TakesLine (unread old) (unread new) new.is_at_end shown
+    pub takes : g.follows_input new.source → TakesLine (unread old) (unread new) new.is_at_end shown
     pub ends : ends_script end shown ≡ true
 
   -- no line of the script is left
@@ -51,5 +51,5 @@ module _ {S : Type 0} {g : Ghosts S} where
   pub record ReadsThroughSeparator (old new : Lines S g) : Type 0 where
     pub source : SourceWorked g old.source new.source
     pub emptied : held new ≡ []
-    pub rest : g.is_specified → unread new ≡ after_separator (unread old)
-    pub ended : (new.is_at_end ≡ true) ⊎ (g.is_specified → IsTrue (has_separator (unread old)))
+    pub rest : g.follows_input new.source → unread new ≡ after_separator (unread old)
+    pub ended : (new.is_at_end ≡ true) ⊎ (g.follows_input new.source → IsTrue (has_separator (unread old)))

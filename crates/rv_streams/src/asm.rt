@@ -40,9 +40,9 @@ fn push_word(out: &mut Reply, word: u32)
 ///
 /// `DeviceFault`, only if the sink failed in this call or took no byte of a non-empty part. A prefix of the lines is then written.
 fn write_words<W: Sink>(words: &[u32], sink: &mut W) -> Result<(), DeviceFault>
-    ensures written { OnOk result (W.is_specified → W.taken sink.new ≡ W.taken sink.old ++ asm_text words.now) }
-    ensures prefix { W.is_specified → WritesPrefix (W.taken sink.old) (W.taken sink.new) (asm_text words.now) }
-    ensures flushed { OnOk result (W.is_flushed sink.new ≡ true) }
+    ensures written { OnOk result (W.taken sink.new ≡ W.taken sink.old ++ asm_text words.now) }
+    ensures prefix { WritesPrefix (W.taken sink.old) (W.taken sink.new) (asm_text words.now) }
+    ensures flushed { OnOk result ((W.is_flushed sink.new ≡ true) × (W.flushes sink.new ≡ W.flushes sink.old + 1)) }
     ensures ok { OnOk result ((W.failures sink.new ≡ W.failures sink.old) × (W.refusals sink.new ≡ W.refusals sink.old)) }
     ensures err { OnErr result (HasRisen (W.failures sink.old) (W.failures sink.new) ⊎ HasRisen (W.refusals sink.old) (W.refusals sink.new)) }
 {

@@ -1,6 +1,6 @@
 //! The contracts of a source of bytes and a sink for bytes.
-ghost use Rattle.std.specs.Prelude.{◌≡◌, ℕ, Bool, List, [], ◌++◌, ◌+◌, ◌-◌, ◌^◌, ◌≤◌, ◌==◌, ◌&&◌, ◌||◌, min, take, length, IsTrue, is_err, is_ok};
-ghost use Rattle.rv_streams.specs.Device.{moved_count, answers_none, counted_if};
+ghost use Rattle.std.specs.Prelude.{◌≡◌, ℕ, Bool, List, [], ◌++◌, ◌+◌, ◌≤◌, ◌==◌, ◌&&◌, ◌||◌, min, take, length, IsTrue, is_err, is_ok};
+ghost use Rattle.rv_streams.specs.Device.{moved_count, moves_none, counted_if};
 
 /// A call of a device failed. No byte was given or taken in that call.
 #[derive(Clone, Copy, Debug, PartialEq, Eq)]
@@ -8,16 +8,19 @@ pub struct DeviceFault;
 
 /// A device that gives bytes.
 pub trait Source {
-    // Whether the bytes that will come are specified.
-    ghost is_specified: { Type 0 };
+    // The input that is assumed. No call changes it.
+    ghost input: { Self → List ℕ };
 
-    // The remaining bytes, if they are specified.
+    // The bytes given so far are the beginning of the assumed input, and all of it once the source returned its end.
+    ghost follows_input: { Self → Type 0 };
+
+    // The bytes of the assumed input that are still to come.
     ghost remaining: { Self → List ℕ };
 
-    // The number of calls that had room for a byte and succeeded without one. It saturates at the largest `u64`.
+    // The number of calls that had room for a byte and succeeded without one.
     ghost ends: { Self → ℕ };
 
-    // The number of calls that failed. At the largest `u64` every call fails.
+    // The number of calls that failed.
     ghost failures: { Self → ℕ };
 
     // An upper bound on the number of calls that can still give a byte.
@@ -30,29 +33,30 @@ pub trait Source {
     /// `DeviceFault`, if the device failed. No byte is lost then, and a later call continues.
     fn read_some(&mut self, buffer: &mut [u8]) -> Result<usize, DeviceFault>
         ensures room { moved_count result ≤ length buffer.new }
-        ensures bytes { is_specified → remaining self.old ≡ take (moved_count result) buffer.new ++ remaining self.new }
-        ensures end { is_specified → IsTrue (answers_none result (length buffer.new)) → remaining self.new ≡ [] }
-        ensures ends { ends self.new ≡ counted_if (answers_none result (length buffer.new)) (ends self.old) }
+        ensures bytes { follows_input self.new → remaining self.old ≡ take (moved_count result) buffer.new ++ remaining self.new }
+        ensures end { follows_input self.new → IsTrue (moves_none result (length buffer.new)) → remaining self.new ≡ [] }
+        ensures same { input self.new ≡ input self.old }
+        ensures before { follows_input self.new → follows_input self.old }
+        ensures ends { ends self.new ≡ counted_if (moves_none result (length buffer.new)) (ends self.old) }
         ensures failures { failures self.new ≡ counted_if (is_err result) (failures self.old) }
-        ensures failing { failures self.old ≡ 2 ^ 64 - 1 → result ≡ Err record {} }
         ensures falls { calls_left self.new + min (moved_count result) 1 ≤ calls_left self.old };
 }
 
 /// A device that takes bytes.
 pub trait Sink {
-    // Whether the bytes that were taken are specified.
-    ghost is_specified: { Type 0 };
-
-    // The bytes taken so far, if they are specified.
+    // The bytes taken so far.
     ghost taken: { Self → List ℕ };
 
     // Whether no byte was taken since the last successful flush, or none at all.
     ghost is_flushed: { Self → Bool };
 
-    // The number of calls with a non-empty part that succeeded and took no byte. It saturates at the largest `u64`.
+    // The number of flushes that succeeded.
+    ghost flushes: { Self → ℕ };
+
+    // The number of calls with a non-empty part that succeeded and took no byte.
     ghost refusals: { Self → ℕ };
 
-    // The number of calls that failed. At the largest `u64` every call fails.
+    // The number of calls that failed.
     ghost failures: { Self → ℕ };
 
     /// Takes some bytes from the start of the part, and returns how many.
@@ -62,11 +66,11 @@ pub trait Sink {
     /// `DeviceFault`, if the device failed. No byte of the part is taken then.
     fn write_some(&mut self, part: &[u8]) -> Result<usize, DeviceFault>
         ensures bound { moved_count result ≤ length part.now }
-        ensures bytes { is_specified → taken self.new ≡ taken self.old ++ take (moved_count result) part.now }
+        ensures bytes { taken self.new ≡ taken self.old ++ take (moved_count result) part.now }
         ensures flushed { is_flushed self.new ≡ (is_flushed self.old && (moved_count result == 0)) }
-        ensures refusals { refusals self.new ≡ counted_if (answers_none result (length part.now)) (refusals self.old) }
-        ensures failures { failures self.new ≡ counted_if (is_err result) (failures self.old) }
-        ensures failing { failures self.old ≡ 2 ^ 64 - 1 → result ≡ Err record {} };
+        ensures flushes { flushes self.new ≡ flushes self.old }
+        ensures refusals { refusals self.new ≡ counted_if (moves_none result (length part.now)) (refusals self.old) }
+        ensures failures { failures self.new ≡ counted_if (is_err result) (failures self.old) };
 
     /// Passes on all bytes that the sink has taken and still holds.
     ///
@@ -74,9 +78,9 @@ pub trait Sink {
     ///
     /// `DeviceFault`, if the device failed. The sink still holds the bytes that were not passed on.
     fn flush(&mut self) -> Result<(), DeviceFault>
-        ensures bytes { is_specified → taken self.new ≡ taken self.old }
+        ensures bytes { taken self.new ≡ taken self.old }
         ensures flushed { is_flushed self.new ≡ (is_flushed self.old || is_ok result) }
+        ensures flushes { flushes self.new ≡ counted_if (is_ok result) (flushes self.old) }
         ensures refusals { refusals self.new ≡ refusals self.old }
-        ensures failures { failures self.new ≡ counted_if (is_err result) (failures self.old) }
-        ensures failing { failures self.old ≡ 2 ^ 64 - 1 → result ≡ Err record {} };
+        ensures failures { failures self.new ≡ counted_if (is_err result) (failures self.old) };
 }

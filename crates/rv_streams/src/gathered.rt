@@ -21,9 +21,10 @@ pub(crate) fn make_room<W: Sink>(
 ) -> Result<(), DeviceFault>
     requires { room ≤ 2048 }
     ensures room { OnOk result (array_vec_len gathered.new + room ≤ 2048) }
-    ensures written { W.is_specified → OnOk result (WritesUpTo (W.taken sink.old) (W.taken sink.new) gathered.old.items gathered.new.items) }
-    ensures prefix { W.is_specified → WritesPrefix (W.taken sink.old) (W.taken sink.new) gathered.old.items }
+    ensures written { OnOk result (WritesUpTo (W.taken sink.old) (W.taken sink.new) gathered.old.items gathered.new.items) }
+    ensures prefix { WritesPrefix (W.taken sink.old) (W.taken sink.new) gathered.old.items }
     ensures ok { OnOk result ((W.failures sink.new ≡ W.failures sink.old) × (W.refusals sink.new ≡ W.refusals sink.old)) }
+    ensures flushes { W.flushes sink.new ≡ W.flushes sink.old }
     ensures err { OnErr result (HasRisen (W.failures sink.old) (W.failures sink.new) ⊎ HasRisen (W.refusals sink.old) (W.refusals sink.new)) }
 {
     if gathered.remaining_capacity() < room {
@@ -39,9 +40,9 @@ pub(crate) fn make_room<W: Sink>(
 ///
 /// `DeviceFault`, only if the sink failed in this call or took no byte of a non-empty part. A prefix of the gathered bytes is then written.
 pub fn write_last<W: Sink>(gathered: &Reply, sink: &mut W) -> Result<(), DeviceFault>
-    ensures written { OnOk result (W.is_specified → W.taken sink.new ≡ W.taken sink.old ++ gathered.now.items) }
-    ensures prefix { W.is_specified → WritesPrefix (W.taken sink.old) (W.taken sink.new) gathered.now.items }
-    ensures flushed { OnOk result (W.is_flushed sink.new ≡ true) }
+    ensures written { OnOk result (W.taken sink.new ≡ W.taken sink.old ++ gathered.now.items) }
+    ensures prefix { WritesPrefix (W.taken sink.old) (W.taken sink.new) gathered.now.items }
+    ensures flushed { OnOk result ((W.is_flushed sink.new ≡ true) × (W.flushes sink.new ≡ W.flushes sink.old + 1)) }
     ensures ok { OnOk result ((W.failures sink.new ≡ W.failures sink.old) × (W.refusals sink.new ≡ W.refusals sink.old)) }
     ensures err { OnErr result (HasRisen (W.failures sink.old) (W.failures sink.new) ⊎ HasRisen (W.refusals sink.old) (W.refusals sink.new)) }
 {

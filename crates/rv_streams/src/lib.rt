@@ -13,6 +13,7 @@
 #![tactic(auto)]
 
 mod asm;
+mod buffered;
 mod device;
 mod dis;
 mod fault;
@@ -20,6 +21,7 @@ mod gathered;
 mod image;
 mod line;
 mod lines;
+mod log;
 mod memory;
 mod room;
 mod separator;
@@ -28,6 +30,7 @@ mod transfer;
 mod whole;
 
 pub use asm::run_asm;
+pub use buffered::BufferedSource;
 pub use device::{DeviceFault, Sink, Source};
 pub use dis::run_dis;
 pub use fault::BenchFault;
@@ -35,8 +38,9 @@ pub use gathered::write_last;
 pub use image::{IMAGE_MAX, read_image};
 pub use line::Line;
 pub use lines::Lines;
-pub use memory::{MemorySink, MemorySource};
+pub use log::CallLog;
+pub use memory::{MemorySink, MemorySource, VecSink};
 pub use separator::ScriptEnd;
-pub use stdio::{StandardSink, StandardSource};
+pub use stdio::{ReaderSource, WriterSink};
 pub use transfer::write_all;
 pub use whole::ASM_TEXT_MAX;

@@ -39,8 +39,10 @@ pub(crate) enum Stop {
 pub(crate) fn read_text<S: Source>(source: &mut S, line: &mut Line) -> Result<Stop, DeviceFault>
     requires short { length line.old.items ≤ 122 }
     requires unfinished { has_feed line.old.items ≡ false }
-    ensures bytes { S.is_specified → ReadsLineText (line.old.items ++ S.remaining source.old) (left_from result (S.remaining source.new)) line.new.items }
-    ensures end { S.is_specified → result ≡ Ok Stop.End → S.remaining source.new ≡ [] }
+    ensures bytes { S.follows_input source.new → ReadsLineText (line.old.items ++ S.remaining source.old) (left_from result (S.remaining source.new)) line.new.items }
+    ensures end { S.follows_input source.new → result ≡ Ok Stop.End → S.remaining source.new ≡ [] }
+    ensures same { S.input source.new ≡ S.input source.old }
+    ensures before { S.follows_input source.new → S.follows_input source.old }
     ensures ends { S.ends source.new ≡ counted_if (stops_at_end result) (S.ends source.old) }
     ensures failures { S.failures source.new ≡ counted_if (is_err result) (S.failures source.old) }
     ensures short { length line.new.items ≤ 122 }

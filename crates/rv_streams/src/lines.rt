@@ -20,7 +20,7 @@ pub struct Lines<S: Source> {
     ghost unfinished: { has_feed line.items ≡ false },
     ghost told: { is_at_end ≡ true → 0 < S.ends source },
     ghost empty: { is_at_end ≡ true → line.items ≡ [] },
-    ghost none_left: { is_at_end ≡ true → S.is_specified → S.remaining source ≡ [] },
+    ghost none_left: { is_at_end ≡ true → S.follows_input source → S.remaining source ≡ [] },
 }
 
 impl<S: Source> Lines<S> {
@@ -64,7 +64,7 @@ impl<S: Source> Lines<S> {
     pub fn is_at_end(&self) -> bool
         ensures end { result ≡ self.now.is_at_end }
         ensures told { IsTrue result → 0 < S.ends self.now.source }
-        ensures nothing { IsTrue result → S.is_specified → unread self.now ≡ [] }
+        ensures nothing { IsTrue result → S.follows_input self.now.source → unread self.now ≡ [] }
     {
         self.is_at_end
     }
@@ -79,7 +79,7 @@ impl<S: Source> Lines<S> {
     pub fn next_line(&mut self) -> Result<Option<Line>, DeviceFault>
         ensures read { ReadsLine self.old self.new result (λ line. line.items) }
         ensures none { IfOk result (λ found. IfNone found (self.new.is_at_end ≡ true)) }
-        ensures nothing { S.is_specified → IfOk result (λ found. IfNone found ((unread self.old ≡ []) × (unread self.new ≡ []))) }
+        ensures nothing { S.follows_input self.new.source → IfOk result (λ found. IfNone found ((unread self.old ≡ []) × (unread self.new ≡ []))) }
     {
         if self.is_at_end {
             return Ok(None);

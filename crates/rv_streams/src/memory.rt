@@ -1,26 +1,30 @@
-//! A source and a sink over borrowed memory. They allocate no memory, and never fail.
-ghost use Rattle.std.specs.Prelude.{◌≡◌, ◌==◌, ◌&&◌, ◌++◌, ◌+◌, ◌-◌, ◌^◌, ◌≤◌, [], ⊤, true, nat_lt, min, length, take, is_err};
-ghost use Rattle.rv_streams.specs.Device.{moved_count, answers_none, counted_if};
-ghost use Rattle.rv_streams.specs.MemoryStreams.{rest_in_memory, bytes_taken, room_of, has_flushed};
+//! Devices over memory. The source and the sink over borrowed memory allocate none, and never fail. The sink over a vector fails only if memory is
+//! refused.
+ghost use Rattle.std.specs.Prelude.{◌≡◌, ◌==◌, ◌&&◌, ◌++◌, ◌+◌, ◌≤◌, [], ⊤, true, nat_lt, min, length, take, is_err, is_ok};
+ghost use Rattle.rv_streams.specs.Device.{moved_count, moves_none, counted_if};
+ghost use Rattle.rv_streams.specs.CallLog.{no_call};
+ghost use Rattle.rv_streams.specs.MemoryStreams.{rest_in_memory, bytes_taken, room_of};
 
 use crate::device::{DeviceFault, Sink, Source};
+use crate::log::CallLog;
+use std::alloc::Global;
 
 /// A source that returns the bytes of a slice.
 #[derive(Drop, Debug)]
 pub struct MemorySource<'a> {
     rest: &'a [u8],
-    end_count: u64,
+    log: CallLog,
 }
 
 impl<'a> MemorySource<'a> {
     /// Returns a source of these bytes.
     pub fn new(bytes: &'a [u8]) -> MemorySource<'a>
         ensures bytes { rest_in_memory result ≡ bytes.entry.now }
-        ensures ends { result.end_count ≡ 0 }
+        ensures ends { result.log.empty_calls ≡ 0 }
     {
         MemorySource {
             rest: bytes,
-            end_count: 0,
+            log: CallLog::new(),
         }
     }
 
@@ -33,11 +37,13 @@ impl<'a> MemorySource<'a> {
 }
 
 impl<'a> Source for MemorySource<'a> {
-    ghost is_specified = { ⊤ };
+    ghost input = { λ _. [] };
+
+    ghost follows_input = { λ _. ⊤ };
 
     ghost remaining = { rest_in_memory };
 
-    ghost ends = { λ source. source.end_count };
+    ghost ends = { λ source. source.log.empty_calls };
 
     ghost failures = { λ _. 0 };
 
@@ -49,7 +55,7 @@ impl<'a> Source for MemorySource<'a> {
         buffer[..count].copy_from_slice(given);
         self.rest = rest;
         if count == 0 && !buffer.is_empty() {
-            self.end_count = self.end_count.saturating_add(1);
+            self.log.moved_none();
         }
         Ok(count)
     }
@@ -60,8 +66,7 @@ impl<'a> Source for MemorySource<'a> {
 pub struct MemorySink<'a> {
     buffer: &'a mut [u8],
     taken_len: usize,
-    is_flushed: bool,
-    refused_parts: u64,
+    log: CallLog,
 }
 
 impl<'a> MemorySink<'a> {
@@ -69,14 +74,12 @@ impl<'a> MemorySink<'a> {
     pub fn new(buffer: &'a mut [u8]) -> MemorySink<'a>
         ensures bytes { bytes_taken result ≡ [] }
         ensures room { room_of result ≡ length buffer.old }
-        ensures flushed { has_flushed result ≡ true }
-        ensures refusals { result.refused_parts ≡ 0 }
+        ensures log { result.log ≡ no_call [] }
     {
         MemorySink {
             buffer,
             taken_len: 0,
-            is_flushed: true,
-            refused_parts: 0,
+            log: CallLog::new(),
         }
     }
 
@@ -93,32 +96,33 @@ impl<'a> MemorySink<'a> {
         ensures count { result ≡ min (length part.now) (room_of self.old) }
         ensures bytes { bytes_taken self.new ≡ bytes_taken self.old ++ take result part.now }
         ensures room { room_of self.new + result ≡ room_of self.old }
-        ensures flushed { has_flushed self.new ≡ (has_flushed self.old && (result == 0)) }
-        ensures refusals { self.new.refused_parts ≡ counted_if ((result == 0) && nat_lt 0 (length part.now)) self.old.refused_parts }
+        ensures flushed { self.new.log.is_flushed ≡ (self.old.log.is_flushed && (result == 0)) }
+        ensures flushes { self.new.log.flushes ≡ self.old.log.flushes }
+        ensures refusals { self.new.log.empty_calls ≡ counted_if ((result == 0) && nat_lt 0 (length part.now)) self.old.log.empty_calls }
     {
         let room = self.buffer.len().saturating_sub(self.taken_len);
         let count = part.len().min(room);
         if count == 0 {
             if !part.is_empty() {
-                self.refused_parts = self.refused_parts.saturating_add(1);
+                self.log.moved_none();
             }
             return 0;
         }
         self.buffer[self.taken_len..self.taken_len + count].copy_from_slice(&part[..count]);
         self.taken_len += count;
-        self.is_flushed = false;
+        self.log.moved(&part[..count]);
         count
     }
 }
 
 impl<'a> Sink for MemorySink<'a> {
-    ghost is_specified = { ⊤ };
-
     ghost taken = { bytes_taken };
 
-    ghost is_flushed = { has_flushed };
+    ghost is_flushed = { λ sink. sink.log.is_flushed };
 
-    ghost refusals = { λ sink. sink.refused_parts };
+    ghost flushes = { λ sink. sink.log.flushes };
+
+    ghost refusals = { λ sink. sink.log.empty_calls };
 
     ghost failures = { λ _. 0 };
 
@@ -126,16 +130,74 @@ impl<'a> Sink for MemorySink<'a> {
         ensures count { result ≡ Ok (min (length part.now) (room_of self.old)) }
         ensures bound { moved_count result ≤ length part.now }
         ensures bytes { bytes_taken self.new ≡ bytes_taken self.old ++ take (moved_count result) part.now }
-        ensures flushed { has_flushed self.new ≡ (has_flushed self.old && (moved_count result == 0)) }
-        ensures refusals { self.new.refused_parts ≡ counted_if (answers_none result (length part.now)) self.old.refused_parts }
+        ensures flushed { self.new.log.is_flushed ≡ (self.old.log.is_flushed && (moved_count result == 0)) }
+        ensures flushes { self.new.log.flushes ≡ self.old.log.flushes }
+        ensures refusals { self.new.log.empty_calls ≡ counted_if (moves_none result (length part.now)) self.old.log.empty_calls }
         ensures failures { 0 ≡ counted_if (is_err result) 0 }
-        ensures failing { 0 ≡ 2 ^ 64 - 1 → result ≡ Err record {} }
     {
         Ok(self.fill(part))
     }
 
     fn flush(&mut self) -> Result<(), DeviceFault> {
-        self.is_flushed = true;
+        self.log.flushed();
+        Ok(())
+    }
+}
+
+/// A sink that appends to a vector. A call fails only if memory is refused.
+#[derive(Drop, Debug)]
+pub struct VecSink {
+    bytes: Vec<u8>,
+    log: CallLog,
+}
+
+impl VecSink {
+    /// Returns a sink over a new vector.
+    pub fn new(alloc: Global) -> VecSink
+        ensures bytes { result.bytes.items ≡ [] }
+        ensures log { result.log ≡ no_call [] }
+    {
+        VecSink {
+            bytes: Vec::new(alloc),
+            log: CallLog::new(),
+        }
+    }
+
+    /// Returns the bytes that were taken.
+    pub fn into_bytes(self) -> Vec<u8>
+        ensures { result ≡ self.bytes }
+    {
+        let VecSink { bytes, log: _ } = self;
+        bytes
+    }
+}
+
+impl Sink for VecSink {
+    ghost taken = { λ sink. sink.bytes.items };
+
+    ghost is_flushed = { λ sink. sink.log.is_flushed };
+
+    ghost flushes = { λ sink. sink.log.flushes };
+
+    ghost refusals = { λ sink. sink.log.empty_calls };
+
+    ghost failures = { λ sink. sink.log.failures };
+
+    fn write_some(&mut self, part: &[u8]) -> Result<usize, DeviceFault> {
+        match self.bytes.extend_from_slice(part) {
+            Ok(()) => {
+                self.log.moved(part);
+                Ok(part.len())
+            }
+            Err(_) => {
+                self.log.failed();
+                Err(DeviceFault)
+            }
+        }
+    }
+
+    fn flush(&mut self) -> Result<(), DeviceFault> {
+        self.log.flushed();
         Ok(())
     }
 }

@@ -1,177 +1,135 @@
-//! A source over any reader of std, and a sink over any writer, such as the standard streams. Their bytes are specified as far as std specifies
-//! those of the reader and the writer.
-ghost use Rattle.std.specs.Prelude.{◌≡◌, ◌-◌, ◌^◌, ◌≤◌, min, take, length};
+//! A source over any reader of std, and a sink over any writer, such as the standard streams.
+//!
+//! std does not specify the bytes of the standard streams, nor when a call of them fails. Each device here therefore logs what its reader or
+//! writer did. The proofs trust that the log is true: `read_some`, `write_some` and `flush` are short so that a reader can check this.
+ghost use Rattle.std.specs.Prelude.{◌≡◌, ◌==◌, ◌&&◌, ◌||◌, ◌++◌, ◌+◌, ◌≤◌, [], true, nat_lt, min, take, length, unwrap_or, IsTrue, is_err, is_ok};
+ghost use Rattle.std.specs.Io.KnownBytes.{Keeps, ReadConsumes, WriteAppends};
+ghost use Rattle.rv_streams.specs.Device.{moved_count, moves_none, counted_if};
 
 use crate::device::{DeviceFault, Sink, Source};
+use crate::log::CallLog;
 use std::io::{Read, Write};
 
-/// The number of bytes that are read ahead at once.
-const READ_LEN: usize = 4096;
-
-/// Copies as many bytes as there are and as the buffer has room for, and returns how many.
-#[inline(always)]
-fn give(bytes: &[u8], buffer: &mut [u8]) -> usize
-    ensures count { result ≡ min (length bytes.now) (length buffer.old) }
-    ensures copied { take result buffer.new ≡ take result bytes.now }
-    ensures len { length buffer.new ≡ length buffer.old }
-{
-    let count = bytes.len().min(buffer.len());
-    if count == 1 {
-        // lines are read byte by byte: copies one byte without a call
-        buffer[0] = bytes[0];
-        return 1;
-    }
-    buffer[..count].copy_from_slice(&bytes[..count]);
-    count
-}
-
-/// A source that reads ahead from a reader. After 2 ^ 64 - 1 calls that returned a byte, every call with room for a byte fails.
+/// A source over a reader. After 2 ^ 64 - 1 calls that gave a byte, every call with room for a byte fails. Once the reader has returned its end,
+/// it is not called again.
 #[derive(Drop, Debug)]
-pub struct StandardSource<R: Read> {
+pub struct ReaderSource<R: Read> {
     reader: R,
-    buffer: [u8; READ_LEN],
-    start: usize,
-    end: usize,
+    log: CallLog,
+    has_ended: bool,
     calls_left: u64,
-    failed_calls: u64,
-    end_count: u64,
-    ghost ordered: { start ≤ end },
-    ghost in_buffer: { end ≤ 4096 },
+    ghost ended: { has_ended ≡ nat_lt 0 log.empty_calls },
+    ghost at_end: { has_ended ≡ true → unwrap_or (R.remaining reader) [] ≡ [] },
 }
 
-impl<R: Read> StandardSource<R> {
-    ghost use Rattle.std.specs.Prelude.{◌≡◌, ◌-◌, ◌^◌, ◌<◌, [], OnOk, is_err};
-    ghost use Rattle.rv_streams.specs.Device.{counted_if};
-    ghost use Rattle.rv_streams.specs.StandardStreams.{AreSpecified, known, rest_of};
+impl<R: Read> ReaderSource<R> {
+    ghost use Rattle.std.specs.Prelude.{◌≡◌, ◌-◌, ◌^◌, ℕ, List};
+    ghost use Rattle.rv_streams.specs.CallLog.{no_call};
 
-    /// Returns a source over this reader, from which nothing is read yet.
-    pub fn new(reader: R) -> StandardSource<R>
-        ensures bytes { rest_of result ≡ known (R.remaining reader) }
-        ensures ends { result.end_count ≡ 0 }
-        ensures failures { result.failed_calls ≡ 0 }
+    /// Returns a source over this reader, from which nothing is read yet. The input that is assumed is any list of bytes.
+    pub fn new(reader: R) -> ReaderSource<R>
+        ghost input: { List ℕ }
+        ensures log { result.log ≡ no_call input }
         ensures calls { result.calls_left ≡ 2 ^ 64 - 1 }
     {
-        StandardSource {
+        ReaderSource {
             reader,
-            buffer: [0; READ_LEN],
-            start: 0,
-            end: 0,
+            log: CallLog::with_input(),
+            has_ended: false,
             calls_left: u64::MAX,
-            failed_calls: 0,
-            end_count: 0,
         }
     }
 
-    /// Reads ahead from the reader. It adds no byte only at the end.
-    ///
-    /// # Errors
-    ///
-    /// `DeviceFault`, if the reader failed. No byte is lost then.
-    #[cold]
-    #[inline(never)]
-    fn fill(&mut self) -> Result<(), DeviceFault>
-        requires nothing { self.old.start ≡ self.old.end }
-        requires working { self.old.failed_calls < 2 ^ 64 - 1 }
-        ensures bytes { AreSpecified R.remaining → rest_of self.new ≡ rest_of self.old }
-        ensures end { OnOk result (AreSpecified R.remaining → self.new.start ≡ self.new.end → rest_of self.new ≡ []) }
-        ensures calls { self.new.calls_left ≡ self.old.calls_left }
-        ensures ends { self.new.end_count ≡ self.old.end_count }
-        ensures failures { self.new.failed_calls ≡ counted_if (is_err result) self.old.failed_calls }
+    /// Returns the reader.
+    pub fn into_reader(self) -> R
+        ensures { result ≡ self.reader }
     {
-        match self.reader.read(&mut self.buffer) {
-            Ok(count) => {
-                self.start = 0;
-                self.end = count;
-                Ok(())
-            }
-            Err(_) => {
-                self.failed_calls += 1;
-                Err(DeviceFault)
-            }
-        }
-    }
-
-    /// Reads ahead from the reader if all bytes that were read ahead have been returned. Then no byte is ahead only at the end.
-    ///
-    /// # Errors
-    ///
-    /// `DeviceFault`, if the reader failed. No byte is lost then.
-    #[inline(always)]
-    fn read_ahead(&mut self) -> Result<(), DeviceFault>
-        requires { self.old.failed_calls < 2 ^ 64 - 1 }
-        ensures bytes { AreSpecified R.remaining → rest_of self.new ≡ rest_of self.old }
-        ensures end { OnOk result (AreSpecified R.remaining → self.new.start ≡ self.new.end → rest_of self.new ≡ []) }
-        ensures calls { self.new.calls_left ≡ self.old.calls_left }
-        ensures ends { self.new.end_count ≡ self.old.end_count }
-        ensures failures { self.new.failed_calls ≡ counted_if (is_err result) self.old.failed_calls }
-    {
-        if self.start < self.end {
-            return Ok(());
-        }
-        self.fill()
+        let ReaderSource {
+            reader,
+            log: _,
+            has_ended: _,
+            calls_left: _,
+        } = self;
+        reader
     }
 }
 
-impl<R: Read> Source for StandardSource<R> {
-    ghost use Rattle.rv_streams.specs.StandardStreams.{AreSpecified, rest_of};
+impl<R: Read> Source for ReaderSource<R> {
+    ghost use Rattle.rv_streams.specs.CallLog.{FollowsInput, still_to_come};
 
-    ghost is_specified = { AreSpecified R.remaining };
+    ghost input = { λ source. source.log.input };
 
-    ghost remaining = { rest_of };
+    ghost follows_input = { λ source. FollowsInput source.log };
 
-    ghost ends = { λ source. source.end_count };
+    ghost remaining = { λ source. still_to_come source.log };
 
-    ghost failures = { λ source. source.failed_calls };
+    ghost ends = { λ source. source.log.empty_calls };
+
+    ghost failures = { λ source. source.log.failures };
 
     ghost calls_left = { λ source. source.calls_left };
 
-    fn read_some(&mut self, buffer: &mut [u8]) -> Result<usize, DeviceFault> {
-        if self.failed_calls == u64::MAX {
-            return Err(DeviceFault);
-        }
+    fn read_some(&mut self, buffer: &mut [u8]) -> Result<usize, DeviceFault>
+        ensures room { moved_count result ≤ length buffer.new }
+        ensures bytes { FollowsInput self.new.log → still_to_come self.old.log ≡ take (moved_count result) buffer.new ++ still_to_come self.new.log }
+        ensures end { FollowsInput self.new.log → IsTrue (moves_none result (length buffer.new)) → still_to_come self.new.log ≡ [] }
+        ensures same { self.new.log.input ≡ self.old.log.input }
+        ensures before { FollowsInput self.new.log → FollowsInput self.old.log }
+        ensures ends { self.new.log.empty_calls ≡ counted_if (moves_none result (length buffer.new)) self.old.log.empty_calls }
+        ensures failures { self.new.log.failures ≡ counted_if (is_err result) self.old.log.failures }
+        ensures falls { self.new.calls_left + min (moved_count result) 1 ≤ self.old.calls_left }
+        // The bytes are the next ones of the reader, if std specifies them.
+        ensures known { ReadConsumes (R.remaining self.old.reader) (R.remaining self.new.reader) result buffer.new }
+    {
         if buffer.is_empty() {
             return Ok(0);
         }
-        if self.calls_left == 0 {
-            self.failed_calls += 1;
-            return Err(DeviceFault);
-        }
-        self.read_ahead()?;
-        let count = give(&self.buffer[self.start..self.end], buffer);
-        if count == 0 {
-            self.end_count = self.end_count.saturating_add(1);
+        if self.has_ended {
+            self.log.moved_none();
             return Ok(0);
         }
-        self.start += count;
-        self.calls_left -= 1;
-        Ok(count)
+        if self.calls_left == 0 {
+            self.log.failed();
+            return Err(DeviceFault);
+        }
+        match self.reader.read(buffer) {
+            Ok(0) => {
+                self.log.moved_none();
+                self.has_ended = true;
+                Ok(0)
+            }
+            Ok(count) => {
+                self.log.moved(&buffer[..count]);
+                self.calls_left -= 1;
+                Ok(count)
+            }
+            Err(_) => {
+                self.log.failed();
+                Err(DeviceFault)
+            }
+        }
     }
 }
 
 /// A sink that passes each part to a writer at once, so that a reply is visible as soon as it is made. The sink holds no bytes.
 #[derive(Drop, Debug)]
-pub struct StandardSink<W: Write> {
+pub struct WriterSink<W: Write> {
     writer: W,
-    is_flushed: bool,
-    failed_calls: u64,
-    refused_parts: u64,
+    log: CallLog,
 }
 
-impl<W: Write> StandardSink<W> {
-    ghost use Rattle.std.specs.Prelude.{◌≡◌, true};
+impl<W: Write> WriterSink<W> {
+    ghost use Rattle.std.specs.Prelude.{◌≡◌, []};
+    ghost use Rattle.rv_streams.specs.CallLog.{no_call};
 
     /// Returns a sink over this writer, to which nothing is passed yet.
-    pub fn new(writer: W) -> StandardSink<W>
+    pub fn new(writer: W) -> WriterSink<W>
         ensures writer { result.writer ≡ writer }
-        ensures flushed { result.is_flushed ≡ true }
-        ensures failures { result.failed_calls ≡ 0 }
-        ensures refusals { result.refused_parts ≡ 0 }
+        ensures log { result.log ≡ no_call [] }
     {
-        StandardSink {
+        WriterSink {
             writer,
-            is_flushed: true,
-            failed_calls: 0,
-            refused_parts: 0,
+            log: CallLog::new(),
         }
     }
 
@@ -179,60 +137,64 @@ impl<W: Write> StandardSink<W> {
     pub fn into_writer(self) -> W
         ensures { result ≡ self.writer }
     {
-        let StandardSink {
-            writer,
-            is_flushed: _,
-            failed_calls: _,
-            refused_parts: _,
-        } = self;
+        let WriterSink { writer, log: _ } = self;
         writer
     }
 }
 
-impl<W: Write> Sink for StandardSink<W> {
-    ghost use Rattle.rv_streams.specs.StandardStreams.{AreSpecified, passed_on};
+impl<W: Write> Sink for WriterSink<W> {
+    ghost taken = { λ sink. sink.log.bytes };
 
-    ghost is_specified = { AreSpecified W.contents };
+    ghost is_flushed = { λ sink. sink.log.is_flushed };
 
-    ghost taken = { passed_on W.contents };
+    ghost flushes = { λ sink. sink.log.flushes };
 
-    ghost is_flushed = { λ sink. sink.is_flushed };
+    ghost refusals = { λ sink. sink.log.empty_calls };
 
-    ghost refusals = { λ sink. sink.refused_parts };
+    ghost failures = { λ sink. sink.log.failures };
 
-    ghost failures = { λ sink. sink.failed_calls };
-
-    fn write_some(&mut self, part: &[u8]) -> Result<usize, DeviceFault> {
-        if self.failed_calls == u64::MAX {
-            return Err(DeviceFault);
-        }
+    fn write_some(&mut self, part: &[u8]) -> Result<usize, DeviceFault>
+        ensures bound { moved_count result ≤ length part.now }
+        ensures bytes { self.new.log.bytes ≡ self.old.log.bytes ++ take (moved_count result) part.now }
+        ensures flushed { self.new.log.is_flushed ≡ (self.old.log.is_flushed && (moved_count result == 0)) }
+        ensures flushes { self.new.log.flushes ≡ self.old.log.flushes }
+        ensures refusals { self.new.log.empty_calls ≡ counted_if (moves_none result (length part.now)) self.old.log.empty_calls }
+        ensures failures { self.new.log.failures ≡ counted_if (is_err result) self.old.log.failures }
+        // The bytes are appended to those of the writer, if std specifies them.
+        ensures known { WriteAppends (W.contents self.old.writer) (W.contents self.new.writer) result part.now }
+    {
         match self.writer.write(part) {
+            Ok(0) if !part.is_empty() => {
+                self.log.moved_none();
+                Ok(0)
+            }
             Ok(count) => {
-                if count > 0 {
-                    self.is_flushed = false;
-                } else if !part.is_empty() {
-                    self.refused_parts = self.refused_parts.saturating_add(1);
-                }
+                self.log.moved(&part[..count]);
                 Ok(count)
             }
             Err(_) => {
-                self.failed_calls += 1;
+                self.log.failed();
                 Err(DeviceFault)
             }
         }
     }
 
-    fn flush(&mut self) -> Result<(), DeviceFault> {
-        if self.failed_calls == u64::MAX {
-            return Err(DeviceFault);
-        }
+    fn flush(&mut self) -> Result<(), DeviceFault>
+        ensures bytes { self.new.log.bytes ≡ self.old.log.bytes }
+        ensures flushed { self.new.log.is_flushed ≡ (self.old.log.is_flushed || is_ok result) }
+        ensures flushes { self.new.log.flushes ≡ counted_if (is_ok result) self.old.log.flushes }
+        ensures refusals { self.new.log.empty_calls ≡ self.old.log.empty_calls }
+        ensures failures { self.new.log.failures ≡ counted_if (is_err result) self.old.log.failures }
+        // The bytes of the writer stay, if std specifies them.
+        ensures known { Keeps (W.contents self.old.writer) (W.contents self.new.writer) }
+    {
         match self.writer.flush() {
             Ok(()) => {
-                self.is_flushed = true;
+                self.log.flushed();
                 Ok(())
             }
             Err(_) => {
-                self.failed_calls += 1;
+                self.log.failed();
                 Err(DeviceFault)
             }
         }

@@ -1,6 +1,7 @@
 use Rattle.std.proofs.Common.{rules, ◌≡◌, ◌++◌, ◌∙◌, refl, sym, ap, subst, Ok, Err}
 use Rattle.std.proofs.lemmas.Result.{IfOk-at_ok, IfErr-at_err}
 use Rattle.rv_streams.specs.declared.fault.BenchFault.TheVariants.{Read, Write}
+use Rattle.rv_streams.specs.Calls.{SinkWorked}
 use Rattle.rv_streams.specs.Transfer.{WritesPrefix}
 use Rattle.rv_streams.proofs.Ends.{no_failure, EndsWithSource-more}
 use Rattle.rv_streams.proofs.Mapped.{ok_mapped, err_mapped}
@@ -20,7 +21,7 @@ turn g c =
       so_far = c.loop-told.invariant.so_far;
       shown = c.in-Some.line.items;
       going = IfOk-at_ok _ found c.next_line_before.ensures.read.going;
-      takes = λ is_specified. IfOk-at_ok _ found (c.next_line_before.ensures.read.line is_specified);
+      takes = λ follows. IfOk-at_ok _ found (c.next_line_before.ensures.read.line follows);
       inside = IfOk-at_ok _ found c.next_line_before.ensures.inside;
       responds = RespondsToLine-same c.loop-told.invariant.kept c.as_slice.ensures.value c.respond_to_line.ensures.respond;
       ends = c.next_line_before.ensures.read.end;
@@ -29,11 +30,18 @@ turn g c =
     }
 
 -- its reply was written
-wrote : (g : given.Over) (c : After-is_over g) → g.W.Sink.is_specified
+wrote : (g : given.Over) (c : After-is_over g)
     → g.W.Sink.taken c.write_all.new.sink ≡ g.W.Sink.taken c.loop-told.sink ++ g.T.Told.AsSlice.items c.respond_to_line.new.out
-wrote g c told =
+wrote g c =
     let done = ok_mapped _ c.write_all.result c.map_err-in-Some.result _ c.map_err-in-Some.ensures.cases c.in_ok-map_err.was in
-    IfOk-at_ok _ done c.write_all.ensures.written told ∙ ap (λ t. g.W.Sink.taken c.loop-told.sink ++ t) c.as_slice-in-Some.ensures
+    IfOk-at_ok _ done c.write_all.ensures.written ∙ ap (λ t. g.W.Sink.taken c.loop-told.sink ++ t) c.as_slice-in-Some.ensures
+
+-- and no call of the sink failed
+worked : (g : given.Over) (c : After-is_over g) → SinkWorked g.W.Sink c.loop-told.sink c.write_all.new.sink
+worked g c = record {
+  worked = IfOk-at_ok _ (ok_mapped _ c.write_all.result c.map_err-in-Some.result _ c.map_err-in-Some.ensures.cases c.in_ok-map_err.was) c.write_all.ensures.ok;
+  unflushed = c.write_all.ensures.flushes;
+}
 
 -- whether the responder is over then
 over : (g : given.Over) (c : After-is_over g)
@@ -48,7 +56,8 @@ pub loop-told-preserved : goal.loop-told-preserved
 loop-told-preserved g c =
     let at = goal.at.loop-told-preserved g c in record {
       kept = c.respond_to_line.ensures.kept ∙ c.loop-told.invariant.kept;
-      so_far = Turn-goes (turn g at.After-respond_to_line) (search rules) (wrote g at.After-is_over) (over g at.After-is_over ∙ c.if-is_over.false);
+      so_far = Turn-goes (turn g at.After-respond_to_line) (worked g at.After-is_over) (wrote g at.After-is_over)
+          (over g at.After-is_over ∙ c.if-is_over.false);
     }
 
 pub returns-in_err-line-clause-outcome : goal.returns-in_err-line-clause-outcome
@@ -56,7 +65,7 @@ returns-in_err-line-clause-outcome g c =
     let is : c.from_residual.result ≡ Err Read = search rules in
     let failed = err_mapped _ c.next_line_before.result c.map_err.result _ c.map_err.ensures.cases c.in_err-line.was in
     rw is (SoFar-read c.next_line_before.new.self c.loop-told.invariant.so_far (IfErr-at_err _ failed.1 c.next_line_before.ensures.read.err)
-    (search rules) (λ is_specified. IfErr-at_err _ failed.1 (c.next_line_before.ensures.read.kept is_specified)))
+    c.next_line_before.ensures.read.end (search rules) (λ follows. IfErr-at_err _ failed.1 (c.next_line_before.ensures.read.kept follows)))
 
 pub returns-in_err-line-clause-end : goal.returns-in_err-line-clause-end
 returns-in_err-line-clause-end g c = EndsWithSource-more _ _ _ c.loop-told.invariant.so_far.ends c.next_line_before.ensures.read.end
@@ -66,15 +75,16 @@ returns-in_err-map_err-clause-outcome g c =
     let is : c.from_residual-in_err-map_err.result ≡ Err Write = search rules in
     let prefix = subst (WritesPrefix (g.W.Sink.taken c.loop-told.sink) (g.W.Sink.taken c.write_all.new.sink)) c.as_slice-in-Some.ensures in
     rw is (Turn-stops (turn g (goal.at.returns-in_err-map_err-clause-outcome g c).After-respond_to_line) c.write_all.new.sink (search rules)
-    (λ told. prefix (c.write_all.ensures.prefix told)))
+    (prefix c.write_all.ensures.prefix))
 
 pub returns-then-is_over-clause-outcome : goal.returns-then-is_over-clause-outcome
 returns-then-is_over-clause-outcome g c =
     let at = goal.at.returns-then-is_over-clause-outcome g c in
-    Turn-over (turn g at.After-respond_to_line) (search rules) (wrote g at.After-is_over) (over g at.After-is_over ∙ c.if-is_over.true)
+    Turn-over (turn g at.After-respond_to_line) (worked g at.After-is_over) (wrote g at.After-is_over)
+    (over g at.After-is_over ∙ c.if-is_over.true)
 
 pub returns-clause-outcome : goal.returns-clause-outcome
 returns-clause-outcome g c =
     let found = ok_mapped _ c.next_line_before.result c.map_err.result _ c.map_err.ensures.cases c.in_ok-line.was ∙ ap Ok c.in_default.is in
     SoFar-ended c.loop-told.invariant.so_far (IfOk-at_ok _ found c.next_line_before.ensures.none)
-    (no_failure _ _ _ _ _ c.next_line_before.ensures.read.failures found refl) (search rules)
+    c.next_line_before.ensures.read.end (no_failure _ _ _ _ _ c.next_line_before.ensures.read.failures found refl) (search rules)

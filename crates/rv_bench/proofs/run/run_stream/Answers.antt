@@ -8,7 +8,7 @@ use Rattle.rv_bench.proofs.run.run_stream.Goals as goal
 pub returns-clause-outcome : goal.returns-clause-outcome
 returns-clause-outcome g c =
     streamed g.W.Sink c.args.setup.now c.as_slice.result.now c.args.lines.now c.read_image.new.lines c.run_bench.new.lines c.args.sink.now c.run_bench.new.sink
-    c.in_ok-image.ensures.outcome.0 (λ is_specified. c.in_ok-image.ensures.outcome.2 is_specified ∙ ap Ok (sym c.as_slice.ensures.value))
+    c.in_ok-image.ensures.outcome.0 (λ follows. c.in_ok-image.ensures.outcome.2 follows ∙ ap Ok (sym c.as_slice.ensures.value))
     c.in_ok-image.ensures.end c.run_bench.ensures.end c.run_bench.result c.run_bench.ensures.outcome
 
 pub returns-in_err-image-clause-integrity : goal.returns-in_err-image-clause-integrity

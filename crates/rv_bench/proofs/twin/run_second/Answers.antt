@@ -2,6 +2,7 @@ use Rattle.std.proofs.Common.{rules, ◌++◌, ◌∙◌, refl, sym, ap, subst, 
 use Rattle.std.proofs.lemmas.Result.{IfOk-at_ok}
 use Rattle.rv_streams.specs.declared.fault.BenchFault.TheVariants.{Write}
 use Rattle.rv_streams.specs.Transfer.{WritesPrefix}
+use Rattle.rv_streams.proofs.Ends.{flushed_once}
 use Rattle.rv_streams.proofs.Mapped.{mapped, passed_on}
 use Rattle.rv_bench.specs.declared.pair.Pair.{Pair}
 use Rattle.rv_bench.specs.Twin.{RunsSecond}
@@ -18,18 +19,17 @@ returns-in_default-clause-outcome g c =
     (mapped (RunsSecond g.W.Sink c.args.number None c.args.lines.now c.args.lines.now c.args.sink.now c.write_last.new.sink)
     _ Write c.write_last.result c.map_err.result c.map_err.ensures.cases (λ e d is. search rules)
     (λ _ wrote.
-    let text = λ (told : g.W.Sink.is_specified). IfOk-at_ok _ wrote c.write_last.ensures.written told ∙ ap (λ t. before ++ t) c.no_slot.ensures in record {
+    let text = IfOk-at_ok _ wrote c.write_last.ensures.written ∙ ap (λ t. before ++ t) c.no_slot.ensures in record {
       source = refl;
-      sink = record { worked = IfOk-at_ok _ wrote c.write_last.ensures.ok; flushed = IfOk-at_ok _ wrote c.write_last.ensures.flushed };
+      sink = flushed_once g.W.Sink c.write_last.result wrote c.write_last.ensures.ok c.write_last.ensures.flushed;
       emptied = c.requires;
-      read = inr (λ is_specified. refl, λ told. inl (before, text told));
-      written = λ is_specified told. text told;
+      read = inr (λ follows. refl, inl (before, text));
+      written = λ follows. text;
     })
     (λ _ failed.
-    let prefix = λ (told : g.W.Sink.is_specified). subst (WritesPrefix before (g.W.Sink.taken c.write_last.new.sink)) c.no_slot.ensures
-    (c.write_last.ensures.prefix told) in (
-      record { source = refl; sink = search rules; emptied = c.requires; prefix = λ is_specified told. prefix told },
-      λ is_specified. (refl, prefix),
+    let prefix = subst (WritesPrefix before (g.W.Sink.taken c.write_last.new.sink)) c.no_slot.ensures c.write_last.ensures.prefix in (
+      record { source = refl; sink = search rules; emptied = c.requires; prefix = λ follows. prefix },
+      λ follows. (refl, prefix),
     )))
 
 pub returns-in_err-run_lines-clause-outcome : goal.returns-in_err-run_lines-clause-outcome
@@ -52,5 +52,5 @@ returns-clause-outcome g c =
     _ Write c.write_last-2.result c.map_err-2.result c.map_err-2.ensures.cases (λ e d is. search rules)
     (λ _ wrote. two_benches-report g.W.Sink c.in-Some.found.slot responds c.last.ensures c.run_lines.ensures.end
     (IfOk-at_ok _ wrote c.write_last-2.ensures.written)
-    (record { worked = IfOk-at_ok _ wrote c.write_last-2.ensures.ok; flushed = IfOk-at_ok _ wrote c.write_last-2.ensures.flushed }))
+    (flushed_once g.W.Sink c.write_last-2.result wrote c.write_last-2.ensures.ok c.write_last-2.ensures.flushed))
     (λ _ failed. two_benches-fail g.W.Sink c.in-Some.found.slot responds c.last.ensures c.write_last-2.ensures.prefix (search rules)))

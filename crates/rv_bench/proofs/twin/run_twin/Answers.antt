@@ -15,7 +15,7 @@ returns-in_err-benches-clause-outcome g c =
     (not_started g.W.Sink c.args.setup.now c.args.slot c.as_slice.result.now c.args.lines.now c.read_image.new.lines c.args.sink.now
     (record {
       through = c.in_ok-image.ensures.outcome.0;
-      gives = λ is_specified. c.in_ok-image.ensures.outcome.2 is_specified ∙ ap Ok (sym c.as_slice.ensures.value);
+      gives = λ follows. c.in_ok-image.ensures.outcome.2 follows ∙ ap Ok (sym c.as_slice.ensures.value);
       ends = c.in_ok-image.ensures.end;
     }) _ c.in_err-benches.ensures)
 
@@ -26,7 +26,7 @@ returns-in_err-run_lines-clause-outcome g c =
     (first_fails g.W.Sink c.args.setup.now c.args.slot c.as_slice.result.now c.args.lines.now c.read_image.new.lines c.args.sink.now
     (record {
       through = c.in_ok-image.ensures.outcome.0;
-      gives = λ is_specified. c.in_ok-image.ensures.outcome.2 is_specified ∙ ap Ok (sym c.as_slice.ensures.value);
+      gives = λ follows. c.in_ok-image.ensures.outcome.2 follows ∙ ap Ok (sym c.as_slice.ensures.value);
       ends = c.in_ok-image.ensures.end;
     })
     _ c.in_ok-benches.ensures _ _ c.run_lines.ensures.end _ c.in_err-run_lines.ensures.outcome)
@@ -37,7 +37,7 @@ returns-clause-outcome g c =
     second_part g.W.Sink c.args.setup.now c.args.slot c.as_slice.result.now c.args.lines.now c.read_image.new.lines c.args.sink.now
     (record {
       through = c.in_ok-image.ensures.outcome.0;
-      gives = λ is_specified. c.in_ok-image.ensures.outcome.2 is_specified ∙ ap Ok (sym c.as_slice.ensures.value);
+      gives = λ follows. c.in_ok-image.ensures.outcome.2 follows ∙ ap Ok (sym c.as_slice.ensures.value);
       ends = c.in_ok-image.ensures.end;
     })
     _ c.in_ok-benches.ensures
@@ -45,7 +45,7 @@ returns-clause-outcome g c =
       next = c.run_lines.new.lines;
       between = c.run_lines.new.sink;
       then = _;
-      runs = one_bench-runs g.W.Sink first c.run_lines.ensures.end (λ _. refl) (refl, refl) (λ is. cc);
+      runs = one_bench-runs g.W.Sink first c.run_lines.ensures.end refl (record { worked = (refl, refl); unflushed = refl });
       state = one_bench-state g.W.Sink first c.run_lines.ensures.end;
       ends = c.run_lines.ensures.end;
     })

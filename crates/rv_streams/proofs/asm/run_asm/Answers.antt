@@ -13,6 +13,7 @@ use Rattle.rv_streams.specs.Assemble.{FailsAsm, ReadsText, ReadsWholeText, RunsA
 use Rattle.rv_streams.specs.AssemblyText.{asm_text, asm_output}
 use Rattle.rv_streams.specs.Transfer.{WritesPrefix}
 use Rattle.rv_streams.proofs.Assembling.{asm_output-ok, asm_output-fault, asm_output-too_long}
+use Rattle.rv_streams.proofs.Ends.{flushed_once}
 use Rattle.rv_streams.proofs.Mapped.{mapped, passed_on, IsOkAnd-at}
 use Rattle.rv_streams.proofs.asm.run_asm.Given as given
 use Rattle.rv_streams.proofs.asm.run_asm.Goals as goal
@@ -24,8 +25,8 @@ unread : {S W : Type 0} (Z : Type 0) (g : SourceGhosts S) (h : SinkGhosts W) (ol
 unread Z g h old new sink Read reads = (reads, refl)
 unread Z g h old new sink TooLong reads = (
   reads,
-  λ is_specified. let (prefix, split, many) =
-      reads.reads is_specified in asm_output-too_long _ (omega (arith, many, ap length split, length-append prefix (g.remaining new))),
+  λ follows. let (prefix, split, many) =
+      reads.reads follows in asm_output-too_long _ (omega (arith, many, ap length split, length-append prefix (g.remaining new))),
   refl,
 )
 unread Z g h old new sink NoMemory reads = (reads, refl)
@@ -42,9 +43,9 @@ few : (text read : List ℕ) → read ≡ text → length text ≤ 4194304 → l
 few text read is short = subst (λ t. length t ≤ 4194304) (sym is) short
 
 -- the output has a line for each word
-is_ok : (g : given.Over) (c : In-Ok g) → g.S.Source.is_specified → asm_output (g.S.Source.remaining c.args.source.now) ≡ Ok (asm_text c.in-Ok.words.items)
-is_ok g c is_specified =
-    let read = c.as_slice.ensures.value ∙ c.in_ok-text.ensures.2 is_specified in
+is_ok : (g : given.Over) (c : In-Ok g) → g.S.Source.follows_input c.read_whole.new.source → asm_output (g.S.Source.remaining c.args.source.now) ≡ Ok (asm_text c.in-Ok.words.items)
+is_ok g c follows =
+    let read = c.as_slice.ensures.value ∙ c.in_ok-text.ensures.2 follows in
     ap asm_output (sym read) ∙ asm_output-ok _ _ (few _ _ c.as_slice.ensures.value c.in_ok-text.ensures.1) c.in-Ok.ensures.ok
 
 pub returns-in-Ok : goal.returns-in-Ok
@@ -55,16 +56,16 @@ returns-in-Ok g c =
     _ Write c.write_words.result c.map_err.result c.map_err.ensures.cases (λ e d is. search rules)
     (λ _ wrote. (
       c.in_ok-text.ensures.0,
-      record { worked = IfOk-at_ok _ wrote c.write_words.ensures.ok; flushed = IfOk-at_ok _ wrote c.write_words.ensures.flushed },
-      λ is_specified. IsOkAnd-at _ _ _ (whole is_specified) (λ told. IfOk-at_ok _ wrote c.write_words.ensures.written told
+      flushed_once g.W.Sink c.write_words.result wrote c.write_words.ensures.ok c.write_words.ensures.flushed,
+      λ follows. IsOkAnd-at _ _ _ (whole follows) (IfOk-at_ok _ wrote c.write_words.ensures.written
           ∙ ap (λ ws. g.W.Sink.taken c.args.sink.now ++ asm_text ws) words),
     ))
     (λ _ failed. (
       c.in_ok-text.ensures.0,
       IfErr-at_err _ failed c.write_words.ensures.err,
-      λ is_specified. IsOkAnd-at _ _ _ (whole is_specified)
-          (λ told. subst (λ ws. WritesPrefix (g.W.Sink.taken c.args.sink.now) (g.W.Sink.taken c.write_words.new.sink) (asm_text ws)) words
-          (c.write_words.ensures.prefix told)),
+      λ follows. IsOkAnd-at _ _ _ (whole follows)
+          (subst (λ ws. WritesPrefix (g.W.Sink.taken c.args.sink.now) (g.W.Sink.taken c.write_words.new.sink) (asm_text ws)) words
+          c.write_words.ensures.prefix),
     ))
 
 -- the result for a text that has an error
@@ -73,19 +74,19 @@ fails text fault short (inl told) = inl (asm_output-fault text fault short told)
 fails text fault short (inr out_of_memory) = inr out_of_memory
 
 faulty : {S W : Type 0} (g : SourceGhosts S) (h : SinkGhosts W) (old new : S) (sink : W) (text : List ℕ) (fault : AsmFault)
-    → ReadsWholeText g old new → (g.is_specified → text ≡ g.remaining old) → length text ≤ 4194304
+    → ReadsWholeText g old new → (g.follows_input new → text ≡ g.remaining old) → length text ≤ 4194304
     → (1 ≤ fault.line) × (fault.line ≤ length (lines_of text)) → FailsFor text fault
     → RunsAsm g h old new sink sink (Err (Asm fault))
 faulty g h old new sink text fault reads is short line told = (
   reads,
-  λ is_specified. subst (λ t. (1 ≤ fault.line) × (fault.line ≤ length (lines_of t))) (is is_specified) line,
-  λ is_specified. subst (λ t. FailsAsm t fault) (is is_specified) (fails text fault short told),
+  λ follows. subst (λ t. (1 ≤ fault.line) × (fault.line ≤ length (lines_of t))) (is follows) line,
+  λ follows. subst (λ t. FailsAsm t fault) (is follows) (fails text fault short told),
   refl,
 )
 
 pub returns : goal.returns
 returns g c =
     faulty g.S.Source g.W.Sink c.args.source.now c.read_whole.new.source c.args.sink.now c.as_slice.result.now c.in-Err.fault
-    c.in_ok-text.ensures.0 (λ is_specified. c.as_slice.ensures.value ∙ c.in_ok-text.ensures.2 is_specified)
+    c.in_ok-text.ensures.0 (λ follows. c.as_slice.ensures.value ∙ c.in_ok-text.ensures.2 follows)
     (few _ _ c.as_slice.ensures.value c.in_ok-text.ensures.1)
     c.in-Err.ensures.line c.in-Err.ensures.fault

@@ -7,17 +7,18 @@ pub loop-word-preserved : goal.loop-word-preserved
 loop-word-preserved g c = record {
   failures = search rules;
   refusals = search rules;
-  written = λ is_specified.
-      lines-more word_line c.args.words.now c.loop-word.word-index 0 _ _ _ _ _ _ (omega arith) (c.loop-word.invariant.written is_specified)
-      (c.in_ok-make_room.ensures.written is_specified) c.push_word.ensures.items;
+  flushes = search rules;
+  written =
+      lines-more word_line c.args.words.now c.loop-word.word-index 0 _ _ _ _ _ _ (omega arith) c.loop-word.invariant.written
+      c.in_ok-make_room.ensures.written c.push_word.ensures.items;
 }
 
 pub returns-in_err-make_room-clause-prefix : goal.returns-in_err-make_room-clause-prefix
-returns-in_err-make_room-clause-prefix g c = λ is_specified.
-    lines-stopped word_line c.args.words.now c.loop-word.word-index _ _ _ _ (c.loop-word.invariant.written is_specified)
-    (c.make_room.ensures.prefix is_specified)
+returns-in_err-make_room-clause-prefix g c =
+    lines-stopped word_line c.args.words.now c.loop-word.word-index _ _ _ _ c.loop-word.invariant.written
+    c.make_room.ensures.prefix
 
 pub returns-clause-prefix : goal.returns-clause-prefix
-returns-clause-prefix g c = λ is_specified.
-    lines-stopped word_line c.args.words.now c.loop-word.word-index _ _ _ _ (c.loop-word.invariant.written is_specified)
-    (c.write_last.ensures.prefix is_specified)
+returns-clause-prefix g c =
+    lines-stopped word_line c.args.words.now c.loop-word.word-index _ _ _ _ c.loop-word.invariant.written
+    c.write_last.ensures.prefix

@@ -8,6 +8,6 @@ abbrev pub invariant-loop-word : goal.invariant-loop-word
 invariant-loop-word g l = record {
   failures : g.W.Sink.failures l.sink ≡ g.W.Sink.failures l.initial.sink;
   refusals : g.W.Sink.refusals l.sink ≡ g.W.Sink.refusals l.initial.sink;
-  written : g.W.Sink.is_specified
-      → WritesUpTo (g.W.Sink.taken l.initial.sink) (g.W.Sink.taken l.sink) (asm_text (take l.word-index l.words)) l.gathered.items;
+  flushes : g.W.Sink.flushes l.sink ≡ g.W.Sink.flushes l.initial.sink;
+  written : WritesUpTo (g.W.Sink.taken l.initial.sink) (g.W.Sink.taken l.sink) (asm_text (take l.word-index l.words)) l.gathered.items;
 }

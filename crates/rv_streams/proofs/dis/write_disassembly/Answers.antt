@@ -11,28 +11,29 @@ pub loop-bytes-preserved : goal.loop-bytes-preserved
 loop-bytes-preserved g c = record {
   failures = search rules;
   refusals = search rules;
-  written = λ is_specified.
+  flushes = search rules;
+  written =
       lines-more (λ bytes. dis_line (word_of_bytes bytes)) c.args.words.now c.loop-bytes.bytes-index [] _ _ _ _ _ _ (omega arith)
-      (c.loop-bytes.invariant.written is_specified) (c.in_ok-make_room.ensures.written is_specified)
+      c.loop-bytes.invariant.written c.in_ok-make_room.ensures.written
       (c.push_disassembly.ensures.items ∙ ap (λ word. c.make_room.new.gathered.items ++ dis_line word) c.le_word.ensures.value);
 }
 
 pub returns-in_err-make_room-clause-prefix : goal.returns-in_err-make_room-clause-prefix
-returns-in_err-make_room-clause-prefix g c = λ is_specified.
+returns-in_err-make_room-clause-prefix g c =
     subst (WritesPrefix _ _) (sym (flat_map-map dis_line word_of_bytes c.args.words.now))
-    (lines-stopped (λ bytes. dis_line (word_of_bytes bytes)) c.args.words.now c.loop-bytes.bytes-index _ _ _ _ (c.loop-bytes.invariant.written is_specified)
-    (c.make_room.ensures.prefix is_specified))
+    (lines-stopped (λ bytes. dis_line (word_of_bytes bytes)) c.args.words.now c.loop-bytes.bytes-index _ _ _ _ c.loop-bytes.invariant.written
+    c.make_room.ensures.prefix)
 
 pub returns-clause-prefix : goal.returns-clause-prefix
-returns-clause-prefix g c = λ is_specified.
+returns-clause-prefix g c =
     subst (WritesPrefix _ _) (sym (flat_map-map dis_line word_of_bytes c.args.words.now))
-    (lines-stopped (λ bytes. dis_line (word_of_bytes bytes)) c.args.words.now c.loop-bytes.bytes-index _ _ _ _ (c.loop-bytes.invariant.written is_specified)
-    (c.write_last.ensures.prefix is_specified))
+    (lines-stopped (λ bytes. dis_line (word_of_bytes bytes)) c.args.words.now c.loop-bytes.bytes-index _ _ _ _ c.loop-bytes.invariant.written
+    c.write_last.ensures.prefix)
 
 pub returns-clause-written : goal.returns-clause-written
 returns-clause-written g c =
     on_ok_weaker c.write_last.result
-    (λ wrote is_specified. lines-all (λ bytes. dis_line (word_of_bytes bytes)) c.args.words.now c.loop-bytes.bytes-index _ _ _ _ (omega arith)
-    (c.loop-bytes.invariant.written is_specified) (wrote is_specified)
+    (λ wrote. lines-all (λ bytes. dis_line (word_of_bytes bytes)) c.args.words.now c.loop-bytes.bytes-index _ _ _ _ (omega arith)
+    c.loop-bytes.invariant.written wrote
     ∙ ap (λ t. g.W.Sink.taken c.args.sink.now ++ t) (sym (flat_map-map dis_line word_of_bytes c.args.words.now)))
     c.write_last.ensures.written

@@ -10,7 +10,7 @@ abbrev pub invariant-loop-bytes : goal.invariant-loop-bytes
 invariant-loop-bytes g l = record {
   failures : g.W.Sink.failures l.sink ≡ g.W.Sink.failures l.initial.sink;
   refusals : g.W.Sink.refusals l.sink ≡ g.W.Sink.refusals l.initial.sink;
-  written : g.W.Sink.is_specified
-      → WritesUpTo (g.W.Sink.taken l.initial.sink) (g.W.Sink.taken l.sink)
+  flushes : g.W.Sink.flushes l.sink ≡ g.W.Sink.flushes l.initial.sink;
+  written : WritesUpTo (g.W.Sink.taken l.initial.sink) (g.W.Sink.taken l.sink)
       (flat_map (λ bytes. dis_line (word_of_bytes bytes)) (take l.bytes-index l.words)) l.gathered.items;
 }

@@ -3,4 +3,4 @@ use Rattle.rv_streams.proofs.gathered.make_room.Goals as goal
 
 -- the case in which nothing is written
 pub returns-else-remaining_capacity-room-clause-prefix : goal.returns-else-remaining_capacity-room-clause-prefix
-returns-else-remaining_capacity-room-clause-prefix g c = λ _. (c.args.gathered.now.items, ([], sym (append-nil _), refl))
+returns-else-remaining_capacity-room-clause-prefix g c = (c.args.gathered.now.items, ([], sym (append-nil _), refl))

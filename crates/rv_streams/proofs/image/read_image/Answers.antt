@@ -15,13 +15,13 @@ use Rattle.rv_streams.proofs.image.read_image.Goals as goal
 use Rattle.rv_streams.proofs.image.read_image.Goals.{After-as_slice}
 
 -- the lines so far, and the line that was taken
-taken : (g : given.Over) (c : After-as_slice g) → is_separator c.as_slice.result.now ≡ false → g.S.Source.is_specified
+taken : (g : given.Over) (c : After-as_slice g) → is_separator c.as_slice.result.now ≡ false → g.S.Source.follows_input c.next_line.new.self.source
     → TakesInImage (unread c.args.lines.now) (unread c.loop-image.lines)
     (unread c.next_line.new.self) c.next_line.new.self.is_at_end c.loop-image.image.items c.as_slice.result.now
-taken g c other is_specified =
+taken g c other follows =
     let found = ok_mapped _ c.next_line.result c.map_err.result _ c.map_err.ensures.cases c.in_ok-line.was ∙ ap Ok c.in-Some.is in record {
-      so_far = EncodesImage-going _ _ _ _ (c.loop-image.invariant.image is_specified) (IfOk-at_ok _ found c.next_line.ensures.read.going);
-      takes = subst (TakesLine _ _ _) (sym c.as_slice.ensures.value) (IfOk-at_ok _ found (c.next_line.ensures.read.line is_specified));
+      so_far = EncodesImage-going _ _ _ _ (c.loop-image.invariant.image (c.next_line.ensures.read.end.before follows)) (IfOk-at_ok _ found c.next_line.ensures.read.going);
+      takes = subst (TakesLine _ _ _) (sym c.as_slice.ensures.value) (IfOk-at_ok _ found (c.next_line.ensures.read.line follows));
       other = other;
       few = omega arith;
     }
@@ -34,8 +34,8 @@ returns-in_err-line-clause-outcome g c =
     rw is (record {
       source = search rules;
       going = going.1;
-      reads = λ is_specified. EncodesImage-read _ _ _ _ _ (EncodesImage-going _ _ _ _ (c.loop-image.invariant.image is_specified) going.0) (omega arith)
-          (IfErr-at_err _ failed.1 (c.next_line.ensures.read.kept is_specified));
+      reads = λ follows. EncodesImage-read _ _ _ _ _ (EncodesImage-going _ _ _ _ (c.loop-image.invariant.image (c.next_line.ensures.read.end.before follows)) going.0) (omega arith)
+          (IfErr-at_err _ failed.1 (c.next_line.ensures.read.kept follows));
     })
 
 pub returns-in_default-only_word-clause-outcome : goal.returns-in_default-only_word-clause-outcome
@@ -44,8 +44,8 @@ returns-in_default-only_word-clause-outcome g c =
     let finds : FindsFault Hex c.args.lines.now c.next_line.new.self = record {
       source = search rules;
       emptied = search rules;
-      image = λ is_specified. (EncodesImage-no_word (at is_specified) c.in_default-only_word.ensures).0;
-      reads = λ is_specified. (EncodesImage-no_word (at is_specified) c.in_default-only_word.ensures).1;
+      image = λ follows. (EncodesImage-no_word (at follows) c.in_default-only_word.ensures).0;
+      reads = λ follows. (EncodesImage-no_word (at follows) c.in_default-only_word.ensures).1;
     } in
     finds
 
@@ -57,9 +57,9 @@ loop-image-preserved g c = record {
   short = search rules;
   failures = search rules;
   end = EndsWithSource-more _ _ _ c.loop-image.invariant.end c.next_line.ensures.read.end;
-  image = λ is_specified.
+  image = λ follows.
       EncodesImage-more (taken g (goal.at.loop-image-preserved g c).After-as_slice
-      (other_word _ _ c.in-Some-only_word.ensures (sym c.is_dashes.ensures ∙ c.if-is_dashes.false)) is_specified)
+      (other_word _ _ c.in-Some-only_word.ensures (sym c.is_dashes.ensures ∙ c.if-is_dashes.false)) follows)
       c.in-Some-only_word.ensures c.in_ok-add_bytes.ensures.outcome;
 }
 
@@ -78,11 +78,11 @@ returns-then-is_dashes-clause-outcome g c =
     (inr (record {
       shown = c.in-Some.line.items;
       going = IfOk-at_ok _ found c.next_line.ensures.read.going;
-      takes = λ is_specified. IfOk-at_ok _ found (c.next_line.ensures.read.line is_specified);
+      takes = λ follows. IfOk-at_ok _ found (c.next_line.ensures.read.line follows);
       ends = ap is_separator (sym c.as_slice.ensures.value) ∙ (ap is_dashes (sym c.in-Some-only_word.ensures)
           ∙ (sym c.is_dashes.ensures ∙ c.if-is_dashes.true));
     }))
-    c.loop-image.invariant.short c.loop-image.invariant.image
+    c.loop-image.invariant.short (λ follows. c.loop-image.invariant.image (c.next_line.ensures.read.end.before follows))
 
 pub returns-clause-outcome : goal.returns-clause-outcome
 returns-clause-outcome g c =
@@ -90,7 +90,7 @@ returns-clause-outcome g c =
     image_read Global c.args.lines.now c.next_line.new.self (search rules) (search rules) c.loop-image.lines c.loop-image.image
     (inl (record {
       at_end = IfOk-at_ok _ found c.next_line.ensures.none;
-      none = λ is_specified. (IfOk-at_ok _ found (c.next_line.ensures.nothing is_specified)).0;
-      left = λ is_specified. (IfOk-at_ok _ found (c.next_line.ensures.nothing is_specified)).1;
+      none = λ follows. (IfOk-at_ok _ found (c.next_line.ensures.nothing follows)).0;
+      left = λ follows. (IfOk-at_ok _ found (c.next_line.ensures.nothing follows)).1;
     }))
-    c.loop-image.invariant.short c.loop-image.invariant.image
+    c.loop-image.invariant.short (λ follows. c.loop-image.invariant.image (c.next_line.ensures.read.end.before follows))

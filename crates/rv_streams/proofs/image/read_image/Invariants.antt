@@ -9,7 +9,7 @@ invariant-loop-image g l = record {
   short : vec_len l.image ≤ 33554432;
   failures : g.S.Source.failures l.lines.source ≡ g.S.Source.failures l.initial.lines.source;
   end : EndsWithSource l.initial.lines l.lines;
-  image : g.S.Source.is_specified → EncodesImage (unread l.initial.lines) (unread l.lines) l.lines.is_at_end l.image.items;
+  image : g.S.Source.follows_input l.lines.source → EncodesImage (unread l.initial.lines) (unread l.lines) l.lines.is_at_end l.image.items;
 }
 
 abbrev pub decreases-loop-image : goal.decreases-loop-image

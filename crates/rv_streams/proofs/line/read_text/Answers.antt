@@ -11,6 +11,8 @@ is_all n full e h = grind arith
 pub loop-byte-init : goal.loop-byte-init
 loop-byte-init g c = record {
   bytes = λ _. ReadsText-none _ _ c.requires.short c.requires.unfinished;
+  same = search rules;
+  before = search rules;
   failures = search rules;
   ends = search rules;
   short = search rules;
@@ -21,10 +23,12 @@ loop-byte-init g c = record {
 pub loop-byte-preserved-then-not-is_full : goal.loop-byte-preserved-then-not-is_full
 loop-byte-preserved-then-not-is_full g c =
     let room = is_below _ _ c.is_full.ensures.value c.if-not-is_full.true c.loop-byte.invariant.short in record {
-      bytes = λ is_specified. rw c.push.ensures.items (
-          ReadsText-push _ _ _ _ c.in-Some.byte (c.loop-byte.invariant.bytes is_specified)
-          (rw c.in-Some.is at (c.in_ok-byte.ensures.bytes is_specified)) c.if-byte-eq-LINE_FEED.false room
+      bytes = λ follows. rw c.push.ensures.items (
+          ReadsText-push _ _ _ _ c.in-Some.byte (c.loop-byte.invariant.bytes (c.in_ok-byte.ensures.before follows))
+          (rw c.in-Some.is at (c.in_ok-byte.ensures.bytes follows)) c.if-byte-eq-LINE_FEED.false room
           );
+      same = search rules;
+      before = search rules;
       failures = search rules;
       ends = search rules;
       short = omega (arith, c.push.ensures.len, room);
@@ -34,8 +38,10 @@ loop-byte-preserved-then-not-is_full g c =
 
 pub loop-byte-preserved : goal.loop-byte-preserved
 loop-byte-preserved g c = record {
-  bytes = λ is_specified. ReadsText-skip _ _ _ _ c.in-Some.byte (c.loop-byte.invariant.bytes is_specified)
-      (rw c.in-Some.is at (c.in_ok-byte.ensures.bytes is_specified)) c.if-byte-eq-LINE_FEED.false (is_all _ _ c.is_full.ensures.value c.if-not-is_full.false);
+  bytes = λ follows. ReadsText-skip _ _ _ _ c.in-Some.byte (c.loop-byte.invariant.bytes (c.in_ok-byte.ensures.before follows))
+      (rw c.in-Some.is at (c.in_ok-byte.ensures.bytes follows)) c.if-byte-eq-LINE_FEED.false (is_all _ _ c.is_full.ensures.value c.if-not-is_full.false);
+  same = search rules;
+  before = search rules;
   failures = search rules;
   ends = search rules;
   short = search rules;

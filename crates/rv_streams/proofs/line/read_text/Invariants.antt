@@ -6,7 +6,9 @@ use Rattle.rv_streams.proofs.line.read_text.Given as goal
 -- the bytes read so far have no line feed, and no call has failed
 abbrev pub invariant-loop-byte : goal.invariant-loop-byte
 invariant-loop-byte g l = record {
-  bytes : g.S.Source.is_specified → ReadsLineText (l.initial.line.items ++ g.S.Source.remaining l.initial.source) (g.S.Source.remaining l.source) l.line.items;
+  bytes : g.S.Source.follows_input l.source → ReadsLineText (l.initial.line.items ++ g.S.Source.remaining l.initial.source) (g.S.Source.remaining l.source) l.line.items;
+  same : g.S.Source.input l.source ≡ g.S.Source.input l.initial.source;
+  before : g.S.Source.follows_input l.source → g.S.Source.follows_input l.initial.source;
   failures : g.S.Source.failures l.source ≡ g.S.Source.failures l.initial.source;
   ends : g.S.Source.ends l.source ≡ g.S.Source.ends l.initial.source;
   short : length l.line.items ≤ 122;

@@ -7,7 +7,7 @@ pub loop-rest-preserved : goal.loop-rest-preserved
 loop-rest-preserved g c = record {
   failures = search rules;
   refusals = search rules;
-  written = λ is_specified. WritesUpTo-more _ _ _ _ _ _ c.in_ok-count.count (c.loop-rest.invariant.written is_specified)
-      (c.in_ok-count.ensures.bytes is_specified)
+  flushes = search rules;
+  written = WritesUpTo-more _ _ _ _ _ _ c.in_ok-count.count c.loop-rest.invariant.written c.in_ok-count.ensures.bytes
       (grind (arith, common_steps));
 }

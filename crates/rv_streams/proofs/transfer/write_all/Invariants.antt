@@ -7,7 +7,8 @@ abbrev pub invariant-loop-rest : goal.invariant-loop-rest
 invariant-loop-rest g l = record {
   failures : g.W.Sink.failures l.sink ≡ g.W.Sink.failures l.initial.sink;
   refusals : g.W.Sink.refusals l.sink ≡ g.W.Sink.refusals l.initial.sink;
-  written : g.W.Sink.is_specified → WritesUpTo (g.W.Sink.taken l.initial.sink) (g.W.Sink.taken l.sink) l.text l.rest;
+  flushes : g.W.Sink.flushes l.sink ≡ g.W.Sink.flushes l.initial.sink;
+  written : WritesUpTo (g.W.Sink.taken l.initial.sink) (g.W.Sink.taken l.sink) l.text l.rest;
 }
 
 abbrev pub decreases-loop-rest : goal.decreases-loop-rest

@@ -10,25 +10,26 @@ use Rattle.rv_streams.proofs.whole.read_whole.Goals as goal
 
 -- the result for a part that is not appended
 refused : {S : Type 0} (Z : Type 0) (g : Ghosts S) (old new : S) (text part added : List ℕ) (fault : BenchFault)
-    → SourceWorked g old new → g.ends new ≡ g.ends old → (g.is_specified → g.remaining old ≡ (text ++ part) ++ g.remaining new)
+    → g.input new ≡ g.input old → SourceWorked g old new → g.ends new ≡ g.ends old → (g.follows_input new → g.remaining old ≡ (text ++ part) ++ g.remaining new)
     → AddsPart part text added (Err fault) → ReadsText g {Z = Z} old new (Err fault)
-refused Z g old new text part added TooLong source going split adds =
-    record { source = source; going = going; reads = λ is_specified. (text ++ part, split is_specified, omega (arith, adds.0, length-append text part)) }
-refused Z g old new text part added NoMemory source going split adds = record {
+refused Z g old new text part added TooLong same source going split adds =
+    record { same = same; source = source; going = going; reads = λ follows. (text ++ part, split follows, omega (arith, adds.0, length-append text part)) }
+refused Z g old new text part added NoMemory same source going split adds = record {
+  same = same;
   source = source;
   going = going;
-  some = λ is_specified. let (some, few, same) = adds in
-      omega (arith, some, ap length (split is_specified), length-append (text ++ part) (g.remaining new), length-append text part);
-  reads = λ is_specified. let (some, few, same) = adds in (text ++ part, split is_specified, omega (arith, few, length-append text part));
+  some = λ follows. let (some, few, unchanged) = adds in
+      omega (arith, some, ap length (split follows), length-append (text ++ part) (g.remaining new), length-append text part);
+  reads = λ follows. let (some, few, unchanged) = adds in (text ++ part, split follows, omega (arith, few, length-append text part));
 }
-refused Z g old new text part added _ source going split adds = absurd adds
+refused Z g old new text part added _ same source going split adds = absurd adds
 
 pub returns-in_err-add_part : goal.returns-in_err-add_part
 returns-in_err-add_part g c =
     let found = ok_mapped _ c.read_some.result c.map_err.result _ c.map_err.ensures.cases c.in_ok-count.was in
     passed_on (ReadsText g.S.Source c.args.source.now c.read_some.new.self) c.from_residual-in_err-add_part.result _ c.from_residual-in_err-add_part.ensures.1
     (refused Global g.S.Source c.args.source.now c.read_some.new.self c.loop-text.text.items (take c.in_ok-count.count c.read_some.new.buffer) _ _
-    (search rules) (search rules)
-    (λ is_specified. c.loop-text.invariant.prefix is_specified
-    ∙ (ap (λ t. c.loop-text.text.items ++ t) (rw found at (c.read_some.ensures.bytes is_specified)) ∙ sym (append_assoc c.loop-text.text.items _ _)))
+    (search rules) (search rules) (search rules)
+    (λ follows. c.loop-text.invariant.prefix (c.read_some.ensures.before follows)
+    ∙ (ap (λ t. c.loop-text.text.items ++ t) (rw found at (c.read_some.ensures.bytes follows)) ∙ sym (append_assoc c.loop-text.text.items _ _)))
     c.in_err-add_part.ensures)

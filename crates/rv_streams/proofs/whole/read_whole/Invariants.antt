@@ -7,7 +7,9 @@ invariant-loop-text g l = record {
   few : length l.text.items ≤ 4194304;
   ends : g.S.Source.ends l.source ≡ g.S.Source.ends l.initial.source;
   failures : g.S.Source.failures l.source ≡ g.S.Source.failures l.initial.source;
-  prefix : g.S.Source.is_specified → g.S.Source.remaining l.initial.source ≡ l.text.items ++ g.S.Source.remaining l.source;
+  same : g.S.Source.input l.source ≡ g.S.Source.input l.initial.source;
+  before : g.S.Source.follows_input l.source → g.S.Source.follows_input l.initial.source;
+  prefix : g.S.Source.follows_input l.source → g.S.Source.remaining l.initial.source ≡ l.text.items ++ g.S.Source.remaining l.source;
 }
 
 abbrev pub decreases-loop-text : goal.decreases-loop-text

@@ -1,4 +1,4 @@
-use Rattle.std.proofs.Common.{◌≡◌, ◌∙◌, ◌+◌, ◌≤◌, sym, arith, inr, refl, false, is_some, Ok}
+use Rattle.std.proofs.Common.{◌≡◌, ◌∙◌, ◌+◌, ◌≤◌, sym, arith, inr, refl, true, false, is_some, Ok}
 use Rattle.rv_word.specs.Cases.{option_case}
 use Rattle.rv_asm.specs.LabelMap.{places_of}
 use Rattle.rv_asm.specs.Passes.{AddsLabel}
@@ -22,8 +22,10 @@ returns-then-is_err-clause-fault c = λ before has.
     let said : line_read c.args.text.now ≡ Ok line = sym c.read_line.ensures ∙ c.in-Ok.is in
     let small : c.args.self.now.words + line_size (Ok line) ≤ 65536 = omega (arith, c.optional_size.ensures.value, c.if-words-gt-MAX_WORDS.false) in
     let absent : option_case line.label false (λ name. is_some (places_of c.args.self.now.labels name)) ≡ false = grind (arith, c.add_label.ensures) in
+    let labelled : is_some line.label ≡ true = grind (arith, c.add_label.ensures) in
     rw said (inr (record {
       memory = refl;
+      labelled = labelled;
       own = own_fault-none before line c.args.self.now.words has.words small;
       label = label_fault-none c.args.self.now before line has absent;
     }))

@@ -8,8 +8,8 @@ is_some n empty e h = grind arith
 
 pub returns-in-LineFeed-clause-read : goal.returns-in-LineFeed-clause-read
 returns-in-LineFeed-clause-read g c = record {
-  line = λ is_specified. rw c.take_prefix.ensures.rest (
-      TakesLine-feed _ _ _ _ _ (rw c.in-LineFeed.is at (c.in_ok-read_text.ensures.bytes is_specified))
+  line = λ follows. rw c.take_prefix.ensures.rest (
+      TakesLine-feed _ _ _ _ _ (rw c.in-LineFeed.is at (c.in_ok-read_text.ensures.bytes follows))
       (c.take_prefix.ensures.taken ∙ (rw c.as_slice.ensures.value at c.shown_len-count.ensures))
       );
   going = search rules;
@@ -23,14 +23,15 @@ returns-in-LineFeed-clause-read g c = record {
 
 pub returns-else-is_empty-clause-read : goal.returns-else-is_empty-clause-read
 returns-else-is_empty-clause-read g c = record {
-  line = λ is_specified.
-      let end = c.in_ok-read_text.ensures.end is_specified (ap Ok c.in-End.is) in
+  line = λ follows.
+      let end = c.in_ok-read_text.ensures.end follows (ap Ok c.in-End.is) in
       rw (c.take_prefix-in-End.ensures.rest, end) (
-      TakesLine-end _ _ _ _ (rw c.in-End.is at (c.in_ok-read_text.ensures.bytes is_specified)) end
+      TakesLine-end _ _ _ _ (rw c.in-End.is at (c.in_ok-read_text.ensures.bytes follows)) end
       (is_some _ _ c.is_empty.ensures c.if-is_empty.false) c.take_prefix-in-End.ensures.taken
       );
   going = search rules;
-  end = EndsWithSource-ends _ _ c.if-self.false refl (rw c.in-End.is at c.in_ok-read_text.ensures.ends);
+  end = EndsWithSource-ends _ _ c.if-self.false refl (rw c.in-End.is at c.in_ok-read_text.ensures.ends) c.read_text.ensures.same
+      c.read_text.ensures.before;
   failures = search rules;
   err = search rules;
   kept = search rules;
@@ -42,7 +43,8 @@ pub returns-then-is_empty-clause-read : goal.returns-then-is_empty-clause-read
 returns-then-is_empty-clause-read g c = record {
   line = search rules;
   going = search rules;
-  end = EndsWithSource-ends _ _ c.if-self.false refl (rw c.in-End.is at c.in_ok-read_text.ensures.ends);
+  end = EndsWithSource-ends _ _ c.if-self.false refl (rw c.in-End.is at c.in_ok-read_text.ensures.ends) c.read_text.ensures.same
+      c.read_text.ensures.before;
   failures = search rules;
   err = search rules;
   kept = search rules;

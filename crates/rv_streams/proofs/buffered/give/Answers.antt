@@ -1,6 +1,6 @@
 use Rattle.std.proofs.Common.{arith, sym, ◌∙◌}
 use Rattle.std.proofs.lemmas.List.{take_more, take_more_set}
-use Rattle.rv_streams.proofs.stdio.give.Goals as goal
+use Rattle.rv_streams.proofs.buffered.give.Goals as goal
 
 -- the case of one byte
 pub returns-then-count-eq1-clause-copied : goal.returns-then-count-eq1-clause-copied

@@ -1,0 +1,58 @@
+-- The program over a reader and a writer, by their logs.
+use Rattle.std.proofs.Common.{◌≡◌, ◌<◌, ◌+◌, ◌⊎◌, ℕ, List, [], ◌++◌, inl, inr, Result, sym, ◌∙◌, ap, subst, arith}
+use Rattle.clap.specs.Words.{Text}
+use Rattle.rv_command_line.specs.declared.job.Job.{Job}
+use Rattle.rv_command_line.specs.declared.words_fault.WordsFault.{WordsFault}
+use Rattle.rv_streams.specs.declared.device.Sink.{Ghosts as SinkGhosts}
+use Rattle.rv_streams.specs.declared.device.Source.{Ghosts as SourceGhosts}
+use Rattle.rv_streams.specs.declared.log.CallLog.{CallLog}
+use Rattle.rv_streams.specs.Calls.{SinkFailed}
+use Rattle.rv_bench.specs.ProgramOutput.{MeansGiven, ProgramOutput, RunsProgram, StopsOutOfMemory, Writes, WritesOutput, program_output}
+use Rattle.rv_bench.specs.Standard.{Gave, Passed, RunsOverStreams}
+
+-- The counts of a sink that was not called before are those of the log.
+pub record LogsSink {W : Type 0} (h : SinkGhosts W) (before after : W) (log : CallLog) : Type 0 where
+  pub nothing : h.taken before ≡ []
+  pub unfailed : h.failures before ≡ 0
+  pub unrefused : h.refusals before ≡ 0
+  pub unflushed : h.flushes before ≡ 0
+  pub taken : h.taken after ≡ log.bytes
+  pub failures : h.failures after ≡ log.failures
+  pub refusals : h.refusals after ≡ log.empty_calls
+  pub flushes : h.flushes after ≡ log.flushes
+  pub flushed : h.is_flushed after ≡ log.is_flushed
+
+module _ {S W : Type 0} (g : SourceGhosts S) (h : SinkGhosts W) (source left : S) (before after : W) (writer : CallLog)
+    (logs : LogsSink h before after writer) where
+  passed : (output : ProgramOutput) (status : ℕ) → Writes g h source left before after output status → Passed writer output status
+  passed output status writes = let worked = writes.sink.worked in record {
+    bytes = sym logs.taken ∙ (writes.written ∙ ap (λ taken. taken ++ output.text) logs.nothing);
+    failures = sym logs.failures ∙ (worked.0 ∙ logs.unfailed);
+    refusals = sym logs.refusals ∙ (worked.1 ∙ logs.unrefused);
+    flushed = sym logs.flushed ∙ writes.sink.flushed;
+    once = sym logs.flushes ∙ (writes.sink.once ∙ ap (λ n. n + 1) logs.unflushed);
+    status_is = writes.status_is;
+  }
+
+  outputs : (read : Result Job WordsFault) (input : List ℕ) (status : ℕ) → WritesOutput g h source left before after read input status
+      → Passed writer (program_output read input) status
+      ⊎ ((output : ProgramOutput) × StopsOutOfMemory read input output × Passed writer output status)
+  outputs read input status (inl writes) = inl (passed (program_output read input) status writes)
+  outputs read input status (inr (output, stops, writes)) = inr (output, stops, passed output status writes)
+
+  sink_failed : SinkFailed h before after → (0 < writer.failures) ⊎ (0 < writer.empty_calls)
+  sink_failed (inl risen) = inl (omega (arith, risen, logs.unfailed, logs.failures))
+  sink_failed (inr risen) = inr (omega (arith, risen, logs.unrefused, logs.refusals))
+
+  pub runs_over : (given : Result (List Text) WordsFault) (input : List ℕ) (reader : CallLog) (status : ℕ)
+      → (g.input left ≡ g.input source → Gave reader input → g.follows_input left) → g.remaining source ≡ input → g.failures source ≡ 0 → g.failures left ≡ reader.failures
+      → RunsProgram g h source left before after (MeansGiven given) status → RunsOverStreams given input reader writer status
+  runs_over given input reader status gave is unfailed failures runs = record {
+    read = runs.read;
+    means = runs.means;
+    writes = λ by. elim (runs.writes (gave runs.same by)) [
+      | inl writes ↦ inl (outputs runs.read input status (subst (λ input. WritesOutput g h source left before after runs.read input status) is writes))
+      | inr (inl risen) ↦ let some : 0 < reader.failures = omega (arith, risen, unfailed, failures) in inr (inl some)
+      | inr (inr failed) ↦ inr (inr (sink_failed failed))
+    ];
+  }

@@ -1,0 +1,5 @@
+use Rattle.rv_bench.proofs.ProgramResults.{runs_program}
+use Rattle.rv_bench.proofs.program.perform.Goals as goal
+
+pub returns-clause-output : goal.returns-clause-output
+returns-clause-output g c = runs_program _ _ _ _ _ _ _ _ c.performed.ensures

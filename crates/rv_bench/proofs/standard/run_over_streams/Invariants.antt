@@ -1,0 +1,4 @@
+use Rattle.rv_bench.proofs.standard.run_over_streams.Given as goal
+
+abbrev pub ghost-new : goal.ghost-new
+ghost-new g a = g.input

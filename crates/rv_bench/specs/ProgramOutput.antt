@@ -1,0 +1,113 @@
+-- The output of a job for an input, the output of the program for its arguments and its input, and the exit status. (This project's own program;
+-- the text is ASCII, ISO/IEC 646.)
+use Rattle.std.specs.Prelude.{◌≡◌, ◌⊎◌, ⊤, ℕ, List, [], ◌++◌, map, codes, string_bytes, IsOkAnd, Vec, String, Result, Ok, Err}
+use Rattle.clap.specs.Words.{Text}
+use Rattle.rv_word.specs.Cases.{result_case}
+use Rattle.rv_asm.specs.OutOfMemory.{RunsOutOfMemory as RunsOutOfMemoryAt}
+use Rattle.rv_memory.specs.declared.ram_fault.RamFault.TheVariants.{NoMemory as NoRamMemory}
+use Rattle.rv_command_line.specs.declared.job.Job.{Job}
+use Rattle.rv_command_line.specs.declared.job.Job.TheVariants.{Run, Twin, Asm, Dis}
+use Rattle.rv_command_line.specs.declared.words_fault.WordsFault.{WordsFault}
+use Rattle.rv_command_line.specs.declared.words_fault.WordsFault.TheVariants as words
+use Rattle.rv_command_line.specs.Faults.{IsFaultOf}
+use Rattle.rv_command_line.specs.Job.{job_of}
+use Rattle.rv_command_line.specs.Refusals.{refusals_of}
+use Rattle.rv_streams.specs.AssemblyText.{asm_output}
+use Rattle.rv_streams.specs.Calls.{SourceFailed, SinkFlushed, SinkFailed}
+use Rattle.rv_streams.specs.DisassemblyText.{dis_output}
+use Rattle.rv_streams.specs.Faults.{Outcome}
+use Rattle.rv_streams.specs.declared.device.Sink.{Ghosts as SinkGhosts}
+use Rattle.rv_streams.specs.declared.device.Source.{Ghosts as SourceGhosts}
+use Rattle.rv_streams.specs.declared.fault.BenchFault.{BenchFault}
+use Rattle.rv_streams.specs.declared.fault.BenchFault.TheVariants.{Ram, Read, Write, NoMemory, Asm as AsmText}
+use Rattle.rv_bench.specs.FaultText.{fault_text}
+use Rattle.rv_bench.specs.Output.{output}
+use Rattle.rv_bench.specs.Twin.{twin_output}
+
+-- ---- a job
+
+-- the output of a job for an input, or the error of the input
+abbrev pub job_output : Job → List ℕ → Result (List ℕ) BenchFault
+job_output (Run setup) input = output setup input
+job_output (Twin setup slot) input = twin_output setup slot input
+job_output Asm input = asm_output input
+job_output Dis input = dis_output input
+
+-- memory was refused; in the assembly of a text, at a line without an error that is reported instead
+abbrev pub IsOutOfMemory : Job → List ℕ → BenchFault → Type 0
+IsOutOfMemory job input NoMemory = ⊤
+IsOutOfMemory job input (Ram (NoRamMemory refused)) = ⊤
+IsOutOfMemory Asm input (AsmText fault) = RunsOutOfMemoryAt input fault
+IsOutOfMemory job input _ = ⊥
+
+-- an error of the input, or memory was refused
+abbrev pub FailsBy : Job → List ℕ → BenchFault → Type 0
+FailsBy job input fault = (job_output job input ≡ Err fault) ⊎ IsOutOfMemory job input fault
+
+module _ {S W : Type 0} (g : SourceGhosts S) (h : SinkGhosts W) (source left : S) (before after : W) (job : Job) where
+  -- The outcome of a job by its output for the input. An error is a failure of a device, or nothing was written.
+  abbrev pub MeetsOutput : Outcome → Type 0
+  MeetsOutput (Ok _) =
+      SinkFlushed h before after
+      × (g.follows_input left → IsOkAnd (job_output job (g.remaining source)) (λ text. h.taken after ≡ h.taken before ++ text))
+  MeetsOutput (Err Read) = SourceFailed g source left
+  MeetsOutput (Err Write) = SinkFailed h before after
+  MeetsOutput (Err fault) = (after ≡ before) × (g.follows_input left → FailsBy job (g.remaining source) fault)
+
+-- ---- the program
+
+-- The text that the program writes, and its exit status.
+pub record ProgramOutput : Type 0 where
+  pub text : List ℕ
+  pub status : ℕ
+
+-- the output for the result of a job
+abbrev pub output_of : Result (List ℕ) BenchFault → ProgramOutput
+output_of (Ok text) = record { text = text; status = 0 }
+output_of (Err fault) = record { text = fault_text fault; status = 1 }
+
+-- the output for what the arguments mean, and the input
+abbrev pub program_output : Result Job WordsFault → List ℕ → ProgramOutput
+program_output (Ok job) input = output_of (job_output job input)
+program_output (Err words.Refused) input = record { text = codes "rvbench: command line\n"; status = 2 }
+program_output (Err words.NoMemory) input = record { text = codes "rvbench: memory\n"; status = 1 }
+program_output (Err (words.Help text)) input = record { text = string_bytes text; status = 0 }
+
+-- what the arguments mean: their job, or a reason that they have none
+abbrev pub Means : List Text → Result Job WordsFault → Type 0
+Means given (Ok job) = (refusals_of given ≡ []) × (job ≡ job_of given)
+Means given (Err fault) = IsFaultOf (refusals_of given) fault
+
+-- what arguments mean that may be unreadable
+abbrev pub MeansGiven : Result (List Text) WordsFault → Result Job WordsFault → Type 0
+MeansGiven (Ok given) read = Means given read
+MeansGiven (Err fault) read = read ≡ Err fault
+
+-- the bytes of each argument
+abbrev pub given_by : {A Z : Type 0} → Result (Vec (String A) Z) WordsFault → Result (List Text) WordsFault
+given_by arguments = result_case arguments (λ words. Ok (map string_bytes words.items)) Err
+
+-- memory was refused in the job of the arguments, with this status and text
+abbrev pub StopsOutOfMemory : Result Job WordsFault → List ℕ → ProgramOutput → Type 0
+StopsOutOfMemory (Ok job) input output = (fault : BenchFault) × IsOutOfMemory job input fault × (output ≡ output_of (Err fault))
+StopsOutOfMemory (Err fault) input output = ⊥
+
+module _ {S W : Type 0} (g : SourceGhosts S) (h : SinkGhosts W) (source left : S) (before after : W) where
+  -- Exactly this output was written, and the sink was flushed once, after it.
+  pub record Writes (output : ProgramOutput) (status : ℕ) : Type 0 where
+    pub sink : SinkFlushed h before after
+    pub written : h.taken after ≡ h.taken before ++ output.text
+    pub status_is : status ≡ output.status
+
+  -- the output of the program was written, or, since memory was refused, a line that reports this
+  abbrev pub WritesOutput : Result Job WordsFault → List ℕ → ℕ → Type 0
+  WritesOutput read input status =
+      Writes (program_output read input) status
+      ⊎ ((output : ProgramOutput) × StopsOutOfMemory read input output × Writes output status)
+
+  -- The program wrote its output for its arguments and the assumed input, which stays the same, or a device failed.
+  pub record RunsProgram (IsMeaning : Result Job WordsFault → Type 0) (status : ℕ) : Type 0 where
+    pub same : g.input left ≡ g.input source
+    pub read : Result Job WordsFault
+    pub means : IsMeaning read
+    pub writes : g.follows_input left → WritesOutput read (g.remaining source) status ⊎ (SourceFailed g source left ⊎ SinkFailed h before after)

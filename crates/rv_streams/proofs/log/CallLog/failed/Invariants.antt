@@ -1,0 +1,5 @@
+use Rattle.rv_streams.specs.CallLog.{after_failure}
+use Rattle.rv_streams.proofs.log.CallLog.failed.Given as goal
+
+abbrev pub ghost-chosen : goal.ghost-chosen
+ghost-chosen a = after_failure a.about.now

@@ -1,0 +1,5 @@
+use Rattle.rv_streams.specs.CallLog.{after_flush}
+use Rattle.rv_streams.proofs.log.CallLog.flushed.Given as goal
+
+abbrev pub ghost-chosen : goal.ghost-chosen
+ghost-chosen a = after_flush a.about.now

@@ -1,0 +1,5 @@
+use Rattle.rv_streams.specs.CallLog.{after_move}
+use Rattle.rv_streams.proofs.log.CallLog.moved.Given as goal
+
+abbrev pub ghost-chosen : goal.ghost-chosen
+ghost-chosen a = after_move a.about.now.0.now a.about.now.1.now

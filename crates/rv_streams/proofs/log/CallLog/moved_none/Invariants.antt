@@ -1,0 +1,5 @@
+use Rattle.rv_streams.specs.CallLog.{after_empty_call}
+use Rattle.rv_streams.proofs.log.CallLog.moved_none.Given as goal
+
+abbrev pub ghost-chosen : goal.ghost-chosen
+ghost-chosen a = after_empty_call a.about.now

@@ -1,0 +1,5 @@
+use Rattle.std.proofs.Common.{[]}
+use Rattle.rv_streams.proofs.log.CallLog.new.Given as goal
+
+abbrev pub ghost-with_input : goal.ghost-with_input
+ghost-with_input a = []

@@ -1,0 +1,4 @@
+use Rattle.rv_streams.proofs.stdio.ReaderSource.new.Given as goal
+
+abbrev pub ghost-with_input : goal.ghost-with_input
+ghost-with_input g a = g.input

@@ -1,0 +1,137 @@
+//! A source that reads ahead from another, since lines are read byte by byte.
+ghost use Rattle.std.specs.Prelude.{◌≡◌, ◌≤◌, min, take, length};
+
+use crate::device::{DeviceFault, Source};
+
+/// The number of bytes that are read ahead at once.
+const READ_LEN: usize = 4096;
+
+/// Copies as many bytes as there are and as the buffer has room for, and returns how many.
+#[inline(always)]
+fn give(bytes: &[u8], buffer: &mut [u8]) -> usize
+    ensures count { result ≡ min (length bytes.now) (length buffer.old) }
+    ensures copied { take result buffer.new ≡ take result bytes.now }
+    ensures len { length buffer.new ≡ length buffer.old }
+{
+    let count = bytes.len().min(buffer.len());
+    if count == 1 {
+        // lines are read byte by byte: copies one byte without a call
+        buffer[0] = bytes[0];
+        return 1;
+    }
+    buffer[..count].copy_from_slice(&bytes[..count]);
+    count
+}
+
+/// A source that reads ahead from another source. It has the ends and the failures of that source, and no others.
+#[derive(Drop, Debug)]
+pub struct BufferedSource<S: Source> {
+    source: S,
+    buffer: [u8; READ_LEN],
+    start: usize,
+    end: usize,
+    ghost ordered: { start ≤ end },
+    ghost in_buffer: { end ≤ 4096 },
+}
+
+impl<S: Source> BufferedSource<S> {
+    ghost use Rattle.std.specs.Prelude.{◌≡◌, ◌≤◌, ◌==◌, ◌&&◌, [], OnOk, is_err, is_ok};
+    ghost use Rattle.rv_streams.specs.Device.{counted_if};
+    ghost use Rattle.rv_streams.specs.Buffered.{rest_of, calls_left_of};
+
+    /// Returns a source that has read nothing ahead yet.
+    pub fn new(source: S) -> BufferedSource<S>
+        ensures source { result.source ≡ source }
+        ensures bytes { rest_of S.Source result ≡ S.remaining source }
+    {
+        BufferedSource {
+            source,
+            buffer: [0; READ_LEN],
+            start: 0,
+            end: 0,
+        }
+    }
+
+    /// Returns the other source. Bytes that were read ahead are dropped.
+    pub fn into_source(self) -> S
+        ensures { result ≡ self.source }
+    {
+        let BufferedSource {
+            source,
+            buffer: _,
+            start: _,
+            end: _,
+        } = self;
+        source
+    }
+
+    /// Reads ahead. It adds no byte only at the end.
+    ///
+    /// # Errors
+    ///
+    /// `DeviceFault`, if the other source failed. No byte is lost then.
+    #[cold]
+    #[inline(never)]
+    fn fill(&mut self) -> Result<(), DeviceFault>
+        requires nothing { self.old.start ≡ self.old.end }
+        ensures bytes { S.follows_input self.new.source → rest_of S.Source self.new ≡ rest_of S.Source self.old }
+        ensures end { S.follows_input self.new.source → OnOk result (self.new.start ≡ self.new.end → rest_of S.Source self.new ≡ []) }
+        ensures same { S.input self.new.source ≡ S.input self.old.source }
+        ensures before { S.follows_input self.new.source → S.follows_input self.old.source }
+        ensures ends { S.ends self.new.source ≡ counted_if (is_ok result && (self.new.start == self.new.end)) (S.ends self.old.source) }
+        ensures failures { S.failures self.new.source ≡ counted_if (is_err result) (S.failures self.old.source) }
+        ensures falls { calls_left_of S.Source self.new ≤ calls_left_of S.Source self.old }
+    {
+        let count = self.source.read_some(&mut self.buffer)?;
+        self.start = 0;
+        self.end = count;
+        Ok(())
+    }
+
+    /// Reads ahead if all bytes that were read ahead have been returned. Then no byte is ahead only at the end.
+    ///
+    /// # Errors
+    ///
+    /// `DeviceFault`, if the other source failed. No byte is lost then.
+    #[inline(always)]
+    fn read_ahead(&mut self) -> Result<(), DeviceFault>
+        ensures bytes { S.follows_input self.new.source → rest_of S.Source self.new ≡ rest_of S.Source self.old }
+        ensures end { S.follows_input self.new.source → OnOk result (self.new.start ≡ self.new.end → rest_of S.Source self.new ≡ []) }
+        ensures same { S.input self.new.source ≡ S.input self.old.source }
+        ensures before { S.follows_input self.new.source → S.follows_input self.old.source }
+        ensures ends { S.ends self.new.source ≡ counted_if (is_ok result && (self.new.start == self.new.end)) (S.ends self.old.source) }
+        ensures failures { S.failures self.new.source ≡ counted_if (is_err result) (S.failures self.old.source) }
+        ensures falls { calls_left_of S.Source self.new ≤ calls_left_of S.Source self.old }
+    {
+        if self.start < self.end {
+            return Ok(());
+        }
+        self.fill()
+    }
+}
+
+impl<S: Source> Source for BufferedSource<S> {
+    ghost use Rattle.rv_streams.specs.Buffered.{rest_of, calls_left_of};
+
+    ghost input = { λ it. S.input it.source };
+
+    ghost follows_input = { λ it. S.follows_input it.source };
+
+    ghost remaining = { rest_of S.Source };
+
+    ghost ends = { λ it. S.ends it.source };
+
+    ghost failures = { λ it. S.failures it.source };
+
+    ghost calls_left = { calls_left_of S.Source };
+
+    fn read_some(&mut self, buffer: &mut [u8]) -> Result<usize, DeviceFault> {
+        if buffer.is_empty() {
+            return Ok(0);
+        }
+        self.read_ahead()?;
+        let count = give(&self.buffer[self.start..self.end], buffer);
+        self.start += count;
+        Ok(count)
+    }
+}
