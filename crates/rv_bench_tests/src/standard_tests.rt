@@ -139,28 +139,34 @@ fn recorded(
     writer
 }
 
-#[test]
-fn flush_reaches_the_writer_once(rt: HostRuntime) {
-    for example in [&RUN, &TWIN, &ASM, &DIS] {
-        let writer = recorded(&rt, rt.alloc(), example, 0, (Ok(()), 1));
-        expect_bytes(&rt, writer.bytes(), example.output, 0);
-    }
+/// Expects the output with one flush after it, and no output if the first call of the reader fails.
+fn expect_recorded(rt: &impl Abort, alloc: Global, example: &Example) {
+    let writer = recorded(rt, alloc, example, 0, (Ok(()), 1));
+    expect_bytes(rt, writer.bytes(), example.output, 0);
+    let failed = recorded(rt, alloc, example, 1, (Err(BenchFault::Read), 0));
+    expect_bytes(rt, failed.bytes(), b"", 1);
 }
 
 #[test]
-fn failure_of_the_reader_is_reported(rt: HostRuntime) {
-    for example in [&RUN, &TWIN, &ASM, &DIS] {
-        recorded(&rt, rt.alloc(), example, 1, (Err(BenchFault::Read), 0));
-    }
+fn flush_reaches_the_writer_once(rt: HostRuntime) {
+    expect_recorded(&rt, rt.alloc(), &RUN);
+    expect_recorded(&rt, rt.alloc(), &TWIN);
+    expect_recorded(&rt, rt.alloc(), &ASM);
+    expect_recorded(&rt, rt.alloc(), &DIS);
+}
+
+/// Expects the output and a failed write if the flush of the writer fails.
+fn expect_refused_flush(rt: &impl Abort, alloc: Global, example: &Example) {
+    let mut sink = WriterSink::new(RecordingWriter::new(Vec::new(alloc), true));
+    let source = BufferedSource::new(ReaderSource::new(example.input));
+    let (_, outcome) = run_job(alloc, &example.job, source, &mut sink);
+    expect_outcome(rt, outcome, Err(BenchFault::Write), 0);
+    expect_bytes(rt, sink.into_writer().bytes(), example.output, 0);
 }
 
 #[test]
 fn failure_of_a_flush_is_reported(rt: HostRuntime) {
-    let mut sink = WriterSink::new(RecordingWriter::new(Vec::new(rt.alloc()), true));
-    let source = BufferedSource::new(ReaderSource::new(RUN.input));
-    let (_, outcome) = run_job(rt.alloc(), &RUN.job, source, &mut sink);
-    expect_outcome(&rt, outcome, Err(BenchFault::Write), 0);
-    expect_bytes(&rt, sink.into_writer().bytes(), RUN.output, 0);
+    expect_refused_flush(&rt, rt.alloc(), &RUN);
 }
 
 #[test]
