@@ -27,7 +27,7 @@ use Rattle.rv_debug.proofs.Prelude.{over_memory, hart_view_invariant, past_hart_
 use Rattle.rv_debug.proofs.Prelude.{registers_text, run, run_effect, seen_block, shared_equiv, steps_of, scheduled_steps, with_selected, world_name}
 use Rattle.rv_debug.proofs.EffectsInvariant.{bare_done, keeps_monitor, poke_of}
 use Rattle.rv_debug.proofs.RunSchedules.{run_done, run_entered}
-use Rattle.rv_debug.proofs.SchedAlike.{BothPast, scheduled_steps_alike}
+use Rattle.rv_debug.proofs.SchedAlike.{BothPast, on_none_of, scheduled_steps_alike}
 use Rattle.rv_debug.proofs.StepsAlike.{RunAlike, run-alike}
 use Rattle.rv_debug.proofs.TargetRuns.{hart_pc, hart_stepped, target_of, run_monitored}
 use Rattle.rv_debug.proofs.ScheduledSteps.{after_schedule, by_bare}
@@ -43,7 +43,7 @@ record Alike (e : ℕ) (first second : Executed) : Type 0 where
   pub entered : is_entered e first.entered ≡ is_entered e second.entered
   pub passed : is_entered e first.entered ≡ false → Passes e first second
 
-abbrev over : Target → List ℕ → List ℕ → BenchState
+abbrev pub over : Target → List ℕ → List ℕ → BenchState
 over target breaks watches = record { target = target; breaks = breaks; watches = watches }
 
 -- a command that enters no enclave
@@ -74,7 +74,7 @@ same_lines e did one other equiv not_running =
     (ap₂ (λ (n : ℕ) (line : List ℕ). if nat_lt 1 n then line else []) state.harts (same_line e 1 did.second one other equiv not_running))
 
 -- the execution of a schedule
-abbrev schedule_executed : ℕ → List ℕ → List ℕ → AfterSchedule → Executed
+abbrev pub schedule_executed : ℕ → List ℕ → List ℕ → AfterSchedule → Executed
 schedule_executed hart breaks watches after =
     record { state = over (with_selected hart after.state) breaks watches; reply = harts_summary_text after; entered = after.did.entered }
 
@@ -94,14 +94,15 @@ past_alike e hart breaks watches did did' one other same equiv not_running =
       };
     })
 
-both_past : (e hart : ℕ) (breaks watches : List ℕ) (one other : AfterSchedule) → BothPast e one other
+both_past : (e hart : ℕ) (breaks watches : List ℕ) (start : Selected) (one other : AfterSchedule) → RunsOnNoHart e (Monitored start)
+    → BothPast e start one other
     → Alike e (schedule_executed hart breaks watches one) (schedule_executed hart breaks watches other)
-both_past e hart breaks watches one other past =
+both_past e hart breaks watches start one other idle past =
     subst (λ (target : Target). Alike e (schedule_executed hart breaks watches (after_schedule target one.did)) (schedule_executed hart breaks watches other))
     (sym past.here_is)
     (subst (λ (target : Target). Alike e (schedule_executed hart breaks watches (after_schedule (Monitored past.here) one.did))
     (schedule_executed hart breaks watches (after_schedule target other.did))) (sym past.there_is)
-    (past_alike e hart breaks watches one.did other.did past.here past.there past.did past.state past.not_running))
+    (past_alike e hart breaks watches one.did other.did past.here past.there past.did past.state (past.not_running idle)))
 
 -- ---- a run
 
@@ -305,12 +306,12 @@ module _ (e hart : ℕ) (one other : MonitoredMachine) (equiv : EquivExcept e on
   sched-answers : (harts : List ℕ) (has has' : Bool) → has ≡ has' → Invariant one → Invariant other → RunsOnNoHart e (at one)
       → Alike e (sched-told one harts has) (sched-told other harts has')
   sched-answers harts true true same kept kept' not_running =
-      elim (scheduled_steps_alike e harts (on one) (on other) _ kept kept' both not_running) [
+      elim (scheduled_steps_alike e harts (on one) (on other) _ kept kept' both (on_none_of e harts one not_running)) [
         | inl both_in ↦ record {
           entered = both_in.here ∙ sym both_in.there;
           passed = λ none. let never : true ≡ false = sym both_in.here ∙ none in cc;
         }
-        | inr past ↦ both_past e hart breaks watches _ _ past
+        | inr past ↦ both_past e hart breaks watches (on one) _ _ not_running past
       ]
   sched-answers harts false false same kept kept' not_running = shown no_hart_text no_hart_text refl
   sched-answers harts true false same kept kept' not_running = cc

@@ -16,6 +16,7 @@ mod StepsAlike
 mod Stepping
 mod TargetRuns
 mod SchedAlike
+mod StateAlike
 mod ScheduledSteps
 mod OtherHarts
 mod ScheduleLoop

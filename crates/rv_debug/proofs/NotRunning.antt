@@ -2,25 +2,21 @@
 use Rattle.std.proofs.Common.{◌≡◌, ℕ, true, false, List, [], ◌∷◌, Option, Some, None, refl, sym, ◌∙◌, ap, subst, inl, inr}
 use Rattle.rv_enclaves.proofs.Scrambled.{slot_rests}
 use Rattle.rv_monitor.proofs.Beside.{runs_among}
-use Rattle.rv_debug.specs.Prelude.{Bare, Command, MonitoredMachine, Monitored, Poke, RunsOnNone, HartState, Target, changed, is_world_of, reg_set}
+use Rattle.rv_debug.specs.Prelude.{Bare, Command, Monitored, Poke, HartState, Target, changed, is_world_of, reg_set}
 use Rattle.rv_debug.specs.Prelude.{runs_on, slot_at, timer_line_set, write}
 use Rattle.rv_debug.proofs.Prelude.{CommandsAvoidHart, BenchState, Selected, SelectedEquivExcept, Effect, TargetInvariant, Nothing, OneByte, PokesInto}
 use Rattle.rv_debug.proofs.Prelude.{Register, RunsOnNoHartLaw, RunsOnNoHart, RunsOnNoneIn, Steps, TimerLine, equiv_itself, execute, both_ways}
 use Rattle.rv_debug.proofs.Prelude.{can_scramble_in, cases_Bool, changed_of, selected_at, effect, done, entered_by, harts_shown, is_entered}
 use Rattle.rv_debug.proofs.Prelude.{itself, schedule_start, scheduled_steps, with_selected}
 use Rattle.rv_debug.proofs.EffectsInvariant.{bare_done, keeps_monitor, poke_of}
-use Rattle.rv_debug.proofs.SchedAlike.{scheduled_steps_alike}
+use Rattle.rv_debug.proofs.SchedAlike.{on_none_of, scheduled_steps_alike}
 use Rattle.rv_debug.proofs.ScheduledSteps.{by_bare}
 
 -- ---- every command avoids its hart
 
-on_none : (e : ℕ) (harts : List ℕ) (machine : MonitoredMachine) → ((hart : ℕ) → runs_on e hart machine ≡ false) → RunsOnNone e harts machine
-on_none e [] machine not_running = tt
-on_none e (hart ∷ harts) machine not_running = (not_running hart, on_none e harts machine not_running)
-
 pub on_none_in : (e : ℕ) (harts : List ℕ) (target : Target) → RunsOnNoHart e target → RunsOnNoneIn e harts target
 on_none_in e harts (Bare machine) not_running = tt
-on_none_in e harts (Monitored selected) not_running = on_none e harts selected.state not_running
+on_none_in e harts (Monitored selected) not_running = on_none_of e harts selected.state not_running
 
 -- ---- the effect enters it, or it still runs on no hart
 
@@ -29,9 +25,9 @@ steps_rest : (e selected : ℕ) (harts : List ℕ) (machine : Selected) → Targ
     → RunsOnNoHart e (done (Monitored machine) (Steps harts selected))
 steps_rest e selected harts machine kept not_running none =
     let same : SelectedEquivExcept e machine machine = record { hart = refl; state = equiv_itself e machine.state (itself e machine.state.shared) } in
-    elim (scheduled_steps_alike e harts machine machine _ kept kept same not_running) [
+    elim (scheduled_steps_alike e harts machine machine _ kept kept same (on_none_of e harts machine.state not_running)) [
       | inl both ↦ absurd (let never : true ≡ false = sym both.here ∙ none in cc)
-      | inr past ↦ selected_rests _ (subst (RunsOnNoHart e) (sym past.here_is) past.not_running)
+      | inr past ↦ selected_rests _ (subst (RunsOnNoHart e) (sym past.here_is) (past.not_running not_running))
     ] where
       selected_rests : (target : Target) → RunsOnNoHart e target → RunsOnNoHart e (with_selected selected target)
       selected_rests (Bare machine) not_running = tt

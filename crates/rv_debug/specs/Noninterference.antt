@@ -2,12 +2,12 @@
 -- runs. Until a command enters the enclave, the replies are equal and the benches stay equivalent. (Laws of this project's own debugger and
 -- monitor.)
 use Rattle.std.specs.Prelude.{ℕ, ◌≡◌, suc, true, false, List, [], ◌∷◌, take}
-use Rattle.rv_debug.specs.Prelude.{All, BothWhy, Command, Entered, NotBlind, Poke, has}
+use Rattle.rv_debug.specs.Prelude.{All, BothWhy, Command, Entered, NotBlind, Poke, Run, Sched, Step, Target, harts_in, has}
 use Rattle.rv_debug.specs.Execute.{Executed, execute}
 use Rattle.rv_debug.specs.BenchState.{BenchState}
 use Rattle.rv_debug.specs.Isolation.{after_commands}
-use Rattle.rv_debug.specs.Targets.{TargetInvariant, is_live_in}
-use Rattle.rv_debug.specs.BothBenches.{BenchesEquivExcept, BothExecuted, AvoidsHart, RunsOnNoHart, is_blind, is_entered, region_in}
+use Rattle.rv_debug.specs.Targets.{TargetInvariant, is_live_in, selected_of}
+use Rattle.rv_debug.specs.BothBenches.{BenchesEquivExcept, BothExecuted, AvoidsHart, RunsOnNoHart, RunsOnNoneIn, is_blind, is_entered, region_in}
 
 -- the benches are equivalent except for e, and equal once its enclave has ended
 pub record RemainEquiv (e : ℕ) (first second : BenchState) : Type 0 where
@@ -32,6 +32,25 @@ NoninterferenceLaw =
     (e : ℕ) (first second : BenchState) (command : Command) → TargetInvariant first.target → TargetInvariant second.target
     → BenchesEquivExcept e first second → is_blind e first command ≡ true → AvoidsHart e first command
     → ExecuteAlike e (execute first command) (execute second command)
+
+-- the harts that a command may step
+abbrev pub harts_named : Target → Command → List ℕ
+harts_named target (Step count) = selected_of target ∷ []
+harts_named target (Run count) = selected_of target ∷ []
+harts_named target (Sched schedule) = harts_in schedule
+harts_named target _ = []
+
+-- the command enters slot e in both or in neither; if in neither, the benches are equivalent again
+pub record StateAlike (e : ℕ) (first second : Executed) : Type 0 where
+  pub entered : is_entered e first.entered ≡ is_entered e second.entered
+  pub state : is_entered e first.entered ≡ false → RemainEquiv e first.state second.state
+
+-- The benches stay equivalent if the command steps no hart that runs the enclave. It may show such a hart, so the replies may differ.
+abbrev pub EquivalenceLaw : Type 0
+EquivalenceLaw =
+    (e : ℕ) (first second : BenchState) (command : Command) → TargetInvariant first.target → TargetInvariant second.target
+    → BenchesEquivExcept e first second → is_blind e first command ≡ true → RunsOnNoneIn e (harts_named first.target command) first.target
+    → StateAlike e (execute first command) (execute second command)
 
 -- a command avoids the enclave of slot e: it accesses no byte of its region, and does not enter it
 pub record AvoidsEnclave (e : ℕ) (bench : BenchState) (command : Command) : Type 0 where

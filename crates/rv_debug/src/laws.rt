@@ -1,7 +1,7 @@
 //! Laws of the commands for every bench that satisfies the invariant, for the crates above to cite. Each is proved about the definitions in
 //! `specs/`. The law of one command is also a clause of `Bench::command`.
 
-ghost use Rattle.rv_debug.specs.Noninterference.{NoninterferenceLaw, PokeLaw, RunsOnNoHartLaw};
+ghost use Rattle.rv_debug.specs.Noninterference.{EquivalenceLaw, NoninterferenceLaw, PokeLaw, RunsOnNoHartLaw};
 ghost use Rattle.rv_debug.specs.Isolation.{IntegrityLaw, RunningLaw};
 ghost use Rattle.rv_debug.specs.Returns.{ReturnLaw};
 
@@ -22,6 +22,12 @@ pub const fn running_is_undisturbed()
 /// benches are equivalent again, and equal once the enclave has ended.
 pub const fn noninterference()
     ensures { NoninterferenceLaw }
+{}
+
+/// States that two benches stay equivalent except for an enclave after a command that is blind to it and steps no hart on which it runs. The
+/// command may show such a hart, as `sched` and `regs` may, so the replies may differ.
+pub const fn stays_equivalent()
+    ensures { EquivalenceLaw }
 {}
 
 /// States that every command avoids the hart of an enclave that runs on no hart. After a command that does not enter the enclave, it still runs

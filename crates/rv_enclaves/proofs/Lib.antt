@@ -15,3 +15,4 @@ pub mod Owners
 pub mod AccessLemmas
 pub mod Scrambled
 pub mod ScrambledTwice
+pub mod Measurement

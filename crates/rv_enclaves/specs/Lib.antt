@@ -12,6 +12,7 @@ pub mod Unlocked
 pub mod AccessibleMemory
 pub mod SharedInvariant
 pub mod SharedEquivExcept
+pub mod Measurement
 pub mod Scramble
 pub mod CallLaws
 pub mod Examples

@@ -2,6 +2,7 @@
 
 ghost use Rattle.rv_enclaves.specs.CallLaws.{CallsAlikeLaw, CallsKeepLaw, ScrambledLaw, ScrambledTwiceLaw};
 ghost use Rattle.rv_enclaves.specs.AccessibleMemory.{ApartLaw, LayoutAccessLaw};
+ghost use Rattle.rv_enclaves.specs.Measurement.{MeasurementLaw};
 
 /// States access control. With the PMP entries of a valid table and a world, S and U are permitted an access to bytes in RAM if and only if it
 /// is accessible.
@@ -32,4 +33,9 @@ pub const fn scrambled()
 /// States that scrambling the private state of an enclave twice restores it.
 pub const fn scrambled_twice()
     ensures { ScrambledTwiceLaw }
+{}
+
+/// States what the measurement covers: its input determines the region, the window, the entry and every byte of the region.
+pub const fn measurement_covers()
+    ensures { MeasurementLaw }
 {}

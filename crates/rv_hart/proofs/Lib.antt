@@ -8,4 +8,6 @@ pub mod DecodeCacheLemmas
 pub mod StepCases
 pub mod StepLaws
 pub mod PermittedRangeLemmas
+pub mod BelowMSteps
+pub mod Interrupted
 mod StepExamples

@@ -4,6 +4,7 @@ pub mod CsrInstructions
 pub mod Cache
 pub mod Exceptions
 pub mod FastSteps
+pub mod GuestView
 pub mod Hart
 pub mod HartRecord
 pub mod Instructions

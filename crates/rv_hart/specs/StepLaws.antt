@@ -1,15 +1,19 @@
--- Properties of every step. RISC-V Privileged Architecture 20211203, sections 3.1.6.3 (MPRV) and 3.1.6 to 3.1.16 (trap entry); Unprivileged ISA
+-- Properties of every step. RISC-V Privileged Architecture 20211203, sections 3.1.6.3 (MPRV), 3.1.6 to 3.1.16 (trap entry) and 3.1.9 (interrupts); Unprivileged ISA
 -- 20191213, section 1.6 (traps are precise).
 use Rattle.std.specs.Prelude.{◌≡◌, ◌%◌, ℕ, List, length, false, Option, Some, None, IfSome, IfNone}
 use Rattle.rv_word.specs.Widths.{bytes_in}
 use Rattle.rv_memory.specs.Changes.{ChangesOnly}
 use Rattle.rv_memory.specs.declared.touched.Span.{Span}
 use Rattle.rv_state.specs.MachineParts.{machine_parts}
-use Rattle.rv_state.specs.Interrupts.{is_machine}
+use Rattle.rv_state.specs.Interrupts.{is_machine, pending}
+use Rattle.rv_state.specs.declared.cause.Cause.TheVariants as causes
+use Rattle.rv_state.specs.declared.cause.Interrupt.{Interrupt}
 use Rattle.rv_state.specs.Registers.{register}
 use Rattle.rv_hart.specs.Confinement.{IsConfined}
 use Rattle.rv_hart.specs.Hart.{trapped, step_counted}
+use Rattle.rv_hart.specs.GuestView.{DependsBelowM}
 use Rattle.rv_hart.specs.HartRecord.{Hart}
+use Rattle.rv_hart.specs.declared.trap.Trap.{Trap}
 use Rattle.rv_hart.specs.Permitted.{TouchesPermitted}
 use Rattle.rv_hart.specs.Machine.{Machine, Stepped}
 
@@ -49,6 +53,12 @@ abbrev pub ChangesStored : Machine → Stepped → Type 0
 ChangesStored before after =
     (length after.state.memory ≡ length before.memory) × ChangesIn before.memory after.state.memory after.outcome.touched.stored
 
+-- A step that traps by an interrupt takes the interrupt that was pending (section 3.1.9). No instruction ends in an interrupt.
+abbrev pub TakesPending : Machine → Stepped → Type 0
+TakesPending before after =
+    (trap : Trap) (interrupt : Interrupt) → after.outcome.trap ≡ Some trap → trap.cause ≡ causes.Interrupt interrupt
+    → pending before.hart.csrs before.hart.mode ≡ Some interrupt
+
 -- all of these properties, for the state before a step and the result of the step
 pub record ObeysHartLaws (before : Machine) (after : Stepped) : Type 0 where
   pub x0 : register after.state.hart.regs 0 ≡ 0
@@ -59,3 +69,5 @@ pub record ObeysHartLaws (before : Machine) (after : Stepped) : Type 0 where
   pub memory : ChangesStored before after
   pub permitted : TouchesPermitted before after
   pub confined : IsConfined before after
+  pub interrupt : TakesPending before after
+  pub below_m : DependsBelowM before after

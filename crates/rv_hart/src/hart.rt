@@ -138,6 +138,9 @@ impl Hart {
     /// - `permitted`: the PMP entries permit every byte that the outcome reports as fetched, loaded or stored, in the mode of that
     ///   access. (Privileged Architecture, sections 3.1.6.3 and 3.7.1.)
     /// - `confined`: the step depends only on the bytes of memory that the outcome reports as fetched and loaded.
+    /// - `interrupt`: a trap by an interrupt is that of the pending interrupt. (Privileged Architecture, section 3.1.9.)
+    /// - `below_m`: below mode M, with MPRV 0, the step reads no register of mode M and no counter. It depends on the PMP entries only by what
+    ///   they permit. (Privileged Architecture, section 2.1.)
     #[inline(always)]
     pub fn step(&mut self, ram: &mut Ram) -> StepOutcome
         ensures meaning { step (machine_of self.old ram.old) ≡ stepped self.new ram.new result }

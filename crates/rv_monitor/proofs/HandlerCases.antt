@@ -36,12 +36,12 @@ found-call world a7 a6 true call is =
 found-call world a7 a6 false call is = cc
 
 -- it has the number in a6, and is offered to the world
-asked-is : (world : World) (regs : List ℕ) (call : Call) → requested_call world regs ≡ Some call
+pub asked-is : (world : World) (regs : List ℕ) (call : Call) → requested_call world regs ≡ Some call
     → ((call_number call == register regs 16) ≡ true) × (is_offered world call ≡ true)
 unfolding call_requested
 asked-is world regs call is = found-call world (register regs 17) (register regs 16) (register regs 17 == call_key) call is
 
-entered-by-host : (world : World) (call : Call) → is_entering (Some call) ≡ true → is_offered world call ≡ true → world ≡ Host
+pub entered-by-host : (world : World) (call : Call) → is_entering (Some call) ≡ true → is_offered world call ≡ true → world ≡ Host
 entered-by-host Host call enters offered = refl
 entered-by-host (Enclave k) Run enters offered = cc
 entered-by-host (Enclave k) Resume enters offered = cc

@@ -29,3 +29,15 @@ pub mod Scrambled
 pub mod Touched
 pub mod StepLaws
 pub mod Held
+pub mod Entering
+pub mod Records
+pub mod Exits
+pub mod Availability
+pub mod GuestView
+pub mod EnclaveMemory
+pub mod EnclaveSteps
+pub mod Release
+pub mod GuestEquiv
+pub mod EnclaveStays
+pub mod Declassification
+pub mod Attestation

@@ -83,7 +83,7 @@ same_parts a b is = (
   ap (λ (c : CsrState). c.mstatus.tsr) is,
 )
 
-stays_if : (o : Option Trap) (P : Type 0) → o ≡ None → IfNone o P → P
+pub stays_if : (o : Option Trap) (P : Type 0) → o ≡ None → IfNone o P → P
 stays_if None P is p = p
 stays_if (Some t) P is p = cc
 

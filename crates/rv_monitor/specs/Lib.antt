@@ -19,3 +19,11 @@ pub mod Integrity
 pub mod Changes
 pub mod Touches
 pub mod Scrambled
+pub mod Entering
+pub mod Records
+pub mod Exits
+pub mod Availability
+pub mod GuestView
+pub mod EnclaveSteps
+pub mod Declassification
+pub mod Attestation

@@ -2,6 +2,9 @@
 //! step are clauses of `MonitoredMachine::step`. The laws here are about the parts of a step, and about steps of the harts in any order.
 
 ghost use Rattle.rv_monitor.specs.AccessControl.{AccessControlLaw};
+ghost use Rattle.rv_monitor.specs.Attestation.{AttestationLaw};
+ghost use Rattle.rv_monitor.specs.Declassification.{DeclassificationLaw, RelationLaw};
+ghost use Rattle.rv_monitor.specs.EnclaveSteps.{EnclaveRunLaw};
 ghost use Rattle.rv_monitor.specs.HandlerReads.{HandlerReadsLaw};
 ghost use Rattle.rv_monitor.specs.Noninterference.{BareLaw, HandlerLaw};
 ghost use Rattle.rv_monitor.specs.HartLaws.{EntryLaw, LowStepsLaw, RunningLaw, SchedChangeLaw, SchedInvariantLaw, SchedLaw, SchedIntegrityLaw};
@@ -82,4 +85,27 @@ pub const fn low_steps_up_to_entry()
 #[tactic(auto, using(crate::proofs::SchedIntegrity::sched_changes))]
 pub const fn any_order_changes()
     ensures { SchedChangeLaw }
+{}
+
+/// States that many steps of an enclave in a row depend only on its record, the bytes of its region and its window, its registers and its timer
+/// line. They are the same in every machine in which these are equal, whatever the host, the other enclaves and the rest of the table are.
+pub const fn enclave_run_depends_on_enclave()
+    ensures { EnclaveRunLaw }
+{}
+
+/// States noninterference with declassification. Let two machines be equivalent except for an enclave, and let it take any number of its own
+/// steps in each, between equal low steps. If it hands over the same at each exit, every low step has the same outcome in both.
+pub const fn noninterference_with_declassification()
+    ensures { DeclassificationLaw }
+{}
+
+/// States how the relation of that law and equivalence except for an enclave follow from each other while the enclave runs on no hart.
+pub const fn equivalent_machines_are_related()
+    ensures { RelationLaw }
+{}
+
+/// States attestation: the measurement identifies what an enclave does. Two enclaves that were created from the same measured bytes take the same
+/// steps from their first entry on, whatever their hosts and the rest of the tables are.
+pub const fn measurement_identifies()
+    ensures { AttestationLaw }
 {}

@@ -263,6 +263,17 @@ impl MonitoredMachine {
     ///   interrupt, and what every trap and return change.
     /// - `reads`: a step that traps depends, in memory, only on the region that create measures. The only saved context that it depends on is
     ///   the one that is entered.
+    /// - `enters`: if an enclave is entered, the hart has exactly its saved context, and the host's is saved. Everything else is as before,
+    ///   except the state in its record, the PMP entries and mie, and what every trap and return change.
+    /// - `records`: region, window, entry and measurement of a live enclave do not change.
+    /// - `exits`: an enclave exits only by its own stop or exit, or by the timer interrupt. Every other exception of it is redirected to its own
+    ///   mode S, and changes nothing else.
+    /// - `enclave_step`: a step of an enclave depends only on its record, its region and window, its registers and its timer line.
+    /// - `timer`: if the timer line of an enclave's hart is set, the step exits to the host, and a destroy of the enclave is not refused then.
+    /// - `destroys`: a destroy of a live enclave that does not run succeeds.
+    /// - `guest_view`: the step reads no counter, and none of mepc, mcause, mtval, MPIE and MPP.
+    /// - `as_created`: a new enclave is Fresh, with its first context and the measurement of its record and region. It stays so until it is
+    ///   entered or destroyed.
     pub fn step(&mut self, hart: u8) -> Outcome
         requires { hart < count_of self.old }
         ensures meaning { step_of hart self.old ≡ record { state = self.new; outcome = result } }

@@ -4,4 +4,5 @@ pub mod ReadBackLemmas
 pub mod RaisedLemmas
 pub mod StatusLemmas
 pub mod MachinePartsLemmas
+pub mod BelowMLemmas
 mod CsrExamples

@@ -14,3 +14,4 @@ pub mod Laws
 pub mod SContexts
 pub mod MachineParts
 pub mod Lending
+pub mod GuestCsrs

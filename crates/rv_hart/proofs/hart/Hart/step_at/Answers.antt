@@ -1,7 +1,10 @@
-use Rattle.rv_hart.specs.StepLaws.{TrapKeeps, KeepsMprvClear, KeepsMachineParts, ChangesStored}
+use Rattle.rv_hart.specs.StepLaws.{TrapKeeps, KeepsMprvClear, KeepsMachineParts, ChangesStored, TakesPending}
+use Rattle.rv_hart.specs.GuestView.{DependsBelowM}
 use Rattle.rv_hart.specs.Confinement.{IsConfined}
 use Rattle.rv_hart.specs.Permitted.{TouchesPermitted}
+use Rattle.rv_hart.proofs.BelowMSteps.{depends_below_m}
 use Rattle.rv_hart.proofs.Confined.{confined}
+use Rattle.rv_hart.proofs.Interrupted.{takes_pending}
 use Rattle.rv_hart.proofs.StepLaws.{after_step, trap_keeps, keeps_mprv_clear, keeps_machine_parts, changes_stored, touches_permitted}
 use Rattle.rv_hart.proofs.hart.Hart.step_at.Goals as goal
 
@@ -15,4 +18,6 @@ returns-clause-laws g c = record {
   memory = after_step ChangesStored changes_stored _ _ c.step_once-outcome.ensures;
   permitted = after_step TouchesPermitted touches_permitted _ _ c.step_once-outcome.ensures;
   confined = after_step IsConfined confined _ _ c.step_once-outcome.ensures;
+  interrupt = after_step TakesPending takes_pending _ _ c.step_once-outcome.ensures;
+  below_m = after_step DependsBelowM depends_below_m _ _ c.step_once-outcome.ensures;
 }

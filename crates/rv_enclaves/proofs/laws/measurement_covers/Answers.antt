@@ -1,0 +1,5 @@
+use Rattle.rv_enclaves.proofs.Measurement.{measurement_law}
+use Rattle.rv_enclaves.proofs.laws.measurement_covers.Goals as goal
+
+pub returns : goal.returns
+returns c = measurement_law

@@ -1,0 +1,24 @@
+-- The input of the measurement determines the region, the window, the entry and every byte of the region. (A law about the definitions. It is
+-- about the input of SHA-256, since a digest of 32 bytes does not determine its input.)
+use Rattle.std.specs.Prelude.{◌≡◌, ℕ, true, not, List, length}
+use Rattle.rv_memory.specs.Memory.{is_ram_size}
+use Rattle.rv_platform.specs.Blocks.{has}
+use Rattle.rv_enclaves.specs.Create.{measured_bytes}
+use Rattle.rv_enclaves.specs.SharedEquivExcept.{EqualOutside}
+use Rattle.rv_enclaves.specs.Table.{IsValidSlot}
+use Rattle.rv_enclaves.specs.declared.create_args.CreateArgs.{CreateArgs}
+use Rattle.rv_enclaves.specs.declared.slot_info.SlotInfo.{SlotInfo}
+
+-- the arguments of create in a record
+abbrev pub args_of : SlotInfo → CreateArgs
+args_of info = record { region = info.region; window = info.window; entry = info.entry }
+
+-- the arguments are equal, and so are the bytes of the region
+pub record SameMeasured (m n : List ℕ) (one other : SlotInfo) : Type 0 where
+  pub args : args_of one ≡ args_of other
+  pub bytes : EqualOutside (λ byte. not (has one.region byte)) m n
+
+abbrev pub MeasurementLaw : Type 0
+MeasurementLaw =
+    (m n : List ℕ) (one other : SlotInfo) → is_ram_size (length m) ≡ true → length m ≡ length n → IsValidSlot m one → IsValidSlot n other
+    → measured_bytes m (args_of one) ≡ measured_bytes n (args_of other) → SameMeasured m n one other

@@ -1,0 +1,46 @@
+-- Two steps of a hart that are equal in everything that software below mode M can read. RISC-V Privileged Architecture 20211203, sections 2.1
+-- (the mode that a number requires) and 3.7 (PMP).
+use Rattle.std.specs.Prelude.{◌≡◌, ℕ, Option, Some, None, Result, Ok, Err, false}
+use Rattle.rv_state.specs.GuestCsrs.{below_m_csrs, guest_csrs}
+use Rattle.rv_state.specs.Interrupts.{is_machine, pending}
+use Rattle.rv_word.specs.declared.width.Width.{Width}
+use Rattle.rv_memory.specs.Accesses.{fetched, loaded, stored}
+use Rattle.rv_memory.specs.declared.access_fault.AccessFault.{AccessFault}
+use Rattle.rv_hart.specs.HartRecord.{Hart}
+use Rattle.rv_hart.specs.Machine.{Machine, Stepped}
+use Rattle.rv_hart.specs.Step.{data_mode, step}
+
+-- the hart with the counters, mepc, mcause, mtval, MPIE and MPP set to 0
+abbrev pub guest_hart : Hart → Hart
+guest_hart hart = record hart { csrs = guest_csrs hart.csrs }
+
+-- the hart with every register of mode M and the PMP entries set to 0
+abbrev pub below_m_hart : Hart → Hart
+below_m_hart hart = record hart { csrs = below_m_csrs hart.csrs }
+
+-- the value of an access that is permitted
+abbrev pub given : {A : Type 0} → Result A AccessFault → Option A
+given (Ok value) = Some value
+given (Err fault) = None
+
+-- the same interrupt is pending, and the PMP entries permit the same accesses, with the same values
+pub record SameAccess (one other : Machine) : Type 0 where
+  pub pending : pending one.hart.csrs one.hart.mode ≡ pending other.hart.csrs other.hart.mode
+  pub fetched : given (fetched one.memory one.hart.csrs.pmp one.hart.mode one.hart.pc)
+      ≡ given (fetched other.memory other.hart.csrs.pmp other.hart.mode other.hart.pc)
+  pub loaded : (address : ℕ) (width : Width) → given (loaded one.memory one.hart.csrs.pmp (data_mode one.hart) address width)
+      ≡ given (loaded other.memory other.hart.csrs.pmp (data_mode other.hart) address width)
+  pub stored : (address : ℕ) (width : Width) (value : ℕ) → given (stored one.memory one.hart.csrs.pmp (data_mode one.hart) address width value)
+      ≡ given (stored other.memory other.hart.csrs.pmp (data_mode other.hart) address width value)
+
+-- the outcomes and the memories are equal; without a trap, so are the harts, except for the registers of mode M
+pub record SameBelowM (one other : Stepped) : Type 0 where
+  pub outcome : one.outcome ≡ other.outcome
+  pub memory : one.state.memory ≡ other.state.memory
+  pub hart : one.outcome.trap ≡ None → below_m_hart one.state.hart ≡ below_m_hart other.state.hart
+
+-- Below mode M, with MPRV 0, a step depends on no register of mode M. It depends on the PMP entries only by what they permit.
+abbrev pub DependsBelowM : Machine → Stepped → Type 0
+DependsBelowM before after =
+    (other : Machine) → is_machine before.hart.mode ≡ false → before.hart.csrs.mstatus.mprv ≡ false → below_m_hart before.hart ≡ below_m_hart other.hart
+    → before.memory ≡ other.memory → SameAccess before other → SameBelowM after (step other)

@@ -1,0 +1,290 @@
+-- An enclave is as created until it is entered, and two enclaves with the same measured bytes start the same run.
+use Rattle.std.proofs.Common.{◌≡◌, ◌<◌, ◌≤◌, ℕ, ◌+◌, Bool, true, false, List, [], length, Option, Some, None, IfSome, refl, sym, ◌∙◌, ap, ap₂, subst, inl, inr, arith}
+use Rattle.std.proofs.lemmas.Bool.{cases_Bool}
+use Rattle.std.specs.Prelude.{is_some, map, not}
+use Rattle.rv_state.specs.CsrState.{at_reset}
+use Rattle.rv_state.specs.GuestCsrs.{below_m_csrs}
+use Rattle.rv_state.specs.declared.cause.Cause.TheVariants as causes
+use Rattle.rv_platform.specs.declared.block.Block.{Block}
+use Rattle.rv_enclaves.specs.Measurement.{args_of}
+use Rattle.rv_enclaves.specs.Table.{is_running, runs}
+use Rattle.rv_enclaves.specs.declared.create_args.CreateArgs.{CreateArgs}
+use Rattle.rv_enclaves.specs.declared.slot_info.EnclaveState.TheVariants.{Fresh}
+use Rattle.rv_enclaves.proofs.EqualMemory.{same_read}
+use Rattle.rv_enclaves.proofs.Measurement.{measurement_law, same_digest, same_measurement, valid_inside}
+use Rattle.rv_monitor.specs.Attestation.{AttestationLaw, IsAsCreated, IsEntry, KeepsAsCreated}
+use Rattle.rv_monitor.specs.EnclaveSteps.{SameEnclave, enclave_view, is_beyond}
+use Rattle.rv_monitor.specs.Entering.{entered_csrs, entered_machine, entered_shared}
+use Rattle.rv_monitor.specs.Integrity.{enters}
+use Rattle.rv_monitor.specs.Prelude.{Context, CsrState, Destroy, Enclave, EnclaveState, EnvironmentCallFromS, EqualOutside, HartState, IsValid, IsValidSlot, Running}
+use Rattle.rv_monitor.specs.Prelude.{Shared, Slots, Trap, byte_at, bytes_of_block, is_inside, context_at, create_args_of, created, destroyed, first_context, has, is_live}
+use Rattle.rv_monitor.specs.Prelude.{measured, new_slot, option_case, ram_base, recorded, region, region_of, running_slot, slot_at, step, with_slot, with_state, write}
+use Rattle.rv_monitor.proofs.Prelude.{Handled, HartInvariant, HartView, Invariant, IsTaken, MayCreate, MonitoredMachine, SlotInfo, at_other, at_same}
+use Rattle.rv_monitor.proofs.Prelude.{bare_machine, both_ways, cases_eq, and_from, confined, enclave_state_after, le-leb, lt-ltb, entered_slot, free_slot_from, get_or-set_at, handled, hart_state_at_start}
+use Rattle.rv_monitor.proofs.Prelude.{hart_state_of, hart_view, left, length-map, live_in_range, reprogrammed, runs_on, step_of, a0}
+use Rattle.rv_monitor.proofs.Beside.{runs_among}
+use Rattle.rv_monitor.proofs.EnclaveMemory.{beyond_again, put_size, state_extent}
+use Rattle.rv_monitor.proofs.EnclaveStays.{index_same}
+use Rattle.rv_monitor.proofs.EnclaveSteps.{enclave_run_law}
+use Rattle.rv_monitor.proofs.Entering.{enter_law}
+use Rattle.rv_monitor.proofs.HandlerCases.{handler_cases}
+use Rattle.rv_monitor.proofs.HartCases.{by_hart, is_trapping}
+use Rattle.rv_monitor.proofs.Integrity.{integrity}
+use Rattle.rv_monitor.proofs.InvariantLemmas.{invariant_law}
+use Rattle.rv_monitor.proofs.Records.{state_keeps}
+use Rattle.rv_monitor.specs.Records.{identity_at, identity_of}
+use Rattle.std.specs.Option.{option_map}
+use Rattle.rv_monitor.proofs.StepInvariant.{step_size}
+use Rattle.rv_monitor.proofs.TrapSteps.{hart_state_after, step_cases}
+
+-- ---- no step changes the size of memory
+
+handled_size : (hart_state : HartState) (shared : Shared) (trap : Trap) → length (handled hart_state shared trap).shared.memory ≡ length shared.memory
+unfolding created destroyed measured entered_slot left
+handled_size hart_state shared trap = handler_cases hart_state trap shared (λ h. length h.shared.memory ≡ length shared.memory) (record {
+  answers = λ status result. refl;
+  creates = λ reads may. refl;
+  destroys = λ reads taken. put_size shared.memory _ _ (write shared.memory _ _) refl;
+  measures = λ reads may. put_size shared.memory _ _ (write shared.memory _ _) refl;
+  enters = λ call reads enters host taken. refl;
+  leaves = refl;
+  forwards = refl;
+})
+
+same_size : (hart : ℕ) (machine : MonitoredMachine) → length (step_of hart machine).state.shared.memory ≡ length machine.shared.memory
+same_size hart machine = by_hart hart machine (λ after. length after.state.shared.memory ≡ length machine.shared.memory) refl (λ has.
+    let state : HartView = hart_view hart machine in
+    step_cases state (λ after. length after.state.shared.memory ≡ length state.shared.memory)
+    (λ none. sym (step_size (bare_machine state) (step (bare_machine state)) (confined (bare_machine state))))
+    (λ trap is. handled_size (hart_state_after state.hart_state trap) state.shared trap))
+
+-- ---- create
+
+some_identity : (o : Option SlotInfo) → is_some (option_map identity_of o) ≡ is_some o
+some_identity None = refl
+some_identity (Some info) = refl
+
+module _ (k : ℕ) (shared : Shared) (valid : IsValid shared.memory shared.table) (contexts : length shared.contexts ≡ 13)
+    (dead : is_live shared.table k ≡ false) where
+  abbrev Created : Handled → Type 0
+  Created h = is_live h.shared.table k ≡ true → IsAsCreated k h.shared
+
+  still_dead : (after : Shared) → is_live after.table k ≡ is_live shared.table k → is_live after.table k ≡ true → IsAsCreated k after
+  still_dead after same live = absurd (both_ways _ dead (sym same ∙ live))
+
+  created_is : (new : CreateArgs) → MayCreate shared new → is_live (created shared new).table k ≡ true → IsAsCreated k (created shared new)
+  unfolding created
+  created_is new may live = elim (cases_eq k (new_slot shared.table)) [
+    | inl same ↦
+        let free = free_slot_from shared.table (new_slot shared.table) may.free in
+        let within = free.in_range in
+        let info = recorded shared.memory new in
+        rw same (record {
+          info = info;
+          is = at_same shared.table (new_slot shared.table) (Some info) (omega (arith, within, valid.count));
+          fresh = refl;
+          context = at_same shared.contexts (new_slot shared.table) (Some (first_context info)) (omega (arith, within, contexts));
+          measurement = refl;
+        })
+    | inr other ↦
+        still_dead (created shared new) (ap (λ (o : Option SlotInfo). is_some o) (at_other shared.table (new_slot shared.table) k _ other)) live
+  ]
+
+  destroyed_is : (j : ℕ) → IsTaken shared.table Destroy j → is_live (destroyed shared j).table k ≡ true → IsAsCreated k (destroyed shared j)
+  unfolding destroyed
+  destroyed_is j taken live = elim (cases_eq k j) [
+    | inl same ↦
+        let there : is_live shared.table j ≡ true = ap (λ (o : Option SlotInfo). is_some o) taken.is in
+        absurd (both_ways _ dead (rw same there))
+    | inr other ↦ still_dead (destroyed shared j) (ap (λ (o : Option SlotInfo). is_some o) (at_other shared.table j k None other)) live
+  ]
+
+  state_dead : (j : ℕ) (state : EnclaveState) (after : Shared) → after.table ≡ with_state shared.table j state → is_live after.table k ≡ true
+      → IsAsCreated k after
+  state_dead j state after table live =
+      let known : is_some (identity_at (with_state shared.table j state) k) ≡ is_some (identity_at shared.table k) =
+      ap (λ (o : Option SlotInfo). is_some o) (state_keeps shared.table k j state valid.count) in
+      still_dead after (ap (λ (t : Slots). is_live t k) table ∙ sym (some_identity (slot_at (with_state shared.table j state) k)) ∙ known
+      ∙ some_identity (slot_at shared.table k)) live
+
+  handled_created : (hart_state : HartState) (trap : Trap) → Created (handled hart_state shared trap)
+  unfolding measured entered_slot left
+  handled_created hart_state trap = handler_cases hart_state trap shared Created (record {
+    answers = λ status result live. still_dead shared refl live;
+    creates = λ reads may live. created_is (create_args_of hart_state.hart.regs) may live;
+    destroys = λ reads taken live. destroyed_is (a0 hart_state) taken live;
+    measures = λ reads may live. still_dead _ refl live;
+    enters = λ call reads enters host taken live. state_dead (a0 hart_state) Running _ refl live;
+    leaves = λ live. state_dead (running_slot hart_state.world) (enclave_state_after trap.cause hart_state.hart.regs) _ refl live;
+    forwards = λ live. still_dead shared refl live;
+  })
+
+-- ---- until it is entered
+
+shown_has : (b : Bool) → not b ≡ false → b ≡ true
+shown_has true is = refl
+shown_has false is = cc
+
+in_block : (block : Block) (byte : ℕ) → block.base ≤ byte → byte < block.base + block.size → not (has block byte) ≡ false
+in_block block byte low high = ap not (and_from _ _ (le-leb block.base byte low) (lt-ltb byte (block.base + block.size) high))
+
+same_block : (m n : List ℕ) (block : Block) → length n ≡ length m → is_inside m block.base block.size ≡ true
+    → ((byte : ℕ) → has block byte ≡ true → byte_at n byte ≡ byte_at m byte) → bytes_of_block m block ≡ bytes_of_block n block
+same_block m n block size inside same =
+    ap (λ (o : Option (List ℕ)). option_case o [] (λ bytes. bytes))
+    (same_read (λ byte. not (has block byte)) m n block.base block.size (record {
+      size = sym size;
+      bytes = λ i shown. index_same m n i (sym size) (same (ram_base + i) (shown_has (has block (ram_base + i)) shown));
+    }) inside (λ byte low high. in_block block byte low high))
+
+module _ (k : ℕ) (machine : MonitoredMachine) (kept : Invariant machine) (is : IsAsCreated k machine.shared) where
+  valid_slot : IsValidSlot machine.shared.memory is.info
+  valid_slot = subst (λ (o : Option SlotInfo). IfSome o (IsValidSlot machine.shared.memory)) is.is (kept.shared.valid.well_formed k)
+
+  runs_nowhere : (hart : ℕ) → runs_on k hart machine ≡ false
+  runs_nowhere hart = elim (cases_Bool (runs_on k hart machine)) [
+    | inr low ↦ low
+    | inl high ↦
+        let running : runs machine.shared.table k ≡ true = kept.shared.running k ∙ runs_among k hart machine high in
+        let idle : runs machine.shared.table k ≡ false =
+        ap (λ (o : Option SlotInfo). option_case o false (λ info. is_running info.state)) is.is ∙ ap is_running is.fresh in
+        absurd (both_ways _ idle running)
+  ]
+
+  stays_as_created : (hart : ℕ) → enters k (step_of hart machine).outcome.entered ≡ false
+      → is_live (step_of hart machine).state.shared.table k ≡ true → IsAsCreated k (step_of hart machine).state.shared
+  stays_as_created hart passes live =
+      let live_before : is_live machine.shared.table k ≡ true = ap (λ (o : Option SlotInfo). is_some o) is.is in
+      let same = (integrity hart machine kept k (runs_nowhere hart) live_before passes live).preserved in
+      let bytes = same_block machine.shared.memory (step_of hart machine).state.shared.memory is.info.region (same_size hart machine)
+      (valid_inside machine.shared.memory is.info.region valid_slot.region)
+      (λ byte own. same.bytes byte (ap (λ (o : Option SlotInfo). has (region_of o) byte) is.is ∙ own)) in
+      record {
+        info = is.info;
+        is = same.slot ∙ is.is;
+        fresh = is.fresh;
+        context = same.context ∙ is.context;
+        measurement = is.measurement ∙ same_measurement machine.shared.memory (step_of hart machine).state.shared.memory (args_of is.info) bytes;
+      }
+
+pub as_created_law : (hart : ℕ) (machine : MonitoredMachine) → Invariant machine → KeepsAsCreated machine (step_of hart machine)
+as_created_law hart machine kept k (inr is) passes live = stays_as_created k machine kept is hart passes live
+as_created_law hart machine kept k (inl dead) passes live =
+    by_hart hart machine (λ after. is_live after.state.shared.table k ≡ true → IsAsCreated k after.state.shared)
+    (λ live_here. absurd (both_ways _ dead live_here)) (λ has.
+    let state : HartView = hart_view hart machine in
+    step_cases state (λ after. is_live after.state.shared.table k ≡ true → IsAsCreated k after.state.shared)
+    (λ none live_here. absurd (both_ways _ dead live_here))
+    (λ trap is. handled_created k state.shared kept.shared.valid kept.shared.contexts.count dead (hart_state_after state.hart_state trap) trap)) live
+
+-- ---- the entry
+
+abbrev plain_csrs : Bool → CsrState
+plain_csrs timer = record at_reset { timer = timer }
+
+abbrev entry_view : CsrState → Slots → ℕ → Context → HartState
+entry_view c slots k context = record {
+  hart = record {
+    regs = context.regs;
+    csrs = below_m_csrs (entered_csrs c slots (record { cause = causes.Exception EnvironmentCallFromS; tval = 0 }) k context);
+    pc = context.pc;
+    mode = context.mode;
+  };
+  host_context = None;
+  world = Enclave k;
+}
+
+plain_entry : (hart_state : HartState) (old slots : Slots) (k : ℕ) (context : Context) → HartInvariant old hart_state
+    → entry_view hart_state.hart.csrs slots k context ≡ entry_view (plain_csrs hart_state.hart.csrs.timer) [] k context
+plain_entry hart_state old slots k context is =
+    let mie = is.layout.mstatus_mie in
+    let mprv = is.layout.mprv in
+    let tvm = is.layout.tvm in
+    let tw = is.layout.tw in
+    let tsr = is.layout.tsr in
+    rw (mie, mprv, tvm, tw, tsr) refl
+
+slot_with : (slots : Slots) (k : ℕ) (o : Option SlotInfo) → length slots ≡ 13 → slot_at slots k ≡ o
+    → slot_at (option_case o slots (λ info. with_slot slots k (Some (record info { state = Running })))) k
+    ≡ option_case o None (λ info. Some (record info { state = Running }))
+slot_with slots k None count is = is
+slot_with slots k (Some info) count is =
+    let within = live_in_range slots k info count is in at_same slots k (Some (record info { state = Running })) (omega (arith, count, within))
+
+module _ (k hart : ℕ) (machine : MonitoredMachine) (context : Context) (kept : Invariant machine) (held : context_at machine.shared.contexts k ≡ Some context)
+    (enters : IsEntry k hart machine) where
+  entered_is : (step_of hart machine).state ≡ entered_machine hart machine k enters.trap context
+  entered_is = (enter_law hart machine kept k context enters.trap enters.host held enters.trapped enters.world).0
+
+  entry_hart_state : enclave_view (hart_state_of hart (step_of hart machine).state) ≡ entry_view (plain_csrs (hart_state_of hart machine).hart.csrs.timer) [] k context
+  entry_hart_state =
+      let slots = (entered_shared machine.shared k).table in
+      let has = (is_trapping hart machine enters.trap enters.trapped).has in
+      let size = length-map machine.hart_states (reprogrammed slots) in
+      ap (λ (m : MonitoredMachine). enclave_view (hart_state_of hart m)) (entered_is)
+      ∙ ap enclave_view (get_or-set_at (map (reprogrammed slots) machine.hart_states) hart hart _ (hart_state_at_start 0) refl (omega (arith, size, has)))
+      ∙ plain_entry (hart_state_of hart machine) machine.shared.table slots k context (kept.hart_states hart has)
+
+  entry_slot : slot_at (step_of hart machine).state.shared.table k
+      ≡ option_case (slot_at machine.shared.table k) None (λ info. Some (record info { state = Running }))
+  entry_slot =
+      ap (λ (m : MonitoredMachine). slot_at m.shared.table k) (entered_is)
+      ∙ slot_with machine.shared.table k (slot_at machine.shared.table k) kept.shared.valid.count refl
+
+same_entry : (k hart : ℕ) (one two : MonitoredMachine) (context : Context) → Invariant one → Invariant two
+    → context_at one.shared.contexts k ≡ Some context → context_at two.shared.contexts k ≡ Some context
+    → slot_at one.shared.table k ≡ slot_at two.shared.table k → EqualOutside (is_beyond one.shared.table k) one.shared.memory two.shared.memory
+    → (hart_state_of hart one).hart.csrs.timer ≡ (hart_state_of hart two).hart.csrs.timer → IsEntry k hart one → IsEntry k hart two
+    → SameEnclave k hart (step_of hart one).state (step_of hart two).state
+same_entry k hart one two context here too held held_too slot memory timer left right =
+    let extent = state_extent one.shared.table k (slot_at one.shared.table k) Running here.shared.valid.count refl in
+    let shared_one = ap (λ (m : MonitoredMachine). m.shared) (entered_is k hart one context here held left) in
+    let shared_two = ap (λ (m : MonitoredMachine). m.shared) (entered_is k hart two context too held_too right) in
+    let bytes : EqualOutside (is_beyond (entered_shared one.shared k).table k) one.shared.memory two.shared.memory = record {
+      size = memory.size;
+      bytes = λ i shown. memory.bytes i (beyond_again k one.shared.table (entered_shared one.shared k).table _ extent shown);
+    } in
+    record {
+      hart_state = entry_hart_state k hart one context here held left
+          ∙ ap (λ (b : Bool). entry_view (plain_csrs b) [] k context) timer
+          ∙ sym (entry_hart_state k hart two context too held_too right);
+      slot = entry_slot k hart one context here held left
+          ∙ ap (λ (o : Option SlotInfo). option_case o None (λ info. Some (record info { state = Running }))) slot
+          ∙ sym (entry_slot k hart two context too held_too right);
+      memory = subst (λ (s : Shared). EqualOutside (is_beyond s.table k) s.memory (step_of hart two).state.shared.memory) (sym shared_one)
+          (subst (λ (s : Shared). EqualOutside (is_beyond (entered_shared one.shared k).table k) one.shared.memory s.memory) (sym shared_two) bytes);
+    }
+
+-- ---- the law
+
+same_info : (one other : SlotInfo) → args_of one ≡ args_of other → one.measurement ≡ other.measurement → one.state ≡ Fresh → other.state ≡ Fresh
+    → one ≡ other
+same_info one other args digest fresh fresh_too =
+    let made : CreateArgs → List ℕ → SlotInfo = λ new digest.
+    record { region = new.region; window = new.window; entry = new.entry; measurement = digest; state = Fresh } in
+    ap (λ (s : EnclaveState). record one { state = s }) fresh ∙ ap₂ made args digest ∙ sym (ap (λ (s : EnclaveState). record other { state = s }) fresh_too)
+
+pub attestation_law : AttestationLaw
+attestation_law k hart count one other here there same equal timer left right high =
+    let a = same.first in
+    let b = same.second in
+    let m = one.shared.memory in
+    let n = other.shared.memory in
+    let measured = measurement_law m n a.info b.info here.shared.valid.ram equal.size (valid_slot k one here a) (valid_slot k other there b) same.input in
+    let digest : a.info.measurement ≡ b.info.measurement =
+    a.measurement ∙ same_digest m n (args_of a.info) (args_of b.info) same.input ∙ sym b.measurement in
+    let info = same_info a.info b.info measured.args digest a.fresh b.fresh in
+    let some : SlotInfo → Option SlotInfo = λ i. Some i in
+    let first : SlotInfo → Option Context = λ i. Some (first_context i) in
+    let memory : EqualOutside (is_beyond one.shared.table k) m n = record {
+      size = equal.size;
+      bytes = λ i shown. elim (cases_Bool (has (region one.shared.table k) (ram_base + i))) [
+        | inl own ↦
+            let own_too : has a.info.region (ram_base + i) ≡ true = ap (λ (o : Option SlotInfo). has (region_of o) (ram_base + i)) (sym a.is) ∙ own in
+            measured.bytes.bytes i (ap not own_too)
+        | inr out ↦ equal.bytes i (rw out at shown)
+      ];
+    } in
+    let entry = same_entry k hart one other (first_context a.info) here there a.context (b.context ∙ ap first (sym info))
+    (a.is ∙ ap some info ∙ sym b.is) memory timer left right in
+    enclave_run_law k hart count (step_of hart one).state (step_of hart other).state (invariant_law hart one here) (invariant_law hart other there) entry high

@@ -1,0 +1,229 @@
+-- Every move keeps two machines related, and every low step of both has equal outcomes.
+use Rattle.std.proofs.Common.{◌≡◌, ℕ, ◌+◌, Bool, true, false, [], ◌∷◌, length, Some, refl, sym, ◌∙◌, ap, subst, inl, inr}
+use Rattle.std.proofs.lemmas.Bool.{cases_Bool}
+use Rattle.std.specs.Prelude.{◌&&◌, ◌||◌, ◌⊎◌, not, slice_index}
+use Rattle.rv_enclaves.specs.Table.{runs, window}
+use Rattle.rv_monitor.specs.Declassification.{AreRelated, Both, DeclassificationLaw, EquivToGuests, ExitsAlike, First, IsInside, IsLowStep}
+use Rattle.rv_monitor.specs.Declassification.{RelationLaw, SameHandover, SameHost, SameHostOn, SameWindow, Second, may_differ}
+use Rattle.rv_monitor.specs.GuestView.{guest_state, guest_view}
+use Rattle.rv_monitor.specs.Prelude.{Contexts, Host, HartState, Outcome, Slots, Trap, World, context_at, has, is_live}
+use Rattle.rv_monitor.specs.Prelude.{is_world_of, ram_base, region}
+use Rattle.rv_monitor.proofs.Prelude.{Invariant, MonitoredMachine, both_ways, cases_eq, hart_state_of, length-map, runs_on, step_of}
+use Rattle.rv_monitor.proofs.Beside.{running_is_live, runs_among}
+use Rattle.rv_monitor.proofs.EnclaveMemory.{world_is}
+use Rattle.rv_monitor.proofs.EnclaveStays.{index_same, one_unchanged}
+use Rattle.rv_monitor.proofs.EquivLemmas.{hart_states_equiv}
+use Rattle.rv_monitor.proofs.GuestEquiv.{back, beside_same, chain, guest_equiv, guest_invariant, guest_step_equiv, hosts_after, rest_of, runs_before, runs_too}
+use Rattle.rv_monitor.proofs.GuestView.{guest_hart_state, guest_step_of}
+use Rattle.rv_monitor.proofs.InvariantLemmas.{invariant_law}
+use Rattle.rv_monitor.proofs.Release.{release}
+
+-- ---- related machines, and machines that are equivalent in the guest view
+
+not_first : (a b : Bool) → (a || b) ≡ false → a ≡ false
+not_first true b is = cc
+not_first false b is = refl
+
+module _ (e : ℕ) (one other : MonitoredMachine) where
+  pub related_equiv : AreRelated e one other → (runs one.shared.table e ≡ true → SameWindow e one other) → EquivToGuests e one other
+  related_equiv related same = record {
+    harts = length-map one.hart_states guest_state ∙ related.harts ∙ sym (length-map other.hart_states guest_state);
+    hart_states = λ j.
+        hart_states_equiv e (hart_state_of j (guest_view one)) (guest_state (hart_state_of j one)) (hart_state_of j (guest_view other))
+        (guest_state (hart_state_of j other)) (guest_hart_state j one) (guest_hart_state j other) (related.hart_states j);
+    shared = record {
+      table = related.table;
+      memory = record { size = related.memory.size; bytes = bytes };
+      contexts = related.contexts;
+      gone = related.gone;
+    };
+  } where
+    bytes : (i : ℕ) → has (region one.shared.table e) (ram_base + i) ≡ false → slice_index one.shared.memory i ≡ slice_index other.shared.memory i
+    bytes i own = elim (cases_Bool (runs one.shared.table e)) [
+      | inr idle ↦ related.memory.bytes i (rw (own, idle) refl)
+      | inl running ↦ elim (cases_Bool (has (window one.shared.table e) (ram_base + i))) [
+        | inl within ↦ (same running).bytes i (ap not within)
+        | inr beyond ↦ related.memory.bytes i (rw (own, running, beyond) refl)
+      ]
+    ]
+
+  equiv_related : EquivToGuests e one other → ((hart : ℕ) → runs_on e hart one ≡ true → SameHostOn hart one other) → AreRelated e one other
+  equiv_related equiv hosts = record {
+    harts = sym (length-map one.hart_states guest_state) ∙ equiv.harts ∙ length-map other.hart_states guest_state;
+    hart_states = λ j.
+        hart_states_equiv e (guest_state (hart_state_of j one)) (hart_state_of j (guest_view one)) (guest_state (hart_state_of j other))
+        (hart_state_of j (guest_view other)) (sym (guest_hart_state j one)) (sym (guest_hart_state j other)) (equiv.hart_states j);
+    hosts = hosts;
+    table = equiv.shared.table;
+    memory = record {
+      size = equiv.shared.memory.size;
+      bytes = λ i shown. equiv.shared.memory.bytes i (not_first (has (region one.shared.table e) (ram_base + i)) _ shown);
+    };
+    contexts = equiv.shared.contexts;
+    gone = equiv.shared.gone;
+  }
+
+  swapped : AreRelated e one other → AreRelated e other one
+  swapped related = record {
+    harts = sym related.harts;
+    hart_states = λ j.
+        let both = related.hart_states j in
+        record { world = sym both.world; same = λ low. sym (both.same (ap (is_world_of e) both.world ∙ low)) };
+    hosts = λ j runs_other.
+        let both = related.hosts j (ap (is_world_of e) (related.hart_states j).world ∙ runs_other) in
+        record { host = sym both.host; rest = sym both.rest };
+    table = sym related.table;
+    memory = record {
+      size = sym related.memory.size;
+      bytes = λ i shown. sym (related.memory.bytes i (ap (λ (t : Slots). may_differ t e (ram_base + i)) related.table ∙ shown));
+    };
+    contexts = record { size = sym related.contexts.size; others = λ k apart. sym (related.contexts.others k apart) };
+    gone = λ dead. sym (related.gone (ap (λ (t : Slots). is_live t e) related.table ∙ dead));
+  }
+
+pub relation_law : RelationLaw
+relation_law = record {
+  guests = guest_equiv;
+  begins = λ e one other equiv nowhere. equiv_related e one other equiv (λ hart runs_here. absurd (both_ways _ (nowhere hart) runs_here));
+  ends = λ e one other related idle. related_equiv e one other related (λ running. absurd (both_ways _ idle running));
+}
+
+-- ---- a step of the enclave in one machine
+
+beyond_by : (a b c : Bool) → b ≡ true → (a || (b && c)) ≡ false → not (a || c) ≡ true
+beyond_by false true false running shown = refl
+beyond_by false true true running shown = cc
+beyond_by true b c running shown = cc
+beyond_by a false c running shown = cc
+
+module _ (e hart : ℕ) (one other : MonitoredMachine) (here : Invariant one) (related : AreRelated e one other) (inside : IsInside e hart one) where
+  abbrev after : MonitoredMachine
+  after = (step_of hart one).state
+
+  step_inside : AreRelated e after other
+  step_inside =
+      let u = one_unchanged e hart one here inside.before inside.after in
+      record {
+        harts = sym u.harts ∙ related.harts;
+        hart_states = λ j. elim (cases_eq j hart) [
+          | inl at ↦ rw at (record {
+            world = world_is e (hart_state_of hart after).world inside.after ∙ sym (world_is e (hart_state_of hart one).world inside.before)
+                ∙ (related.hart_states hart).world;
+            same = λ low. absurd (both_ways _ low inside.after);
+          })
+          | inr apart ↦
+              hart_states_equiv e (guest_state (hart_state_of j after)) (guest_state (hart_state_of j one)) (guest_state (hart_state_of j other))
+              (guest_state (hart_state_of j other)) (ap guest_state (sym (u.others j apart))) refl (related.hart_states j)
+        ];
+        hosts = λ j runs_there. elim (cases_eq j hart) [
+          | inl at ↦
+              let both = related.hosts hart inside.before in
+              rw at (record { host = sym u.behind.host ∙ both.host; rest = sym u.behind.rest ∙ both.rest })
+          | inr apart ↦
+              let both = related.hosts j (ap (λ (s : HartState). is_world_of e s.world) (u.others j apart) ∙ runs_there) in
+              record {
+                host = ap (λ (s : HartState). s.host_context) (sym (u.others j apart)) ∙ both.host;
+                rest = ap rest_of (sym (u.others j apart)) ∙ both.rest;
+              }
+        ];
+        table = sym u.table ∙ related.table;
+        memory = record {
+          size = sym u.size ∙ related.memory.size;
+          bytes = λ i shown.
+              let shown_before = ap (λ (t : Slots). may_differ t e (ram_base + i)) u.table ∙ shown in
+              let running = here.shared.running e ∙ runs_among e hart one inside.before in
+              let beyond = beyond_by (has (region one.shared.table e) (ram_base + i)) (runs one.shared.table e)
+              (has (window one.shared.table e) (ram_base + i)) running shown_before in
+              sym (index_same one.shared.memory after.shared.memory i u.size (u.bytes (ram_base + i) beyond)) ∙ related.memory.bytes i shown_before;
+        };
+        contexts = record {
+          size = ap (λ (c : Contexts). length c) (sym u.contexts) ∙ related.contexts.size;
+          others = λ k apart. ap (λ (c : Contexts). context_at c k) (sym u.contexts) ∙ related.contexts.others k apart;
+        };
+        gone = λ dead. absurd (both_ways _ dead (running_is_live e hart after (invariant_law hart one here) inside.after));
+      }
+
+-- ---- a step of both
+
+module _ (e hart : ℕ) (one other : MonitoredMachine) (here : Invariant one) (there : Invariant other) (related : AreRelated e one other) where
+  abbrev Outcomes : Type 0
+  Outcomes = runs_on e hart one ≡ false → (step_of hart one).outcome ≡ (step_of hart other).outcome
+
+  abbrev Related : Type 0
+  Related = AreRelated e (step_of hart one).state (step_of hart other).state
+
+  low_step : IsLowStep e hart one other → Outcomes × Related
+  low_step is =
+      let equiv = related_equiv e one other related is.window in
+      let step = guest_step_equiv e hart one other here there equiv is.low in (
+        λ low. step.outcome,
+        equiv_related e (step_of hart one).state (step_of hart other).state step.state
+            (hosts_after e hart one other here there equiv related.hosts is.low),
+      )
+
+  world_after : (machine : MonitoredMachine) → Invariant machine → (hart_state_of hart (step_of hart machine).state).world ≡ Host
+      → (hart_state_of hart (step_of hart (guest_view machine)).state).world ≡ Host
+  world_after machine kept exits =
+      let of : MonitoredMachine → World = λ m. (hart_state_of hart m).world in
+      let world : HartState → World = λ s. s.world in
+      sym (ap world (guest_hart_state hart (step_of hart (guest_view machine)).state)) ∙ sym (ap of (guest_step_of hart machine kept).state)
+      ∙ ap world (guest_hart_state hart (step_of hart machine).state) ∙ exits
+
+  trap_too : (machine : MonitoredMachine) (trap : Trap) → Invariant machine → (step_of hart machine).outcome.step.trap ≡ Some trap
+      → (step_of hart (guest_view machine)).outcome.step.trap ≡ Some trap
+  trap_too machine trap kept is = sym (ap (λ (o : Outcome). o.step.trap) (guest_step_of hart machine kept).outcome) ∙ is
+
+  exit_equiv : ExitsAlike e hart one other → EquivToGuests e (step_of hart one).state (step_of hart other).state
+  exit_equiv is =
+      let a = guest_view one in
+      let b = guest_view other in
+      let equiv = related_equiv e one other related (λ running. is.window) in
+      let host : SameHost (hart_state_of hart a) (hart_state_of hart b) =
+      subst (λ (s : HartState). SameHost s (hart_state_of hart b)) (sym (guest_hart_state hart one))
+      (subst (SameHost (guest_state (hart_state_of hart one))) (sym (guest_hart_state hart other)) (related.hosts hart is.runs)) in
+      let handover : SameHandover (hart_state_of hart a).hart (hart_state_of hart b).hart =
+      subst (λ (s : HartState). SameHandover s.hart (hart_state_of hart b).hart) (sym (guest_hart_state hart one))
+      (subst (λ (s : HartState). SameHandover (guest_state (hart_state_of hart one)).hart s.hart) (sym (guest_hart_state hart other))
+      (record { a0 = is.handover.a0; a6 = is.handover.a6 })) in
+      back e hart one other here there
+      (release e hart a b is.trap (guest_invariant one here) (guest_invariant other there) equiv (runs_too e hart one ∙ is.runs) host handover
+      (trap_too one is.trap here is.first) (trap_too other is.trap there is.second) (world_after one here is.first_exits)
+      (world_after other there is.second_exits))
+
+  exit_step : ExitsAlike e hart one other → Outcomes × Related
+  exit_step is = (
+    λ low. absurd (both_ways _ low is.runs),
+    equiv_related e (step_of hart one).state (step_of hart other).state (exit_equiv is)
+        (λ j still. elim (cases_eq j hart) [
+          | inl at ↦
+              let gone : runs_on e hart (step_of hart one).state ≡ false = ap (is_world_of e) is.first_exits in
+              let still_here : runs_on e hart (step_of hart one).state ≡ true = ap (λ (i : ℕ). runs_on e i (step_of hart one).state) (sym at) ∙ still in
+              absurd (both_ways _ gone still_here)
+          | inr apart ↦
+              chain j (step_of hart one).state one other (step_of hart other).state (beside_same hart j one apart)
+              (related.hosts j (runs_before e hart j one apart still)) (beside_same hart j other apart)
+        ]),
+  )
+
+  both_step : IsLowStep e hart one other ⊎ ExitsAlike e hart one other → Outcomes × Related
+  both_step (inl is) = low_step is
+  both_step (inr is) = exit_step is
+
+-- ---- all moves
+
+pub declassification_law : DeclassificationLaw
+declassification_law e [] one other here there related moves = record { outcomes = tt; state = related }
+declassification_law e (First hart ∷ more) one other here there related moves =
+    let rest = declassification_law e more (step_of hart one).state other (invariant_law hart one here) there
+    (step_inside e hart one other here related moves.0) moves.1 in
+    record { outcomes = rest.outcomes; state = rest.state }
+declassification_law e (Second hart ∷ more) one other here there related moves =
+    let after = (step_of hart other).state in
+    let rest = declassification_law e more one after here (invariant_law hart other there)
+    (swapped e after one (step_inside e hart other one there (swapped e one other related) moves.0)) moves.1 in
+    record { outcomes = rest.outcomes; state = rest.state }
+declassification_law e (Both hart ∷ more) one other here there related moves =
+    let step = both_step e hart one other here there related moves.0 in
+    let rest = declassification_law e more (step_of hart one).state (step_of hart other).state (invariant_law hart one here) (invariant_law hart other there)
+    step.1 moves.1 in
+    record { outcomes = (step.0, rest.outcomes); state = rest.state }

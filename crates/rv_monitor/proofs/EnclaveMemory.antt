@@ -1,0 +1,248 @@
+-- A step of an enclave over two memories that have equal bytes in its region and its window, with equal tables.
+use Rattle.std.proofs.Common.{◌≡◌, ℕ, Bool, true, false, List, length, Option, Some, None, refl, sym, ◌∙◌, ap, ap₂, subst, inl, inr, arith}
+use Rattle.std.proofs.lemmas.Bool.{eqb-true, or_cases, or_right}
+use Rattle.std.specs.Prelude.{◌||◌, ◌⊎◌, not}
+use Rattle.std.specs.List.{list_all}
+use Rattle.rv_pmp.proofs.VerdictLemmas.{each_from_all}
+use Rattle.rv_memory.proofs.MemoryLaws.{length-write}
+use Rattle.rv_memory.specs.declared.touched.Touched.{Touched}
+use Rattle.rv_platform.specs.declared.block.Block.{Block}
+use Rattle.rv_enclaves.proofs.EqualMemory.{IsSeen, same_read, same_write}
+use Rattle.rv_enclaves.specs.Table.{region_of, window, window_of}
+use Rattle.rv_monitor.specs.Prelude.{Access, EqualOutside, Call, Cause, Create, Destroy, Enclave, EnclaveState, Fetch, Hart, Host, Mode, Outcome, Read}
+use Rattle.rv_monitor.specs.Prelude.{HartState, Shared, Slots, Span, Machine, StepOutcome, Stepped, Trap, World, Write, requested_call, bytes_from, bytes_in}
+use Rattle.rv_monitor.specs.Prelude.{context_at, data_mode, has, is_accessible, is_host, is_machine, is_offered, is_world_of, measured}
+use Rattle.rv_monitor.specs.Prelude.{option_case, region, running_slot, slot_at, step, with_slot, write}
+use Rattle.rv_monitor.specs.EnclaveSteps.{is_beyond}
+use Rattle.rv_monitor.specs.declared.next.Next.{Next}
+use Rattle.rv_monitor.proofs.Prelude.{EqualOn, Handled, HartViewInvariant, MayTouch, MayTouchAll, HartView, HartViewStepped}
+use Rattle.rv_monitor.proofs.Prelude.{SameRead, SameIn, SlotInfo, StepAlike, Stores, at_same, requested_by, bare_machine, confined}
+use Rattle.rv_monitor.proofs.Prelude.{enclave_state_after, handled, is_call, is_entering, left, live_in_range, monitored_step, returned}
+use Rattle.rv_monitor.proofs.Prelude.{returned_to, touches_permitted, unhandled}
+use Rattle.rv_monitor.proofs.HandlerReads.{handler_reads_law}
+use Rattle.rv_monitor.proofs.AccessControlLemmas.{below_M, data_below, access_control_law}
+use Rattle.rv_monitor.proofs.HandlerCases.{asked-is, handler_cases, entered-by-host}
+
+-- two shared states with the same table, the same context of slot k, and the same bytes in its region and its window
+pub record SharedFor (k : ℕ) (one other : Shared) : Type 0 where
+  pub table : one.table ≡ other.table
+  pub memory : EqualOutside (is_beyond one.table k) one.memory other.memory
+  pub context : context_at one.contexts k ≡ context_at other.contexts k
+
+-- ---- what is accessible to it is in its region or its window
+
+own_reach : (memory : List ℕ) (t : Slots) (k : ℕ) (access : Access) (bytes : List ℕ) → is_accessible memory t (Enclave k) access bytes ≡ true
+    → (list_all (has (region t k)) bytes ≡ true) ⊎ (list_all (has (window t k)) bytes ≡ true)
+unfolding is_accessible
+own_reach memory t k Fetch bytes reached = elim (or_cases _ _ reached) [ inl all ↦ inl all | inr none ↦ cc ]
+own_reach memory t k Read bytes reached = elim (or_cases _ _ reached) [
+  | inl all ↦ inl all
+  | inr outer ↦ elim (or_cases _ _ outer) [ inl all ↦ inr all | inr none ↦ cc ]
+]
+own_reach memory t k Write bytes reached = elim (or_cases _ _ reached) [
+  | inl all ↦ inl all
+  | inr outer ↦ elim (or_cases _ _ outer) [ inl all ↦ inr all | inr none ↦ cc ]
+]
+
+shown_first : (a b : Bool) → a ≡ true → not (a || b) ≡ false
+shown_first a b is = rw is refl
+
+shown_second : (a b : Bool) → b ≡ true → not (a || b) ≡ false
+shown_second a b is = let e : (a || b) ≡ true = or_right a b is in rw e refl
+
+pub own_seen : (memory : List ℕ) (t : Slots) (k : ℕ) (access : Access) (a n : ℕ) → is_accessible memory t (Enclave k) access (bytes_from a n) ≡ true
+    → IsSeen (is_beyond t k) a n
+own_seen memory t k access a n reached b low high = elim (own_reach memory t k access (bytes_from a n) reached) [
+  | inl all ↦ shown_first (has (region t k) b) (has (window t k) b) (each_from_all (has (region t k)) a n all b low high)
+  | inr all ↦ shown_second (has (region t k) b) (has (window t k) b) (each_from_all (has (window t k)) a n all b low high)
+]
+
+-- ---- the bare step
+
+module _ (k : ℕ) (state : HartView) (kept : HartViewInvariant state) (runs : state.hart_state.world ≡ Enclave k) where
+  abbrev before : Machine
+  before = bare_machine state
+
+  abbrev hidden : ℕ → Bool
+  hidden = is_beyond state.shared.table k
+
+  seen : (mode : Mode) (access : Access) (span : Span) → is_machine mode ≡ false → MayTouch before mode access (Some span)
+      → IsSeen hidden span.addr (bytes_in span.len)
+  seen mode access span below may =
+      let reached = sym (access_control_law state mode access span.addr span.len kept (below_M mode below) may.0) ∙ may.1 in
+      own_seen state.shared.memory state.shared.table k access span.addr (bytes_in span.len)
+      (subst (λ (w : World). is_accessible state.shared.memory state.shared.table w access (bytes_from span.addr (bytes_in span.len)) ≡ true) runs reached)
+
+  same_in : (mode : Mode) (access : Access) (touched : Option Span) (n : List ℕ) → is_machine mode ≡ false → MayTouch before mode access touched
+      → EqualOutside hidden before.memory n → SameIn before.memory n touched
+  same_in mode access None n below may agree = tt
+  same_in mode access (Some span) n below may agree =
+      same_read hidden before.memory n span.addr (bytes_in span.len) agree may.0 (seen mode access span below may)
+
+  agree_on : (touched : Touched) (n : List ℕ) → MayTouchAll before touched → EqualOutside hidden before.memory n → EqualOn before.memory n touched
+  agree_on touched n may agree = record {
+    size = agree.size;
+    fetched = same_in before.hart.mode Fetch touched.fetched n kept.hart.layout.mode may.fetched agree;
+    loaded = same_in (data_mode before.hart) Read touched.loaded n (data_below state kept) may.loaded agree;
+  }
+
+  same_stores : (stored : Option Span) (n bytes one two : List ℕ) → EqualOutside hidden before.memory n → Stores bytes before.memory one stored
+      → Stores bytes n two stored
+      → EqualOutside hidden one two
+  same_stores None n bytes one two agree here there = rw (here, there) agree
+  same_stores (Some span) n bytes one two agree here there = same_write hidden before.memory n span.addr bytes one two agree here.1 there.1
+
+  memory_step : (n : List ℕ) → EqualOutside hidden before.memory n → StepAlike hidden (step before) (step (record before { memory = n }))
+  memory_step n agree =
+      let after = step before in
+      let is = confined before in
+      let alike = is.alike n (agree_on after.outcome.touched n (touches_permitted before) agree) in
+      record {
+        hart = alike.hart;
+        outcome = alike.outcome;
+        memory =
+            same_stores after.outcome.touched.stored n is.bytes after.state.memory
+            (step (record before { memory = n })).state.memory agree alike.here alike.there;
+      }
+
+-- ---- the trap handler
+
+pub not_host : (P : Type 0) (k : ℕ) (world : World) → world ≡ Enclave k → world ≡ Host → P
+not_host P k world runs host = let never : Host ≡ Enclave k = sym host ∙ runs in cc
+
+asked_offered : (cause : Cause) (hart_state : HartState) (b : Bool) (call : Call) → is_call cause ≡ b → requested_by cause hart_state ≡ Some call
+    → is_offered hart_state.world call ≡ true
+asked_offered cause hart_state true call is asked =
+    let reads : requested_call hart_state.world hart_state.hart.regs ≡ Some call = rw is at asked in (asked-is hart_state.world hart_state.hart.regs call reads).1
+asked_offered cause hart_state false call is asked = let never : None ≡ Some call = rw is at asked in cc
+
+pub no_create : (P : Type 0) (k : ℕ) (world : World) → world ≡ Enclave k → is_offered world Create ≡ true → P
+no_create P k world runs offered = let never : false ≡ true = rw runs at offered in cc
+
+pub no_destroy : (P : Type 0) (k : ℕ) (world : World) → world ≡ Enclave k → is_offered world Destroy ≡ true → P
+no_destroy P k world runs offered = let never : false ≡ true = rw runs at offered in cc
+
+no_entering : (P : Type 0) (k : ℕ) (cause : Cause) (hart_state : HartState) (o : Option Call) → hart_state.world ≡ Enclave k → requested_by cause hart_state ≡ o
+    → is_entering o ≡ true → P
+no_entering P k cause hart_state None runs asked enters = cc
+no_entering P k cause hart_state (Some call) runs asked enters =
+    not_host P k hart_state.world runs
+    (entered-by-host hart_state.world call enters (asked_offered cause hart_state (is_call cause) call refl asked))
+
+pub record KeepsExtent (k : ℕ) (before after : Slots) : Type 0 where
+  pub region : region after k ≡ region before k
+  pub window : window after k ≡ window before k
+
+pub state_extent : (slots : Slots) (k : ℕ) (o : Option SlotInfo) (state : EnclaveState) → length slots ≡ 13 → slot_at slots k ≡ o
+    → KeepsExtent k slots (option_case o slots (λ info. with_slot slots k (Some (record info { state = state }))))
+state_extent slots k None state count is = record { region = refl; window = refl }
+state_extent slots k (Some info) state count is =
+    let within = live_in_range slots k info count is in
+    let there = at_same slots k (Some (record info { state = state })) (omega (arith, count, within)) in
+    record { region = ap region_of there ∙ sym (ap region_of is); window = ap window_of there ∙ sym (ap window_of is) }
+
+pub put_size : (m : List ℕ) (address : ℕ) (bytes : List ℕ) (o : Option (List ℕ)) → write m address bytes ≡ o
+    → length (option_case o m (λ after. after)) ≡ length m
+put_size m address bytes None is = refl
+put_size m address bytes (Some after) is = length-write m address bytes after is
+
+module _ (k : ℕ) (hart_state : HartState) (runs : hart_state.world ≡ Enclave k) (trap : Trap) where
+  module _ (shared : Shared) (count : length shared.table ≡ 13) where
+    abbrev Keeps : Handled → Type 0
+    Keeps h = KeepsExtent k shared.table h.shared.table × (length h.shared.memory ≡ length shared.memory)
+
+    pub handled_keeps : Keeps (handled hart_state shared trap)
+    unfolding measured left
+    handled_keeps = handler_cases hart_state trap shared Keeps (record {
+      answers = λ status result. (record { region = refl; window = refl }, refl);
+      creates = λ reads may. no_create _ k hart_state.world runs (asked-is hart_state.world hart_state.hart.regs Create reads.asked).1;
+      destroys = λ reads taken. no_destroy _ k hart_state.world runs (asked-is hart_state.world hart_state.hart.regs Destroy reads.asked).1;
+      measures = λ reads may. (record { region = refl; window = refl }, put_size shared.memory _ _ (write shared.memory _ _) refl);
+      enters = λ call reads enters host taken. not_host _ k hart_state.world runs host;
+      leaves =
+          let own : running_slot hart_state.world ≡ k = rw runs refl in
+          rw own (state_extent shared.table k (slot_at shared.table k) (enclave_state_after trap.cause hart_state.hart.regs) count refl, refl);
+      forwards = (record { region = refl; window = refl }, refl);
+    })
+
+  handled_asked : (one other : Shared) → length one.contexts ≡ length other.contexts → SharedFor k one other
+      → SameRead hart_state trap.cause one other
+  handled_asked one other slots same = record {
+    table = same.table;
+    size = same.memory.size;
+    slots = slots;
+    measured = λ asked. no_create _ k hart_state.world runs (asked_offered trap.cause hart_state (is_call trap.cause) Create refl asked);
+    entered = λ enters. no_entering _ k trap.cause hart_state (requested_by trap.cause hart_state) runs refl enters;
+  }
+
+-- ---- the step
+
+pub record OwnAlike (k : ℕ) (one other : HartViewStepped) : Type 0 where
+  pub outcome : one.outcome ≡ other.outcome
+  pub hart_state : one.state.hart_state ≡ other.state.hart_state
+  pub shared : SharedFor k one.state.shared other.state.shared
+
+pub beyond_again : (k : ℕ) (before after : Slots) (b : ℕ) → KeepsExtent k before after → is_beyond after k b ≡ false → is_beyond before k b ≡ false
+beyond_again k old new b keeps shown =
+    ap₂ (λ (r w : Block). not (has r b || has w b)) (sym keeps.region) (sym keeps.window) ∙ shown
+
+trapped_own : (k : ℕ) (outcome : StepOutcome) (o : Option Trap) (hart_state : HartState) (one other : Shared) → hart_state.world ≡ Enclave k
+    → length one.table ≡ 13 → length one.contexts ≡ length other.contexts → SharedFor k one other
+    → OwnAlike k (option_case o (unhandled outcome hart_state one) (λ trap. returned outcome (handled hart_state one trap)))
+    (option_case o (unhandled outcome hart_state other) (λ trap. returned outcome (handled hart_state other trap)))
+trapped_own k outcome None hart_state one other runs count slots same = record { outcome = refl; hart_state = refl; shared = same }
+trapped_own k outcome (Some trap) hart_state one other runs count slots same =
+    let work = handler_reads_law hart_state trap one other (handled_asked k hart_state runs trap one other slots same) in
+    let here = handled_keeps k hart_state runs trap one count in
+    let there = handled_keeps k hart_state runs trap other (ap (λ (t : Slots). length t) (sym same.table) ∙ count) in
+    let back : HartState → Next → HartState = λ hart_state next. record hart_state { hart = returned_to hart_state.hart next.pc next.mode } in
+    let shows : Next → Outcome = λ next. record { step = outcome; entered = next.entered } in
+    record {
+      outcome = ap shows work.next;
+      hart_state = ap₂ back work.hart_state work.next;
+      shared = record {
+        table = work.shared.table;
+        memory = record {
+          size = here.1 ∙ same.memory.size ∙ sym there.1;
+          bytes = λ i shown. work.shared.bytes i (same.memory.bytes i (beyond_again k one.table _ _ here.0 shown));
+        };
+        context = work.shared.contexts k same.context;
+      };
+    }
+
+abbrev on : HartState → Shared → HartView
+on hart_state shared = record { hart_state = hart_state; shared = shared }
+
+abbrev stepped : HartState → Shared → Stepped
+stepped hart_state shared = step (record { hart = hart_state.hart; memory = shared.memory })
+
+abbrev stored : HartState → Shared → Shared
+stored hart_state shared = record shared { memory = (stepped hart_state shared).state.memory }
+
+abbrev after_bare : StepOutcome → HartState → Shared → HartViewStepped
+after_bare outcome hart_state shared =
+    option_case outcome.trap (unhandled outcome hart_state shared) (λ trap. returned outcome (handled hart_state shared trap))
+
+pub step_own : (k : ℕ) (hart_state : HartState) (one other : Shared) → HartViewInvariant (on hart_state one) → hart_state.world ≡ Enclave k
+    → length one.contexts ≡ length other.contexts → SharedFor k one other
+    → OwnAlike k (monitored_step (on hart_state one)) (monitored_step (on hart_state other))
+unfolding monitored_step
+step_own k hart_state one other kept runs slots same =
+    let a = stepped hart_state one in
+    let b = stepped hart_state other in
+    let alike = memory_step k (on hart_state one) kept runs other.memory same.memory in
+    let shared : SharedFor k (stored hart_state one) (stored hart_state other) = record { table = same.table; memory = alike.memory; context = same.context } in
+    let base = trapped_own k a.outcome a.outcome.trap (record hart_state { hart = a.state.hart }) (stored hart_state one) (stored hart_state other) runs
+    kept.valid.count slots shared in
+    let P : Hart → StepOutcome → Type 0 = λ hart outcome. OwnAlike k
+    (after_bare a.outcome (record hart_state { hart = a.state.hart }) (stored hart_state one))
+    (after_bare outcome (record hart_state { hart = hart }) (stored hart_state other)) in
+    subst (λ hart. P hart b.outcome) (sym alike.hart) (subst (λ outcome. P a.state.hart outcome) (sym alike.outcome) base)
+
+pub world_is : (k : ℕ) (world : World) → is_world_of k world ≡ true → world ≡ Enclave k
+world_is k Host own = cc
+world_is k (Enclave j) own = ap Enclave (eqb-true j k own)
+
+pub not_host_by : (k : ℕ) (world : World) → is_world_of k world ≡ true → is_host world ≡ false
+not_host_by k Host is = cc
+not_host_by k (Enclave j) is = refl

@@ -1,0 +1,180 @@
+-- An enclave exits only by stop or exit, or by the timer interrupt. Every other exception is redirected to its own mode S.
+use Rattle.std.proofs.Common.{◌≡◌, ◌<◌, ℕ, Bool, true, false, List, slice_set, Option, Some, None, refl, sym, ◌∙◌, ap, subst, arith}
+use Rattle.std.proofs.Math.Bool.{or-false}
+use Rattle.std.specs.Prelude.{◌&&◌, if◌then◌else◌}
+use Rattle.rv_state.specs.declared.cause.Cause.TheVariants as causes
+use Rattle.rv_state.specs.Interrupts.{mip_word, pending}
+use Rattle.rv_state.proofs.RaisedLemmas.{timer_part}
+use Rattle.rv_state.specs.declared.cause.Interrupt.{Interrupt}
+use Rattle.rv_state.specs.declared.cause.Interrupt.TheVariants.{MachineExternal, MachineSoftware, MachineTimer, SupervisorExternal, SupervisorSoftware}
+use Rattle.rv_state.specs.declared.cause.Interrupt.TheVariants.{SupervisorTimer}
+use Rattle.rv_hart.proofs.Interrupted.{takes_pending}
+use Rattle.rv_monitor.specs.Exits.{ExitsOnRequest, is_exit_call, redirected_hart, is_redirected, causes_exit}
+use Rattle.rv_monitor.specs.Prelude.{Call, Cause, Create, Destroy, Enclave, EnvironmentCallFromS, Exception, Exit, Measure, Outcome, Refusal, Resume}
+use Rattle.rv_monitor.specs.Prelude.{Run, HartState, Shared, StepOutcome, Stop, Trap, World, aligned_to_4, requested_call, first_refusal, is_host, is_offered}
+use Rattle.rv_monitor.specs.Prelude.{NotSupported, is_machine, is_set, is_world_of, mie_of, option_case, step, CsrState, Mode}
+use Rattle.rv_monitor.proofs.Prelude.{HartViewInvariant, Invariant, MonitoredMachine, HartView, HartViewStepped, bare_machine, call_handled, call_refusals, called, count_of}
+use Rattle.rv_monitor.proofs.Prelude.{eq-eqb, forwarded, forwarded_csrs, handled, handled_cause, left, monitored_step, performed, refused, returned, hart_view}
+use Rattle.rv_monitor.proofs.Prelude.{hart_state_of, step_of, timer_stopped, with_reprogrammed_hart}
+use Rattle.rv_monitor.proofs.Beside.{runs_inside}
+use Rattle.rv_monitor.proofs.InvariantLemmas.{hart_view_invariant}
+use Rattle.rv_monitor.proofs.PmpProgramming.{all_as_are}
+use Rattle.rv_monitor.proofs.HartCases.{is_trapping, programmed_by, step_seen}
+use Rattle.rv_monitor.proofs.TrapSteps.{step_cases, same_outcome, hart_state_after, trapped_step}
+use Rattle.rv_monitor.proofs.HandlerCases.{asked-is}
+
+-- ---- the world after the trap handler
+
+module _ (k : ℕ) (hart_state : HartState) (shared : Shared) (runs : hart_state.world ≡ Enclave k) where
+  by_rows : (o : Option Refusal) (call : Call) → is_host (option_case o (performed hart_state shared Measure) (refused hart_state shared)).hart_state.world ≡ false
+  unfolding performed
+  by_rows None call = ap is_host runs
+  by_rows (Some refusal) call = ap is_host runs
+
+  not_offered : (P : Type 0) (call : Call) → is_offered (Enclave k) call ≡ false → is_offered hart_state.world call ≡ true → P
+  not_offered P call never offered =
+      let here : is_offered (Enclave k) call ≡ true = sym (ap (λ (w : World). is_offered w call) runs) ∙ offered in
+      let no : false ≡ true = sym never ∙ here in
+      cc
+
+  by_call : (call : Call) → is_offered hart_state.world call ≡ true → is_host (called hart_state shared call).hart_state.world ≡ is_exit_call (Some call)
+  unfolding called performed left
+  by_call Stop offered = refl
+  by_call Exit offered = refl
+  by_call Measure offered = by_rows (first_refusal (call_refusals hart_state shared Measure)) Measure
+  by_call Create offered = not_offered _ Create refl offered
+  by_call Destroy offered = not_offered _ Destroy refl offered
+  by_call Run offered = not_offered _ Run refl offered
+  by_call Resume offered = not_offered _ Resume refl offered
+
+  by_asked : (o : Option Call) → requested_call hart_state.world hart_state.hart.regs ≡ o
+      → is_host (option_case o (refused hart_state shared NotSupported) (called hart_state shared)).hart_state.world ≡ is_exit_call o
+  by_asked None is = ap is_host runs
+  by_asked (Some call) is = by_call call (asked-is hart_state.world hart_state.hart.regs call is).1
+
+  by_exception : (trap : Trap) (exception : Exception)
+      → is_host (handled_cause hart_state shared trap (causes.Exception exception)).hart_state.world ≡ causes_exit hart_state (causes.Exception exception)
+  unfolding call_handled
+  by_exception trap EnvironmentCallFromS = by_asked (requested_call hart_state.world hart_state.hart.regs) refl
+  by_exception trap _ = ap is_host runs
+
+  by_cause : (trap : Trap) (cause : Cause) → is_host (handled_cause hart_state shared trap cause).hart_state.world ≡ causes_exit hart_state cause
+  unfolding timer_stopped left
+  by_cause trap (causes.Interrupt interrupt) = refl
+  by_cause trap (causes.Exception exception) = by_exception trap exception
+
+-- ---- redirection
+
+redirects_it : (hart_state : HartState) (shared : Shared) (trap : Trap) (cause : Cause) → is_redirected cause ≡ true
+    → handled_cause hart_state shared trap cause ≡ forwarded hart_state shared trap
+redirects_it hart_state shared trap (causes.Interrupt interrupt) is = cc
+redirects_it hart_state shared trap (causes.Exception EnvironmentCallFromS) is = cc
+redirects_it hart_state shared trap (causes.Exception _) is = refl
+
+twice_aligned : (pc : ℕ) → aligned_to_4 (aligned_to_4 pc) ≡ aligned_to_4 pc
+twice_aligned pc = omega arith
+
+module _ (k : ℕ) (state : HartView) (kept : HartViewInvariant state) (runs : state.hart_state.world ≡ Enclave k) (trap : Trap) where
+  abbrev redirected_view : HartView
+  redirected_view = record state { hart_state = record state.hart_state { hart = redirected_hart state.hart_state.hart trap } }
+
+  returned_redirected : (outcome : StepOutcome) → (returned outcome (with_reprogrammed_hart (forwarded (hart_state_after state.hart_state trap) state.shared trap))).state ≡ redirected_view
+  unfolding forwarded_csrs
+  returned_redirected outcome =
+      let hart = state.hart_state.hart in
+      let mprv = kept.hart.layout.mprv in
+      let entries = kept.hart.layout.entries in
+      let mie = kept.hart.layout.mie in
+      rw (twice_aligned hart.csrs.stvec, or-false (is_set hart.csrs.mcountinhibit 0), mprv, ← entries, ← mie) refl
+
+  abbrev IsRedirectedTo : HartViewStepped → Type 0
+  IsRedirectedTo after = (after.state ≡ redirected_view) × (after.outcome.entered ≡ None)
+
+  redirected_at : (outcome : StepOutcome) → is_redirected trap.cause ≡ true → IsRedirectedTo (returned outcome (handled (hart_state_after state.hart_state trap) state.shared trap))
+  unfolding handled
+  redirected_at outcome is =
+      let result = redirects_it (hart_state_after state.hart_state trap) state.shared trap trap.cause is in
+      rw result (returned_redirected outcome, refl)
+
+  redirected_one : (monitored_step state).outcome.step.trap ≡ Some trap → is_redirected trap.cause ≡ true → IsRedirectedTo (monitored_step state)
+  redirected_one is forwarded = subst IsRedirectedTo (sym (trapped_step state trap is)) (redirected_at (step (bare_machine state)).outcome forwarded)
+
+  exits_one : (monitored_step state).outcome.step.trap ≡ Some trap → is_host (monitored_step state).state.hart_state.world ≡ causes_exit state.hart_state trap.cause
+  unfolding handled
+  exits_one is = subst (λ (after : HartViewStepped). is_host after.state.hart_state.world ≡ causes_exit state.hart_state trap.cause)
+      (sym (trapped_step state trap is)) (by_cause k (hart_state_after state.hart_state trap) state.shared runs trap trap.cause)
+
+quiet_one : (state : HartView) → (monitored_step state).outcome.step.trap ≡ None → (monitored_step state).state.hart_state.world ≡ state.hart_state.world
+quiet_one state = step_cases state (λ after. after.outcome.step.trap ≡ None → after.state.hart_state.world ≡ state.hart_state.world) (λ none is. refl)
+    (λ trap traps is. let never : None ≡ Some trap = sym is ∙ traps in cc)
+
+-- ---- the interrupt that the hart of an enclave takes
+
+and_false : (b : Bool) → (b && false) ≡ false
+and_false true = refl
+and_false false = refl
+
+and_true : (b : Bool) → (b && true) ≡ b
+and_true true = refl
+and_true false = refl
+
+abbrev pub timer_or_none : Bool → Option Interrupt
+timer_or_none up = if up then Some MachineTimer else None
+
+find_timer : (a b t x y z : Bool)
+    → (if a && false then Some MachineExternal else (if b && false then Some MachineSoftware else (if t && true then Some MachineTimer
+    else (if x && false then Some SupervisorExternal else (if y && false then Some SupervisorSoftware else (if z && false then Some SupervisorTimer else None))))))
+    ≡ timer_or_none t
+find_timer a b t x y z = rw (and_false a, and_false b, and_true t, and_false x, and_false y, and_false z) refl
+
+pub waits : (c : CsrState) (mode : Mode) → is_machine mode ≡ false → c.mie ≡ 0x80 → pending c mode ≡ timer_or_none c.timer
+waits c mode below enabled =
+    let mip = mip_word c in
+    let bit : is_set mip 7 ≡ c.timer = timer_part c.software_pending c.timer in
+    rw (below, enabled) (find_timer (is_set mip 11) (is_set mip 3) (is_set mip 7) (is_set mip 9) (is_set mip 1) (is_set mip 5) ∙ ap timer_or_none bit)
+
+timer_only : (b : Bool) (interrupt : Interrupt) → timer_or_none b ≡ Some interrupt → (interrupt ≡ MachineTimer) × (b ≡ true)
+timer_only true interrupt is = let e : MachineTimer ≡ interrupt = cc in (sym e, refl)
+timer_only false interrupt is = cc
+
+-- ---- the step
+
+pub runs_here : (k hart : ℕ) (machine : MonitoredMachine) → (hart_state_of hart machine).world ≡ Enclave k → hart < count_of machine
+runs_here k hart machine runs = runs_inside k hart machine (ap (is_world_of k) runs ∙ eq-eqb k k refl)
+
+seen_world : (hart : ℕ) (machine : MonitoredMachine) → hart < count_of machine
+    → (hart_state_of hart (step_of hart machine).state).world ≡ (monitored_step (hart_view hart machine)).state.hart_state.world
+seen_world hart machine has = ap (λ (after : HartViewStepped). after.state.hart_state.world) (step_seen hart machine has)
+
+pub exits_law : (hart : ℕ) (machine : MonitoredMachine) → Invariant machine → ExitsOnRequest hart machine (step_of hart machine)
+exits_law hart machine kept k runs = record {
+  quiet = λ none.
+      let has = runs_here k hart machine runs in
+      seen_world hart machine has
+      ∙ quiet_one (hart_view hart machine) (sym (ap (λ (after : HartViewStepped). after.outcome.step.trap) (step_seen hart machine has)) ∙ none) ∙ runs;
+  exits = λ trap is.
+      let trapping = is_trapping hart machine trap is in
+      let state = hart_view hart machine in
+      ap is_host (seen_world hart machine trapping.has)
+      ∙ exits_one k state (hart_view_invariant hart machine kept trapping.has) runs trap trapping.trapped;
+  timer = λ trap interrupt is by.
+      let trapping = is_trapping hart machine trap is in
+      let state = hart_view hart machine in
+      let own = hart_view_invariant hart machine kept trapping.has in
+      let bare : (step (bare_machine state)).outcome.trap ≡ Some trap =
+      sym (ap (λ (o : StepOutcome). o.trap) (same_outcome state)) ∙ trapping.trapped in
+      let waited = takes_pending (bare_machine state) trap interrupt bare by in
+      timer_only state.hart_state.hart.csrs.timer interrupt
+      (sym (waits state.hart_state.hart.csrs state.hart_state.hart.mode own.hart.layout.mode (own.hart.layout.mie ∙ ap mie_of runs)) ∙ waited);
+  redirects = λ trap is forwarded.
+      let trapping = is_trapping hart machine trap is in
+      let state = hart_view hart machine in
+      let one = redirected_one k state (hart_view_invariant hart machine kept trapping.has) runs trap trapping.trapped forwarded in
+      let left : HartState = record state.hart_state { hart = redirected_hart state.hart_state.hart trap } in (
+        trapping.state ∙ ap (programmed_by hart machine) one.0
+            ∙ ap (λ (hart_states : List HartState). let after : MonitoredMachine =
+            record { hart_states = slice_set hart_states hart left; shared = machine.shared } in after)
+            (all_as_are machine.shared.table machine.hart_states kept.hart_states),
+        ap (λ (outcome : Outcome). outcome.entered) trapping.outcome ∙ one.1,
+      );
+}

@@ -1,0 +1,5 @@
+use Rattle.rv_monitor.proofs.EnclaveSteps.{enclave_run_law}
+use Rattle.rv_monitor.proofs.laws.enclave_run_depends_on_enclave.Goals as goal
+
+pub returns : goal.returns
+returns c = enclave_run_law

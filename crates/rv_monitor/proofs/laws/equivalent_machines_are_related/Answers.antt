@@ -1,0 +1,5 @@
+use Rattle.rv_monitor.proofs.Declassification.{relation_law}
+use Rattle.rv_monitor.proofs.laws.equivalent_machines_are_related.Goals as goal
+
+pub returns : goal.returns
+returns c = relation_law

@@ -1,0 +1,5 @@
+use Rattle.rv_monitor.proofs.Declassification.{declassification_law}
+use Rattle.rv_monitor.proofs.laws.noninterference_with_declassification.Goals as goal
+
+pub returns : goal.returns
+returns c = declassification_law

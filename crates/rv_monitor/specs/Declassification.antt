@@ -1,0 +1,141 @@
+-- Noninterference with declassification: what an enclave has and does has no influence on the others, except for what it hands over. It is
+-- stated over a list of moves of two machines. The enclave may take any number of steps in either, between steps of the other harts. (Laws about
+-- the monitor's definitions, not rules of a standard; declassification: Sabelfeld and Sands, JCS 2009.)
+use Rattle.std.specs.Prelude.{◌≡◌, ◌⊎◌, ℕ, Bool, true, false, not, ◌&&◌, ◌||◌, List, [], ◌∷◌, Some}
+use Rattle.rv_enclaves.specs.Contexts.{no_supervisor}
+use Rattle.rv_enclaves.specs.SharedEquivExcept.{SameContexts}
+use Rattle.rv_enclaves.specs.Table.{runs, window}
+use Rattle.rv_monitor.specs.Prelude.{CsrState, EqualOutside, Hart, HartState, Host, Slots, Trap, has, is_live, region, register, with_s_context}
+use Rattle.rv_monitor.specs.EquivExcept.{EquivExcept, HartStatesEquivExcept, runs_on}
+use Rattle.rv_monitor.specs.GuestView.{guest_state, guest_view}
+use Rattle.rv_monitor.specs.MonitoredMachine.{MonitoredMachine, Invariant, count_of, hart_state_of}
+use Rattle.rv_monitor.specs.Step.{step_of}
+
+-- ---- two machines that are equivalent except for an enclave
+
+-- equivalent except for slot e in the guest view
+abbrev pub EquivToGuests : ℕ → MonitoredMachine → MonitoredMachine → Type 0
+EquivToGuests e one other = EquivExcept e (guest_view one) (guest_view other)
+
+-- the CSRs that a switch of worlds does not change: those of mode M and the counters
+abbrev pub unswitched : CsrState → CsrState
+unswitched c = record (with_s_context c no_supervisor) { pmp = record { cfgs = []; addrs = [] }; mie = 0 }
+
+-- the same host is saved, and the CSRs that are not switched are equal
+pub record SameHost (one other : HartState) : Type 0 where
+  pub host : one.host_context ≡ other.host_context
+  pub rest : unswitched one.hart.csrs ≡ unswitched other.hart.csrs
+
+-- the same on a hart, in the guest view
+abbrev pub SameHostOn : ℕ → MonitoredMachine → MonitoredMachine → Type 0
+SameHostOn hart one other = SameHost (guest_state (hart_state_of hart one)) (guest_state (hart_state_of hart other))
+
+-- the bytes that may differ: those of the region of slot e, and those of its window while it runs
+abbrev pub may_differ : Slots → ℕ → ℕ → Bool
+may_differ slots e byte = has (region slots e) byte || (runs slots e && has (window slots e) byte)
+
+-- equivalent except for slot e in the guest view, and except for its window while it runs; the host whose context is saved is the same
+pub record AreRelated (e : ℕ) (one other : MonitoredMachine) : Type 0 where
+  pub harts : count_of one ≡ count_of other
+  pub hart_states : (hart : ℕ) → HartStatesEquivExcept e (guest_state (hart_state_of hart one)) (guest_state (hart_state_of hart other))
+  pub hosts : (hart : ℕ) → runs_on e hart one ≡ true → SameHostOn hart one other
+  pub table : one.shared.table ≡ other.shared.table
+  pub memory : EqualOutside (may_differ one.shared.table e) one.shared.memory other.shared.memory
+  pub contexts : SameContexts e one.shared.contexts other.shared.contexts
+  pub gone : is_live one.shared.table e ≡ false → one.shared ≡ other.shared
+
+-- ---- what the enclave hands over
+
+-- the bytes of its window are equal
+abbrev pub SameWindow : ℕ → MonitoredMachine → MonitoredMachine → Type 0
+SameWindow e one other = EqualOutside (λ byte. not (has (window one.shared.table e) byte)) one.shared.memory other.shared.memory
+
+-- a0 is equal, and a6, which says how it exits
+pub record SameHandover (one other : Hart) : Type 0 where
+  pub a0 : register one.regs 10 ≡ register other.regs 10
+  pub a6 : register one.regs 16 ≡ register other.regs 16
+
+-- it exits from both machines by the same trap, and hands over the same
+pub record ExitsAlike (e hart : ℕ) (one other : MonitoredMachine) : Type 0 where
+  pub runs : runs_on e hart one ≡ true
+  pub window : SameWindow e one other
+  pub handover : SameHandover (hart_state_of hart one).hart (hart_state_of hart other).hart
+  pub trap : Trap
+  pub first : (step_of hart one).outcome.step.trap ≡ Some trap
+  pub second : (step_of hart other).outcome.step.trap ≡ Some trap
+  pub first_exits : (hart_state_of hart (step_of hart one).state).world ≡ Host
+  pub second_exits : (hart_state_of hart (step_of hart other).state).world ≡ Host
+
+-- ---- moves of two machines
+
+-- a step of a hart in the first machine, in the second, or in both
+pub data Move : Type 0 where
+  First : ℕ → Move
+  Second : ℕ → Move
+  Both : ℕ → Move
+
+-- a step of the enclave that does not exit
+pub record IsInside (e hart : ℕ) (machine : MonitoredMachine) : Type 0 where
+  pub before : runs_on e hart machine ≡ true
+  pub after : runs_on e hart (step_of hart machine).state ≡ true
+
+-- a low step; while the enclave runs on another hart, its window is equal
+pub record IsLowStep (e hart : ℕ) (one other : MonitoredMachine) : Type 0 where
+  pub low : runs_on e hart one ≡ false
+  pub window : runs one.shared.table e ≡ true → SameWindow e one other
+
+-- In one machine only the enclave takes steps. In both there are low steps, and exits of the enclave that hand over the same.
+abbrev pub IsMove : ℕ → Move → MonitoredMachine → MonitoredMachine → Type 0
+IsMove e (First hart) one other = IsInside e hart one
+IsMove e (Second hart) one other = IsInside e hart other
+IsMove e (Both hart) one other = IsLowStep e hart one other ⊎ ExitsAlike e hart one other
+
+abbrev pub first_after : Move → MonitoredMachine → MonitoredMachine
+first_after (First hart) machine = (step_of hart machine).state
+first_after (Second hart) machine = machine
+first_after (Both hart) machine = (step_of hart machine).state
+
+abbrev pub second_after : Move → MonitoredMachine → MonitoredMachine
+second_after (First hart) machine = machine
+second_after (Second hart) machine = (step_of hart machine).state
+second_after (Both hart) machine = (step_of hart machine).state
+
+abbrev pub AreMoves : ℕ → List Move → MonitoredMachine → MonitoredMachine → Type 0
+AreMoves e [] one other = Unit {0}
+AreMoves e (move ∷ moves) one other = IsMove e move one other × AreMoves e moves (first_after move one) (second_after move other)
+
+-- every low step has equal outcomes
+abbrev pub LowOutcomesEqual : ℕ → List Move → MonitoredMachine → MonitoredMachine → Type 0
+LowOutcomesEqual e [] one other = Unit {0}
+LowOutcomesEqual e (First hart ∷ moves) one other = LowOutcomesEqual e moves (step_of hart one).state other
+LowOutcomesEqual e (Second hart ∷ moves) one other = LowOutcomesEqual e moves one (step_of hart other).state
+LowOutcomesEqual e (Both hart ∷ moves) one other =
+    (runs_on e hart one ≡ false → (step_of hart one).outcome ≡ (step_of hart other).outcome)
+    × LowOutcomesEqual e moves (step_of hart one).state (step_of hart other).state
+
+-- the machines after all moves
+abbrev pub first_end : List Move → MonitoredMachine → MonitoredMachine
+first_end [] machine = machine
+first_end (move ∷ moves) machine = first_end moves (first_after move machine)
+
+abbrev pub second_end : List Move → MonitoredMachine → MonitoredMachine
+second_end [] machine = machine
+second_end (move ∷ moves) machine = second_end moves (second_after move machine)
+
+-- ---- the law
+
+pub record MovedAlike (e : ℕ) (moves : List Move) (one other : MonitoredMachine) : Type 0 where
+  pub outcomes : LowOutcomesEqual e moves one other
+  pub state : AreRelated e (first_end moves one) (second_end moves other)
+
+abbrev pub DeclassificationLaw : Type 0
+DeclassificationLaw =
+    (e : ℕ) (moves : List Move) (one other : MonitoredMachine) → Invariant one → Invariant other → AreRelated e one other
+    → AreMoves e moves one other → MovedAlike e moves one other
+
+-- Machines that are equivalent except for an enclave are so in the guest view. Machines that are so in the guest view are related, if the enclave
+-- runs on no hart. Related machines are equivalent in the guest view, if the enclave does not run.
+pub record RelationLaw : Type 0 where
+  pub guests : (e : ℕ) (one other : MonitoredMachine) → EquivExcept e one other → EquivToGuests e one other
+  pub begins : (e : ℕ) (one other : MonitoredMachine) → EquivToGuests e one other → ((hart : ℕ) → runs_on e hart one ≡ false) → AreRelated e one other
+  pub ends : (e : ℕ) (one other : MonitoredMachine) → AreRelated e one other → runs one.shared.table e ≡ false → EquivToGuests e one other

@@ -1,0 +1,74 @@
+-- An enclave exits only by its own ecall from S that requests stop or exit, or by the timer interrupt. Every other exception of an enclave is
+-- redirected to its own mode S, and nothing else changes. (A law about the monitor's definitions; Keystone, EuroSys 2020, in this project's
+-- profile; trap entry to mode S: RISC-V Privileged Architecture 20211203, sections 3.1.6.1 and 4.1.7 to 4.1.9.)
+use Rattle.std.specs.Prelude.{◌≡◌, ℕ, Bool, true, false, Option, Some, None}
+use Rattle.rv_state.specs.Causes.{cause_code}
+use Rattle.rv_state.specs.declared.cause.Cause.TheVariants as causes
+use Rattle.rv_state.specs.declared.cause.Interrupt.{Interrupt}
+use Rattle.rv_state.specs.declared.cause.Interrupt.TheVariants.{MachineTimer}
+use Rattle.rv_monitor.specs.Prelude.{Call, Cause, CsrState, Enclave, EnvironmentCallFromS, Exit, Hart, HartState, S, Stop, Trap, aligned_to_4}
+use Rattle.rv_monitor.specs.Prelude.{is_host, requested_call}
+use Rattle.rv_monitor.specs.Refused.{passed_csrs}
+use Rattle.rv_monitor.specs.MonitoredMachine.{MonitoredMachine, hart_state_of, with_hart_state}
+use Rattle.rv_monitor.specs.Step.{MonitoredStepped, is_supervisor}
+
+-- ---- the traps by which an enclave exits
+
+abbrev pub is_exit_call : Option Call → Bool
+is_exit_call (Some Stop) = true
+is_exit_call (Some Exit) = true
+is_exit_call _ = false
+
+-- an interrupt, or an ecall from S whose a7 and a6 request stop or exit
+abbrev pub causes_exit : HartState → Cause → Bool
+causes_exit hart_state (causes.Interrupt interrupt) = true
+causes_exit hart_state (causes.Exception EnvironmentCallFromS) = is_exit_call (requested_call hart_state.world hart_state.hart.regs)
+causes_exit hart_state (causes.Exception exception) = false
+
+-- ---- redirection to mode S
+
+-- an exception that is not an ecall from S
+abbrev pub is_redirected : Cause → Bool
+is_redirected (causes.Exception EnvironmentCallFromS) = false
+is_redirected (causes.Exception exception) = true
+is_redirected (causes.Interrupt interrupt) = false
+
+-- as after a trap to mode S: pc, cause and value of the exception, and the mode in which it occurred
+abbrev pub redirected_csrs : Hart → Trap → CsrState
+redirected_csrs hart trap =
+    let passed = passed_csrs hart.csrs trap (aligned_to_4 hart.csrs.stvec) in
+    record passed {
+      mstatus = record passed.mstatus { spie = hart.csrs.mstatus.sie; sie = false; spp = is_supervisor hart.mode };
+      sepc = aligned_to_4 hart.pc;
+      scause = cause_code trap.cause;
+      stval = trap.tval;
+    }
+
+-- it continues in S at the base of stvec, with its registers
+abbrev pub redirected_hart : Hart → Trap → Hart
+redirected_hart hart trap = record { regs = hart.regs; csrs = redirected_csrs hart trap; pc = aligned_to_4 hart.csrs.stvec; mode = S }
+
+-- only that hart changes
+abbrev pub redirected_machine : ℕ → MonitoredMachine → Trap → MonitoredMachine
+redirected_machine own before trap =
+    let hart_state = hart_state_of own before in
+    with_hart_state own (record hart_state { hart = redirected_hart hart_state.hart trap }) before
+
+-- ---- the law
+
+pub record ExitsOnlyBy (hart k : ℕ) (before : MonitoredMachine) (after : MonitoredStepped) : Type 0 where
+  -- without a trap it continues
+  pub quiet : after.outcome.step.trap ≡ None → (hart_state_of hart after.state).world ≡ Enclave k
+  -- with a trap it exits if and only if the trap is one of these
+  pub exits : (trap : Trap) → after.outcome.step.trap ≡ Some trap
+      → is_host (hart_state_of hart after.state).world ≡ causes_exit (hart_state_of hart before) trap.cause
+  -- an interrupt is that of the timer, whose line is set
+  pub timer : (trap : Trap) (interrupt : Interrupt) → after.outcome.step.trap ≡ Some trap → trap.cause ≡ causes.Interrupt interrupt
+      → (interrupt ≡ MachineTimer) × ((hart_state_of hart before).hart.csrs.timer ≡ true)
+  -- every other exception is redirected
+  pub redirects : (trap : Trap) → after.outcome.step.trap ≡ Some trap → is_redirected trap.cause ≡ true
+      → (after.state ≡ redirected_machine hart before trap) × (after.outcome.entered ≡ None)
+
+-- for the enclave that runs on the hart that steps
+abbrev pub ExitsOnRequest : ℕ → MonitoredMachine → MonitoredStepped → Type 0
+ExitsOnRequest hart before after = (k : ℕ) → (hart_state_of hart before).world ≡ Enclave k → ExitsOnlyBy hart k before after

@@ -1,0 +1,22 @@
+-- The record of a live enclave keeps its region, window, entry and measurement: no step changes them, not even a step of the enclave or the one
+-- that enters it. (A law about the monitor's definitions, not a rule of a standard.)
+use Rattle.std.specs.Prelude.{◌≡◌, ℕ, true, Option}
+use Rattle.std.specs.Option.{option_map}
+use Rattle.rv_enclaves.specs.declared.slot_info.SlotInfo.{SlotInfo}
+use Rattle.rv_enclaves.specs.declared.slot_info.EnclaveState.TheVariants.{Fresh}
+use Rattle.rv_monitor.specs.Prelude.{Slots, is_live, slot_at}
+use Rattle.rv_monitor.specs.MonitoredMachine.{MonitoredMachine}
+use Rattle.rv_monitor.specs.Step.{MonitoredStepped}
+
+-- the region, window, entry and measurement: the record without the state
+abbrev pub identity_of : SlotInfo → SlotInfo
+identity_of info = record info { state = Fresh }
+
+abbrev pub identity_at : Slots → ℕ → Option SlotInfo
+identity_at slots k = option_map identity_of (slot_at slots k)
+
+-- of every enclave that is live before the step and after it
+abbrev pub PreservesRecords : MonitoredMachine → MonitoredStepped → Type 0
+PreservesRecords before after =
+    (k : ℕ) → is_live before.shared.table k ≡ true → is_live after.state.shared.table k ≡ true
+    → identity_at after.state.shared.table k ≡ identity_at before.shared.table k

@@ -1,0 +1,150 @@
+-- Below mode M a read of a CSR does not depend on the registers of mode M, the PMP entries or the counters. Nor does what a write leaves in the
+-- other registers.
+use Rattle.std.proofs.Common.{◌≡◌, ℕ, Bool, Option, Some, None, Result, Ok, Err, true, false, refl, sym, ◌∙◌, ap, inl, inr, rules, arith}
+use Rattle.std.proofs.lemmas.Bool.Decides.{nat_tests}
+use Rattle.std.proofs.lemmas.Bool.{cases_Bool}
+use Rattle.std.specs.Prelude.{nat_lt, ◌==◌, if◌then◌else◌}
+use Rattle.rv_pmp.specs.Mode.{mode_number}
+use Rattle.rv_pmp.specs.declared.mode.Mode.{Mode}
+use Rattle.rv_pmp.specs.declared.mode.Mode.TheVariants.{U, S, M}
+use Rattle.rv_state.specs.CsrState.{CsrState}
+use Rattle.rv_state.specs.CsrTable.{csr_numbered, csr_listing, csr_of, least_mode, is_read_only, is_trapped, on_register, read_result, reading, written}
+use Rattle.rv_state.specs.CsrTable.{write_result}
+use Rattle.rv_state.specs.GuestCsrs.{below_m_csrs}
+use Rattle.rv_state.specs.Interrupts.{is_machine}
+use Rattle.rv_state.proofs.MachinePartsLemmas.{OfRows, first-of, in-range, refused}
+use Rattle.rv_state.specs.declared.csr_fault.CsrFault.{CsrFault}
+use Rattle.rv_state.specs.declared.csr_fault.CsrFault.TheVariants as faults
+use Rattle.rv_state.specs.declared.csr_name.CsrName.{CsrName}
+use Rattle.rv_state.specs.declared.csr_name.CsrName.TheVariants.{Satp, Mstatus, Mepc, Mcause, Mtval, Mcycle, Minstret, Mcycleh, Minstreth}
+use Rattle.rv_state.specs.declared.csr_name.CsrName.TheVariants.{Mie, Mtvec, Mscratch, Mip, Pmpcfg, Pmpaddr, Mcountinhibit}
+
+-- ---- the numbers of the hidden registers require mode M
+
+abbrev is_hidden : CsrName → Bool
+is_hidden Mstatus = true
+is_hidden Mepc = true
+is_hidden Mcause = true
+is_hidden Mtval = true
+is_hidden Mcycle = true
+is_hidden Minstret = true
+is_hidden Mcycleh = true
+is_hidden Minstreth = true
+is_hidden Mie = true
+is_hidden Mtvec = true
+is_hidden Mscratch = true
+is_hidden Mip = true
+is_hidden (Pmpcfg k) = true
+is_hidden (Pmpaddr i) = true
+is_hidden Mcountinhibit = true
+is_hidden _ = false
+
+abbrev RequiresM : ℕ → CsrName → Type 0
+RequiresM number name = is_hidden name ≡ true → least_mode number ≡ 3
+
+at-number : (number own : ℕ) (name : CsrName) → (is_hidden name ≡ true → least_mode own ≡ 3) → number == own ≡ true → RequiresM number name
+at-number number own name law is part = let same : number ≡ own = grind (arith, nat_tests) in rw same (law part)
+
+shown-range : (number : ℕ) (name : CsrName) (b : Bool) → is_hidden name ≡ false → b ≡ true → RequiresM number name
+shown-range number name b shown is part = let never : false ≡ true = sym shown ∙ part in cc
+
+listing-requires : (number : ℕ) → OfRows (RequiresM number) number csr_listing
+unfolding csr_listing
+listing-requires number = search (rules, at-number, in-range, shown-range)
+
+requires-m : (number : ℕ) (name : CsrName) → csr_numbered number ≡ Some name → RequiresM number name
+unfolding csr_numbered
+requires-m number name is = first-of (RequiresM number) csr_listing number name (listing-requires number) is
+
+-- ---- reads
+
+trapped_same : (name : CsrName) (mode : Mode) (c : CsrState) → is_trapped name mode (below_m_csrs c) ≡ is_trapped name mode c
+trapped_same Satp U c = refl
+trapped_same Satp S c = refl
+trapped_same Satp M c = refl
+trapped_same _ mode c = refl
+
+reading_same : (name : CsrName) (c : CsrState) → is_hidden name ≡ false → reading name (below_m_csrs c) ≡ reading name c
+unfolding csr_of
+reading_same Mstatus c shown = cc
+reading_same Mepc c shown = cc
+reading_same Mcause c shown = cc
+reading_same Mtval c shown = cc
+reading_same Mcycle c shown = cc
+reading_same Minstret c shown = cc
+reading_same Mcycleh c shown = cc
+reading_same Minstreth c shown = cc
+reading_same Mie c shown = cc
+reading_same Mtvec c shown = cc
+reading_same Mscratch c shown = cc
+reading_same Mip c shown = cc
+reading_same (Pmpcfg k) c shown = cc
+reading_same (Pmpaddr i) c shown = cc
+reading_same Mcountinhibit c shown = cc
+reading_same _ c shown = refl
+
+module _ (c : CsrState) (number : ℕ) (mode : Mode) where
+  abbrev reads : CsrState → CsrName → Bool → Bool → Result ℕ CsrFault
+  reads d name low trapped = if low then Err faults.Privilege else (if trapped then Err faults.Trapped else Ok (reading name d))
+
+  read_at : (name : CsrName) (low : Bool) → (is_hidden name ≡ true → low ≡ true)
+      → reads (below_m_csrs c) name low (is_trapped name mode (below_m_csrs c)) ≡ reads c name low (is_trapped name mode c)
+  read_at name true hides = refl
+  read_at name false hides = elim (cases_Bool (is_hidden name)) [
+    | inl hidden ↦ let never = hides hidden in cc
+    | inr shown ↦
+        let word = reading_same name c shown in
+        let traps = trapped_same name mode c in
+        ap (λ (b : Bool). if b then Err faults.Trapped else Ok (reading name (below_m_csrs c))) traps
+        ∙ ap (λ (w : ℕ). if is_trapped name mode c then Err faults.Trapped else Ok w) word
+  ]
+
+  read_by : (o : Option CsrName) → csr_numbered number ≡ o → is_machine mode ≡ false
+      → on_register o (λ name. reads (below_m_csrs c) name (nat_lt (mode_number mode) (least_mode number)) (is_trapped name mode (below_m_csrs c)))
+      ≡ on_register o (λ name. reads c name (nat_lt (mode_number mode) (least_mode number)) (is_trapped name mode c))
+  read_by None is below = refl
+  read_by (Some name) is below =
+      read_at name (nat_lt (mode_number mode) (least_mode number)) (λ hidden. refused number mode (requires-m number name is hidden) below)
+
+  pub read_same : is_machine mode ≡ false → read_result (below_m_csrs c) number mode ≡ read_result c number mode
+  unfolding read_result
+  read_same below = read_by (csr_numbered number) refl below
+
+-- ---- writes
+
+abbrev pub visible_csrs : Result CsrState CsrFault → Result CsrState CsrFault
+visible_csrs (Ok c) = Ok (below_m_csrs c)
+visible_csrs (Err fault) = Err fault
+
+written_same : (name : CsrName) (word : ℕ) (c : CsrState) → below_m_csrs (written name word (below_m_csrs c)) ≡ below_m_csrs (written name word c)
+unfolding csr_of
+written_same Satp word c = refl
+written_same _ word c = refl
+
+module _ (c : CsrState) (number word : ℕ) (mode : Mode) where
+  abbrev writes : CsrState → CsrName → Bool → Bool → Bool → Result CsrState CsrFault
+  writes d name low only trapped =
+      if low then Err faults.Privilege
+      else (if only then Err faults.ReadOnly
+      else (if trapped then Err faults.Trapped else Ok (written name word d)))
+
+  write_at : (name : CsrName) (low only trapped other : Bool) → other ≡ trapped
+      → visible_csrs (writes (below_m_csrs c) name low only other) ≡ visible_csrs (writes c name low only trapped)
+  write_at name true only trapped other same = refl
+  write_at name false true trapped other same = refl
+  write_at name false false true other same = rw same refl
+  write_at name false false false other same = rw same (ap (λ (d : CsrState). let r : Result CsrState CsrFault = Ok d in r) (written_same name word c))
+
+  write_by : (o : Option CsrName)
+      → visible_csrs (on_register o (λ name. writes (below_m_csrs c) name (nat_lt (mode_number mode) (least_mode number)) (is_read_only number)
+      (is_trapped name mode (below_m_csrs c))))
+      ≡ visible_csrs (on_register o (λ name. writes c name (nat_lt (mode_number mode) (least_mode number)) (is_read_only number)
+      (is_trapped name mode c)))
+  write_by None = refl
+  write_by (Some name) =
+      write_at name (nat_lt (mode_number mode) (least_mode number)) (is_read_only number) (is_trapped name mode c)
+      (is_trapped name mode (below_m_csrs c)) (trapped_same name mode c)
+
+  pub write_same : visible_csrs (write_result (below_m_csrs c) number word mode) ≡ visible_csrs (write_result c number word mode)
+  unfolding write_result
+  write_same = write_by (csr_numbered number)
