@@ -39,7 +39,7 @@ impl<'a> Read for RecordingReader<'a> {
     }
 }
 
-/// A writer that appends its bytes to a vector. Its flush fails if that is asked for.
+/// A writer that appends its bytes to a vector. Its flush fails if `is_flush_refused` is set.
 #[derive(Drop)]
 pub(crate) struct RecordingWriter {
     bytes: Vec<u8>,

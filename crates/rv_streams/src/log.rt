@@ -7,7 +7,7 @@ use std::fmt;
 use std::fmt::{Debug, Formatter, Write};
 use std::marker::{Model, PhantomData};
 
-/// What a device did so far, as contracts see it.
+/// The calls of a device so far, as contracts see them.
 ///
 /// The contracts of its methods say nothing about the device itself. A device must call the method that describes what happened, at each of its
 /// calls.
