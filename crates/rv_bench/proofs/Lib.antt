@@ -12,5 +12,6 @@ mod StandardResults
 mod Starts
 mod Streams
 mod LoopTurns
+mod MemoryResults
 mod TwinAlike
 mod Twins

@@ -1,11 +1,13 @@
 -- The result of a job from bytes in memory to bytes in memory. (This project's own jobs.)
-use Rattle.std.specs.Prelude.{ℕ, ⊤, List}
+use Rattle.std.specs.Prelude.{◌≡◌, ◌⊎◌, ℕ, ⊤, List, Result}
+use Rattle.clap.specs.Words.{Text}
 use Rattle.rv_command_line.specs.declared.job.Job.{Job}
 use Rattle.rv_command_line.specs.declared.job.Job.TheVariants.{Run}
 use Rattle.rv_streams.specs.declared.fault.BenchFault.{BenchFault}
 use Rattle.rv_streams.specs.declared.fault.BenchFault.TheVariants.{Read, Write}
 use Rattle.rv_bench.specs.Noninterference.{SecretNoninterference}
-use Rattle.rv_bench.specs.ProgramOutput.{FailsBy}
+use Rattle.rv_command_line.specs.declared.words_fault.WordsFault.{WordsFault}
+use Rattle.rv_bench.specs.ProgramOutput.{FailsBy, Means, ProgramOutput, StopsOutOfMemory, program_output}
 
 -- no device fails: an error is one of the input, or memory was refused
 abbrev pub FailsInMemory : Job → List ℕ → BenchFault → Type 0
@@ -17,3 +19,12 @@ FailsInMemory job input fault = FailsBy job input fault
 abbrev pub InMemoryNoninterference : Job → List ℕ → Type 0
 InMemoryNoninterference (Run setup) input = SecretNoninterference setup input
 InMemoryNoninterference job input = ⊤
+
+-- The text and the status are the output of the program for its arguments and the input. Or memory was refused, and they report this.
+pub record RunsInMemory (given : List Text) (input text : List ℕ) (status : ℕ) : Type 0 where
+  pub read : Result Job WordsFault
+  pub means : Means given read
+  pub output : ProgramOutput
+  pub is : (output ≡ program_output read input) ⊎ StopsOutOfMemory read input output
+  pub text_is : text ≡ output.text
+  pub status_is : status ≡ output.status

@@ -25,7 +25,7 @@ mod standard;
 mod start;
 mod twin;
 
-pub use in_memory::run_in_memory;
+pub use in_memory::{run_in_memory, run_program};
 pub use job::run_job;
 pub use program::{perform, perform_arguments, refuse};
 pub use run::{run_bench, run_stream};

@@ -1,7 +1,7 @@
 //! Tests of the program with its arguments: the job, the lines of errors, the exit statuses, and the flush.
 use crate::expecting::{expect_bytes, expect_number};
 use crate::faulty::{AtSetCall, FaultySink, FaultySource};
-use rv_bench::{MemorySink, MemorySource, WordsFault, perform, refuse};
+use rv_bench::{MemorySink, MemorySource, WordsFault, perform, refuse, run_program};
 use std::alloc::Global;
 use std::process::Abort;
 
@@ -23,6 +23,9 @@ fn expect_performed(
     let (_, found) = perform(alloc, words, MemorySource::new(input), &mut sink);
     expect_bytes(rt, sink.bytes(), written, 0);
     expect_number(rt, u64::from(found), u64::from(status), 0);
+    let (text, found) = run_program(alloc, words, input).expect(rt, "memory");
+    expect_bytes(rt, text.as_slice(), written, 1);
+    expect_number(rt, u64::from(found), u64::from(status), 1);
 }
 
 #[test]

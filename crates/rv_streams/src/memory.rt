@@ -149,6 +149,9 @@ impl<'a> Sink for MemorySink<'a> {
 pub struct VecSink {
     bytes: Vec<u8>,
     log: CallLog,
+    has_failed: bool,
+    ghost failed: { has_failed ≡ nat_lt 0 log.failures },
+    ghost takes_all: { log.empty_calls ≡ 0 },
 }
 
 impl VecSink {
@@ -160,14 +163,26 @@ impl VecSink {
         VecSink {
             bytes: Vec::new(alloc),
             log: CallLog::new(),
+            has_failed: false,
         }
+    }
+
+    /// Returns whether a call failed, because memory was refused.
+    pub fn has_failed(&self) -> bool
+        ensures { result ≡ nat_lt 0 self.now.log.failures }
+    {
+        self.has_failed
     }
 
     /// Returns the bytes that were taken.
     pub fn into_bytes(self) -> Vec<u8>
         ensures { result ≡ self.bytes }
     {
-        let VecSink { bytes, log: _ } = self;
+        let VecSink {
+            bytes,
+            log: _,
+            has_failed: _,
+        } = self;
         bytes
     }
 }
@@ -191,6 +206,7 @@ impl Sink for VecSink {
             }
             Err(_) => {
                 self.log.failed();
+                self.has_failed = true;
                 Err(DeviceFault)
             }
         }
