@@ -301,6 +301,11 @@ def test_a_folder_without_a_monitor_is_refused_as_one(folder, tmp_path):
     assert (done.returncode, done.stderr) == (1, "build: error: no monitor.c in '%s'\n" % folder)
 
 
-def test_with_monitor_requires_a_file(folder):
+@pytest.mark.skipif(not is_clang_14(), reason="clang 14 is not installed")
+def test_the_stored_image_of_monitor_and_host_is_what_clang_14_builds(tmp_path):
+    folder = tmp_path / "two_enclaves"
+    shutil.copytree(EXAMPLES / "monitors" / "two_enclaves", folder)
     done = build("--with-monitor", MONITOR, folder)
-    assert (done.returncode, done.stderr) == (1, "build: error: --with-monitor requires FILE\n")
+    assert (done.returncode, done.stderr) == (0, "")
+    for part in ("image", "symbols"):
+        assert (folder / part).read_bytes() == (EXAMPLES / "monitors" / "two_enclaves" / part).read_bytes(), part

@@ -5,7 +5,7 @@ from pathlib import Path
 
 import pytest
 from support.message_files import IMAGES, Files
-from support.message_runs import FULL, MORE, NEVER_BACK, ORDER, OTHERWISE, REGISTERS, Runs
+from support.message_runs import FULL, MORE, NEVER_BACK, ONE_SCRIPT, ORDER, OTHERWISE, REGISTERS, Runs
 
 from conftest import EXAMPLES, PROGRAMS, ROOT, RVLOOK
 
@@ -15,6 +15,7 @@ ROWS = [(int(status), severity, line.replace("\\|", "|")) for status, severity, 
 KEPT = ("RVBENCH",)  # in capitals, but no placeholder
 ADDS, LISTING, SUM = EXAMPLES / "enclaves" / "adds" / "image", EXAMPLES / "enclaves" / "adds" / "symbols", EXAMPLES / "programs" / "sum" / "stdin"
 LEAKS, OVERFLOW = IMAGES + "/leak/image", PROGRAMS / "stack_overflow"
+MONITORS = EXAMPLES / "monitors"
 NUMBERS = ("80020000", "1000", "0", "0", "80020000")
 
 
@@ -62,7 +63,7 @@ class Cases:
             "no symbol 'NAME': no": ("trace", SUM, "--function", "main"), "no source lines": ("touch", SUM, "--lcov"),
             "embedding": ("page", files.with_source, "--steps", "40"), "--sources": ("page", SUM, "--sources", "/none"),
             "create rejects": ("measure", files.region, "80020000", "1001", *NUMBERS[2:]),
-            "cannot read": ("measure", files.cut, *NUMBERS), "'FILE' has COUNT": ("measure", ROOT / "docs" / "LOOK.md", *NUMBERS)}
+            "cannot read": ("measure", files.cut, *NUMBERS), "'FILE' has COUNT bytes": ("measure", ROOT / "docs" / "LOOK.md", *NUMBERS)}
 
     def of_finders(self):
         """Messages of the finders about enclaves and their runs."""
@@ -96,6 +97,15 @@ class Cases:
             "invalid --outcome: WHY": self.counted("--outcome", "nowhere"), "invalid --outcome: the": self.counted("--outcome", "80011000:0x4"),
             "the step at ADDRESS reads": ("races", files.cycle), "cannot write to": self.counted("--scripts", files.text)}
 
+    def of_monitors(self):
+        """Messages of `conform` and `guard`."""
+        files, own, pair = self.files, MONITORS / "own_monitor" / "image", MONITORS / "two_enclaves" / "image"
+        return {
+            "'FILE' is not a 32-bit": ("conform", SUM), "'FILE' has COUNT mret": ("conform", EXAMPLES / "programs" / "elf" / "image"),
+            "boot line": ("conform", own, "--boot", files.lines["unknown"]), "no script has": ("conform", own, "--only", "nothing"),
+            "--ram": ("conform", own, "--ram", "131072"), "FILE:LINE: expected": ("guard", pair, files.text),
+            "'FILE' has no range": ("guard", pair, files.write("hands", "hands a0\n")), "the time limit": ("conform", own, "--seconds", "0")}
+
     def of_arguments(self):
         """Messages about the command line."""
         return {
@@ -115,6 +125,7 @@ class Cases:
             "MODULE is not installed, so WHAT 3": lambda: runs.run(("page", SUM), PYTHONPATH=files.without("jinja2")),
             "the step at ADDRESS had": lambda: runs.patched(OTHERWISE, races), "the step at ADDRESS changed": lambda: runs.patched(MORE, races),
             "the replay": lambda: runs.patched(ORDER, races), "the registers": lambda: runs.patched(REGISTERS, ("trace", SUM)),
+            "no script covered": lambda: runs.patched(ONE_SCRIPT, ("conform", MONITORS / "own_monitor" / "image")),
             "hart NUMBER does not": lambda: runs.patched(NEVER_BACK, ("races", "--monitor", "--harts", "2", "--ram", "131072", files.spin)),
             "cannot run": lambda: runs.run(("map", SUM), RVBENCH=files.text), "RVBENCH": lambda: runs.run(("map", SUM), RVBENCH="/none"),
             "FILE: rvbench exited": lambda: runs.run(("map", SUM), RVBENCH="/bin/true"), "cannot write the output": lambda: runs.run(("map", SUM), FULL),
@@ -123,7 +134,7 @@ class Cases:
 
     def all(self):
         """Returns the function of each case, by the beginning of its line."""
-        simple = {**self.of_images(), **self.of_finders(), **self.of_races(), **self.of_arguments()}
+        simple = {**self.of_images(), **self.of_finders(), **self.of_races(), **self.of_monitors(), **self.of_arguments()}
         return {**{name: lambda words=words: self.runs.run(words) for name, words in simple.items()}, **self.special()}
 
 

@@ -15,7 +15,7 @@ enum {
 
 enum { A0 = 10, A1, A2, A3, A4, A6 = 16, A7 };
 
-/* What a context switch saves and restores. `x[0]` holds pc; start.s relies on the offsets of `x`. */
+/* The state that a context switch saves and restores. `x[0]` holds pc; start.s relies on the offsets of `x`. */
 struct context {
     unsigned x[32];
     unsigned mode; /* mstatus.MPP: 0 is U, 1 is S */

@@ -166,6 +166,41 @@ def part_options(parser: ArgumentParser, first: str, last: str) -> None:
     parser.add_argument("--seconds", metavar="S", type=float, help="stop after S seconds, and report the results so far")
 
 
+def monitor_options(parser: ArgumentParser) -> None:
+    """Adds the options of a subcommand whose image is a monitor in M."""
+    parser.add_argument("--ram", metavar="BYTES", type=int, default=0x30000, help="set the size of the RAM (default: 196608)")
+    parser.add_argument("--symbols", metavar="FILE", help="read symbols from an ELF file or from the output of nm (default: from the image)")
+    parser.add_argument("--boot", metavar="FILE",
+                        help="run the commands in FILE before the first step (default: set a0 to 80010000, and a1 to the size of the RAM)")
+    parser.add_argument("--lowered", metavar="SYMBOL", action="append",
+                        help="clear the timer line at the monitor's store to SYMBOL; repeatable (default: when the interrupt is taken)")
+    parser.add_argument("--seed", metavar="S", type=int, default=1, help="set the seed of the random values (default: 1)")
+    parser.add_argument("--json", action="store_true", help="print one JSON object per line (see docs/LOOK.md)")
+
+
+def conform_options(parser: ArgumentParser) -> None:
+    """Adds the options of `conform`."""
+    parser.add_argument("image", metavar="MONITOR", help="an ELF file with a monitor that runs in M")
+    monitor_options(parser)
+    parser.add_argument("--tries", metavar="N", type=count, default=60, help="run N random scripts after the directed ones (default: 60)")
+    parser.add_argument("--items", metavar="N", type=positive, default=120, help="run about N items in each random script (default: 120)")
+    parser.add_argument("--exact", action="store_true", help="compare the PMP entries as stored, and mepc, mcause and mtval")
+    parser.add_argument("--only", metavar="TEXT", default="", help="run only the scripts with TEXT in their names, and accept empty cells")
+    parser.add_argument("--jobs", metavar="N", type=positive, default=1, help="run N scripts at the same time (default: 1)")
+    parser.add_argument("--seconds", metavar="S", type=float, help="stop after S seconds, and report the results so far")
+    parser.add_argument("--scripts", metavar="DIR", help="write the shrunk script of each side to DIR")
+
+
+def guard_options(parser: ArgumentParser) -> None:
+    """Adds the options of `guard`."""
+    parser.add_argument("image", metavar="IMAGE", help="an ELF file with a monitor that runs in M, its host and its enclaves")
+    parser.add_argument("ranges", metavar="RANGES", help="a file that declares who owns which range (see docs/LOOK.md)")
+    monitor_options(parser)
+    parser.add_argument("--timers", metavar="N", type=count, default=8, help="run N times with timer interrupts at random moments (default: 8)")
+    parser.add_argument("--steps", metavar="N", type=count, default=20000, help="run at most N steps of S and U (default: 20000)")
+    parser.set_defaults(exact=False)
+
+
 def gdb_options(parser: ArgumentParser) -> None:
     """Adds the options of `gdb`."""
     parser.add_argument("--port", metavar="N", type=int,

@@ -12,6 +12,8 @@ from rvlook.finders.races.text import show_races
 from rvlook.finders.timer import show_timer
 from rvlook.finders.window import show_window
 from rvlook.gdb.server import serve_gdb
+from rvlook.monitors.conform_text import show_conform
+from rvlook.monitors.guard_text import show_guard
 from rvlook.image.measure import show_measure
 from rvlook.page.page import page_template, show_page
 from rvlook.prompt.explain import show_explain
@@ -96,6 +98,16 @@ def do_races(arguments: Namespace) -> None:
     """Runs `races`."""
     refuse_empty_part(arguments, 0)
     show_races(*opened(arguments), arguments)
+
+
+def do_conform(arguments: Namespace) -> None:
+    """Runs `conform`."""
+    show_conform(arguments)
+
+
+def do_guard(arguments: Namespace) -> None:
+    """Runs `guard`."""
+    show_guard(arguments)
 
 
 def do_measure(arguments: Namespace) -> None:
