@@ -104,7 +104,8 @@ class Cases:
             "'FILE' is not a 32-bit": ("conform", SUM), "'FILE' has COUNT mret": ("conform", EXAMPLES / "programs" / "elf" / "image"),
             "boot line": ("conform", own, "--boot", files.lines["unknown"]), "no script has": ("conform", own, "--only", "nothing"),
             "--ram": ("conform", own, "--ram", "131072"), "FILE:LINE: expected": ("guard", pair, files.text),
-            "'FILE' has no range": ("guard", pair, files.write("hands", "hands a0\n")), "the time limit": ("conform", own, "--seconds", "0")}
+            "'FILE' has no range": ("guard", pair, files.write("hands", "hands a0\n")), "the time limit": ("conform", own, "--seconds", "0"),
+            "--returns": ("map", "--returns", "--monitor", ADDS), "in M at step": ("map", "--returns", "--no-monitor", IMAGES + "/map_opened/image")}
 
     def of_arguments(self):
         """Messages about the command line."""

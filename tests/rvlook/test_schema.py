@@ -10,10 +10,11 @@ IMAGES, COPIES = PROGRAMS.parent / "images", PROGRAMS / "window_copies"
 LEAK, STORE = ("leak", "--monitor", IMAGES / "leak" / "image", "--at"), EXAMPLES / "enclaves" / "store_leaking"
 MONITORS = EXAMPLES / "monitors"
 GUARD = (MONITORS / "two_enclaves" / "image", MONITORS / "two_enclaves" / "ranges")
-EXIT_ZERO = ("timer", "leak", "window", "races", "explain", "conform", "guard")  # subcommands that end with 1 if they find something
+EXIT_ZERO = ("timer", "leak", "window", "races", "explain", "conform", "guard", "map")  # subcommands that end with 1 if they find something
 UNFINISHED = ("timer_not_resumed",)
 COMMANDS = {
     "map": ("map", "--monitor", EXAMPLES / "enclaves" / "adds" / "image"), "map_pmp": ("map", EXAMPLES / "programs" / "pmp" / "stdin"),
+    "map_returns": ("map", "--returns", IMAGES / "map_opened" / "image"),
     "touch": ("touch", "--monitor", input_of(EXAMPLES / "enclaves" / "refused"), "--symbols", EXAMPLES / "enclaves" / "refused" / "symbols"),
     "trace": ("trace", "--monitor", input_of(EXAMPLES / "enclaves" / "timer")),
     "timer_not_resumed": ("timer", "--monitor", EXAMPLES / "enclaves" / "adds" / "image"),

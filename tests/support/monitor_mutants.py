@@ -60,7 +60,7 @@ MUTANTS = (
            "    WRITE_CSR(pmpcfg2, 0);\n"
            "    WRITE_CSR(pmpcfg1, 0);\n"
            "    WRITE_CSR(pmpcfg0, 0);\n",
-           "", reason="S and U do not run between the writes of the entries; map --returns reports it"),
+           "", reason="S and U do not run between the writes of the entries"),
     Mutant("length_in_half_bytes", "measurement.c", "hash->length * 8", "hash->length * 4", "measured byte 0"),
     Mutant("high_length_wrong", "measurement.c",
            "hash->length >> 29",

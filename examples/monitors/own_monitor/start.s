@@ -92,5 +92,6 @@ return_below:
 
         .section .bss
         .balign 16
+monitor_stack_bottom:
         .space  2048
 monitor_stack_top:

@@ -96,6 +96,8 @@ def trace_options(parser: ArgumentParser) -> None:
 def map_options(parser: ArgumentParser) -> None:
     """Adds the options of `map`."""
     parser.add_argument("--brief", action="store_true", help="show only the changes at each event")
+    parser.add_argument("--returns", action="store_true",
+                        help="of a bare image: show the changes at each return from M, and states inside M in which S may access more")
 
 
 def touch_options(parser: ArgumentParser) -> None:

@@ -5,6 +5,7 @@ from typing import TYPE_CHECKING
 
 from rvlook.access.lcov import show_lcov
 from rvlook.access.map_text import show_map
+from rvlook.access.returns import show_returns
 from rvlook.access.stack import overflow_text, overflows
 from rvlook.access.touch import show_touch
 from rvlook.finders.leak_text import show_leak
@@ -20,7 +21,7 @@ from rvlook.prompt.explain import show_explain
 from rvlook.prompt.prompt import show_prompt
 from rvlook.trace.spike import show_spike
 from rvlook.trace.text import Filter, show_trace
-from rvlook.cli.opening import opened, opened_monitored, refuse_empty_part, refuse_json, setup_of
+from rvlook.cli.opening import opened, opened_monitored, refuse_empty_part, refuse_json, refuse_monitored, setup_of
 from rvlook.errors import RvlookError, UsageError, warn
 from rvlook.output.printer import Printer
 from rvlook.protocol.lines import no_symbol
@@ -43,7 +44,11 @@ def do_map(arguments: Namespace) -> None:
     if arguments.brief:
         refuse_json(arguments, "--brief")
     run, symbols, printer = opened(arguments)
-    show_map(run, symbols, printer, arguments.brief)
+    if arguments.returns:
+        refuse_monitored(arguments, run)
+        show_returns(run, symbols, printer, arguments.findings)
+    else:
+        show_map(run, symbols, printer, arguments.brief)
     report_overflows(arguments, run, symbols)
 
 
