@@ -39,3 +39,24 @@ def test_kept_image_is_what_its_sources_give(rvlook, built):
     """The kept image and the one that a compiler makes now enter mode U alike, and are refused alike."""
     done = rvlook("touch", built("bare_user"))
     assert done.returncode == 2 and "enters mode U" in done.stderr
+
+
+def test_until_below_goes_to_the_next_return_from_m(rvlook):
+    """Of bare_user, which enters U, and of a monitor whose host calls it."""
+    assert "mode=U" in rvlook(IMAGE, stdin="until below\n").stdout
+    two = ROOT / "examples" / "monitors" / "two_enclaves" / "image"
+    done = rvlook("--no-monitor", "--script", two.parents[1] / "boot", two, stdin="until below\nuntil below\nback 1\n")
+    ran = [line for line in done.stdout.splitlines() if line.startswith("ran ")]
+    assert ran[0].startswith("ran 564 pc=80010000 mode=S ") and " mode=S " in ran[1] and ran[1].endswith("trap=00000009:00000000")
+    assert "next  mret  " in done.stdout.splitlines()[-2]
+
+
+def test_until_below_does_nothing_if_m_does_not_return(rvlook):
+    done = rvlook(SUM, stdin="until below\nreg 10\n")
+    assert "not reached within 1000000 steps; the state is unchanged" in done.stdout
+
+
+def test_until_below_requires_a_bare_image(rvlook):
+    image = ROOT / "examples" / "enclaves" / "adds" / "image"
+    done = rvlook("--monitor", image, stdin="until below\n")
+    assert "until below requires a bare image; start with ./rvlook --no-monitor %s" % image in done.stdout

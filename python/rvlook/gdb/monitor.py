@@ -25,7 +25,7 @@ if TYPE_CHECKING:
     from rvlook.gdb.moves import Moves
     from rvlook.protocol.symbols import Symbols
 
-OTHERS = ("measure", "explain")  # subcommands over a file of their own
+OTHERS = ("measure", "explain", "conform", "guard")  # subcommands over a file of their own
 FROM_HERE = ("leak", "timer", "races")  # subcommands over the steps after the present one
 CAUGHT = ("switch", "trap", "call")
 OWN = {
@@ -34,7 +34,7 @@ OWN = {
     "entered": "entered: show where the host entered the enclave on this hart"}
 STALE = "(gdb shows old registers until `maintenance flush register-cache`; load python/rvlook/gdb/client.py to refresh them)\n"
 STALE_IN_LLDB = "(lldb shows old registers until the program continues)\n"
-READ_FILES, FOLDERS = ("script", "symbols", "file", "input"), ("scripts", "sources")  # arguments that name files and folders
+READ_FILES, FOLDERS = ("script", "symbols", "file", "input", "boot", "ranges"), ("scripts", "sources")  # arguments that name files and folders
 
 
 class CommandLine(NamedTuple):

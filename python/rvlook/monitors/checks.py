@@ -128,14 +128,16 @@ def changed_context(ownership: Ownership, world: str, left: Left, state: State) 
 
 def is_redirect(stay: Return) -> bool:
     """Returns whether M redirected the trap to S of the same world."""
-    return stay.exit.mode == "S" and stay.exit.pc == stay.exit.csrs["stvec"] & ~3 and stay.exit.csrs["scause"] == int(stay.cause, 16)
+    return stay.exit.pc == stay.exit.csrs["stvec"] & ~3
 
 
 def wrong_redirect(world: str, left: Left, stay: Return, tval: int) -> str:
     """A redirected exception changes what the privileged specification says (Privileged 20211203, section 4.1.1), and nothing else."""
     before, after = left.state, stay.exit
+    if after.mode != "S":
+        return "an exception of %s at %08x is redirected to %s, not to S" % (world, before.pc, after.mode)
     status = left.csrs["sstatus"]
-    wanted = {"sepc": before.pc, "stval": tval, "sscratch": left.csrs["sscratch"], "stvec": before.csrs["stvec"],
+    wanted = {"sepc": before.pc, "scause": int(stay.cause, 16), "stval": tval, "sscratch": left.csrs["sscratch"], "stvec": before.csrs["stvec"],
               "sstatus": status & MXR | (SPIE if status & SIE else 0) | (SPP if before.mode == "S" else 0)}
     for name, value in wanted.items():
         if after.csrs[name] != value:
