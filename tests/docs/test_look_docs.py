@@ -7,7 +7,7 @@ import pytest
 
 from conftest import ROOT
 
-PAGES = ("docs/LOOK.md", "README.md", "docs/ASK.md", "docs/OWN_MONITOR.md", "examples/enclaves/store/README.md")
+PAGES = ("docs/LOOK.md", "README.md", "docs/ASK.md", "examples/enclaves/store/README.md")
 PART = re.compile(r"^    \$ (.*\./rvlook.*)\n((?:    (?!\$ ).*\n|\n(?=    (?!\$ )|\n))*)", re.M)
 
 

@@ -1,4 +1,4 @@
-"""Bare images: subcommands that need the monitor, or that do not distinguish modes, are refused in one line."""
+"""Bare images: subcommands that need the monitor are refused in one line; the others distinguish modes."""
 import pytest
 
 from conftest import PROGRAMS, ROOT
@@ -14,11 +14,34 @@ def test_subcommand_that_needs_the_monitor_is_refused(rvlook, word, more):
     assert done.stderr == "rvlook: error: %s requires the monitor of rvbench, but %s runs bare; use --monitor\n" % (word, IMAGE)
 
 
-@pytest.mark.parametrize("image, what", [(IMAGE, "enters mode U at step 16"), (PMP, "writes a PMP register at step 3")])
-def test_touch_of_more_than_one_mode_is_refused(rvlook, image, what):
-    done = rvlook("touch", image)
-    assert (done.returncode, done.stdout) == (2, "")
-    assert done.stderr == "rvlook: error: touch does not distinguish modes, but %s %s; use map or trace\n" % (image, what)
+def test_touch_of_more_than_one_mode_has_a_world_for_each(objects):
+    """bare_user enters U, which may execute its code and access its page, and M accesses more."""
+    status, found = objects("touch", IMAGE)
+    assert status == 0 and {it["world"] for it in found if it["object"] == "touched"} == {"M", "U"}
+    executed = {world: {int(it["first"], 16) for it in found if it["object"] == "touched" and (it["world"], it["kind"]) == (world, "x")}
+                for world in "MU"}
+    assert min(executed["M"]) == 0x80000000 and min(executed["U"]) == 0x80000040
+
+
+def test_touch_of_a_monitor_separates_m_from_the_host(rvlook):
+    two = ROOT / "examples" / "monitors" / "two_enclaves"
+    done = rvlook("touch", "--no-monitor", "--script", two.parent / "boot", "--steps", "2000", two / "image", "--symbols", two / "symbols")
+    m, s = (part.splitlines() for part in done.stdout.split("\n\n")[:2])
+    assert done.returncode == 0 and (m[0], s[0]) == ("M", "S")
+    assert any(line.startswith("  wrote            80001") for line in m), "the monitor writes its data"
+    assert not any(line.startswith("  wrote            80001") for line in s)
+    assert [line.split()[1:4] for line in s if line.startswith("  permitted")] == [["80010000-800fffff", "960K", "rwx"]]
+
+
+def test_touch_of_a_run_that_writes_pmp_registers_is_a_report(rvlook):
+    done = rvlook("touch", PMP)
+    assert done.returncode == 0 and done.stdout.startswith("bare\n")
+
+
+@pytest.mark.parametrize("mode, count", [("M", 16), ("U", 4)])
+def test_trace_selects_a_mode(objects, mode, count):
+    steps = [it for it in objects("trace", IMAGE, "--world", mode, "--to", "20")[1] if it["object"] == "step"]
+    assert len(steps) == count and {it["mode"] for it in steps} == {mode}
 
 
 def test_touch_of_mode_m_alone_is_a_report(rvlook):
@@ -35,10 +58,13 @@ def test_prompt_takes_a_bare_image(rvlook):
     assert "mode=U" in rvlook(IMAGE, stdin="until trap\nstep 1\nback 3\nstep 1\n").stdout
 
 
-def test_kept_image_is_what_its_sources_give(rvlook, built):
-    """The kept image and the one that a compiler makes now enter mode U alike, and are refused alike."""
-    done = rvlook("touch", built("bare_user"))
-    assert done.returncode == 2 and "enters mode U" in done.stderr
+def test_kept_image_is_what_its_sources_give(objects, built):
+    """The kept image and the one that a compiler makes now access the same bytes in each mode."""
+    def accesses(image):
+        return [(it["world"], it["kind"], it["first"], it["last"], it["count"]) for it in objects("touch", image)[1] if it["object"] == "touched"
+                and it["kind"] != "x"]
+
+    assert accesses(built("bare_user")) == accesses(IMAGE) != []
 
 
 def test_until_below_goes_to_the_next_return_from_m(rvlook):

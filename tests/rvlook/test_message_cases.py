@@ -82,9 +82,7 @@ class Cases:
             "no enclave in": ("timer", SUM, "--monitor", "--steps", "9"),
             "the enclave in slot NUMBER executes": ("timer", "--monitor", EXAMPLES / "enclaves" / "at_rest" / "image"),
             "cannot write 'REPORT'": self.leak("80020800", "00", "00", "--junit", "/none/report"),
-            "--public requires": ("window", "--monitor", ADDS, "--public", "80030000"), "SUBCOMMAND requires": ("leak", SUM, "--at", "80000000", "00", "01"),
-            "touch does not distinguish modes, but FILE enters": ("touch", PROGRAMS / "bare_user" / "image"),
-            "touch does not distinguish modes, but FILE writes": ("touch", EXAMPLES / "programs" / "pmp" / "stdin")}
+            "--public requires": ("window", "--monitor", ADDS, "--public", "80030000"), "SUBCOMMAND requires": ("leak", SUM, "--at", "80000000", "00", "01")}
 
     def of_races(self):
         """Messages of `races`."""

@@ -61,7 +61,11 @@ def mode_returns(run: Run) -> Iterator[tuple[int, str, str] | End]:
 
 def returns(run: Run) -> Iterator[Return | End]:
     """Yields each return from M with its access rights, and then the End."""
-    changes = [it for it in events(run) if isinstance(it, Event)]
+    yield from returns_of(run, [it for it in events(run) if isinstance(it, Event)])
+
+
+def returns_of(run: Run, changes: Sequence[Event]) -> Iterator[Return | End]:
+    """Yields each return from M with its access rights, and then the End. `changes` are the events of the run."""
     at, before = 0, None
     for item in mode_returns(run):
         if isinstance(item, End):

@@ -10,7 +10,7 @@ from rvlook.errors import UsageError
 if TYPE_CHECKING:
     from argparse import ArgumentParser
 
-WORLD = re.compile(r"host\Z|bare\Z|e([0-9]|1[0-2])\Z")
+WORLD = re.compile(r"host\Z|bare\Z|[MSU]\Z|e([0-9]|1[0-2])\Z")
 
 
 class Parser(argparse.ArgumentParser):
@@ -48,7 +48,7 @@ def integer_of(text: str, least: int, what: str) -> int:
 def world(text: str) -> str:
     """Checks the name of a world, and returns it."""
     if not WORLD.match(text):
-        raise argparse.ArgumentTypeError("invalid world '%s' (expected host, bare, or e0 to e12)" % text)
+        raise argparse.ArgumentTypeError("invalid world '%s' (expected host, bare, M, S, U, or e0 to e12)" % text)
     return text
 
 
@@ -85,7 +85,7 @@ def trace_options(parser: ArgumentParser) -> None:
     """Adds the options of `trace`."""
     parser.add_argument("--from", dest="first", metavar="N", type=positive, default=1, help="start at step N (default: 1)")
     parser.add_argument("--to", dest="last", metavar="N", type=positive, help="stop after step N")
-    parser.add_argument("--world", metavar="WORLD", type=world, help="show only steps of WORLD: host, bare, or e0 to e12")
+    parser.add_argument("--world", metavar="WORLD", type=world, help="show only steps of WORLD: host, bare, e0 to e12, or a mode of a bare image")
     parser.add_argument("--function", metavar="NAME", help="show only steps in the function NAME")
     parser.add_argument("--traps", action="store_true", help="show only steps that trap")
     parser.add_argument("--short", action="store_true", help="print pseudoinstructions such as mv, li, ret and csrw")
