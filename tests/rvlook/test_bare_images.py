@@ -7,9 +7,9 @@ IMAGE = str(PROGRAMS / "bare_user" / "image")
 PMP, SUM = str(ROOT / "examples" / "programs" / "pmp" / "stdin"), str(ROOT / "examples" / "programs" / "sum" / "stdin")
 
 
-@pytest.mark.parametrize("word, more", [("leak", ("--at", "80000000", "00", "01")), ("window", ()), ("timer", ())])
-def test_subcommand_that_needs_the_monitor_is_refused(rvlook, word, more):
-    done = rvlook(word, IMAGE, *more)
+@pytest.mark.parametrize("word", ["window", "timer"])
+def test_subcommand_that_needs_the_monitor_is_refused(rvlook, word):
+    done = rvlook(word, IMAGE)
     assert (done.returncode, done.stdout) == (2, "")
     assert done.stderr == "rvlook: error: %s requires the monitor of rvbench, but %s runs bare; use --monitor\n" % (word, IMAGE)
 
@@ -68,7 +68,7 @@ def test_kept_image_is_what_its_sources_give(objects, built):
 
 
 def test_until_below_goes_to_the_next_return_from_m(rvlook):
-    """Of bare_user, which enters U, and of a monitor whose host calls it."""
+    """The images are bare_user, which enters U, and a monitor whose host calls it."""
     assert "mode=U" in rvlook(IMAGE, stdin="until below\n").stdout
     two = ROOT / "examples" / "monitors" / "two_enclaves" / "image"
     done = rvlook("--no-monitor", "--script", two.parents[1] / "boot", two, stdin="until below\nuntil below\nback 1\n")
@@ -86,3 +86,36 @@ def test_until_below_requires_a_bare_image(rvlook):
     image = ROOT / "examples" / "enclaves" / "adds" / "image"
     done = rvlook("--monitor", image, stdin="until below\n")
     assert "until below requires a bare image; start with ./rvlook --no-monitor %s" % image in done.stdout
+
+
+LEAKS = str(PROGRAMS.parent / "images" / "leak_bare" / "image")
+
+
+@pytest.mark.parametrize("one, two, channels", [
+    ("00000000", "01000000", ["pc", "steps"]), ("00000000", "04000000", ["address"]), ("03000000", "83000000", []),
+    ("00000000", "0d000000", ["pc", "steps", "address"])])
+def test_leak_compares_secrets_in_any_range_of_a_bare_image(objects, one, two, channels):
+    status, found = objects("leak", LEAKS, "--at", "80000100", one, two)
+    assert (status, found[-1]["channels"], found[-1]["compared"]) == (bool(channels), channels, ["pc", "steps", "address"])
+
+
+def test_leak_of_a_bare_image_names_the_instruction(rvlook):
+    done = rvlook("leak", LEAKS, "--at", "80000100", "00000000", "01000000")
+    assert done.stdout.splitlines()[0] == "bare, from step 0, with 00000000 and with 01000000 at 80000100"
+    assert "  pc      differs at step 4, 8000000c\n" in done.stdout
+
+
+def test_leak_of_a_bare_image_takes_the_register_and_the_tries(rvlook):
+    assert rvlook("leak", LEAKS, "--at", "x2@80000008", "00000000", "01000000").returncode == 1
+    assert rvlook("leak", LEAKS, "--at", "80000100:4", "--tries", "3").returncode == 1
+    assert rvlook("leak", LEAKS, "--at", "80000200:4", "--tries", "3").returncode == 0
+
+
+def test_leak_outside_the_ram_of_a_bare_image_is_refused(rvlook):
+    done = rvlook("leak", LEAKS, "--at", "800ffffe", "00000000", "01000000")
+    assert (done.returncode, done.stderr) == (2, "rvlook: error: the bytes at 800ffffe are outside the RAM\n")
+
+
+def test_leak_of_a_bare_image_that_does_not_end_is_incomplete(rvlook):
+    done = rvlook("leak", LEAKS, "--at", "80000300", "00", "01", "--steps", "5")
+    assert (done.returncode, done.stderr) == (3, "rvlook: warning: --steps 5 ended the run while it was running\n")

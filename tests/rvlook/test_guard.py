@@ -92,7 +92,7 @@ CHOSEN = [it for it in MUTANTS if it.name in ISOLATION]
 
 
 def pytest_generate_tests(metafunc):
-    """Selects the mutants that are run: each third one of those that guard finds, unless all are asked for."""
+    """Selects the mutants that are run: each third one of those that guard finds, or all with --all-mutants."""
     if "mutant" in metafunc.fixturenames:
         is_all = metafunc.config.getoption("--all-mutants")
         chosen = CHOSEN if is_all else [it for it in CHOSEN if ISOLATION[it.name]][::3]

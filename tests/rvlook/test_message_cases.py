@@ -71,10 +71,10 @@ class Cases:
         return {
             "'PLACE' is neither a hexadecimal address": self.leak("nowhere", "00", "01"),
             "'PLACE' is neither a hexadecimal number": ("measure", files.region, "nowhere", *NUMBERS[1:]), "a secret must": self.leak("80020800", "0", "01"),
-            "no enclave is created": self.leak("80020800", "00", "01", "--slot", "4"), "the bytes at": self.leak("80010000", "00", "01"),
+            "no enclave is created": self.leak("80020800", "00", "01", "--slot", "4"), "the bytes at ADDRESS are outside the region": self.leak("80010000", "00", "01"),
             "the two secrets": self.leak("80020800", "00", "0001"), "the size of": self.tries("80020800"),
             "the enclave in slot NUMBER is never": self.leak("80020800", "00", "00", "--steps", "6158"),
-            "--steps COUNT": ("timer", "--monitor", hmac, "--steps", "60"), "--seconds ended": self.tries("80020f00:4", "--seconds", "0"),
+            "--steps COUNT ended the run while the": ("timer", "--monitor", hmac, "--steps", "60"), "--seconds ended": self.tries("80020f00:4", "--seconds", "0"),
             "the host does not": ("timer", "--monitor", ADDS), "the enclave in slot NUMBER never": self.tries("a0@80020f00"),
             "leak requires": ("leak", "--monitor", LEAKS, "--at", "80020800"), "no enclave runs": ("window", "--monitor", ADDS, "--steps", "9"),
             "stack overflow in WORLD at step NUMBER, PLACE: sp": self.overflow(None),
@@ -82,7 +82,9 @@ class Cases:
             "no enclave in": ("timer", SUM, "--monitor", "--steps", "9"),
             "the enclave in slot NUMBER executes": ("timer", "--monitor", EXAMPLES / "enclaves" / "at_rest" / "image"),
             "cannot write 'REPORT'": self.leak("80020800", "00", "00", "--junit", "/none/report"),
-            "--public requires": ("window", "--monitor", ADDS, "--public", "80030000"), "SUBCOMMAND requires": ("leak", SUM, "--at", "80000000", "00", "01")}
+            "--public requires": ("window", "--monitor", ADDS, "--public", "80030000"), "SUBCOMMAND requires": ("timer", SUM),
+            "the bytes at ADDRESS are outside the RAM": ("leak", SUM, "--at", "8ffffff0", "00", "01"),
+            "--steps COUNT ended the run while it": ("leak", IMAGES + "/leak_bare/image", "--at", "80000300", "00", "01", "--steps", "5")}
 
     def of_races(self):
         """Messages of `races`."""

@@ -84,7 +84,7 @@ def do_leak(arguments: Namespace) -> None:
     refuse_empty_part(arguments, 1)
     if arguments.tries is not None and arguments.first > arguments.tries:
         raise UsageError("--from %d is greater than --tries %d" % (arguments.first, arguments.tries))
-    show_leak(*opened_monitored(arguments), arguments)
+    show_leak(*opened(arguments), arguments)
 
 
 def do_window(arguments: Namespace) -> None:
