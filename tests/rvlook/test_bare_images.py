@@ -111,6 +111,12 @@ def test_leak_of_a_bare_image_takes_the_register_and_the_tries(rvlook):
     assert rvlook("leak", LEAKS, "--at", "80000200:4", "--tries", "3").returncode == 0
 
 
+def test_secret_of_a_bare_image_is_written_after_the_script(rvlook, tmp_path):
+    (tmp_path / "script").write_text("step 3\n")
+    done = rvlook("leak", LEAKS, "--script", tmp_path / "script", "--at", "80000100", "00000000", "01000000")
+    assert done.returncode == 0 and done.stdout.startswith("bare, from step 3, ")
+
+
 def test_leak_outside_the_ram_of_a_bare_image_is_refused(rvlook):
     done = rvlook("leak", LEAKS, "--at", "800ffffe", "00000000", "01000000")
     assert (done.returncode, done.stderr) == (2, "rvlook: error: the bytes at 800ffffe are outside the RAM\n")
@@ -119,3 +125,11 @@ def test_leak_outside_the_ram_of_a_bare_image_is_refused(rvlook):
 def test_leak_of_a_bare_image_that_does_not_end_is_incomplete(rvlook):
     done = rvlook("leak", LEAKS, "--at", "80000300", "00", "01", "--steps", "5")
     assert (done.returncode, done.stderr) == (3, "rvlook: warning: --steps 5 ended the run while it was running\n")
+
+
+def test_debugger_goes_to_the_next_return_from_m(debugger):
+    """`monitor` of gdb takes `until below`, but not the checks of monitors, which name files."""
+    two = ROOT / "examples" / "monitors" / "two_enclaves" / "image"
+    with debugger(two, ("--no-monitor", "--script", str(two.parents[1] / "boot"))) as client:
+        assert client.monitor("until below").startswith("ran 564 pc=80010000 mode=S ")
+        assert "error command" in client.monitor("conform " + str(two))

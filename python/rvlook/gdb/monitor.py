@@ -25,7 +25,8 @@ if TYPE_CHECKING:
     from rvlook.gdb.moves import Moves
     from rvlook.protocol.symbols import Symbols
 
-OTHERS = ("measure", "explain", "conform", "guard")  # subcommands over a file of their own
+OTHERS = ("measure", "explain")  # subcommands over a file of their own
+NOT_OFFERED = ("gdb", "conform", "guard")  # subcommands that run benches of their own, or this server
 FROM_HERE = ("leak", "timer", "races")  # subcommands over the steps after the present one
 CAUGHT = ("switch", "trap", "call")
 OWN = {
@@ -34,7 +35,7 @@ OWN = {
     "entered": "entered: show where the host entered the enclave on this hart"}
 STALE = "(gdb shows old registers until `maintenance flush register-cache`; load python/rvlook/gdb/client.py to refresh them)\n"
 STALE_IN_LLDB = "(lldb shows old registers until the program continues)\n"
-READ_FILES, FOLDERS = ("script", "symbols", "file", "input", "boot", "ranges"), ("scripts", "sources")  # arguments that name files and folders
+READ_FILES, FOLDERS = ("script", "symbols", "file", "input"), ("scripts", "sources")  # arguments that name files and folders
 
 
 class CommandLine(NamedTuple):
@@ -50,7 +51,7 @@ class Monitor:
         self.moves, self.symbols, self.entry, self.refreshes = moves, symbols, Entry(), False
         self.session: Session | None = None
         self.has_files, self.read = has_files, command_line.read
-        self.subcommands = tuple(it for it in command_line.names if it not in (*OTHERS, "gdb"))  # over an image
+        self.subcommands = tuple(it for it in command_line.names if it not in (*OTHERS, *NOT_OFFERED))  # over an image
 
     def line(self, text: str) -> str:
         """Runs a line of `monitor`; returns its output. The notes of `page` go to standard error."""

@@ -96,7 +96,7 @@ class Guarded:
             if ran.why.startswith("watch") and is_store(word_at(self.bench, int(ran.pc, 16) - 4)):
                 self.do("timer off")
             state = self.state()
-            if ran.why == "break" and state.csrs["mstatus"] >> MPP_SHIFT & 3 != MPP_M:
+            if state.here in self.setup.returns and state.csrs["mstatus"] >> MPP_SHIFT & 3 != MPP_M:
                 break
         return Return(cause, entry, state, spent, fault)
 
