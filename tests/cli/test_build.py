@@ -15,7 +15,9 @@ HAS_GCC = bool(shutil.which("riscv64-unknown-elf-gcc"))
 COMPILERS = [pytest.param("--clang", marks=pytest.mark.skipif(not HAS_CLANG, reason="clang, lld or llvm is not installed")),
              pytest.param("--gcc", marks=pytest.mark.skipif(not HAS_GCC, reason="riscv64-unknown-elf-gcc is not installed"))]
 with_clang = pytest.mark.skipif(not HAS_CLANG, reason="clang, lld or llvm is not installed")
-STORED = ("adds", "bug", "hmac", "hmac_attacked", "refused", "store", "store_leaking", "timer", "at_rest", "two_harts")
+STORED = tuple("enclaves/" + it for it in ("adds", "bug", "hmac", "hmac_attacked", "refused", "store", "store_leaking", "timer", "at_rest",
+                                           "two_harts")) + ("monitors/own_monitor",)
+MONITOR = EXAMPLES / "monitors" / "own_monitor"
 MEMCPY = """void *memcpy(void *to, const void *from, unsigned size)
 {
     char *out = to;
@@ -86,10 +88,10 @@ def last_reply(program, folder, *commands):
 def test_the_stored_images_are_what_clang_14_builds(tmp_path, name):
     examples = tmp_path / "examples"
     shutil.copytree(EXAMPLES, examples, symlinks=True)
-    done = build("enclaves/" + name, command=examples / "build")
+    done = build(name, command=examples / "build")
     assert (done.returncode, done.stderr) == (0, "")
     for part in ("image", "symbols"):
-        assert (examples / "enclaves" / name / part).read_bytes() == (EXAMPLES / "enclaves" / name / part).read_bytes(), part
+        assert (examples / name / part).read_bytes() == (EXAMPLES / name / part).read_bytes(), part
 
 
 @pytest.mark.parametrize("compiler", COMPILERS)
@@ -263,3 +265,47 @@ def test_a_source_that_is_no_regular_file_is_refused(folder):
     done = build(folder)
     assert done.returncode == 1
     assert done.stderr == "build: error: 'pipe.c' is not a regular file\n"
+
+
+def symbol_in(elf, name):
+    """Returns the address of a symbol of an ELF file, as text."""
+    tool = "llvm-nm" if HAS_CLANG else "riscv64-unknown-elf-nm"
+    text = subprocess.run([tool, elf], capture_output=True, text=True, check=True).stdout
+    return re.search(r"^([0-9a-f]{8}) \w %s$" % name, text, re.M)[1]
+
+
+@pytest.mark.parametrize("compiler", COMPILERS)
+def test_a_monitor_and_a_host_are_linked_into_one_file(bench, folder, tmp_path, compiler):
+    before = sorted((it.name, it.read_bytes()) for it in folder.iterdir())
+    elf = tmp_path / "pair.elf"
+    done = build("--with-monitor", MONITOR, folder, elf, compiler=compiler)
+    assert (done.returncode, done.stderr) == (0, "")
+    assert sorted((it.name, it.read_bytes()) for it in folder.iterdir()) == before
+    boot = (EXAMPLES / "monitors" / "boot").read_text()
+    script = "%sbreak %s\nrun 1000000\nmem %s 4\n" % (boot, symbol_in(elf, "halt"), symbol_in(elf, "sum"))
+    image = re.sub("(.{1,120})", r"\1\n", elf.read_bytes().hex())
+    done = subprocess.run([bench, "run"], input=image + "--\n" + script, capture_output=True, text=True, check=True)
+    lines = done.stdout.splitlines()
+    assert "mode=S world=bare why=break" in lines[-2]
+    assert lines[-1].endswith(": b3 15 00 00")  # 1234 + 4321
+
+
+def test_a_monitor_without_a_link_script_is_refused(tmp_path):
+    (tmp_path / "monitor.c").write_text("int x;\n")
+    done = build(tmp_path)
+    assert (done.returncode, done.stderr) == (1, "build: error: no link.ld in '%s'\n" % tmp_path)
+
+
+def test_a_folder_without_a_monitor_is_refused_as_one(folder, tmp_path):
+    done = build("--with-monitor", folder, folder, tmp_path / "pair.elf")
+    assert (done.returncode, done.stderr) == (1, "build: error: no monitor.c in '%s'\n" % folder)
+
+
+@pytest.mark.skipif(not is_clang_14(), reason="clang 14 is not installed")
+def test_the_stored_image_of_monitor_and_host_is_what_clang_14_builds(tmp_path):
+    folder = tmp_path / "two_enclaves"
+    shutil.copytree(EXAMPLES / "monitors" / "two_enclaves", folder)
+    done = build("--with-monitor", MONITOR, folder)
+    assert (done.returncode, done.stderr) == (0, "")
+    for part in ("image", "symbols"):
+        assert (folder / part).read_bytes() == (EXAMPLES / "monitors" / "two_enclaves" / part).read_bytes(), part

@@ -5,7 +5,7 @@ from pathlib import Path
 
 import pytest
 from support.message_files import IMAGES, Files
-from support.message_runs import FULL, MORE, NEVER_BACK, ORDER, OTHERWISE, REGISTERS, Runs
+from support.message_runs import FULL, MORE, NEVER_BACK, ONE_SCRIPT, ORDER, OTHERWISE, REGISTERS, Runs
 
 from conftest import EXAMPLES, PROGRAMS, ROOT, RVLOOK
 
@@ -15,6 +15,7 @@ ROWS = [(int(status), severity, line.replace("\\|", "|")) for status, severity, 
 KEPT = ("RVBENCH",)  # in capitals, but no placeholder
 ADDS, LISTING, SUM = EXAMPLES / "enclaves" / "adds" / "image", EXAMPLES / "enclaves" / "adds" / "symbols", EXAMPLES / "programs" / "sum" / "stdin"
 LEAKS, OVERFLOW = IMAGES + "/leak/image", PROGRAMS / "stack_overflow"
+MONITORS = EXAMPLES / "monitors"
 NUMBERS = ("80020000", "1000", "0", "0", "80020000")
 
 
@@ -62,7 +63,7 @@ class Cases:
             "no symbol 'NAME': no": ("trace", SUM, "--function", "main"), "no source lines": ("touch", SUM, "--lcov"),
             "embedding": ("page", files.with_source, "--steps", "40"), "--sources": ("page", SUM, "--sources", "/none"),
             "create rejects": ("measure", files.region, "80020000", "1001", *NUMBERS[2:]),
-            "cannot read": ("measure", files.cut, *NUMBERS), "'FILE' has COUNT": ("measure", ROOT / "docs" / "LOOK.md", *NUMBERS)}
+            "cannot read": ("measure", files.cut, *NUMBERS), "'FILE' has COUNT bytes": ("measure", ROOT / "docs" / "LOOK.md", *NUMBERS)}
 
     def of_finders(self):
         """Messages of the finders about enclaves and their runs."""
@@ -70,10 +71,10 @@ class Cases:
         return {
             "'PLACE' is neither a hexadecimal address": self.leak("nowhere", "00", "01"),
             "'PLACE' is neither a hexadecimal number": ("measure", files.region, "nowhere", *NUMBERS[1:]), "a secret must": self.leak("80020800", "0", "01"),
-            "no enclave is created": self.leak("80020800", "00", "01", "--slot", "4"), "the bytes at": self.leak("80010000", "00", "01"),
+            "no enclave is created": self.leak("80020800", "00", "01", "--slot", "4"), "the bytes at ADDRESS are outside the region": self.leak("80010000", "00", "01"),
             "the two secrets": self.leak("80020800", "00", "0001"), "the size of": self.tries("80020800"),
             "the enclave in slot NUMBER is never": self.leak("80020800", "00", "00", "--steps", "6158"),
-            "--steps COUNT": ("timer", "--monitor", hmac, "--steps", "60"), "--seconds ended": self.tries("80020f00:4", "--seconds", "0"),
+            "--steps COUNT ended the run while the": ("timer", "--monitor", hmac, "--steps", "60"), "--seconds ended": self.tries("80020f00:4", "--seconds", "0"),
             "the host does not": ("timer", "--monitor", ADDS), "the enclave in slot NUMBER never": self.tries("a0@80020f00"),
             "leak requires": ("leak", "--monitor", LEAKS, "--at", "80020800"), "no enclave runs": ("window", "--monitor", ADDS, "--steps", "9"),
             "stack overflow in WORLD at step NUMBER, PLACE: sp": self.overflow(None),
@@ -81,9 +82,9 @@ class Cases:
             "no enclave in": ("timer", SUM, "--monitor", "--steps", "9"),
             "the enclave in slot NUMBER executes": ("timer", "--monitor", EXAMPLES / "enclaves" / "at_rest" / "image"),
             "cannot write 'REPORT'": self.leak("80020800", "00", "00", "--junit", "/none/report"),
-            "--public requires": ("window", "--monitor", ADDS, "--public", "80030000"), "SUBCOMMAND requires": ("leak", SUM, "--at", "80000000", "00", "01"),
-            "touch does not distinguish modes, but FILE enters": ("touch", PROGRAMS / "bare_user" / "image"),
-            "touch does not distinguish modes, but FILE writes": ("touch", EXAMPLES / "programs" / "pmp" / "stdin")}
+            "--public requires": ("window", "--monitor", ADDS, "--public", "80030000"), "SUBCOMMAND requires": ("timer", SUM),
+            "the bytes at ADDRESS are outside the RAM": ("leak", SUM, "--at", "8ffffff0", "00", "01"),
+            "--steps COUNT ended the run while it": ("leak", IMAGES + "/leak_bare/image", "--at", "80000300", "00", "01", "--steps", "5")}
 
     def of_races(self):
         """Messages of `races`."""
@@ -95,6 +96,16 @@ class Cases:
             "invalid --forbid": self.counted("--forbid", "80011000"), "invalid value": self.counted("--forbid", "80011000 == many"),
             "invalid --outcome: WHY": self.counted("--outcome", "nowhere"), "invalid --outcome: the": self.counted("--outcome", "80011000:0x4"),
             "the step at ADDRESS reads": ("races", files.cycle), "cannot write to": self.counted("--scripts", files.text)}
+
+    def of_monitors(self):
+        """Messages of `conform` and `guard`."""
+        files, own, pair = self.files, MONITORS / "own_monitor" / "image", MONITORS / "two_enclaves" / "image"
+        return {
+            "'FILE' is not a 32-bit": ("conform", SUM), "'FILE' has COUNT mret": ("conform", EXAMPLES / "programs" / "elf" / "image"),
+            "boot line": ("conform", own, "--boot", files.lines["unknown"]), "no script has": ("conform", own, "--only", "nothing"),
+            "--ram": ("conform", own, "--ram", "131072"), "FILE:LINE: expected": ("guard", pair, files.text),
+            "'FILE' has no range": ("guard", pair, files.write("hands", "hands a0\n")), "the time limit": ("conform", own, "--seconds", "0"),
+            "--returns": ("map", "--returns", "--monitor", ADDS), "in M at step": ("map", "--returns", "--no-monitor", IMAGES + "/map_opened/image")}
 
     def of_arguments(self):
         """Messages about the command line."""
@@ -115,6 +126,7 @@ class Cases:
             "MODULE is not installed, so WHAT 3": lambda: runs.run(("page", SUM), PYTHONPATH=files.without("jinja2")),
             "the step at ADDRESS had": lambda: runs.patched(OTHERWISE, races), "the step at ADDRESS changed": lambda: runs.patched(MORE, races),
             "the replay": lambda: runs.patched(ORDER, races), "the registers": lambda: runs.patched(REGISTERS, ("trace", SUM)),
+            "no script covered": lambda: runs.patched(ONE_SCRIPT, ("conform", MONITORS / "own_monitor" / "image")),
             "hart NUMBER does not": lambda: runs.patched(NEVER_BACK, ("races", "--monitor", "--harts", "2", "--ram", "131072", files.spin)),
             "cannot run": lambda: runs.run(("map", SUM), RVBENCH=files.text), "RVBENCH": lambda: runs.run(("map", SUM), RVBENCH="/none"),
             "FILE: rvbench exited": lambda: runs.run(("map", SUM), RVBENCH="/bin/true"), "cannot write the output": lambda: runs.run(("map", SUM), FULL),
@@ -123,7 +135,7 @@ class Cases:
 
     def all(self):
         """Returns the function of each case, by the beginning of its line."""
-        simple = {**self.of_images(), **self.of_finders(), **self.of_races(), **self.of_arguments()}
+        simple = {**self.of_images(), **self.of_finders(), **self.of_races(), **self.of_monitors(), **self.of_arguments()}
         return {**{name: lambda words=words: self.runs.run(words) for name, words in simple.items()}, **self.special()}
 
 

@@ -8,10 +8,13 @@ from conftest import EXAMPLES, PROGRAMS, ROOT, input_of
 SHAPES = json.loads((ROOT / "python" / "rvlook" / "output" / "objects.schema.json").read_text(encoding="utf-8"))["$defs"]
 IMAGES, COPIES = PROGRAMS.parent / "images", PROGRAMS / "window_copies"
 LEAK, STORE = ("leak", "--monitor", IMAGES / "leak" / "image", "--at"), EXAMPLES / "enclaves" / "store_leaking"
-EXIT_ZERO = ("timer", "leak", "window", "races", "explain")  # subcommands that end with 1 if they find something
+MONITORS = EXAMPLES / "monitors"
+GUARD = (MONITORS / "two_enclaves" / "image", MONITORS / "two_enclaves" / "ranges")
+EXIT_ZERO = ("timer", "leak", "window", "races", "explain", "conform", "guard", "map")  # subcommands that end with 1 if they find something
 UNFINISHED = ("timer_not_resumed",)
 COMMANDS = {
     "map": ("map", "--monitor", EXAMPLES / "enclaves" / "adds" / "image"), "map_pmp": ("map", EXAMPLES / "programs" / "pmp" / "stdin"),
+    "map_returns": ("map", "--returns", IMAGES / "map_opened" / "image"),
     "touch": ("touch", "--monitor", input_of(EXAMPLES / "enclaves" / "refused"), "--symbols", EXAMPLES / "enclaves" / "refused" / "symbols"),
     "trace": ("trace", "--monitor", input_of(EXAMPLES / "enclaves" / "timer")),
     "timer_not_resumed": ("timer", "--monitor", EXAMPLES / "enclaves" / "adds" / "image"),
@@ -20,6 +23,9 @@ COMMANDS = {
     "window_copies": ("window", "--monitor", COPIES / "image", "--symbols", COPIES / "symbols", "--script", COPIES / "script", "--at", "key:20"),
     "window_harts": ("window", "--harts", "2", "--monitor", STORE / "image", "--symbols", STORE / "symbols", "--at", "key:32"),
     "races": ("races", "--monitor", "--timer", "1", EXAMPLES / "enclaves" / "adds" / "image"), "explain": ("explain", IMAGES / "explain" / "input"),
+    "conform": ("conform", MONITORS / "own_monitor" / "image", "--boot", IMAGES / "conform" / "boot", "--only", "region of 8000"),
+    "guard": ("guard", *GUARD, "--timers", "0", "--steps", "99"),
+    "guard_no_enclave": ("guard", MONITORS / "two_enclaves" / "image", IMAGES / "guard" / "ranges", "--timers", "0"),
     "measure": ("measure", IMAGES / "measure" / "region", "80020000", "1000", "0", "0", "80020000")}
 
 

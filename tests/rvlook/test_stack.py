@@ -69,3 +69,21 @@ def test_a_store_through_sp_above_the_stack_is_found(rvlook, tmp_path):
     done = rvlook("touch", "--monitor", elf)
     assert done.returncode == 1
     assert " above application_stack_top" in done.stderr and "store to 80020ff" in done.stderr
+
+
+def test_monitor_has_a_stack_of_its_own(rvlook):
+    """M of a monitor on the bare machine does not use the stack of the host, whose frames are checked too."""
+    folder = ROOT / "examples" / "monitors"
+    words = ("map", "--no-monitor", "--script", folder / "boot", "--steps", "3000", folder / "two_enclaves" / "image", "--symbols")
+    done = rvlook(*words, folder / "two_enclaves" / "symbols")
+    assert (done.returncode, done.stderr) == (0, "")
+
+
+def test_overflow_of_the_stack_of_the_monitor_is_found(rvlook, tmp_path):
+    folder, symbols = ROOT / "examples" / "monitors" / "two_enclaves", tmp_path / "symbols"
+    text = (folder / "symbols").read_text(encoding="ascii")
+    top = next(line.split()[0] for line in text.splitlines() if line.endswith(" monitor_stack_top"))
+    symbols.write_text("\n".join("%08x  monitor_stack_bottom" % (int(top, 16) - 16) if line.endswith(" monitor_stack_bottom") else line
+                                 for line in text.splitlines()) + "\n")
+    done = rvlook("map", "--no-monitor", "--script", folder.parent / "boot", "--steps", "600", folder / "image", "--symbols", symbols)
+    assert done.returncode == 1 and " bytes below monitor_stack_bottom\n" in done.stderr

@@ -8,19 +8,23 @@ from support.message_runs import FULL, Runs
 from conftest import EXAMPLES, ROOT, RVLOOK
 
 ADDS, SUM, LEAKS = str(EXAMPLES / "enclaves" / "adds" / "image"), str(EXAMPLES / "programs" / "sum" / "stdin"), IMAGES + "/leak/image"
+MONITORS = EXAMPLES / "monitors"
+OWN, PAIR, RANGES = (str(MONITORS / it) for it in ("own_monitor/image", "two_enclaves/image", "two_enclaves/ranges"))
 LONG_RACE = ("races", "--monitor", "--harts", "2", "--ram", "131072", "MANY")
 SHORT = {
     "map": ("map", SUM), "trace": ("trace", SUM), "touch": ("touch", SUM), "page": ("page", SUM), "map --json": ("map", SUM, "--json"),
     "trace --format spike": ("trace", SUM, "--format", "spike"), "leak": ("leak", "--monitor", LEAKS, "--at", "80020800", "00", "01"),
     "window": ("window", "--monitor", ADDS), "leak --tries": ("leak", "--monitor", LEAKS, "--at", "80020800:4", "--tries", "1"),
     "races": ("races", "--monitor", ADDS), "timer": ("timer", "--monitor", ADDS),
+    "conform": ("conform", OWN, "--only", "reset"), "guard": ("guard", PAIR, RANGES, "--timers", "0", "--steps", "99"),
     "measure": ("measure", REGION, "80020000", "1000", "0", "0", "80020000"), "explain": ("explain", SUM), "the prompt": (SUM,)}
 LONG = {  # runs that take a while; LOOP and MANY are files of support.message_files
     "map": ("map", "LOOP"), "trace": ("trace", "LOOP"), "touch": ("touch", "LOOP"), "page": ("page", "LOOP"), "map --json": ("map", "LOOP", "--json"),
     "trace --format spike": ("trace", "LOOP", "--format", "spike"),
     "leak --tries": ("leak", "--monitor", LEAKS, "--at", "80020800:4", "--tries", "1000"), "races": LONG_RACE,
-    "timer": ("timer", "--monitor", EXAMPLES / "enclaves" / "hmac" / "image")}
-IMAGES = (SUM, ADDS, REGION, LEAKS)
+    "timer": ("timer", "--monitor", EXAMPLES / "enclaves" / "hmac" / "image"), "conform": ("conform", OWN),
+    "conform --jobs": ("conform", OWN, "--jobs", "2"), "guard": ("guard", PAIR, RANGES)}
+IMAGES = (SUM, ADDS, REGION, LEAKS, OWN, PAIR)
 
 
 @pytest.fixture(scope="module")

@@ -38,6 +38,11 @@ import itertools
 ram, numbers = replay.Replays.ram, itertools.count()
 replay.Replays.ram = lambda self, bench: [*ram(self, bench)[:-1], str(next(numbers))]
 """
+ONE_SCRIPT = """
+from rvlook.monitors import conform
+tasks_of = conform.tasks_of
+conform.tasks_of = lambda *more: tasks_of(*more)[:1]
+"""
 REGISTERS = """
 step = trace.Tracer.step
 def changing(self, number, hart_number, hart, *more):

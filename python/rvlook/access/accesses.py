@@ -16,7 +16,8 @@ if TYPE_CHECKING:
 
 
 class Access(NamedTuple):
-    """Accesses of a world of one kind (`r`, `w` or `x`) at an address, `width` bytes each, done or refused."""
+    """Accesses of a world of one kind (`r`, `w` or `x`) at an address, `width` bytes each, done or refused. On the bare bench the world may be a
+    mode."""
     world: str
     kind: str
     address: int
@@ -24,9 +25,9 @@ class Access(NamedTuple):
     done: bool
 
 
-def accesses(run: Run) -> tuple[Counter[Access], End]:
-    """Counts the accesses of a run by kind, address and width; returns the counts and the end of the run."""
-    counter, end = Counting(run), None
+def accesses(run: Run, by_mode: bool = False) -> tuple[Counter[Access], End]:
+    """Counts the accesses of a run by kind, address and width; returns the counts and the end of the run. With `by_mode` each mode is a world."""
+    counter, end = Counting(run, by_mode), None
     with run.replay() as decoder, run.replay() as reader:
         for item in run.stretches():
             if isinstance(item, Stretch):
@@ -40,14 +41,16 @@ def accesses(run: Run) -> tuple[Counter[Access], End]:
 class Counting:
     """Counts steps by their fields, and loads and stores by address and width."""
 
-    def __init__(self, run: Run) -> None:
+    def __init__(self, run: Run, by_mode: bool) -> None:
+        self.by_mode = by_mode
         self.steps: Counter[tuple[bytes, bytes, bytes]] = Counter()
         self.touched: Counter[tuple[bytes, str, int, int, bool]] = Counter()
-        self.locations = [(run.pc.encode(), run.world.encode()) for _ in range(run.setup.harts)]
+        self.locations = [(run.pc.encode(), (run.mode if by_mode else run.world).encode()) for _ in range(run.setup.harts)]
 
     def take(self, decoder: Replay, reader: Replay, stretch: Stretch) -> None:
         """Counts the accesses of the steps of a stretch."""
-        after, _, worlds, traps = zip(*RAN_FIELDS.findall(stretch.data))
+        after, modes, worlds, traps = zip(*RAN_FIELDS.findall(stretch.data))
+        worlds = modes if self.by_mode else worlds
         pc, world = self.locations[stretch.hart]
         self.locations[stretch.hart] = after[-1], worlds[-1]
         pcs, worlds = (pc, *after[:-1]), (world, *worlds[:-1])

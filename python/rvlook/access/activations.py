@@ -14,12 +14,12 @@ from typing import Generator, Iterable, Iterator, Mapping, NamedTuple, Optional,
 from rvlook.protocol import names
 from rvlook.access.accesses import begin
 from rvlook.protocol.instructions import Memory, instruction_of
-from rvlook.protocol.replies import NO_TRAP, RAN_FIELDS, enclave_of, register_values
+from rvlook.protocol.memory_map import RAM_BASE
+from rvlook.protocol.replies import NO_TRAP, RAN_FIELDS, Enclave, enclave_of, register_values
 from rvlook.protocol.run import Line, Stretch
 
 if TYPE_CHECKING:
     from rvlook.protocol.bench import Bench
-    from rvlook.protocol.replies import Enclave
     from rvlook.protocol.run import Run
     from rvlook.protocol.run import End
 
@@ -27,6 +27,7 @@ DIVIDES = re.compile(r"(?:div|rem)u? x\d+, x(\d+), x(\d+)")
 MODES = {b"U": 0, b"S": 1, b"M": 3}
 ENDED_BY = {0: "exit", 1: "stop", 2: "timer"}
 ROW = 64  # bytes that `mem` shows at once
+BARE = "bare"
 
 
 class Operation(NamedTuple):
@@ -75,8 +76,8 @@ class Activation:
 
     @property
     def slot(self) -> int:
-        """Returns the slot of the enclave."""
-        return int(self.world[1:])
+        """Returns the slot of the enclave, 0 on the bare bench."""
+        return 0 if self.world == BARE else int(self.world[1:])
 
 
 Needed = Tuple[Optional[Memory], Tuple[int, ...]]  # an access, or None for a division, and registers
@@ -95,7 +96,7 @@ def registers_for(line: bytes, is_strict: bool) -> Needed | None:
 
 
 class Activations:
-    """The activations of a run after a step. `is_strict` records the operands of divisions too."""
+    """The activations of a run after a step. `is_strict` records the operands of divisions too. A bare run is one activation without a window."""
 
     def __init__(self, run: Run, start: int = 0, is_strict: bool = False) -> None:
         self.run, self.start, self.is_strict = run, start, is_strict
@@ -134,10 +135,10 @@ class Activations:
         self.offset, fields = -1, Fields(pcs, modes, traps)
         for world, group in itertools.groupby(worlds):
             count = sum(1 for _ in group)
-            if world.startswith(b"e"):
+            if not self.run.setup.monitor or world.startswith(b"e"):
                 activation, inside = self.open[hart], range(index, index + count)
                 if activation is None:
-                    activation = self.open[hart] = self.opened(world.decode(), hart, stretch.first + index - 1)
+                    activation = self.open[hart] = self.opened(world.decode(), hart, max(self.start, stretch.first + index - 1))
                     self.code[hart] = {}
                 self.extend(activation, stretch.first, inside, fields, self.operations_in(stretch, fields, inside))
                 if index + count < stretch.count or after[2][-1] != world:
@@ -196,10 +197,14 @@ class Activations:
             commands.insert(0, "hart %d" % self.shown_hart)
         bench.ask(*(commands or ["reg 0"]))
         self.shown_hart = self.viewer.hart
-        found = next((it for it in map(enclave_of, bench.ask("enclaves")[0]) if it.world == world), enclave)
+        found = next((it for it in map(enclave_of, bench.ask("enclaves")[0]) if it.world == world), enclave or self.whole(world))
         assert found is not None
         rows = ["mem %x %d" % (found.window + at, ROW) for at in range(0, found.window_size, ROW)]
         return found, b"".join(bytes.fromhex(reply[0].split(":")[1]) for reply in (bench.ask(*rows) if rows else ()))
+
+    def whole(self, world: str) -> Enclave | None:
+        """Returns all of RAM in place of the region of an enclave, for a bare run; None for an enclave that is not live."""
+        return Enclave(0, "Running", RAM_BASE, self.run.setup.ram, 0, 0, RAM_BASE, "") if world == BARE else None
 
     shown_hart = 0
 

@@ -1,12 +1,13 @@
 """Stack overflows: the first frame or sp-relative store of each stack that lies outside the range which its symbols give.
 
 A stack is a pair of symbols NAME_stack_bottom and NAME_stack_top. The host uses those whose NAME ends with `host`, an enclave in mode S those
-with `runtime`, in mode U those with `application`. All of this is derived from the instruction at pc, sp before the step, and the symbols.
+with `runtime`, in mode U those with `application`. On the bare bench M uses those with `monitor`, if there are any; S and U are not
+checked if the image has an enclave. All of this is derived from the instruction at pc, sp before the step, and the symbols.
 """
 from __future__ import annotations
 
 import re
-from typing import NamedTuple, Sequence, TYPE_CHECKING
+from typing import Container, NamedTuple, Sequence, TYPE_CHECKING
 
 from rvlook.access.accesses import begin
 from rvlook.protocol.instructions import instruction_of
@@ -18,7 +19,7 @@ if TYPE_CHECKING:
     from rvlook.protocol.symbols import Symbols
 
 RAN = re.compile(rb"ran 1 pc=(\w+) mode=(\w) world=(\w+)")
-NAME = re.compile(r"(.*(host|runtime|application))_stack_bottom\Z")
+NAME = re.compile(r"(.*(host|runtime|application|monitor))_stack_bottom\Z")
 FRAME = re.compile(r"addi x2, x2, (-\d+)\Z")
 SP = 2
 MASK = 0xFFFFFFFF
@@ -61,8 +62,12 @@ def stacks_of(symbols: Symbols) -> dict[str, list[Stack]]:
     return found
 
 
-def kind_of(world: str, mode: str) -> str | None:
-    """Returns the kind of stack that a world uses in a mode, or None."""
+def kind_of(world: str, mode: str, kinds: Container[str] = ()) -> str | None:
+    """Returns the kind of stack that a world uses in a mode, or None if it is not known. `kinds` are those that the symbols define."""
+    if world == "bare" and mode == "M":
+        return "monitor" if "monitor" in kinds else "host"
+    if world == "bare" and "runtime" in kinds:
+        return None  # the host or an enclave, below a monitor
     if world in ("host", "bare"):
         return "host"
     return "runtime" if mode == "S" else "application"
@@ -87,7 +92,7 @@ class Finder:
         steps = [at for at, (pc, _, _) in enumerate(locations) if self.uses[pc]]
         for at, sp in zip(steps, stack_pointers(replay, stretch, steps)):
             pc, mode, world = (it.decode() for it in locations[at])
-            self.check(stretch, at, (pc, world, kind_of(world, mode)), sp)
+            self.check(stretch, at, (pc, world, kind_of(world, mode, self.stacks)), sp)
 
     def check(self, stretch: Stretch, at: int, location: tuple[str, str, str | None], sp: int) -> None:
         """Checks one step that uses the stack."""

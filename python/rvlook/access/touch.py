@@ -9,9 +9,9 @@ from typing import Iterable, Iterator, Optional, TYPE_CHECKING
 
 from rvlook.protocol import names
 from rvlook.access.accesses import accesses
-from rvlook.errors import UsageError
 from rvlook.access.map import Event, events
 from rvlook.access.ranges import NOTHING, Range
+from rvlook.access.returns import Return, returns_of
 from rvlook.protocol.run import Stretch
 from rvlook.output.printer import Style, end_object, end_text, hex8, run_object
 
@@ -23,7 +23,7 @@ if TYPE_CHECKING:
 
 KINDS = {"r": "read", "w": "wrote", "x": "executed"}
 LEAST_SIZE = 4096
-BARE = "touch does not distinguish modes, but %s %s at step %d; use map or trace"
+LOWER_MODE = re.compile(rb"mode=[SU]")
 
 
 @dataclass(frozen=True)
@@ -67,18 +67,27 @@ class Touches:
     def __init__(self, run: Run) -> None:
         self.counts: dict[Kind, Counter[tuple[int, int]]] = defaultdict(Counter)
         self.permitted: dict[str, list[tuple[Range, str, set[str]]]] = defaultdict(list)
-        found, self.end = accesses(run)
+        has_modes = enters_lower_mode(run)
+        found, self.end = accesses(run, has_modes)
         for it, count in found.items():
             self.counts[Kind(it.world, it.kind, it.done)][it.address, it.width] += count
-        for event in events(run):
-            if isinstance(event, Event):
-                self.allow(event)
+        changes = [it for it in events(run) if isinstance(it, Event)]
+        for event in changes:
+            (self.allow_mode(event, "M") if has_modes else self.allow(event))
+        for item in returns_of(run, changes) if has_modes else ():
+            if isinstance(item, Return):
+                self.allow_mode(item.event, "S")
+                self.allow_mode(item.event, "U")
 
     def allow(self, event: Event) -> None:
         """Adds the access rights that a event gives to each world that runs."""
         for column in (it for it in event.columns if not it.derived):
             self.permitted[column.world] += [(row.range, row.what, set("".join(row.may[column.name].values())) - {"-"})
                                              for row in event.rows]
+
+    def allow_mode(self, event: Event, mode: str) -> None:
+        """Adds the access rights of a mode in the state that an event begins."""
+        self.permitted[mode] += [(row.range, row.what, set(next(iter(row.may.values()))[mode]) - {"-"}) for row in event.rows]
 
     def worlds(self) -> list[str]:
         """Returns the worlds that accessed memory, the host first."""
@@ -172,25 +181,13 @@ def by_file(lines: Iterable[tuple[str, int]]) -> Iterator[tuple[str, int, int, l
         yield name, sum(count > 0 for _, count in found), len(found), [number for number, count in found if not count]
 
 
-MODE = re.compile(rb"mode=([SU])")
-
-
-def refuse_modes(run: Run) -> None:
-    """Raises UsageError for a bare run that enters S or U, or writes a PMP register. Its access rights depend on the mode and the time, but
-    `touch` shows one world."""
-    for item in () if run.setup.monitor else run.stretches():
-        found = MODE.search(item.data) if isinstance(item, Stretch) else None
-        if isinstance(item, Stretch) and found:
-            step, what = item.first + item.data.count(b"\n", 0, found.start()), "enters mode " + found[1].decode()
-            raise UsageError(BARE % (run.setup.image.name, what, step))
-    for event in () if run.setup.monitor else events(run):
-        if isinstance(event, Event) and event.step:
-            raise UsageError(BARE % (run.setup.image.name, "writes a PMP register", event.step))
+def enters_lower_mode(run: Run) -> bool:
+    """Returns whether a bare run enters S or U. Each mode is then a world."""
+    return not run.setup.monitor and any(isinstance(it, Stretch) and LOWER_MODE.search(it.data) for it in run.stretches())
 
 
 def show_touch(run: Run, symbols: Symbols, printer: Printer) -> None:
     """Prints the accesses of each world, and what it was permitted to access."""
-    refuse_modes(run)
     touches = Touches(run)
     if printer.as_json:
         run_object(printer, run, symbols)

@@ -54,6 +54,12 @@ def refuse_bare(arguments: Namespace, run: Run) -> None:
         raise UsageError("%s requires the monitor of rvbench, but %s runs bare; use --monitor" % (arguments.subcommand, run.setup.image.name))
 
 
+def refuse_monitored(arguments: Namespace, run: Run) -> None:
+    """Raises UsageError for a run under the monitor of rvbench, which has no step in M."""
+    if run.setup.monitor:
+        raise UsageError("--returns requires a bare image, but %s runs under the monitor; use --no-monitor" % run.setup.image.name)
+
+
 def refuse_empty_part(arguments: Namespace, least: int) -> None:
     """Raises UsageError if --from and --to select nothing. The numbers begin at `least`."""
     if arguments.last is not None and arguments.last < max(least, arguments.first):

@@ -10,7 +10,7 @@ from rvlook.errors import UsageError
 if TYPE_CHECKING:
     from argparse import ArgumentParser
 
-WORLD = re.compile(r"host\Z|bare\Z|e([0-9]|1[0-2])\Z")
+WORLD = re.compile(r"host\Z|bare\Z|[MSU]\Z|e([0-9]|1[0-2])\Z")
 
 
 class Parser(argparse.ArgumentParser):
@@ -48,7 +48,7 @@ def integer_of(text: str, least: int, what: str) -> int:
 def world(text: str) -> str:
     """Checks the name of a world, and returns it."""
     if not WORLD.match(text):
-        raise argparse.ArgumentTypeError("invalid world '%s' (expected host, bare, or e0 to e12)" % text)
+        raise argparse.ArgumentTypeError("invalid world '%s' (expected host, bare, M, S, U, or e0 to e12)" % text)
     return text
 
 
@@ -85,7 +85,7 @@ def trace_options(parser: ArgumentParser) -> None:
     """Adds the options of `trace`."""
     parser.add_argument("--from", dest="first", metavar="N", type=positive, default=1, help="start at step N (default: 1)")
     parser.add_argument("--to", dest="last", metavar="N", type=positive, help="stop after step N")
-    parser.add_argument("--world", metavar="WORLD", type=world, help="show only steps of WORLD: host, bare, or e0 to e12")
+    parser.add_argument("--world", metavar="WORLD", type=world, help="show only steps of WORLD: host, bare, e0 to e12, or a mode of a bare image")
     parser.add_argument("--function", metavar="NAME", help="show only steps in the function NAME")
     parser.add_argument("--traps", action="store_true", help="show only steps that trap")
     parser.add_argument("--short", action="store_true", help="print pseudoinstructions such as mv, li, ret and csrw")
@@ -96,6 +96,8 @@ def trace_options(parser: ArgumentParser) -> None:
 def map_options(parser: ArgumentParser) -> None:
     """Adds the options of `map`."""
     parser.add_argument("--brief", action="store_true", help="show only the changes at each event")
+    parser.add_argument("--returns", action="store_true",
+                        help="of a bare image: show the changes at each return from M, and states inside M in which S may access more")
 
 
 def touch_options(parser: ArgumentParser) -> None:
@@ -164,6 +166,41 @@ def part_options(parser: ArgumentParser, first: str, last: str) -> None:
     parser.add_argument("--from", dest="first", metavar="N", type=count, default=0, help=first)
     parser.add_argument("--to", dest="last", metavar="N", type=count, help=last)
     parser.add_argument("--seconds", metavar="S", type=float, help="stop after S seconds, and report the results so far")
+
+
+def monitor_options(parser: ArgumentParser) -> None:
+    """Adds the options of a subcommand whose image is a monitor in M."""
+    parser.add_argument("--ram", metavar="BYTES", type=int, default=0x30000, help="set the size of the RAM (default: 196608)")
+    parser.add_argument("--symbols", metavar="FILE", help="read symbols from an ELF file or from the output of nm (default: from the image)")
+    parser.add_argument("--boot", metavar="FILE",
+                        help="run the commands in FILE before the first step (default: set a0 to 80010000, and a1 to the size of the RAM)")
+    parser.add_argument("--lowered", metavar="SYMBOL", action="append",
+                        help="clear the timer line at the monitor's store to SYMBOL; repeatable (default: when the interrupt is taken)")
+    parser.add_argument("--seed", metavar="S", type=int, default=1, help="set the seed of the random values (default: 1)")
+    parser.add_argument("--json", action="store_true", help="print one JSON object per line (see docs/LOOK.md)")
+
+
+def conform_options(parser: ArgumentParser) -> None:
+    """Adds the options of `conform`."""
+    parser.add_argument("image", metavar="MONITOR", help="an ELF file with a monitor that runs in M")
+    monitor_options(parser)
+    parser.add_argument("--tries", metavar="N", type=count, default=60, help="run N random scripts after the directed ones (default: 60)")
+    parser.add_argument("--items", metavar="N", type=positive, default=120, help="run about N items in each random script (default: 120)")
+    parser.add_argument("--exact", action="store_true", help="compare the PMP entries as stored, and mepc, mcause and mtval")
+    parser.add_argument("--only", metavar="TEXT", default="", help="run only the scripts with TEXT in their names, and accept empty cells")
+    parser.add_argument("--jobs", metavar="N", type=positive, default=1, help="run N scripts at the same time (default: 1)")
+    parser.add_argument("--seconds", metavar="S", type=float, help="stop after S seconds, and report the results so far")
+    parser.add_argument("--scripts", metavar="DIR", help="write the shrunk script of each side to DIR")
+
+
+def guard_options(parser: ArgumentParser) -> None:
+    """Adds the options of `guard`."""
+    parser.add_argument("image", metavar="IMAGE", help="an ELF file with a monitor that runs in M, its host and its enclaves")
+    parser.add_argument("ranges", metavar="RANGES", help="a file that declares who owns which range (see docs/LOOK.md)")
+    monitor_options(parser)
+    parser.add_argument("--timers", metavar="N", type=count, default=8, help="run N times with timer interrupts at random moments (default: 8)")
+    parser.add_argument("--steps", metavar="N", type=count, default=20000, help="run at most N steps of S and U (default: 20000)")
+    parser.set_defaults(exact=False)
 
 
 def gdb_options(parser: ArgumentParser) -> None:

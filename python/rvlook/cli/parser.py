@@ -6,10 +6,10 @@ import os
 import sys
 from typing import Any, Callable, Sequence, TYPE_CHECKING
 
-from rvlook.cli.options import (Parser, findings_options, gdb_options, image_options, leak_options, map_options, page_options, races_options,
-                                slot_option, timer_options, touch_options, trace_options, window_options)
-from rvlook.cli.subcommands import (do_explain, do_gdb, do_leak, do_map, do_measure, do_page, do_prompt, do_races, do_timer, do_touch, do_trace,
-                                    do_window)
+from rvlook.cli.options import (Parser, conform_options, findings_options, gdb_options, guard_options, image_options, leak_options, map_options,
+                                page_options, races_options, slot_option, timer_options, touch_options, trace_options, window_options)
+from rvlook.cli.subcommands import (do_conform, do_explain, do_gdb, do_guard, do_leak, do_map, do_measure, do_page, do_prompt, do_races,
+                                    do_timer, do_touch, do_trace, do_window)
 from rvlook.gdb.monitor import CommandLine
 from rvlook.errors import RvlookError, UsageError
 from rvlook.output.findings import Findings, check_junit, write_junit
@@ -27,6 +27,8 @@ SUBCOMMANDS = """subcommands:
   leak         compare runs that differ only in a secret of an enclave
   timer        interrupt an enclave before each step, and compare the results
   races        search all schedules of two harts and of timer interrupts
+  conform      compare a monitor in M with the monitor of rvbench
+  guard        check that a monitor in M with calls of its own isolates worlds
   measure      compute the measurement that create records
   explain      explain the errors of an rvbench input
   page         write the run as an HTML page
@@ -35,7 +37,7 @@ SUBCOMMANDS = """subcommands:
 Without a subcommand, rvlook IMAGE starts an interactive prompt.
 See 'rvlook SUBCOMMAND --help' and docs/LOOK.md."""
 
-NAMES = ("map", "trace", "touch", "window", "leak", "timer", "races", "measure", "explain", "page", "gdb")
+NAMES = ("map", "trace", "touch", "window", "leak", "timer", "races", "conform", "guard", "measure", "explain", "page", "gdb")
 
 
 def add_subcommand(subparsers: Any, name: str, do: Callable[[Namespace], None], about: str, *more: Callable[[ArgumentParser], None]) -> Parser:
@@ -58,6 +60,14 @@ def add_measure(subparsers: Any) -> None:
     parser.add_argument("--symbols", metavar="FILE", help="read symbols from an ELF file or from the output of nm (default: from FILE)")
     parser.add_argument("--json", action="store_true", help="print one JSON object (see docs/LOOK.md)")
     parser.set_defaults(do=do_measure)
+
+
+def add_monitor_check(subparsers: Any, name: str, do: Callable[[Namespace], None], about: str, options: Callable[[ArgumentParser], None]) -> None:
+    """Adds a subcommand whose image is a monitor in M."""
+    parser = subparsers.add_parser(name, help=about, description=about + ".")
+    options(parser)
+    findings_options(parser)
+    parser.set_defaults(do=do, subcommand=name)
 
 
 def add_explain(subparsers: Any) -> None:
@@ -93,6 +103,9 @@ def parser_of() -> Parser:
     subparsers = parser.add_subparsers(prog="rvlook", metavar="SUBCOMMAND", help=argparse.SUPPRESS)
     for name, do, about, *options in OVER_AN_IMAGE:
         add_subcommand(subparsers, name, do, about, *options)
+    add_monitor_check(subparsers, "conform", do_conform, "Compare a monitor in M with the monitor of rvbench, call by call", conform_options)
+    add_monitor_check(subparsers, "guard", do_guard, "Check that a monitor in M isolates the worlds below it, whatever its calls are",
+                      guard_options)
     add_measure(subparsers)
     add_explain(subparsers)
     gdb = add_subcommand(subparsers, "gdb", do_gdb, "Serve the run to a debugger by the GDB remote serial protocol", gdb_options)

@@ -5,6 +5,7 @@ from typing import TYPE_CHECKING
 
 from rvlook.access.lcov import show_lcov
 from rvlook.access.map_text import show_map
+from rvlook.access.returns import show_returns
 from rvlook.access.stack import overflow_text, overflows
 from rvlook.access.touch import show_touch
 from rvlook.finders.leak_text import show_leak
@@ -12,13 +13,15 @@ from rvlook.finders.races.text import show_races
 from rvlook.finders.timer import show_timer
 from rvlook.finders.window import show_window
 from rvlook.gdb.server import serve_gdb
+from rvlook.monitors.conform_text import show_conform
+from rvlook.monitors.guard_text import show_guard
 from rvlook.image.measure import show_measure
 from rvlook.page.page import page_template, show_page
 from rvlook.prompt.explain import show_explain
 from rvlook.prompt.prompt import show_prompt
 from rvlook.trace.spike import show_spike
 from rvlook.trace.text import Filter, show_trace
-from rvlook.cli.opening import opened, opened_monitored, refuse_empty_part, refuse_json, setup_of
+from rvlook.cli.opening import opened, opened_monitored, refuse_empty_part, refuse_json, refuse_monitored, setup_of
 from rvlook.errors import RvlookError, UsageError, warn
 from rvlook.output.printer import Printer
 from rvlook.protocol.lines import no_symbol
@@ -41,7 +44,11 @@ def do_map(arguments: Namespace) -> None:
     if arguments.brief:
         refuse_json(arguments, "--brief")
     run, symbols, printer = opened(arguments)
-    show_map(run, symbols, printer, arguments.brief)
+    if arguments.returns:
+        refuse_monitored(arguments, run)
+        show_returns(run, symbols, printer, arguments.findings)
+    else:
+        show_map(run, symbols, printer, arguments.brief)
     report_overflows(arguments, run, symbols)
 
 
@@ -77,7 +84,7 @@ def do_leak(arguments: Namespace) -> None:
     refuse_empty_part(arguments, 1)
     if arguments.tries is not None and arguments.first > arguments.tries:
         raise UsageError("--from %d is greater than --tries %d" % (arguments.first, arguments.tries))
-    show_leak(*opened_monitored(arguments), arguments)
+    show_leak(*opened(arguments), arguments)
 
 
 def do_window(arguments: Namespace) -> None:
@@ -96,6 +103,16 @@ def do_races(arguments: Namespace) -> None:
     """Runs `races`."""
     refuse_empty_part(arguments, 0)
     show_races(*opened(arguments), arguments)
+
+
+def do_conform(arguments: Namespace) -> None:
+    """Runs `conform`."""
+    show_conform(arguments)
+
+
+def do_guard(arguments: Namespace) -> None:
+    """Runs `guard`."""
+    show_guard(arguments)
 
 
 def do_measure(arguments: Namespace) -> None:

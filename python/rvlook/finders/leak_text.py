@@ -29,7 +29,8 @@ class Leak:
     def __init__(self, run: Run, symbols: Symbols, printer: Printer, options: Namespace) -> None:
         self.run, self.symbols, self.printer, self.options, self.findings = run, symbols, printer, options, options.findings
         self.public, self.is_strict = public_of(options.public, symbols), options.strict
-        self.channels = [it for it in CHANNELS if it != "operand" or self.is_strict]
+        left_out = {"operand"} - ({"operand"} if self.is_strict else set()) | (set() if run.setup.monitor else {"answer", "window"})
+        self.channels = [it for it in CHANNELS if it not in left_out]
 
     def secret(self, size: int | None = None) -> Secret:
         """Returns the secret that --at names; `size` is its length in bytes."""
@@ -39,7 +40,8 @@ class Leak:
         """Returns the observations of the run with a secret. Notes if --steps ends the run too early."""
         found = observe(self.run.with_lines(secret.step, secret.lines()), secret, self.is_strict)
         if found.is_cut and not self.findings.cut:
-            self.findings.cut_short("--steps %d ended the run while the enclave in slot %d was running" % (self.run.setup.limit, secret.slot))
+            what = "the enclave in slot %d was running" % secret.slot if self.run.setup.monitor else "it was running"
+            self.findings.cut_short("--steps %d ended the run while %s" % (self.run.setup.limit, what))
         return found
 
     def compared(self, one: Observation, two: Observation, secret: Secret) -> Comparison:
@@ -169,8 +171,8 @@ def values_of(leak: Leak, it: Difference, both: Sequence[Observation]) -> list[s
 def pair_text(leak: Leak, secrets: Sequence[Secret], both: Sequence[Observation], comparison: Comparison) -> None:
     """Prints the comparison of one pair, channel by channel."""
     printer, first = leak.printer, secrets[0]
-    printer.line("e%d, from step %d, with %s and with %s at %s  %s" % (
-        first.slot, first.step, secrets[0].bytes.hex(), secrets[1].bytes.hex(), first.text(), leak.symbols.name(first.at) or ""))
+    printer.line("%s, from step %d, with %s and with %s at %s  %s" % (
+        both[0].activations[0].world, first.step, secrets[0].bytes.hex(), secrets[1].bytes.hex(), first.text(), leak.symbols.name(first.at) or ""))
     found = comparison.all()
     equal = {**EQUAL, "steps": "%d" % (both[0].last - first.step), "answer": "the same at " + exits_text(len(both[0].activations)),
              "window": "the same at every exit"}

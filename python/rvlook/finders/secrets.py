@@ -11,6 +11,7 @@ from typing import TYPE_CHECKING
 from rvlook.protocol import names
 from rvlook.errors import RvlookError, Unfinished
 from rvlook.access.map import events
+from rvlook.protocol.memory_map import RAM_BASE
 from rvlook.protocol.replies import bytes_of
 from rvlook.protocol.run import End
 from rvlook.access.activations import Activations
@@ -92,11 +93,20 @@ def secret_of(text: str, symbols: Symbols, run: Run, slot: int, size: int | None
         raise RvlookError("the size of '%s' is unknown; use --at PLACE:BYTES" % text)
     if is_image:
         return Secret(slot, at, 0, bytes(count))
+    if not run.setup.monitor:
+        return bare_secret(run, at, count)
     event = created(run, slot)
     enclave = next(it for it in event.enclaves if it.slot == slot)
     if not enclave.base <= at <= at + count <= enclave.base + enclave.size:
         raise RvlookError("the bytes at %08x are outside the region of e%d" % (at, slot))
     return Secret(slot, at, event.step, bytes(count))
+
+
+def bare_secret(run: Run, at: int, count: int) -> Secret:
+    """Returns the secret in any bytes of RAM of a bare run, which is set after the script. Raises RvlookError."""
+    if not RAM_BASE <= at <= at + count <= RAM_BASE + run.setup.ram:
+        raise RvlookError("the bytes at %08x are outside the RAM" % at)
+    return Secret(0, at, run.length, bytes(count))
 
 
 def register_secret(match: re.Match[str], symbols: Symbols, run: Run, slot: int) -> Secret:

@@ -26,6 +26,7 @@ if TYPE_CHECKING:
     from rvlook.protocol.symbols import Symbols
 
 OTHERS = ("measure", "explain")  # subcommands over a file of their own
+NOT_OFFERED = ("gdb", "conform", "guard")  # subcommands that run benches of their own, or this server
 FROM_HERE = ("leak", "timer", "races")  # subcommands over the steps after the present one
 CAUGHT = ("switch", "trap", "call")
 OWN = {
@@ -50,7 +51,7 @@ class Monitor:
         self.moves, self.symbols, self.entry, self.refreshes = moves, symbols, Entry(), False
         self.session: Session | None = None
         self.has_files, self.read = has_files, command_line.read
-        self.subcommands = tuple(it for it in command_line.names if it not in (*OTHERS, "gdb"))  # over an image
+        self.subcommands = tuple(it for it in command_line.names if it not in (*OTHERS, *NOT_OFFERED))  # over an image
 
     def line(self, text: str) -> str:
         """Runs a line of `monitor`; returns its output. The notes of `page` go to standard error."""

@@ -2,7 +2,7 @@
 from __future__ import annotations
 
 import inspect
-from typing import Protocol, Sequence, TYPE_CHECKING
+from typing import Callable, Protocol, Sequence, TYPE_CHECKING
 
 from rvlook.protocol import names
 from rvlook.protocol.bench_line import has_reply, is_malformed, tokens_of
@@ -25,11 +25,12 @@ if TYPE_CHECKING:
     from rvlook.protocol.timeline import Timeline
 
 CHUNK = 2048  # steps that are searched at once
+UNTIL = ("switch", "trap", "below")
 LONGEST_COUNT = 18  # digits of the operand of `back`
 PLACES = (Form.address, Form.value)
 
 OWN = {
-    "until": "until switch | trap: run to the next world switch or trap, at most 1000000 steps",
+    "until": "until switch | trap | below: run to the next world switch, trap, or return from M to S or U, at most 1000000 steps",
     "back": "back [N]: go back N steps (default 1), by a replay from reset",
     "map": "map: show the current access rights and the enclaves",
     "where": "where: show the next instruction, its symbol and its source line",
@@ -184,17 +185,21 @@ class Session:
         self.where()
 
     def until(self, what: str) -> None:
-        """Runs up to a world switch or a trap. A second bench at the same step first finds the number of steps; without any, nothing is done."""
-        if what not in ("switch", "trap"):
+        """Runs up to a world switch, a trap or a return from M. A second bench at the same step first finds the number of steps; without any,
+        nothing is done."""
+        if what not in UNTIL:
             self.print(OWN["until"])
             return
         if what == "switch" and not self.setup.monitor:
             self.print("until switch requires the monitor; start with ./rvlook --monitor %s" % self.setup.image.name)
             return
+        if what == "below" and self.setup.monitor:
+            self.print("until below requires a bare image; start with ./rvlook --no-monitor %s" % self.setup.image.name)
+            return
         ahead = self.timeline.again(self.timeline.position)
         ahead.settle()
         try:
-            count = steps_to(ahead, "trap=-" if what == "trap" else "world=%s " % self.timeline.worlds[self.hart])
+            count = steps_to(ahead, self.end_of(what))
         finally:
             ahead.close()
         if count is None:
@@ -202,12 +207,31 @@ class Session:
         else:
             self.command("step %d" % count)
 
+    def end_of(self, what: str) -> Callable[[str], bool]:
+        """Returns the test for the reply of the step at which `until` ends."""
+        if what == "below":
+            return Below(self.timeline.modes[self.hart])
+        usual = "trap=-" if what == "trap" else "world=%s " % self.timeline.worlds[self.hart]
+        return lambda reply: usual not in reply
 
-def steps_to(ahead: Timeline, usual: str) -> int | None:
-    """Returns the number of steps to the first reply without the text `usual`; None if none comes, or the hart does nothing more."""
+
+class Below:
+    """Tests the replies of steps for a return from M: the first one in S or U after one in M."""
+
+    def __init__(self, mode: str) -> None:
+        self.is_in_m = mode == "M"
+
+    def __call__(self, reply: str) -> bool:
+        """Returns whether the step of a reply returned from M."""
+        was, self.is_in_m = self.is_in_m, "mode=M" in reply
+        return was and not self.is_in_m
+
+
+def steps_to(ahead: Timeline, is_end: Callable[[str], bool]) -> int | None:
+    """Returns the number of steps to the first reply that a test accepts; None if none comes, or the hart does nothing more."""
     for done in range(0, MOST_STEPS, CHUNK):
         lines = ahead.bench.block(b"step 1\n" * CHUNK, CHUNK).decode().splitlines()
-        found = next((n for n, line in enumerate(lines) if usual not in line), None)
+        found = next((n for n, line in enumerate(lines) if is_end(line)), None)
         if found is not None:
             return done + found + 1
         if equal_at_end(lines) >= EQUAL:
@@ -225,7 +249,7 @@ def completions(session: Session, tokens: Sequence[str]) -> Sequence[str]:
     if len(tokens) <= 1:
         return sorted([*COMMANDS, *OWN])
     if tokens[0] == "until":
-        return ["switch", "trap"]
+        return UNTIL
     forms = operands_of(tokens[0])
     form = forms[len(tokens) - 2] if len(tokens) - 2 < len(forms) else None
     if form is Form.register:

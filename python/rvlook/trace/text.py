@@ -27,6 +27,11 @@ ARGUMENT_FORMS = {"base": "%x", "size": "%x", "window": " window %x", "window_si
 A0 = 10
 
 
+def worlds_of(step: Step) -> tuple[str, ...]:
+    """Returns the names by which the world of a step can be selected. On the bare bench the mode is one."""
+    return (step.at.world, step.at.mode) if step.at.world == "bare" else (step.at.world,)
+
+
 @dataclass(frozen=True)
 class Filter:
     """The steps that are wanted."""
@@ -38,7 +43,7 @@ class Filter:
 
     def takes(self, step: Step, symbols: Symbols) -> bool:
         """Returns whether a step is wanted."""
-        if self.world and step.at.world != self.world or self.traps and step.trap is None:
+        if self.world and self.world not in worlds_of(step) or self.traps and step.trap is None:
             return False
         return not self.function or symbols.function(int(step.at.pc, 16)) == self.function
 

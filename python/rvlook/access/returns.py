@@ -1,0 +1,141 @@
+"""`map --returns`: the access rights at each return from M on the bare bench, and states inside M in which S may access more than before and after.
+
+A trap inside M, an access under MPRV or an early return would meet such a state."""
+from __future__ import annotations
+
+import re
+from dataclasses import dataclass
+from typing import Iterator, Optional, Sequence, TYPE_CHECKING
+
+from rvlook.access.map import Event, events
+from rvlook.access.map_text import changed_rows, row_at
+from rvlook.access.ranges import Range
+from rvlook.errors import warn
+from rvlook.output.printer import end_object, end_text, hex8, place_text, run_object
+from rvlook.protocol import names
+from rvlook.protocol.replies import step_of
+from rvlook.protocol.run import End, Stretch
+
+if TYPE_CHECKING:
+    from rvlook.output.findings import Findings
+    from rvlook.output.printer import Printer
+    from rvlook.protocol.run import Run
+    from rvlook.protocol.symbols import Symbols
+
+MODE = re.compile(rb"mode=(\w)")
+RETURN = re.compile(rb"M[SU]")
+
+
+@dataclass(frozen=True)
+class Transient:
+    """A range that S may access only inside M: the event that opened it, and the rights that S has in no state before or after."""
+    event: Event
+    range: Range
+    may: str
+
+
+@dataclass(frozen=True)
+class Return:
+    """A return from M: its step, where S or U continues, the last event up to it, and the transient states of the stay before it."""
+    step: int
+    pc: str
+    mode: str
+    event: Event
+    transients: tuple[Transient, ...]
+
+
+def mode_returns(run: Run) -> Iterator[tuple[int, str, str] | End]:
+    """Yields the step, pc and mode of each return from M, and then the End."""
+    last = run.mode.encode()
+    for item in run.stretches():
+        if isinstance(item, End):
+            yield item
+        elif isinstance(item, Stretch) and item.count:
+            modes = last + b"".join(MODE.findall(item.data))
+            lines = item.data.splitlines() if RETURN.search(modes) else []
+            for match in RETURN.finditer(modes):
+                ran = step_of(lines[match.start()].decode())
+                yield item.first + match.start(), ran.pc, ran.mode
+            last = modes[-1:]
+
+
+def returns(run: Run) -> Iterator[Return | End]:
+    """Yields each return from M with its access rights, and then the End."""
+    yield from returns_of(run, [it for it in events(run) if isinstance(it, Event)])
+
+
+def returns_of(run: Run, changes: Sequence[Event]) -> Iterator[Return | End]:
+    """Yields each return from M with its access rights, and then the End. `changes` are the events of the run."""
+    at, before = 0, None
+    for item in mode_returns(run):
+        if isinstance(item, End):
+            yield item
+            continue
+        step, pc, mode = item
+        first = at
+        while at + 1 < len(changes) and changes[at + 1].step <= step:
+            at += 1
+        inside = changes[first + 1:at] if before else changes[first:at]
+        yield Return(step, pc, mode, changes[at], tuple(transients_of(before, inside, changes[at])))
+        before = changes[at]
+
+
+def transients_of(before: Optional[Event], inside: Sequence[Event], after: Event) -> Iterator[Transient]:
+    """Yields for each state of a stay the first range in which S may access more than before and after the stay."""
+    ends = [it for it in (before, after) if it]
+    for event in inside:
+        starts = sorted({row.range.first for it in (event, *ends) for row in it.rows})
+        for first, end in zip(starts, [*starts[1:], event.rows[-1].range.end]):
+            more = supervisor_rights(event, first).difference(*(supervisor_rights(it, first) for it in ends))
+            if more:
+                yield Transient(event, Range(first, end), "".join(letter if letter in more else "-" for letter in "rwx"))
+                break
+
+
+def supervisor_rights(event: Event, address: int) -> set[str]:
+    """Returns the letters of what S may do at an address."""
+    (may,) = row_at(event, address).may.values()
+    return set(may["S"]) - {"-"}
+
+
+def show_returns(run: Run, symbols: Symbols, printer: Printer, findings: Findings) -> None:
+    """Shows each return from M with the access rights that it changes. A transient state is a finding."""
+    if printer.as_json:
+        run_object(printer, run, symbols)
+    before = None
+    for item in returns(run):
+        if isinstance(item, End):
+            (end_object(printer, item) if printer.as_json else end_text(printer, item, symbols))
+            continue
+        (write_return if printer.as_json else print_return)(printer, item, before, symbols)
+        for it in item.transients:
+            text = transient_text(it, symbols)
+            warn(text)
+            findings.add("returns", text)
+        before = item.event
+
+
+def print_return(printer: Printer, item: Return, before: Optional[Event], symbols: Symbols) -> None:
+    """Prints a return, and the ranges whose access rights differ from those at the return before it."""
+    printer.line("return at step %d to %s at %s" % (item.step, item.mode, place_text(item.pc, symbols)))
+    for found, _, changed in changed_rows(item.event, before) if item.event is not before else ():
+        shown = [it for it in changed if not it.startswith("M ")]
+        if shown:
+            size = names.size_text(found.end - found.first)
+            printer.line("  %08x-%08x %7s  %s" % (found.first, found.end - 1, size, "  ".join(shown)))
+
+
+def write_return(printer: Printer, item: Return, before: Optional[Event], symbols: Symbols) -> None:
+    """Writes a return as an object; the rights of all ranges are in it."""
+    pc = int(item.pc, 16)
+    rows = [{"first": hex8(row.range.first), "last": hex8(row.range.end - 1), "may": next(iter(row.may.values()))} for row in item.event.rows]
+    printer.object("return", step=item.step, pc=item.pc, mode=item.mode, symbol=symbols.name(pc), changed=item.event is not before, rows=rows,
+                   transients=[{"step": it.event.step, "pc": it.event.pc, "text": it.event.text, "first": hex8(it.range.first),
+                                "last": hex8(it.range.end - 1), "may": it.may} for it in item.transients])
+
+
+def transient_text(it: Transient, symbols: Symbols) -> str:
+    """Returns a transient state as a line."""
+    place = symbols.line(int(it.event.pc, 16)) or symbols.name(int(it.event.pc, 16)) or it.event.pc
+    return "in M at step %d, %s: S may access %s %08x-%08x, and neither before the trap nor after it" % (
+        it.event.step, place, it.may, it.range.first, it.range.end - 1)

@@ -1,0 +1,1 @@
+"""Checks of monitors that run in mode M on the bare bench."""

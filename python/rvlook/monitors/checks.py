@@ -1,0 +1,216 @@
+"""The checks of `guard` at each return from M. Each function returns the first violation as text, or an empty text."""
+from __future__ import annotations
+
+import struct
+from dataclasses import dataclass
+
+from rvlook.monitors.guarded import SUPERVISOR, Return, State
+from rvlook.monitors.ownership import HOST, MONITOR, Ownership, OwnedRange
+from rvlook.monitors.rights import Right
+from rvlook.monitors.sides import ROW
+from rvlook.protocol.memory_map import MONITOR_END
+from rvlook.protocol.names import ECALL_FROM_S, TIMER, abi_name
+
+SIE, SPIE, SPP, MXR = 2, 0x20, 0x100, 0x80000
+MARKED_CSRS = ("sscratch", "sepc", "scause", "stval")
+A0, A7 = 10, 17
+
+
+@dataclass
+class Left:
+    """A world that was left: the state before the marks, the marks of its registers and S-mode registers, and whether it made a call."""
+    state: State
+    registers: dict[int, int]
+    csrs: dict[str, int]
+    is_call: bool
+
+
+@dataclass
+class Memory:
+    """The bytes after the range of the monitor at the entry to M and at the return, and the access rights of the world that trapped."""
+    before: bytes
+    after: bytes
+    rights: tuple[Right, ...] = ()
+
+
+def may_at(rights: tuple[Right, ...], at: int) -> str:
+    """Returns the rights to a byte, as three letters."""
+    return next((it.may for it in rights if it.first <= at < it.end), "---")
+
+
+# ---- access
+
+def forbidden_access(ownership: Ownership, world: str, pc: int, rights: tuple[Right, ...], live: set[OwnedRange]) -> str:
+    """Access only to what is the world's own or shared with it; the host also has the ranges of enclaves that are not live."""
+    for it in rights:
+        for part in ownership.ranges if it.may != "---" else ():
+            is_foreign = part.owner == MONITOR or part in live and part.owner != world and world not in part.sharers
+            if is_foreign and part.overlaps(it):
+                return "%s at %08x may access %s %08x-%08x, which belongs to %s" % (
+                    world, pc, it.may, max(it.first, part.first), min(it.end, part.end) - 1, part.owner)
+        if world != HOST and it.may != "---" and not is_permitted(ownership, world, it):
+            return "%s at %08x may access %s %08x-%08x, which is neither its own nor shared with it" % (world, pc, it.may, it.first, it.end - 1)
+    return ""
+
+
+def is_permitted(ownership: Ownership, world: str, right: Right) -> bool:
+    """Returns whether a range of access rights is inside ranges that a world may access in this way."""
+    at = right.first
+    while at < right.end:
+        parts = [it for it in ownership.open_to(world) if it.has(at) and not set(right.may) - set(it.may) - {"-"}]
+        if not parts:
+            return False
+        at = max(it.end for it in parts)
+    return True
+
+
+def missing_access(ownership: Ownership, world: str, pc: int, rights: tuple[Right, ...], live: set[OwnedRange]) -> str:
+    """Access to all that is the world's own or shared with it, except for live ranges of enclaves inside."""
+    for part in ownership.open_to(world):
+        for it in rights:
+            lacking = set(part.may) - set(it.may) - {"-"}
+            first, end = max(part.first, it.first), min(part.end, it.end)
+            if lacking and first < end and not is_covered(first, end, [one for one in live if one.owner != world]):
+                return "%s at %08x may access only %s %08x-%08x, of which it has %s" % (world, pc, it.may, first, end - 1, part.may)
+    return ""
+
+
+def is_covered(first: int, end: int, parts: list[OwnedRange]) -> bool:
+    """Returns whether all bytes of a range are in one of the parts."""
+    at = first
+    while at < end:
+        at_next = max((it.end for it in parts if it.has(at)), default=at)
+        if at_next == at:
+            return False
+        at = at_next
+    return True
+
+
+# ---- registers
+
+def visible_mark(ownership: Ownership, was: str, left: Left, world: str, state: State) -> str:
+    """No other world sees a marked register of the world that was left, apart from those that hand values over at a call."""
+    names = {value: abi_name(number) for number, value in left.registers.items()}
+    names.update({value: name for name, value in left.csrs.items() if name in MARKED_CSRS})
+    shown = [(abi_name(number), value) for number, value in enumerate(state.registers) if not (left.is_call and number in ownership.hands)]
+    shown += [(name, state.csrs[name]) for name in SUPERVISOR]
+    found = next(((name, value) for name, value in shown if value in names), None)
+    if found:
+        return "%s at %08x has in %s what %s had in %s, %08x" % (world, state.pc, found[0], was, names[found[1]], found[1])
+    return ""
+
+
+def leftover(was: str, left: Left, world: str, state: State) -> str:
+    """A world that is entered for the first time has neither stvec nor sstatus of the world that was left."""
+    stvec = left.state.csrs["stvec"]
+    if stvec and state.csrs["stvec"] == stvec:
+        return "%s is entered at %08x with stvec of %s, %08x" % (world, state.pc, was, stvec)
+    kept = state.csrs["sstatus"] & left.csrs.get("sstatus", 0)
+    return "%s is entered at %08x with bits of sstatus of %s, %08x" % (world, state.pc, was, kept) if kept else ""
+
+
+def changed_context(ownership: Ownership, world: str, left: Left, state: State) -> str:
+    """A world that continues has its registers, pc and mode, apart from the registers that hand values over at a call."""
+    before = left.state
+    pc = before.pc + 4 if left.is_call else before.pc
+    if (state.pc, state.mode) != (pc & 0xFFFFFFFF, before.mode):
+        return "%s continues at %08x in %s, not at %08x in %s" % (world, state.pc, state.mode, pc, before.mode)
+    for number in range(1, 32):
+        wanted = left.registers.get(number, before.registers[number])
+        if state.registers[number] != wanted and not (left.is_call and number in ownership.hands):
+            return "%s continues at %08x with %s %08x, not %08x" % (world, state.pc, abi_name(number), state.registers[number], wanted)
+    for name in SUPERVISOR:
+        wanted = left.csrs.get(name, before.csrs[name])
+        if state.csrs[name] != wanted:
+            return "%s continues at %08x with %s %08x, not %08x" % (world, state.pc, name, state.csrs[name], wanted)
+    return ""
+
+
+def is_redirect(stay: Return) -> bool:
+    """Returns whether M redirected the trap to S of the same world."""
+    return stay.exit.pc == stay.exit.csrs["stvec"] & ~3
+
+
+def wrong_redirect(world: str, left: Left, stay: Return, tval: int) -> str:
+    """A redirected exception changes what the privileged specification says (Privileged 20211203, section 4.1.1), and nothing else."""
+    before, after = left.state, stay.exit
+    if after.mode != "S":
+        return "an exception of %s at %08x is redirected to %s, not to S" % (world, before.pc, after.mode)
+    status = left.csrs["sstatus"]
+    wanted = {"sepc": before.pc, "scause": int(stay.cause, 16), "stval": tval, "sscratch": left.csrs["sscratch"], "stvec": before.csrs["stvec"],
+              "sstatus": status & MXR | (SPIE if status & SIE else 0) | (SPP if before.mode == "S" else 0)}
+    for name, value in wanted.items():
+        if after.csrs[name] != value:
+            return "an exception of %s at %08x is redirected with %s %08x, not %08x" % (world, before.pc, name, after.csrs[name], value)
+    for number in range(1, 32):
+        value = left.registers.get(number, before.registers[number])
+        if after.registers[number] != value:
+            return "an exception of %s at %08x changes %s from %08x to %08x" % (world, before.pc, abi_name(number), value, after.registers[number])
+    return ""
+
+
+def wrong_emulation(world: str, left: Left, stay: Return) -> str:
+    """An exception that M handles itself changes at most one register, the result of the instruction."""
+    changed = [n for n in range(1, 32) if stay.exit.registers[n] != left.registers.get(n, left.state.registers[n])]
+    if len(changed) > 1:
+        return "an exception of %s at %08x, which M handles, changes %s" % (world, left.state.pc, ", ".join(map(abi_name, changed)))
+    return ""
+
+
+# ---- memory
+
+def changed_bytes(ownership: Ownership, world: str, memory: Memory) -> str:
+    """M changes only its own memory, what the world that trapped may store to, and bytes of an enclave that it zeroes."""
+    if memory.before == memory.after:
+        return ""
+    for offset in range(0, len(memory.before), ROW):
+        if memory.before[offset:offset + ROW] != memory.after[offset:offset + ROW]:
+            found = changed_row(ownership, world, memory, offset)
+            if found:
+                return found
+    return ""
+
+
+def changed_row(ownership: Ownership, world: str, memory: Memory, offset: int) -> str:
+    """Returns the violation of `changed_bytes` in a row of bytes."""
+    for at in range(offset, offset + ROW):
+        address, value = MONITOR_END + at, memory.after[at]
+        owner = ownership.owner_of(address)
+        if memory.before[at] != value and owner != MONITOR and "w" not in may_at(memory.rights, address):
+            if value or owner in (HOST, None):
+                return "M changes %08x of %s from %02x to %02x, which %s may not store to" % (
+                    address, owner or "nobody", memory.before[at], value, world)
+    return ""
+
+
+def marks_in_memory(ownership: Ownership, was: str, left: Left, memory: bytes) -> str:
+    """No mark of the world that was left is in memory that is not its own or the monitor's."""
+    values = {struct.pack("<I", value): abi_name(number) for number, value in left.registers.items()}
+    values.update({struct.pack("<I", value): name for name, value in left.csrs.items() if name in MARKED_CSRS})
+    for data, name in values.items():
+        at = memory.find(data)
+        while at >= 0:
+            if ownership.owner_of(MONITOR_END + at) not in (was, MONITOR):
+                return "memory at %08x has what %s had in %s, %08x" % (MONITOR_END + at, was, name, struct.unpack("<I", data)[0])
+            at = memory.find(data, at + 1)
+    return ""
+
+
+def not_zeroed(part: OwnedRange, world: str, memory: bytes, rights: tuple[Right, ...]) -> str:
+    """A range of an enclave is all zeros, and open as a whole, when another world gets it."""
+    data = memory[part.first - MONITOR_END:part.end - MONITOR_END]
+    if any(data):
+        at = part.first + next(n for n, it in enumerate(data) if it)
+        return "%s may access %s of %s, which is not zeroed: byte %08x is %02x" % (world, part, part.owner, at, data[at - part.first])
+    shut = next((it for it in rights if it.may == "---" and part.overlaps(it)), None)
+    return "%s may access only a part of %s of %s" % (world, part, part.owner) if shut else ""
+
+
+def closed_ranges(ownership: Ownership, rights: tuple[Right, ...]) -> list[OwnedRange]:
+    """Returns the ranges of enclaves that are closed as a whole."""
+    return [part for part in ownership.private() if not any(it.may != "---" and part.overlaps(it) for it in rights)]
+
+
+def is_context_switch(cause: str) -> bool:
+    """Returns whether a trap with this cause may switch worlds on purpose."""
+    return cause in (ECALL_FROM_S, TIMER)

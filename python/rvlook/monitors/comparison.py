@@ -1,0 +1,124 @@
+"""Compares two monitors after one step: everything that S and U can observe."""
+from __future__ import annotations
+
+from dataclasses import dataclass
+from enum import Enum
+from typing import Iterator
+
+from rvlook.monitors.rights import Right, rights_of, shape
+from rvlook.monitors.sides import BELOW, DECIDING, EXACT, REGISTERS, Observation
+from rvlook.protocol.replies import bytes_of
+
+SHOWN_BYTES = 8
+SHOWN_RANGES = 4
+
+
+class Kind(Enum):
+    """What differs."""
+    fault = "fault in M"
+    trap = "trap"
+    mode = "mode"
+    pc = "pc"
+    register = "register"
+    csr = "csr"
+    entry = "PMP entry"
+    rights = "access rights"
+    memory = "memory"
+
+
+@dataclass(frozen=True)
+class Difference:
+    """One difference: its kind, a name such as `x10` or `sepc`, and the values of both monitors. `place` locates it: the number of a register or
+    of a PMP entry, or the address of a byte."""
+    kind: Kind
+    name: str
+    own: str
+    reference: str
+    place: int | None = None
+
+
+def differences(own: Observation, reference: Observation, ram: int, is_exact: bool) -> list[Difference]:
+    """Returns all differences but those of memory. After a fault in M it is the only one."""
+    if own.fault:
+        return [Difference(Kind.fault, own.fault, "pc %08x" % own.pc, "pc %08x" % reference.pc, own.pc)]
+    found = []
+    if own.trap != reference.trap:
+        found.append(Difference(Kind.trap, "trap of the step", own.trap, reference.trap))
+    if own.mode != reference.mode:
+        found.append(Difference(Kind.mode, "mode", own.mode, reference.mode))
+    found += below_differences(own.below, reference.below)
+    found += above_differences(own.above, reference.above, is_exact)
+    found += entry_differences(own.entries, reference.entries) if is_exact else rights_differences(own, reference, ram)
+    return found
+
+
+def below_differences(own: bytes, reference: bytes) -> list[Difference]:
+    """Returns the differences of x1 to x31, pc and the S-mode registers; pc comes first."""
+    if own == reference:
+        return []
+    pairs = zip(own.decode().splitlines(), reference.decode().splitlines())
+    found = [below_difference(number, one, other) for number, (one, other) in enumerate(pairs) if one != other]
+    return sorted(found, key=lambda it: it.kind is not Kind.pc)
+
+
+def below_difference(number: int, own: str, reference: str) -> Difference:
+    """Returns the difference of two replies, which have a number in the state."""
+    values = own.partition("=")[2], reference.partition("=")[2]
+    if number == REGISTERS - 1:
+        return Difference(Kind.pc, "pc", *values)
+    if number < REGISTERS:
+        return Difference(Kind.register, "x%d" % number, *values, number)
+    return Difference(Kind.csr, BELOW[number - REGISTERS], *values, number)
+
+
+def above_differences(own: tuple[int, ...], reference: tuple[int, ...], is_exact: bool) -> list[Difference]:
+    """Returns the differences of the deciding bits of mstatus, mie and mip, and of mepc, mcause and mtval if they are compared."""
+    names = (*DECIDING, *EXACT)[:len(DECIDING) + (len(EXACT) if is_exact else 0)]
+    return [Difference(Kind.csr, name, "%08x" % one, "%08x" % other)
+            for name, one, other in zip(names, own, reference) if one != other]
+
+
+def entry_differences(own: bytes, reference: bytes) -> list[Difference]:
+    """Returns the PMP entries that differ."""
+    pairs = enumerate(zip(own.decode().splitlines(), reference.decode().splitlines()))
+    return [Difference(Kind.entry, "PMP entry %d" % index, one.split(None, 2)[2], other.split(None, 2)[2], index)
+            for index, (one, other) in pairs if one != other]
+
+
+def rights_differences(own: Observation, reference: Observation, ram: int) -> list[Difference]:
+    """Returns the difference of what S and U can access, or nothing."""
+    if own.entries == reference.entries:
+        return []
+    mine, others = rights_of(own.entries, ram), rights_of(reference.entries, ram)
+    if shape(mine) == shape(others):
+        return []
+    only, missing = [it for it in mine if shape((it,))[0] not in shape(others)], [it for it in others if shape((it,))[0] not in shape(mine)]
+    return [Difference(Kind.rights, "access rights of S and U", ranges_text(only), ranges_text(missing), first_entry(only))]
+
+
+def ranges_text(rights: list[Right]) -> str:
+    """Returns the first ranges of a list as text."""
+    return ", ".join(map(str, rights[:SHOWN_RANGES])) + (", ..." if len(rights) > SHOWN_RANGES else "")
+
+
+def first_entry(rights: list[Right]) -> int | None:
+    """Returns the first PMP entry that decides one of the ranges, or None."""
+    return next((it.entry for it in rights if it.entry is not None), None)
+
+
+def memory_difference(own: bytes, reference: bytes) -> list[Difference]:
+    """Returns the first difference of memory, from the replies of `mem`."""
+    if own == reference:
+        return []
+    return [next(byte_differences(own.decode(), reference.decode()))]
+
+
+def byte_differences(own: str, reference: str) -> Iterator[Difference]:
+    """Yields the first difference of each row."""
+    for one, other in zip(own.splitlines(), reference.splitlines()):
+        if one != other:
+            mine, its = bytes_of(one), bytes_of(other)
+            at = next(n for n in range(len(mine)) if mine[n] != its[n])
+            address = int(one[:8], 16) + at
+            yield Difference(Kind.memory, "memory at %08x" % address, mine[at:at + SHOWN_BYTES].hex(" "), its[at:at + SHOWN_BYTES].hex(" "),
+                             address)

@@ -1,0 +1,206 @@
+"""Shows the result of `conform`."""
+from __future__ import annotations
+
+import os
+from itertools import groupby
+from typing import TYPE_CHECKING
+
+from rvlook.errors import RvlookError, Unfinished, UsageError
+from rvlook.image.files import image_of, read_file, script_lines
+from rvlook.image.symbols import symbols_from
+from rvlook.monitors.comparison import Difference, Kind
+from rvlook.monitors.conform import Outcome, Plan, compare
+from rvlook.monitors.shrink import Shrinker, Shrunk
+from rvlook.monitors.sides import MonitorSetup, return_addresses
+from rvlook.monitors.writers import Writer, writers_of
+from rvlook.output.printer import Printer, hex8, place_text
+from rvlook.protocol.lines import no_symbol, resolved_script
+from rvlook.protocol.memory_map import MONITOR_END
+
+if TYPE_CHECKING:
+    from argparse import Namespace
+    from rvlook.protocol.symbols import Symbols
+
+MOST_SHOWN = 6  # differences
+MOST_LINES = 4  # source lines before a writer
+MOST_TRACED = 2  # differences whose writers are searched
+LEAST_RAM = 0x30000  # bytes; the directed scripts use them
+
+
+def monitor_setup(arguments: Namespace) -> tuple[MonitorSetup, Symbols]:
+    """Returns the author's monitor as the arguments describe it, and its symbols. Raises RvlookError."""
+    image = image_of(arguments.image)
+    symbols = symbols_from(arguments.symbols, image)
+    boot: tuple[str, ...] = ("setreg 10 %x" % MONITOR_END, "setreg 11 %x" % arguments.ram)
+    if arguments.boot:
+        lines = resolved_script(script_lines(read_file(arguments.boot), arguments.boot), symbols)
+        boot = tuple(it.text for it in lines if not it.text.lstrip().startswith("#"))
+    lowered = tuple(address_of(it, symbols) for it in arguments.lowered or ())
+    return MonitorSetup(image, arguments.ram, boot, return_addresses(image), lowered, arguments.exact), symbols
+
+
+def address_of(name: str, symbols: Symbols) -> int:
+    """Returns the address of a symbol or in hexadecimal digits. Raises RvlookError."""
+    address = symbols.address(name)
+    if address is None:
+        raise RvlookError(no_symbol(name, symbols))
+    return address
+
+
+def show_conform(arguments: Namespace) -> None:
+    """Compares the monitors, and shows the first difference and the coverage table. A difference is a finding; an empty cell and a time limit
+    make the result incomplete."""
+    if arguments.ram < LEAST_RAM:
+        raise UsageError("--ram %d is less than %d" % (arguments.ram, LEAST_RAM))
+    setup, symbols = monitor_setup(arguments)
+    plan = Plan(arguments.tries, arguments.items, str(arguments.seed), arguments.only, arguments.seconds, arguments.jobs)
+    printer, findings = Printer(arguments.json), arguments.findings
+    outcome = compare(setup, plan)
+    if not outcome.coverage.scripts:
+        raise RvlookError("no script has '%s' in its name" % plan.only)
+    show_counts(outcome, printer)
+    if outcome.different:
+        shrunk = Shrinker(setup, outcome.different).shrink()
+        Report(setup, symbols, printer, outcome).show(shrunk)
+        first = shrunk.played.differences[0]
+        findings.add("conform", "%s: %s, not %s" % (first.name, first.own, first.reference))
+        if arguments.scripts:
+            write_scripts(arguments.scripts, setup, shrunk, printer)
+    else:
+        findings.add("conform")
+    show_coverage(outcome, printer)
+    report_rest(outcome, plan, findings.cut_short)
+
+
+def report_rest(outcome: Outcome, plan: Plan, cut_short: object) -> None:
+    """Reports what was not examined: scripts after the time limit, and empty cells of the table."""
+    assert callable(cut_short)
+    empty = outcome.coverage.empty()
+    if outcome.different or plan.only:
+        return
+    if outcome.left:
+        cut_short("the time limit of %g seconds left out %d scripts" % (plan.seconds or 0, outcome.left))
+    elif empty:
+        cut_short("no script covered %s" % "; ".join(empty))
+
+
+def show_counts(outcome: Outcome, printer: Printer) -> None:
+    """Shows how much was run."""
+    it = outcome.coverage
+    if printer.as_json:
+        printer.object("conform", scripts=it.scripts, steps=it.steps, returns=it.returns, steps_in_m=it.spent, most_steps_in_m=it.most[0],
+                       alike=outcome.different is None)
+        return
+    printer.line("%s: %d scripts, %d steps below M, %d returns from M, %d steps in M" % (
+        "different" if outcome.different else "alike", it.scripts, it.steps, it.returns, it.spent))
+
+
+class Report:
+    """Shows a difference."""
+
+    def __init__(self, setup: MonitorSetup, symbols: Symbols, printer: Printer, outcome: Outcome) -> None:
+        self.setup, self.symbols, self.printer, self.outcome = setup, symbols, printer, outcome
+
+    def show(self, shrunk: Shrunk) -> None:
+        """Shows the shrunk script, the values of both sides, and the instructions in M that wrote them."""
+        found, played = self.outcome.different, shrunk.played
+        assert found
+        if not self.printer.as_json:
+            self.printer.line("script '%s': different after %d items; shrunk to %d items in %d runs" % (
+                found.name, len(found.items), len(played.items), shrunk.runs))
+        for step in played.steps:
+            if self.printer.as_json:
+                self.printer.object("item", world=step.world, text=step.item.text, result=step.result)
+            else:
+                self.printer.line("  %-5s %-50s %s" % (step.world, step.item.text, step.result))
+        for number, it in enumerate(played.differences[:MOST_SHOWN]):
+            writers = writers_of(self.setup, played, it) if number < MOST_TRACED else []
+            if self.printer.as_json:
+                self.difference_object(found.name, it, writers)
+            else:
+                self.difference_text(it, writers, number < MOST_TRACED)
+        if len(played.differences) > MOST_SHOWN and not self.printer.as_json:
+            self.printer.line("  and %d more differences" % (len(played.differences) - MOST_SHOWN))
+
+    def difference_object(self, script: str, it: Difference, writers: list[Writer]) -> None:
+        """Writes a difference as an object."""
+        self.printer.object("mismatch", script=script, kind=it.kind.value, name=it.name, own=it.own, reference=it.reference, writers=[
+            {"pc": hex8(writer.pc), "instruction": writer.text, "address": hex8(writer.address), "symbol": self.symbols.name(writer.pc),
+             "line": source_of(writer, self.symbols)} for writer in writers])
+
+    def difference_text(self, it: Difference, writers: list[Writer], is_traced: bool) -> None:
+        """Prints a difference."""
+        self.printer.line("  " + it.name)
+        self.printer.line("    own monitor        %s" % it.own)
+        self.printer.line("    monitor of rvbench %s" % it.reference)
+        for number, writer in enumerate(writers):
+            what = "from %08x, last stored by" % (writer.address or 0) if number else self.what_happened(it)
+            self.printer.line("    %s %s at %s" % (what, writer.text, writer_place(writer, self.symbols)))
+        if writers:
+            self.printer.line("      executed before it: %s" % (", ".join(lines_before(writers[-1], self.symbols)) or "no source lines are known"))
+        if is_traced and not writers and it.kind not in (Kind.fault, Kind.trap):
+            self.printer.line("    not written in M")
+
+    @staticmethod
+    def what_happened(difference: Difference) -> str:
+        """Returns what an instruction did about a difference."""
+        return "trapped at" if difference.kind is Kind.fault else "last written in M by"
+
+
+def source_of(writer: Writer, symbols: Symbols) -> str | None:
+    """Returns the source line of an instruction, or if it has none, of the last one that was executed before it and has one."""
+    return next((line for line in map(symbols.line, (writer.pc, *writer.path)) if line), None)
+
+
+def lines_before(writer: Writer, symbols: Symbols) -> list[str]:
+    """Returns the source lines that were executed before an instruction, each once, the last one first."""
+    lines = (it for it in map(symbols.line, writer.path) if it and it != symbols.line(writer.pc))
+    return list(dict.fromkeys(lines))[:MOST_LINES]
+
+
+def writer_place(writer: Writer, symbols: Symbols) -> str:
+    """Returns the address of an instruction with its symbol and source line."""
+    if symbols.line(writer.pc):
+        return place_text("%08x" % writer.pc, symbols)
+    source = source_of(writer, symbols)
+    return place_text("%08x" % writer.pc, symbols) + ("  after %s" % source if source else "")
+
+
+def show_coverage(outcome: Outcome, printer: Printer) -> None:
+    """Shows the coverage table."""
+    cells = list(outcome.coverage.cells())
+    if printer.as_json:
+        for it in cells:
+            printer.object("cell", group=it.group, name=it.name, count=it.count)
+        return
+    printer.line("coverage: %d of %d cells" % (sum(it.count > 0 for it in cells), len(cells)))
+    for group, members in groupby(cells, lambda it: it.group):
+        printer.line("  " + group)
+        for line in wrapped(["%s %d" % (it.name, it.count) for it in members]):
+            printer.line("    " + line)
+
+
+def wrapped(words: list[str]) -> list[str]:
+    """Returns texts in lines of at most 120 characters."""
+    lines = [""]
+    for word in words:
+        if len(lines[-1]) + len(word) > 114:
+            lines.append("")
+        lines[-1] += ("  " if lines[-1] else "") + word
+    return lines
+
+
+def write_scripts(folder: str, setup: MonitorSetup, shrunk: Shrunk, printer: Printer) -> None:
+    """Writes a script for each side, and prints the commands that show them. Raises Unfinished."""
+    own, reference = os.path.join(folder, "own.script"), os.path.join(folder, "reference.script")
+    try:
+        os.makedirs(folder, exist_ok=True)
+        for path, before, lines in ((own, "", shrunk.played.own_log), (reference, "--\n", shrunk.played.reference_log)):
+            with open(path, "w", encoding="ascii") as file:
+                file.write(before + "".join(line + "\n" for line in lines))
+    except OSError as error:
+        raise Unfinished("cannot write '%s': %s" % (error.filename or folder, error.strerror)) from None
+    if not printer.as_json:
+        printer.line("scripts of both sides; map and gdb take the same arguments as trace:")
+        printer.line("  rvlook trace --ram %d --steps 0 --no-monitor --script %s %s" % (setup.ram, own, setup.image.name))
+        printer.line("  rvlook trace --ram %d --steps 0 --monitor %s" % (setup.ram, reference))

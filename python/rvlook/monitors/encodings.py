@@ -1,0 +1,62 @@
+"""Encodes the instructions that the checks put into memory, and reads from an encoded instruction which state it writes."""
+from __future__ import annotations
+
+from rvlook.protocol.names import CSRS
+
+ECALL, EBREAK, MRET, SRET, NOP = 0x73, 0x100073, 0x30200073, 0x10200073, 0x13
+BACK = 0xFFDFF06F  # jal zero, -4
+WORD = 2  # the width of a load or store of four bytes, as funct3
+BRANCH, STORE, SYSTEM = 0x63, 0x23, 0x73
+READ_SET = (2, 3, 6, 7)  # funct3 of csrrs and csrrc, which write nothing if rs1 is x0
+
+
+def csrw(number: int, source: int) -> int:
+    """Returns `csrrw x0, number, source`."""
+    return SYSTEM | 1 << 12 | source << 15 | number << 20
+
+
+def csrr(target: int, number: int) -> int:
+    """Returns `csrrs target, number, x0`."""
+    return SYSTEM | target << 7 | 2 << 12 | number << 20
+
+
+def load(target: int, base: int, width: int = WORD) -> int:
+    """Returns a signed load of 1 << width bytes from the address in a register."""
+    return 3 | target << 7 | width << 12 | base << 15
+
+
+def store(value: int, base: int, width: int = WORD) -> int:
+    """Returns a store of 1 << width bytes to the address in a register."""
+    return STORE | width << 12 | base << 15 | value << 20
+
+
+def jump(base: int, offset: int = 0) -> int:
+    """Returns `jalr x0, offset(base)`."""
+    return 0x67 | base << 15 | offset << 20
+
+
+def written_register(word: int) -> int:
+    """Returns the number of the integer register that an instruction writes; 0 if none."""
+    return 0 if word & 0x7F in (BRANCH, STORE) or word in (ECALL, EBREAK, MRET, SRET) else word >> 7 & 31
+
+
+def written_csr(word: int) -> int | None:
+    """Returns the number of the control and status register that an instruction writes, or None. mret and sret write mstatus."""
+    if word in (MRET, SRET):
+        return CSRS["mstatus"]
+    funct3 = word >> 12 & 7
+    is_csr = word & 0x7F == SYSTEM and funct3 not in (0, 4)
+    return word >> 20 if is_csr and not (funct3 in READ_SET and word >> 15 & 31 == 0) else None
+
+
+def is_store(word: int) -> bool:
+    """Returns whether an instruction is a store."""
+    return word & 0x7F == STORE
+
+
+def loaded_offset(word: int) -> tuple[int, int] | None:
+    """Returns the base register and the signed offset of a load, or None."""
+    if word & 0x7F != 3:
+        return None
+    offset = word >> 20
+    return word >> 15 & 31, offset - 0x1000 if offset & 0x800 else offset

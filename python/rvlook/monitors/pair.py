@@ -1,0 +1,170 @@
+"""Runs a script on both monitors, item by item, and stops at the first difference."""
+from __future__ import annotations
+
+from dataclasses import dataclass, field, replace
+
+from rvlook.monitors.comparison import Difference, differences, memory_difference
+from rvlook.monitors.coverage import DONE, ENCLAVE, HOST, OTHER, Coverage
+from rvlook.monitors.items import Item
+from rvlook.monitors.sides import DECIDING, MonitorSetup, Observation, Side, Stay
+from rvlook.protocol.names import ECALL_FROM_S, NUMBERED, STATUSES, TIMER
+from rvlook.protocol.replies import Enclave
+
+A0 = 10
+
+
+@dataclass(frozen=True)
+class Step:
+    """An item that was done: the world that did it, and the result in words; empty if there was no trap."""
+    item: Item
+    world: str
+    result: str
+
+
+@dataclass
+class Played:
+    """A script that was run: its steps up to the first difference, the differences, what it covered, and the lines of both sides."""
+    name: str
+    steps: list[Step] = field(default_factory=list)
+    differences: list[Difference] = field(default_factory=list)
+    coverage: Coverage = field(default_factory=Coverage)
+    own_log: list[str] = field(default_factory=list)
+    reference_log: list[str] = field(default_factory=list)
+    stays: list[Stay] = field(default_factory=list)
+
+    @property
+    def items(self) -> list[Item]:
+        """Returns the items that were done."""
+        return [it.item for it in self.steps]
+
+
+class Pair:
+    """Both sides. `compares_memory` selects whether memory is compared after each trap."""
+
+    def __init__(self, setup: MonitorSetup, name: str, compares_memory: bool = True) -> None:
+        self.setup, self.compares_memory, self.played = setup, compares_memory, Played(name)
+        self.own, self.reference = Side(setup, True), Side(setup, False)
+        self.world, self.has_trapped = "host", False
+        self.table: list[Enclave] = []
+        self.left: dict[str, str] = {}  # how each enclave that is Stopped was left
+        try:
+            self.compare(self.own.begin(), self.reference.begin(), True)
+        except BaseException:
+            self.close()
+            raise
+
+    def __enter__(self) -> Pair:
+        return self
+
+    def __exit__(self, *_: object) -> None:
+        self.close()
+
+    def close(self) -> None:
+        """Ends both benches, and keeps their logs."""
+        self.own.close()
+        self.reference.close()
+        self.played.own_log, self.played.reference_log, self.played.stays = self.own.log, self.reference.log, self.own.stays
+
+    @property
+    def is_alike(self) -> bool:
+        """Returns whether there is no difference so far."""
+        return not self.played.differences
+
+    @property
+    def pc(self) -> int:
+        """Returns pc of the reference."""
+        return self.reference.pc
+
+    @property
+    def mode(self) -> str:
+        """Returns the mode of the reference."""
+        return self.reference.mode
+
+    def do(self, item: Item) -> bool:
+        """Does an item on both sides; returns whether they are still alike."""
+        world, mode = self.world, self.mode
+        own, reference = self.own.step(item), self.reference.step(item)
+        self.world = reference.world or world
+        self.played.coverage.steps += item.steps
+        self.played.steps.append(Step(item, world, self.result_of(item, world, reference)))
+        has_trap = reference.trap != "-"
+        self.compare(own, reference, has_trap)
+        if has_trap and not own.fault:
+            self.count(item, world, mode, (own, reference))
+        return self.is_alike
+
+    def compare(self, own: Observation, reference: Observation, has_trap: bool) -> None:
+        """Notes the differences after a step."""
+        self.has_trapped = self.has_trapped or reference.trap != "-"
+        if not self.has_trapped:  # the values of mepc, mcause and mtval after reset are not specified
+            own = replace(own, above=own.above[:len(DECIDING)] + reference.above[len(DECIDING):])
+        self.played.differences = differences(own, reference, self.setup.ram, self.setup.exact)
+        if has_trap and not own.fault and self.compares_memory:
+            self.compare_memory()
+
+    def compare_memory(self) -> None:
+        """Notes the first difference of memory, if there is no other difference."""
+        if self.is_alike:
+            self.played.differences = memory_difference(self.own.memory(), self.reference.memory())
+
+    def result_of(self, item: Item, world: str, seen: Observation) -> str:
+        """Returns what a step did, in words."""
+        if seen.cause == ECALL_FROM_S and item.call_number is not None:
+            return self.world if self.world != world else STATUSES.get(seen.registers[A0], DONE)
+        return "" if seen.trap == "-" else "trap %s" % seen.trap + (", then %s" % self.world if self.world != world else "")
+
+    def count(self, item: Item, world: str, mode: str, seen: tuple[Observation, Observation]) -> None:
+        """Counts what a trap covers."""
+        own, reference = seen
+        coverage, side = self.played.coverage, HOST if world == "host" else ENCLAVE
+        coverage.returns += 1
+        coverage.spent += own.spent
+        coverage.most = max(coverage.most, (own.spent, item.text))
+        if reference.cause == ECALL_FROM_S:
+            self.count_call(item, side, reference)
+        elif reference.cause != TIMER:
+            coverage.redirected[side, mode, int(reference.cause, 16)] += 1
+        if self.world != world:
+            self.count_switch(item, world, "timer in %s" % mode if reference.cause == TIMER else "")
+        if reference.cause in (ECALL_FROM_S, TIMER):
+            self.table = self.reference.enclaves()
+
+    def count_call(self, item: Item, side: str, seen: Observation) -> None:
+        """Counts the result of a call, and the state of an enclave that was destroyed."""
+        number = item.call_number
+        name = NUMBERED[number].name if number in NUMBERED and number is not None else OTHER
+        is_switch = self.world == "host" if side == ENCLAVE else self.world != "host"
+        status = DONE if is_switch else STATUSES.get(seen.registers[A0], DONE)
+        self.played.coverage.calls[side, name, status] += 1
+        if (name, status) == ("destroy", DONE):
+            slot = dict(item.registers)[A0]
+            gone = next(it for it in self.table if it.slot == slot)
+            self.played.coverage.switches["destroy of %s" % gone.state] += 1
+            self.left.pop(gone.world, None)
+
+    def count_switch(self, item: Item, world: str, timer: str) -> None:
+        """Counts a switch between the host and an enclave."""
+        if world != "host":
+            kind = timer or NUMBERED[item.call_number or 0].name
+            self.left[world] = kind
+        else:
+            kind = "resume after " + self.left[self.world] if self.world in self.left else "run"
+        if kind == "exit":
+            del self.left[world]
+        self.played.coverage.switches[kind] += 1
+
+    def end(self) -> Played:
+        """Compares all memory at the end of a script; returns the script as it was run."""
+        self.compare_memory()
+        self.played.coverage.scripts += 1
+        return self.played
+
+
+def play(setup: MonitorSetup, name: str, items: list[Item], compares_memory: bool = True) -> Played:
+    """Runs a script on both monitors up to the first difference."""
+    with Pair(setup, name, compares_memory) as pair:
+        for item in items:
+            if not (pair.is_alike and pair.do(item)):
+                break
+        pair.end()
+    return pair.played

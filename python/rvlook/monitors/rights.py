@@ -1,0 +1,46 @@
+"""Access rights below M, computed from the PMP entries over all of RAM."""
+from __future__ import annotations
+
+from dataclasses import dataclass
+from functools import lru_cache
+
+from rvlook.access.ranges import NOTHING, boundaries, entry_range
+from rvlook.protocol.replies import entry_of
+
+BITS = (("r", 1), ("w", 2), ("x", 4))
+
+
+@dataclass(frozen=True)
+class Right:
+    """Bytes from `first` up to, and not with, `end` that S and U may access as `may` says, and the entry that decides, or None."""
+    first: int
+    end: int
+    may: str
+    entry: int | None
+
+    def __str__(self) -> str:
+        return "%08x-%08x %s" % (self.first, self.end - 1, self.may)
+
+
+@lru_cache(maxsize=4096)
+def rights_of(lines: bytes, ram: int) -> tuple[Right, ...]:
+    """Returns the access rights under the replies of `pmp`. Adjacent ranges of two entries stay apart, because an access across their boundary is
+    refused, unless nothing is permitted in either."""
+    entries = [entry_of(line.decode()) for line in lines.splitlines()]
+    covered = [entry_range(entries, index) for index in range(len(entries))]
+    cuts = boundaries(entries, ram)
+    found: list[Right] = []
+    for first, end in zip(cuts, cuts[1:]):
+        index = next((n for n, it in enumerate(covered) if it and it.first <= first < it.end), None)
+        cfg = 0 if index is None else entries[index].cfg
+        may = "".join(letter if cfg & bit else "-" for letter, bit in BITS)
+        if found and found[-1].may == may and (may == NOTHING or found[-1].entry == index):
+            found[-1] = Right(found[-1].first, end, may, index)
+        else:
+            found.append(Right(first, end, may, index))
+    return tuple(found)
+
+
+def shape(rights: tuple[Right, ...]) -> list[tuple[int, int, str]]:
+    """Returns the rights without the entries that decide, which may differ between two monitors."""
+    return [(it.first, it.end, it.may) for it in rights]

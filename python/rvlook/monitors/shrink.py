@@ -1,0 +1,65 @@
+"""Shrinks a script after which two monitors differ, by delta debugging (Zeller, 1999): leaves out halves, quarters, and then single items."""
+from __future__ import annotations
+
+from dataclasses import dataclass
+from typing import TYPE_CHECKING
+
+from rvlook.monitors.comparison import Difference, Kind
+from rvlook.monitors.pair import Played, play
+
+if TYPE_CHECKING:
+    from rvlook.monitors.items import Item
+    from rvlook.monitors.sides import MonitorSetup
+
+MOST_RUNS = 300
+NAMED = (Kind.register, Kind.csr, Kind.entry)  # kinds whose name is a part of what differs; the others have addresses or causes in it
+
+
+@dataclass
+class Shrunk:
+    """A script from which no item can be left out, as it was run, and the number of runs."""
+    played: Played
+    runs: int
+
+
+def signature(difference: Difference) -> tuple[Kind, str]:
+    """Returns what a shrunk script must still show."""
+    return difference.kind, difference.name if difference.kind in NAMED else ""
+
+
+class Shrinker:
+    """Shrinks the script of one difference."""
+
+    def __init__(self, setup: MonitorSetup, played: Played) -> None:
+        self.setup, self.best, self.runs = setup, played, 0
+        self.wanted = signature(played.differences[0])
+
+    def is_shorter(self, items: list[Item]) -> bool:
+        """Runs a part of the script; keeps it, without what follows the difference, if it shows the same."""
+        self.runs += 1
+        played = play(self.setup, self.best.name, items, self.wanted[0] is Kind.memory)
+        if not played.differences or signature(played.differences[0]) != self.wanted:
+            return False
+        self.best = played
+        return True
+
+    def leave_out(self, size: int) -> bool:
+        """Leaves out each part of `size` items that is not needed; returns whether there was one."""
+        at, found = 0, False
+        while at < len(self.best.items) and self.runs < MOST_RUNS:
+            items = self.best.items
+            if self.is_shorter(items[:at] + items[at + size:]):
+                found = True
+            else:
+                at += size
+        return found
+
+    def shrink(self) -> Shrunk:
+        """Returns the shortest script that was found."""
+        size = max(1, len(self.best.items) // 2)
+        while self.runs < MOST_RUNS:
+            found = self.leave_out(size)
+            if size == 1 and not found:
+                break
+            size = max(1, size // 2)
+        return Shrunk(self.best, self.runs)

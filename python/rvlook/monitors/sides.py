@@ -1,0 +1,240 @@
+"""One side of a comparison: a bench with one of the two monitors, and what can be observed below M after each step.
+
+The author's monitor runs on the bare bench. Breakpoints at its `mret` instructions show when it returns. The monitor of rvbench is the
+reference."""
+from __future__ import annotations
+
+import struct
+from dataclasses import dataclass
+from functools import lru_cache
+
+from rvlook.errors import BenchEnded, RvlookError
+from rvlook.image.detect import LOAD, SEGMENT, is_elf_32
+from rvlook.monitors.encodings import MRET, is_store
+from rvlook.monitors.items import MASK, Item
+from rvlook.protocol.bench import Bench
+from rvlook.protocol.inputs import Image
+from rvlook.protocol.memory_map import MONITOR_END, RAM_BASE
+from rvlook.protocol.names import CSRS, TIMER
+from rvlook.protocol.replies import Enclave, Trap, bytes_of, enclave_of, step_of
+from rvlook.protocol.run import Setup, error_of
+
+MOST_RETURNS = 31  # breakpoints for `mret` instructions; the bench has 32
+MOST_STEPS = 60000000  # in M, in one trap
+STAY = "run 1000000"  # to the next `mret`
+ROW = 64  # bytes of one `mem`
+REGISTERS = 33  # lines of `regs`
+ENTRIES = 16  # lines of `pmp`
+BELOW = ("sstatus", "sie", "stvec", "scounteren", "sscratch", "sepc", "scause", "stval", "sip", "satp")
+DECIDING = {"mstatus": ~0x1888 & MASK, "mie": 0x80, "mip": 0x80}  # the bits that affect S and U: of mstatus all but MIE, MPIE and MPP
+EXACT = ("mepc", "mcause", "mtval")
+CSR_LIST = (*BELOW, *DECIDING, *EXACT)
+CUT = REGISTERS + len(BELOW)
+STATE = "".join(["regs\n", *("csr %x\n" % CSRS[name] for name in CSR_LIST), "pmp\n"]).encode()
+STATE_LINES = REGISTERS + len(CSR_LIST) + ENTRIES
+
+
+@dataclass(frozen=True)
+class MonitorSetup:
+    """The author's monitor and how it is run: `boot` has the lines before the first step, `returns` the addresses of its `mret` instructions. A
+    store to an address of `lowered` clears the timer line. Without such an address it is cleared when the interrupt is taken."""
+    image: Image
+    ram: int
+    boot: tuple[str, ...]
+    returns: tuple[int, ...]
+    lowered: tuple[int, ...] = ()
+    exact: bool = False
+
+    @property
+    def own(self) -> Setup:
+        """Returns the configuration of the author's side."""
+        return Setup(self.image, ram=self.ram)
+
+    @property
+    def reference(self) -> Setup:
+        """Returns the configuration of the reference, whose memory is empty."""
+        return Setup(Image("the monitor of rvbench", b"", b""), monitor=True, ram=self.ram)
+
+
+def return_addresses(image: Image) -> tuple[int, ...]:
+    """Returns the addresses of the words `mret` in the segments of an ELF file. Raises RvlookError if there are none or too many."""
+    data = image.data or b""
+    if not is_elf_32(image):
+        raise RvlookError("'%s' is not a 32-bit ELF file, which a monitor must be" % image.name)
+    offset, count = struct.unpack_from("<I", data, 28)[0], struct.unpack_from("<H", data, 44)[0]
+    found: list[int] = []
+    for number in range(count):
+        if offset + (number + 1) * SEGMENT.size <= len(data):
+            kind, start, _, address, size, *_ = SEGMENT.unpack_from(data, offset + number * SEGMENT.size)
+            found += words_in(data[start:start + size], address, MRET) if kind == LOAD else []
+    if not 0 < len(found) <= MOST_RETURNS:
+        raise RvlookError("'%s' has %d mret instructions; a monitor must have 1 to %d" % (image.name, len(found), MOST_RETURNS))
+    return tuple(sorted(found))
+
+
+def words_in(data: bytes, address: int, word: int) -> list[int]:
+    """Returns the addresses, multiples of 4, at which the bytes of a segment have a word."""
+    pattern, found, at = struct.pack("<I", word), [], data.find(struct.pack("<I", word))
+    while at >= 0:
+        found += [address + at] if (address + at) % 4 == 0 else []
+        at = data.find(pattern, at + 1)
+    return found
+
+
+@dataclass(frozen=True)
+class Observation:
+    """The state after a step, as S and U can observe it. `below` has the replies of x0 to x31, pc and the S-mode registers, `above` the values
+    of DECIDING and EXACT, `entries` the replies of `pmp`. `spent` is the number of steps in M, `fault` why M did not return, if so."""
+    pc: int
+    mode: str
+    trap: str
+    world: str
+    below: bytes
+    above: tuple[int, ...]
+    entries: bytes
+    spent: int = 0
+    fault: str = ""
+
+    @property
+    def registers(self) -> list[int]:
+        """Returns the values of x0 to x31."""
+        return [int(line.split(b"=")[1], 16) for line in self.below.splitlines()[:32]]
+
+    @property
+    def cause(self) -> str:
+        """Returns the cause of the trap in eight digits, or a hyphen."""
+        return self.trap[:8]
+
+
+@dataclass(frozen=True)
+class Stay:
+    """One stay of the author's side in M: the number of lines in the log before it, and its steps."""
+    line: int
+    steps: int
+
+
+class Side:
+    """A bench with the author's monitor (`is_own`) or with the reference. `log` has all lines that change the state."""
+
+    def __init__(self, setup: MonitorSetup, is_own: bool) -> None:
+        self.setup, self.is_own = setup, is_own
+        self.bench = (setup.own if is_own else setup.reference).bench()
+        self.log: list[str] = []
+        self.stays: list[Stay] = []
+        self.pc, self.mode = MONITOR_END, "S"
+
+    def __enter__(self) -> Side:
+        return self
+
+    def __exit__(self, *_: object) -> None:
+        self.close()
+
+    def close(self) -> None:
+        """Ends the bench."""
+        self.bench.close()
+
+    def do(self, lines: list[str]) -> list[bytes]:
+        """Does lines with one line of reply each; returns the replies."""
+        self.log += lines
+        return self.bench.block(("\n".join(lines) + "\n").encode(), len(lines)).splitlines() if lines else []
+
+    def begin(self) -> Observation:
+        """Goes to the first instruction below M. Raises RvlookError if the bench refuses the image or a line of the boot."""
+        try:
+            self.bench.one("reg 0")
+        except BenchEnded as error:
+            raise error_of(self.setup.own if self.is_own else self.setup.reference, error) from None
+        if self.is_own:
+            self.boot()
+            return self.stay("-", "bare")
+        return self.observation("-", "host")
+
+    def boot(self) -> None:
+        """Sets breakpoints and watchpoints, and does the lines of the boot."""
+        self.do(["break %x" % it for it in self.setup.returns] + ["watch %x" % it for it in self.setup.lowered])
+        for line in self.setup.boot:
+            reply = self.do([line])[0]
+            if reply.startswith(b"error"):
+                raise RvlookError("boot line '%s': %s" % (line, reply.decode()))
+        self.mode = "M"
+
+    def step(self, item: Item) -> Observation:
+        """Does an item, and all steps in M after it."""
+        lines = self.lines_of(item)
+        if not item.steps:
+            self.do(lines)
+            return self.observation("-", "")
+        ran = step_of(self.do(lines + ["step 1"])[-1].decode())
+        self.pc, self.mode, trap = int(ran.pc, 16), ran.mode, trap_text(ran.trap)
+        if self.is_own and trap[:8] == TIMER and not self.setup.lowered:
+            self.do(["timer off"])  # the bare bench has no device that M could clear
+        return self.stay(trap, ran.world) if self.is_own and self.mode == "M" else self.observation(trap, ran.world)
+
+    def lines_of(self, item: Item) -> list[str]:
+        """Returns the lines that prepare an item."""
+        lines = [line for address, data in item.data for line in poke_lines(address, data)]
+        lines += ["setreg %d %x" % it for it in item.registers if it[0]]
+        if item.word is not None and MONITOR_END <= self.pc and self.pc + 4 <= RAM_BASE + self.setup.ram:
+            lines += poke_lines(self.pc, struct.pack("<I", item.word))
+        return lines + (["timer " + item.line] if item.line else [])
+
+    def stay(self, trap: str, world: str) -> Observation:
+        """Does the steps in M up to the return; the fault says why there is none."""
+        first, spent, fault = len(self.log), 0, ""
+        while self.mode == "M" and not fault:
+            ran, last = (step_of(it.decode()) for it in self.do([STAY, "step 1"]))
+            spent += ran.steps + 1
+            fault = self.fault_of(ran.mode, ran.trap or last.trap, spent)
+            if ran.why.startswith("watch") and is_store(word_at(self.bench, int(ran.pc, 16) - 4)):
+                self.do(["timer off"])
+            self.pc, self.mode = int(last.pc, 16), last.mode
+        self.stays.append(Stay(first, spent))
+        return self.observation(trap, world, spent, fault)
+
+    @staticmethod
+    def fault_of(mode: str, trap: Trap | None, spent: int) -> str:
+        """Returns why M does not return as it should; empty if it does."""
+        if mode != "M":
+            return "M is left by another instruction than mret"
+        if trap:
+            return "trap in M, %s" % trap_text(trap)
+        return "M does not return within %d steps" % spent if spent > MOST_STEPS else ""
+
+    def observation(self, trap: str, world: str, spent: int = 0, fault: str = "") -> Observation:
+        """Returns the state now."""
+        replies = self.bench.block(STATE, STATE_LINES).splitlines()
+        values = (int(line.split(b"=")[1], 16) for line in replies[CUT:-ENTRIES])
+        above = tuple(value & DECIDING.get(name, MASK) for name, value in zip(CSR_LIST[len(BELOW):], values))
+        self.pc = int(replies[REGISTERS - 1][3:], 16)
+        return Observation(self.pc, self.mode, trap, world, b"\n".join(replies[:CUT]), above, b"\n".join(replies[-ENTRIES:]), spent, fault)
+
+    def memory(self) -> bytes:
+        """Returns the replies of `mem` for all bytes after the range of the monitor."""
+        end = RAM_BASE + self.setup.ram
+        return self.bench.block(memory_lines(MONITOR_END, end), (end - MONITOR_END) // ROW)
+
+    def enclaves(self) -> list[Enclave]:
+        """Returns the enclave table of the reference."""
+        return [enclave_of(it) for it in self.bench.ask("enclaves")[0]]
+
+
+@lru_cache(maxsize=None)
+def memory_lines(first: int, end: int) -> bytes:
+    """Returns the commands that show a range of memory."""
+    return "".join("mem %x %d\n" % (it, ROW) for it in range(first, end, ROW)).encode()
+
+
+def poke_lines(address: int, data: bytes) -> list[str]:
+    """Returns the commands that change bytes."""
+    return ["poke %x %02x" % (address + n, it) for n, it in enumerate(data)]
+
+
+def trap_text(trap: Trap | None) -> str:
+    """Returns a trap as the bench writes it."""
+    return "%s:%s" % (trap.cause, trap.value) if trap else "-"
+
+
+def word_at(bench: Bench, address: int) -> int:
+    """Returns the word at an address, 0 outside RAM."""
+    reply = bench.one("mem %x 4" % (address & MASK))
+    return 0 if reply.startswith("error") else int.from_bytes(bytes_of(reply), "little")
