@@ -15,7 +15,7 @@ HAS_GCC = bool(shutil.which("riscv64-unknown-elf-gcc"))
 COMPILERS = [pytest.param("--clang", marks=pytest.mark.skipif(not HAS_CLANG, reason="clang, lld or llvm is not installed")),
              pytest.param("--gcc", marks=pytest.mark.skipif(not HAS_GCC, reason="riscv64-unknown-elf-gcc is not installed"))]
 with_clang = pytest.mark.skipif(not HAS_CLANG, reason="clang, lld or llvm is not installed")
-STORED = ("adds", "bug", "hmac", "hmac_attacked", "refused", "store", "store_leaking", "timer", "at_rest", "two_harts")
+STORED = ("adds", "bug", "host_inputs", "hmac", "hmac_attacked", "refused", "store", "store_leaking", "timer", "at_rest", "two_harts")
 MEMCPY = """void *memcpy(void *to, const void *from, unsigned size)
 {
     char *out = to;

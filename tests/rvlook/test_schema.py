@@ -8,7 +8,7 @@ from conftest import EXAMPLES, PROGRAMS, ROOT, input_of
 SHAPES = json.loads((ROOT / "python" / "rvlook" / "output" / "objects.schema.json").read_text(encoding="utf-8"))["$defs"]
 IMAGES, COPIES = PROGRAMS.parent / "images", PROGRAMS / "window_copies"
 LEAK, STORE = ("leak", "--monitor", IMAGES / "leak" / "image", "--at"), EXAMPLES / "enclaves" / "store_leaking"
-EXIT_ZERO = ("timer", "leak", "window", "races", "explain")  # subcommands that end with 1 if they find something
+EXIT_ZERO = ("timer", "leak", "window", "inputs", "races", "explain")  # subcommands that end with 1 if they find something
 UNFINISHED = ("timer_not_resumed",)
 COMMANDS = {
     "map": ("map", "--monitor", EXAMPLES / "enclaves" / "adds" / "image"), "map_pmp": ("map", EXAMPLES / "programs" / "pmp" / "stdin"),
@@ -19,6 +19,7 @@ COMMANDS = {
     "leak_tries": (*LEAK, "80020800:4", "--tries", "3"), "window": ("window", "--monitor", IMAGES / "window" / "image", "--at", "80020800:4"),
     "window_copies": ("window", "--monitor", COPIES / "image", "--symbols", COPIES / "symbols", "--script", COPIES / "script", "--at", "key:20"),
     "window_harts": ("window", "--harts", "2", "--monitor", STORE / "image", "--symbols", STORE / "symbols", "--at", "key:32"),
+    "inputs": ("inputs", "--monitor", EXAMPLES / "enclaves" / "bug" / "image", "--symbols", EXAMPLES / "enclaves" / "bug" / "symbols", "--runs", "8"),
     "races": ("races", "--monitor", "--timer", "1", EXAMPLES / "enclaves" / "adds" / "image"), "explain": ("explain", IMAGES / "explain" / "input"),
     "measure": ("measure", IMAGES / "measure" / "region", "80020000", "1000", "0", "0", "80020000")}
 

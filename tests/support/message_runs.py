@@ -38,6 +38,7 @@ import itertools
 ram, numbers = replay.Replays.ram, itertools.count()
 replay.Replays.ram = lambda self, bench: [*ram(self, bench)[:-1], str(next(numbers))]
 """
+ACCESS = "import rvlook.finders.inputs.scripts as scripts; scripts.access_of = lambda *more: (0, 0)"
 REGISTERS = """
 step = trace.Tracer.step
 def changing(self, number, hart_number, hart, *more):
