@@ -96,7 +96,8 @@ def do_window(arguments: Namespace) -> None:
     """Runs `window`."""
     if arguments.public and not arguments.at:
         raise UsageError("--public requires --at PLACE")
-    show_window(*opened_monitored(arguments), arguments)
+    run, _, printer = opened_monitored(arguments)
+    show_window(run, variables_of(arguments.symbols, run.setup.image), printer, arguments)
 
 
 def do_timer(arguments: Namespace) -> None:

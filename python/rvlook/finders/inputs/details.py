@@ -9,7 +9,8 @@ from rvlook.finders.inputs.tracer import advance
 
 if TYPE_CHECKING:
     from rvlook.finders.inputs.code import Code
-    from rvlook.finders.inputs.objects import Fields, Objects
+    from rvlook.access.fields import Fields
+    from rvlook.finders.inputs.objects import Objects
     from rvlook.finders.inputs.trace import Trace
     from rvlook.finders.inputs.tracer import Tracer
 

@@ -104,37 +104,3 @@ class Objects:
 def place_of(member: Member) -> Place:
     """Returns a variable or a member as an object."""
     return Place(member.name, member.name.partition(".")[0].partition("[")[0], bool(member.element))
-
-
-class Fields:
-    """Names of the fields of the window. `rows` has the address and the member of each."""
-
-    def __init__(self, symbols: Symbols) -> None:
-        self.symbols = symbols
-        self.rows: list[tuple[int, Member]] = []
-
-    def add(self, address: int, members: tuple[Member, ...]) -> None:
-        """Adds the members of the memory at an address, unless its fields are known. Structures come before single values."""
-        if members and (address, members[0]) not in self.rows:
-            rows = [(address + it.at, it) for it in members]
-            self.rows = self.rows + rows if not members[0].size else rows + self.rows
-
-    def name(self, address: int) -> str:
-        """Returns the name of the field at an address, else a symbol or the address."""
-        for at, it in self.rows:
-            if at <= address < at + it.size:
-                return it.name + (index_text((address - at) // it.element) if it.element else offset_text(address - at))
-        for at, it in self.rows:
-            if not it.size and at <= address:
-                return it.name + index_text((address - at) // it.element)
-        return self.symbols.name(address) or "%08x" % address
-
-
-def index_text(index: int) -> str:
-    """Returns an index in brackets."""
-    return "[%d]" % index
-
-
-def offset_text(offset: int) -> str:
-    """Returns an offset; empty for 0."""
-    return "+%x" % offset if offset else ""

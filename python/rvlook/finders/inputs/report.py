@@ -194,7 +194,7 @@ def inputs_text(search: Search) -> list[str]:
     rows: dict[tuple[object, ...], list[str]] = {}
     for it in search.inputs.values():
         where = "activation %d" % (it.visit + 1) if it.register else search.symbols.line(it.pc) or search.symbols.name(it.pc) or "%08x" % it.pc
-        rows.setdefault(("again" if it.is_again else "", where), []).append("a%d" % (it.register - 10) if it.register else search.fields.name(it.at))
+        rows.setdefault(("again" if it.is_again else "", where), []).append("a%d" % (it.register - 10) if it.register else search.values.name(it.at))
     found = []
     for (again, place), named in rows.items():
         several = list(dict.fromkeys(named))

@@ -6,9 +6,10 @@ from collections import deque
 from dataclasses import dataclass
 from typing import Iterator, Optional, TYPE_CHECKING
 
+from rvlook.access.fields import Fields
 from rvlook.finders.inputs.details import Reader
 from rvlook.finders.inputs.judge import Finding, Judge
-from rvlook.finders.inputs.objects import Fields, Objects
+from rvlook.finders.inputs.objects import Objects
 from rvlook.finders.inputs.tracer import Tracer
 from rvlook.finders.inputs.values import Child, Input, Values
 

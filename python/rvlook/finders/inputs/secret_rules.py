@@ -68,7 +68,7 @@ class SecretRules:
 
     def add(self, trace: Trace, it: Output) -> None:
         """Adds the finding that a part of the secret comes out."""
-        where = "the answer" if it.at is None else "%s (%08x)" % (self.search.fields.name(it.at), it.at)
+        where = "the answer" if it.at is None else "%s (%08x)" % (self.search.values.name(it.at), it.at)
         note = "%d bytes of the secret, from offset %d, in %s" % (it.size, it.offset, where)
         self.found.append(Finding(What.SECRET, trace, it.index, trace.pcs[it.index], Place(where), it.at or 0, note=note))
 
@@ -197,7 +197,7 @@ def older_states(search: Search, loaded: dict[int, bytes]) -> Iterator[Older]:
             for place, size in known_states(data, stores[:number]):
                 for value, origin in versions(stores[:number], loads[:number], place, at, size):
                     if value != data[place.offset:place.offset + size]:
-                        change = Change(base.steps[visit.first] - 1, at + place.offset, value, 0, search.fields.name(at + place.offset),
+                        change = Change(base.steps[visit.first] - 1, at + place.offset, value, 0, search.values.name(at + place.offset),
                                         data[place.offset:place.offset + size].hex())
                         yield Older(change, number, origin)
 

@@ -14,7 +14,8 @@ from rvlook.protocol.memory_map import RAM_BASE
 
 if TYPE_CHECKING:
     from rvlook.finders.inputs.details import Details, Reader
-    from rvlook.finders.inputs.objects import Fields, Objects
+    from rvlook.access.fields import Fields
+    from rvlook.finders.inputs.objects import Objects
     from rvlook.finders.inputs.trace import Trace, Visit
     from rvlook.finders.inputs.tracer import Tracer
 
@@ -141,15 +142,19 @@ class Values:
 
     def child(self, trace: Trace, it: Input, value: bytes) -> Child:
         """Returns a trace with an input changed more."""
-        name = "a%d" % (it.register - A0) if it.register else self.fields.name(it.at)
+        name = "a%d" % (it.register - A0) if it.register else self.name(it.at)
         change = Change(it.step, it.at, value, it.register, name, it.value.hex())
         return Child(with_change(trace.changes, change), it.start)
+
+    def name(self, address: int) -> str:
+        """Returns the name of a field of the window, a symbol or the address."""
+        return self.fields.name(address) or "%08x" % address
 
     def fills(self, trace: Trace, it: Input) -> Iterator[Child]:
         """Yields the trace with the bytes from an input on filled."""
         count = min(FILL, self.objects.enclave.window + self.objects.enclave.window_size - it.at)
         for value in FILLS if count > it.width else ():
-            name = self.fields.name(it.at)
+            name = self.name(it.at)
             change = Change(it.step, it.at, bytes([value]) * count, 0, "%s and the following bytes" % name, it.value.hex())
             yield Child(with_change(trace.changes, change), it.start if it.is_again else min(it.start, trace.visits[it.visit].first))
 
