@@ -113,31 +113,44 @@ class SecretRules:
     # ---- checks
 
     def refused(self, trace: Trace, visits: set[int]) -> None:
-        """Takes a trace. If it keeps the secret inside in an activation, the branch by which it leaves the trace of the run itself is a check."""
+        """Takes a trace. The branch by which it leaves the trace of the run itself is a check, if the trace then keeps the secret inside. It is one
+        too if it depends on memory of the region, and the answer of the activation changes."""
         base, at = self.search.base, first_difference(self.search.base, trace)
-        inside = {self.search.base.visit_at(it.end) for it in self.usual} - visits
-        if inside and len(trace.changes) == 1 and 0 < at < len(trace) and at <= len(base) and base.visit_at(at - 1) <= min(inside):
-            pc = base.pcs[at - 1]
-            if self.search.tracer.code[pc].kind is Kind.BRANCH:
-                self.checks[pc] = trace.following(at - 1)
+        if len(trace.changes) != 1 or not 0 < at < min(len(trace), len(base)):
+            return
+        code, number = self.search.tracer.code[base.pcs[at - 1]], base.visit_at(at - 1)
+        inside = {base.visit_at(it.end) for it in self.usual} - visits
+        is_other = number < len(trace.visits) and trace.visits[number].answer != base.visits[number].answer
+        if code.kind is Kind.BRANCH and (inside and number <= min(inside) or is_other and self.is_private(at - 1)):
+            self.checks[base.pcs[at - 1]] = trace.following(at - 1)
+
+    def is_private(self, index: int) -> bool:
+        """Returns whether a branch of the run itself depends on memory of the region."""
+        base = self.search.base
+        return any(self.search.reader.is_private(base, index, it) for it in self.search.tracer.code[base.pcs[index]].sources)
 
     def unchecked(self) -> Iterator[Finding]:
         """Yields the findings that the secret came out although a check failed, or without it."""
         reported: set[int] = set()
-        usual = branches_of(self.search, self.search.base, range(len(self.search.base) - 1))
-        for trace, output, branches in self.segments():
+        base = self.search.base
+        usual = branches_of(self.search, base, range(len(base) - 1))
+        every = [branches for *_, branches in self.segments([(base, self.usual)])]
+        for trace, output, branches in self.segments(self.open):
             for pc, target in sorted(self.checks.items()):
-                is_skipped, is_failed = pc not in branches, branches.get(pc) == {target} and target not in usual.get(pc, ())
+                is_skipped = pc not in branches and all(pc in it for it in every)
+                is_failed = branches.get(pc) == {target} and target not in usual.get(pc, ())
                 if (is_skipped or is_failed) and pc not in reported:
                     reported.add(pc)
                     where = self.search.symbols.line(pc) or self.search.symbols.name(pc) or "%08x" % pc
                     note = "the secret comes out %s %s" % ("without the check at" if is_skipped else "although the check fails at", where)
                     yield Finding(What.CHECK, trace, output.index, trace.pcs[output.index], Place(where), output.at or 0, note=note)
 
-    def segments(self) -> Iterator[tuple[Trace, Output, dict[int, set[int]]]]:
-        """Yields each output of a trace with the branches since the activation of the output before it, if they are not those of the run itself."""
-        for trace, outputs in self.open:
-            same, first = first_difference(self.search.base, trace), 0
+    def segments(self, traces: Sequence[tuple[Trace, list[Output]]]) -> Iterator[tuple[Trace, Output, dict[int, set[int]]]]:
+        """Yields each output of some traces with the branches since the activation of the output before it. Leaves out those whose steps up to then
+        are the steps of the run itself, unless the trace is that of the run itself."""
+        base = self.search.base
+        for trace, outputs in traces:
+            same, first = 0 if trace is base else first_difference(base, trace), 0
             for it in outputs:
                 if it.end > same and it.end >= first:
                     yield trace, it, branches_of(self.search, trace, range(first, it.end))
