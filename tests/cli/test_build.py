@@ -15,7 +15,7 @@ HAS_GCC = bool(shutil.which("riscv64-unknown-elf-gcc"))
 COMPILERS = [pytest.param("--clang", marks=pytest.mark.skipif(not HAS_CLANG, reason="clang, lld or llvm is not installed")),
              pytest.param("--gcc", marks=pytest.mark.skipif(not HAS_GCC, reason="riscv64-unknown-elf-gcc is not installed"))]
 with_clang = pytest.mark.skipif(not HAS_CLANG, reason="clang, lld or llvm is not installed")
-STORED = tuple("enclaves/" + it for it in ("adds", "bug", "hmac", "hmac_attacked", "refused", "store", "store_leaking", "timer", "at_rest",
+STORED = tuple("enclaves/" + it for it in ("adds", "bug", "host_inputs", "hmac", "hmac_attacked", "refused", "store", "store_leaking", "timer", "at_rest",
                                            "two_harts")) + ("monitors/own_monitor",)
 MONITOR = EXAMPLES / "monitors" / "own_monitor"
 MEMCPY = """void *memcpy(void *to, const void *from, unsigned size)

@@ -1,6 +1,8 @@
 """`leak`: the step at which two runs diverge, and the compared secrets."""
 import pytest
 
+from conftest import EXAMPLES
+
 SECRET = ("--at", "secret")
 INSIDE, OUTSIDE = "10000000", "00000100"  # offsets of the store: in the window, and far after it
 
@@ -65,3 +67,34 @@ def test_enclave_that_is_never_entered_is_no_equal_pair(rvlook, short_program):
 def test_run_that_steps_cut_short_is_reported(rvlook, short_program):
     done = rvlook("leak", *short_program("leak_trap"), "--at", "secret", INSIDE, INSIDE, "--steps", "45")
     assert (done.returncode, done.stderr) == (3, "rvlook: warning: --steps 45 ended the run while the enclave in slot 0 was running\n")
+
+
+def pairs_of(objects, name, *words):
+    """The pairs of `leak --tries` on the PIN of a key store, by number: both secrets, and the channels."""
+    folder = EXAMPLES / "enclaves" / name
+    _, found = objects("leak", "--monitor", folder / "image", "--symbols", folder / "symbols", "--at", "pin:8", *words)
+    return {it["number"]: (*map(bytes.fromhex, it["bytes"]), it["channels"]) for it in found if it["object"] == "pair"}
+
+
+def test_comparison_byte_by_byte_shows_itself_in_two_wrong_secrets(objects):
+    one, two, channels = pairs_of(objects, "store_leaking", "--tries", "3")[3]
+    assert b"27182818" not in (one, two) and one[1:] == b"7182818" and two[:7] == b"2718281"
+    assert channels == ["pc", "steps"]
+
+
+def test_comparison_in_constant_time_shows_nothing_in_two_wrong_secrets(objects):
+    pairs = pairs_of(objects, "store", "--tries", "6")
+    assert [number for number, (*_, channels) in pairs.items() if not channels] == [3, 6]
+    assert pairs[6][0] != pairs[6][1] and b"27182818" not in pairs[6][:2]
+
+
+def test_pairs_of_a_part_are_those_of_the_whole(objects):
+    whole = pairs_of(objects, "store", "--tries", "6")
+    assert pairs_of(objects, "store", "--tries", "6", "--from", "3", "--to", "4") == {number: whole[number] for number in (3, 4)}
+
+
+def test_first_pair_with_equal_answers_is_shown(rvlook):
+    folder = EXAMPLES / "enclaves" / "store_leaking"
+    lines = rvlook("leak", "--monitor", folder / "image", "--symbols", folder / "symbols", "--at", "pin:8", "--tries", "4").stdout.splitlines()
+    assert lines[0] == "pair 3 of 4, the first that differs with the same answer"
+    assert lines[-1] == "3 of them differ in the answer too, and may show no more than that"

@@ -5,7 +5,7 @@ from pathlib import Path
 
 import pytest
 from support.message_files import IMAGES, Files
-from support.message_runs import FULL, MORE, NEVER_BACK, ONE_SCRIPT, ORDER, OTHERWISE, REGISTERS, Runs
+from support.message_runs import ACCESS, FULL, MORE, NEVER_BACK, ONE_SCRIPT, ORDER, OTHERWISE, REGISTERS, Runs
 
 from conftest import EXAMPLES, PROGRAMS, ROOT, RVLOOK
 
@@ -74,7 +74,9 @@ class Cases:
             "no enclave is created": self.leak("80020800", "00", "01", "--slot", "4"), "the bytes at ADDRESS are outside the region": self.leak("80010000", "00", "01"),
             "the two secrets": self.leak("80020800", "00", "0001"), "the size of": self.tries("80020800"),
             "the enclave in slot NUMBER is never": self.leak("80020800", "00", "00", "--steps", "6158"),
-            "--steps COUNT ended the run while the": ("timer", "--monitor", hmac, "--steps", "60"), "--seconds ended": self.tries("80020f00:4", "--seconds", "0"),
+            "--steps COUNT ended the run while the": ("timer", "--monitor", hmac, "--steps", "60"), "--seconds ended leak": self.tries("80020f00:4", "--seconds", "0"),
+            "--seconds ended inputs": ("inputs", "--monitor", ADDS, "--seconds", "0"), "inputs runs": ("inputs", "--monitor", ADDS, "--harts", "2"),
+            "the enclave in slot NUMBER does": ("inputs", "--monitor", EXAMPLES / "enclaves" / "two_harts" / "image", "--steps", "3000"),
             "the host does not": ("timer", "--monitor", ADDS), "the enclave in slot NUMBER never": self.tries("a0@80020f00"),
             "leak requires": ("leak", "--monitor", LEAKS, "--at", "80020800"), "no enclave runs": ("window", "--monitor", ADDS, "--steps", "9"),
             "stack overflow in WORLD at step NUMBER, PLACE: sp": self.overflow(None),
@@ -125,6 +127,7 @@ class Cases:
             "MODULE is not installed, so WHAT 0": lambda: runs.run(("map", "--monitor", ADDS), PYTHONPATH=files.without("elftools")),
             "MODULE is not installed, so WHAT 3": lambda: runs.run(("page", SUM), PYTHONPATH=files.without("jinja2")),
             "the step at ADDRESS had": lambda: runs.patched(OTHERWISE, races), "the step at ADDRESS changed": lambda: runs.patched(MORE, races),
+            "a finding at": lambda: runs.patched(ACCESS, ("inputs", "--monitor", EXAMPLES / "enclaves" / "bug" / "image", "--runs", "40")),
             "the replay": lambda: runs.patched(ORDER, races), "the registers": lambda: runs.patched(REGISTERS, ("trace", SUM)),
             "no script covered": lambda: runs.patched(ONE_SCRIPT, ("conform", MONITORS / "own_monitor" / "image")),
             "hart NUMBER does not": lambda: runs.patched(NEVER_BACK, ("races", "--monitor", "--harts", "2", "--ram", "131072", files.spin)),

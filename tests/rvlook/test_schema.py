@@ -10,7 +10,7 @@ IMAGES, COPIES = PROGRAMS.parent / "images", PROGRAMS / "window_copies"
 LEAK, STORE = ("leak", "--monitor", IMAGES / "leak" / "image", "--at"), EXAMPLES / "enclaves" / "store_leaking"
 MONITORS = EXAMPLES / "monitors"
 GUARD = (MONITORS / "two_enclaves" / "image", MONITORS / "two_enclaves" / "ranges")
-EXIT_ZERO = ("timer", "leak", "window", "races", "explain", "conform", "guard", "map")  # subcommands that end with 1 if they find something
+EXIT_ZERO = ("timer", "leak", "window", "inputs", "races", "explain", "conform", "guard", "map")  # subcommands that end with 1 if they find something
 UNFINISHED = ("timer_not_resumed",)
 COMMANDS = {
     "map": ("map", "--monitor", EXAMPLES / "enclaves" / "adds" / "image"), "map_pmp": ("map", EXAMPLES / "programs" / "pmp" / "stdin"),
@@ -22,6 +22,7 @@ COMMANDS = {
     "leak_tries": (*LEAK, "80020800:4", "--tries", "3"), "window": ("window", "--monitor", IMAGES / "window" / "image", "--at", "80020800:4"),
     "window_copies": ("window", "--monitor", COPIES / "image", "--symbols", COPIES / "symbols", "--script", COPIES / "script", "--at", "key:20"),
     "window_harts": ("window", "--harts", "2", "--monitor", STORE / "image", "--symbols", STORE / "symbols", "--at", "key:32"),
+    "inputs": ("inputs", "--monitor", EXAMPLES / "enclaves" / "bug" / "image", "--symbols", EXAMPLES / "enclaves" / "bug" / "symbols", "--runs", "8"),
     "races": ("races", "--monitor", "--timer", "1", EXAMPLES / "enclaves" / "adds" / "image"), "explain": ("explain", IMAGES / "explain" / "input"),
     "conform": ("conform", MONITORS / "own_monitor" / "image", "--boot", IMAGES / "conform" / "boot", "--only", "region of 8000"),
     "guard": ("guard", *GUARD, "--timers", "0", "--steps", "99"),

@@ -1,9 +1,15 @@
-"""`window --at`: copies of parts of the secret, and public bytes."""
+"""`window`: rows for double fetches and for bytes of another enclave, names of fields; with `--at` copies of parts of the secret, and public bytes."""
 import importlib.util
+import sys
+import types
 
 import pytest
 
 from conftest import ROOT
+
+sys.path.insert(0, str(ROOT / "python"))
+from rvlook.finders.window import Byte, Leftovers, reread  # noqa: E402
+from rvlook.protocol.symbols import Symbols  # noqa: E402
 
 KEY = ("--at", "key:20")
 ANSWER = "window_base+10"  # of the program: it depends on the key, and is public
@@ -33,16 +39,17 @@ def test_whole_secret_is_reported(window):
     assert copies(window(WHOLE, *KEY)[1]) == [("80030c00", 20, 0)]
 
 
-def test_four_bytes_are_reported_and_three_are_not(window):
-    assert copies(window(LEAST | TOO_SHORT, *KEY)[1]) == [("80030900", 4, 3)]
+def test_short_copies_are_reported_if_they_depend_on_the_secret(window):
+    assert copies(window(LEAST | TOO_SHORT, *KEY)[1]) == [("80030900", 4, 3), ("80030a00", 3, 6)]
 
 
 def test_short_secret_is_reported_as_a_whole(window):
     assert copies(window(TOO_SHORT, "--at", "key+6:3")[1]) == [("80030a00", 3, 0)]
 
 
-def test_zeros_are_no_copy(window):
-    assert copies(window(ZEROS, *KEY)[1]) == []
+def test_zeros_are_reported_if_they_depend_on_the_secret(window):
+    assert copies(window(ZEROS, *KEY)[1]) == [("80030b00", 5, 12)]
+    assert copies(window(0, *KEY)[1]) == []
 
 
 def test_all_copies_are_reported(window):
@@ -105,3 +112,40 @@ def test_copies_are_maximal_and_none_covers_another():
     assert module.copies_in(b"abcd", b"ab") == [(0, 2, 0)]
     assert module.copies_in(bytes(64), bytes(32)) == []
     assert module.copies_in(b"", b"secret") == []
+
+
+def test_rows_name_the_fields_of_the_window(rvlook, built, tmp_path):
+    script = tmp_path / "script"
+    script.write_text("poke leaks 01\n")
+    lines = rvlook("window", built("window_copies"), "--script", script, *KEY).stdout.splitlines()
+    assert [line.split()[3] for line in lines if line.startswith(("  reads", "  copy"))] == ["window[0]", "window[2048]"]
+
+
+def reread_rows(pairs, lines=()):
+    """The rows of bytes that pairs of instructions load again, by offset."""
+    found = {at: Byte(again=dict.fromkeys(several, True)) for at, several in pairs.items()}
+    return [(it.first, it.size, it.pcs) for it in reread(found, Symbols((), lines))]
+
+
+def test_bytes_that_two_lines_load_again_are_one_row():
+    lines = [(0x80020000, "a.c:1"), (0x80020010, "a.c:2"), (0x80020020, None)]
+    pairs = {n: [(0x80020000 + 4 * n, 0x80020010 + 4 * n)] for n in range(4)}
+    assert reread_rows(pairs, lines) == [(0, 4, (0x80020000, 0x80020010))]
+    assert [it[:2] for it in reread_rows(pairs)] == [(0, 1), (1, 1), (2, 1), (3, 1)]
+
+
+def test_bytes_with_a_gap_are_two_rows():
+    pair = (0x80020000, 0x80020010)
+    assert reread_rows({0: [pair], 1: [pair], 3: [pair]}) == [(0, 2, pair), (3, 1, pair)]
+
+
+def activation(world, before):
+    return types.SimpleNamespace(world=world, number=1, before=before, enclave=types.SimpleNamespace(window=0x80030000))
+
+
+def test_bytes_that_another_enclave_stored_are_received():
+    leftovers, stored, loaded = Leftovers(), Byte(stored_at=0x80020000, values=bytearray([7])), Byte(input_at=0x80022000)
+    assert leftovers.received(activation("e0", bytes(4)), {1: stored}) == {}
+    assert leftovers.received(activation("e0", b"\0\7\0\0"), {1: loaded}) == {}
+    assert leftovers.received(activation("e1", b"\0\7\0\0"), {0: loaded, 1: loaded}) == {1: (0x80020000, "e0")}
+    assert leftovers.received(activation("e1", b"\0\10\0\0"), {1: loaded}) == {}

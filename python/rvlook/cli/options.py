@@ -124,6 +124,17 @@ def leak_options(parser: ArgumentParser) -> None:
     part_options(parser, "start at generated secret N", "stop after generated secret N")
 
 
+def inputs_options(parser: ArgumentParser) -> None:
+    """Adds the options of `inputs`."""
+    parser.add_argument("--at", metavar="PLACE", help="set the location of a secret as for leak; report inputs at which it comes out")
+    public_option(parser)
+    parser.add_argument("--runs", metavar="N", type=positive, default=300, help="try at most N runs (default: 300)")
+    parser.add_argument("--seconds", metavar="S", type=float, help="stop after S seconds, and report the results so far")
+    parser.add_argument("--seed", metavar="N", type=int, default=0, help="set the seed of the random values (default: 0)")
+    parser.add_argument("--entry", action="store_true", help="vary a0 to a3 at the entry too, which the monitor sets")
+    parser.add_argument("--scripts", metavar="DIR", help="write an rvbench input for each finding to DIR")
+
+
 def window_options(parser: ArgumentParser) -> None:
     """Adds the options of `window`."""
     parser.add_argument("--slot", metavar="K", type=int, choices=range(13), help="show only the enclave in slot K")

@@ -6,9 +6,10 @@ import os
 import sys
 from typing import Any, Callable, Sequence, TYPE_CHECKING
 
-from rvlook.cli.options import (Parser, conform_options, findings_options, gdb_options, guard_options, image_options, leak_options, map_options,
-                                page_options, races_options, slot_option, timer_options, touch_options, trace_options, window_options)
-from rvlook.cli.subcommands import (do_conform, do_explain, do_gdb, do_guard, do_leak, do_map, do_measure, do_page, do_prompt, do_races,
+from rvlook.cli.options import (Parser, conform_options, findings_options, gdb_options, guard_options, image_options, inputs_options, leak_options,
+                                map_options, page_options, races_options, slot_option, timer_options, touch_options, trace_options,
+                                window_options)
+from rvlook.cli.subcommands import (do_conform, do_explain, do_gdb, do_guard, do_inputs, do_leak, do_map, do_measure, do_page, do_prompt, do_races,
                                     do_timer, do_touch, do_trace, do_window)
 from rvlook.gdb.monitor import CommandLine
 from rvlook.errors import RvlookError, UsageError
@@ -24,6 +25,7 @@ SUBCOMMANDS = """subcommands:
   trace        show each step: instruction, registers, memory access, trap
   touch        show what each world read, wrote and executed
   window       show what each enclave activation did with its window
+  inputs       vary what the host gives an enclave, and show what it can make it do
   leak         compare runs that differ only in a secret of an enclave
   timer        interrupt an enclave before each step, and compare the results
   races        search all schedules of two harts and of timer interrupts
@@ -37,7 +39,7 @@ SUBCOMMANDS = """subcommands:
 Without a subcommand, rvlook IMAGE starts an interactive prompt.
 See 'rvlook SUBCOMMAND --help' and docs/LOOK.md."""
 
-NAMES = ("map", "trace", "touch", "window", "leak", "timer", "races", "conform", "guard", "measure", "explain", "page", "gdb")
+NAMES = ("map", "trace", "touch", "window", "inputs", "leak", "timer", "races", "conform", "guard", "measure", "explain", "page", "gdb")
 
 
 def add_subcommand(subparsers: Any, name: str, do: Callable[[Namespace], None], about: str, *more: Callable[[ArgumentParser], None]) -> Parser:
@@ -87,6 +89,8 @@ OVER_AN_IMAGE: Sequence[Any] = (  # a name, its function, its help, and its opti
     ("trace", do_trace, "Show each step of a run", trace_options, findings_options),
     ("touch", do_touch, "Show what each world read, wrote and executed, and what it was permitted to", touch_options, findings_options),
     ("window", do_window, "Show what each enclave activation read, wrote and left in its window", window_options, findings_options),
+    ("inputs", do_inputs, "Vary what the host gives an enclave, and show what the host can make it do", slot_option, inputs_options,
+     findings_options),
     ("leak", do_leak, "Compare runs that differ only in a secret of an enclave, and show where they diverge", slot_option, leak_options,
      findings_options),
     ("timer", do_timer, "Interrupt an enclave before each of its steps, and check that the result stays the same", slot_option, timer_options,

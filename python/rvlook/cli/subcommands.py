@@ -8,6 +8,7 @@ from rvlook.access.map_text import show_map
 from rvlook.access.returns import show_returns
 from rvlook.access.stack import overflow_text, overflows
 from rvlook.access.touch import show_touch
+from rvlook.finders.inputs.report import show_inputs
 from rvlook.finders.leak_text import show_leak
 from rvlook.finders.races.text import show_races
 from rvlook.finders.timer import show_timer
@@ -16,6 +17,7 @@ from rvlook.gdb.server import serve_gdb
 from rvlook.monitors.conform_text import show_conform
 from rvlook.monitors.guard_text import show_guard
 from rvlook.image.measure import show_measure
+from rvlook.image.variables import variables_of
 from rvlook.page.page import page_template, show_page
 from rvlook.prompt.explain import show_explain
 from rvlook.prompt.prompt import show_prompt
@@ -87,11 +89,22 @@ def do_leak(arguments: Namespace) -> None:
     show_leak(*opened(arguments), arguments)
 
 
+def do_inputs(arguments: Namespace) -> None:
+    """Runs `inputs`."""
+    if arguments.public and not arguments.at:
+        raise UsageError("--public requires --at PLACE")
+    if arguments.harts > 1:
+        raise UsageError("inputs runs one hart; give the file finding_N.input of --scripts to races --harts 2")
+    run, symbols, printer = opened_monitored(arguments)
+    show_inputs(run, symbols, variables_of(arguments.symbols, run.setup.image), printer, arguments)
+
+
 def do_window(arguments: Namespace) -> None:
     """Runs `window`."""
     if arguments.public and not arguments.at:
         raise UsageError("--public requires --at PLACE")
-    show_window(*opened_monitored(arguments), arguments)
+    run, _, printer = opened_monitored(arguments)
+    show_window(run, variables_of(arguments.symbols, run.setup.image), printer, arguments)
 
 
 def do_timer(arguments: Namespace) -> None:

@@ -1,1 +1,1 @@
-"""Finders: `leak`, `timer`, `window`, and `races` in its own subpackage."""
+"""Finders: `leak`, `timer`, `window`, and `inputs` and `races` in their own subpackages."""

@@ -2,18 +2,19 @@
 from __future__ import annotations
 
 import time
+from dataclasses import dataclass
 from typing import Mapping, Sequence, TYPE_CHECKING
 
 from rvlook.errors import RvlookError, UsageError
 from rvlook.finders.leak import CHANNELS, Comparison, check_values, observe, public_of
-from rvlook.finders.secrets import drawn, secret_of
+from rvlook.finders.secrets import WORD, drawn_pairs, secret_of
 from rvlook.output.progress import Progress
 from rvlook.output.printer import Style, hex8, run_object
 
 if TYPE_CHECKING:
     from argparse import Namespace
     from rvlook.finders.leak import Difference, Observation
-    from rvlook.finders.secrets import Secret
+    from rvlook.finders.secrets import Pair, Secret
     from rvlook.output.printer import Printer
     from rvlook.protocol.run import Run
     from rvlook.protocol.symbols import Symbols
@@ -21,6 +22,7 @@ if TYPE_CHECKING:
 EQUAL = {"pc": "every step continues at the same pc", "address": "every load and store has the same address",
          "operand": "every division has the same operands"}
 MOST_NUMBERS = 10  # numbers of pairs that are printed
+MOST_GUESSES = 8  # values of the host near which secrets are drawn
 
 
 class Leak:
@@ -84,60 +86,84 @@ def show_tries(leak: Leak) -> None:
     options, printer = leak.options, leak.printer
     first = leak.secret()
     own = first.with_bytes(first.bytes_in(leak.run))
-    values = drawn(len(own.bytes), options.seed, options.first, min(options.tries, options.last or options.tries))
     if printer.as_json:
         run_object(printer, leak.run, leak.symbols)
-    differing, done, cut, base = {}, 0, False, None
+    differing: dict[int, Compared] = {}
+    done, cut = 0, False
     until = None if options.seconds is None else time.monotonic() + options.seconds
     try:
         with Progress() as progress:
             base = leak.observe(own)
-            for number, value in values:
-                other, two, found = try_pair(leak, own, base, number, value)
+            last = min(options.tries, options.last or options.tries)
+            pairs = drawn_pairs(own.bytes, guesses_of(base, len(own.bytes)), options.seed, options.first, last)
+            for pair in pairs:
+                compared = try_pair(leak, own, base, pair)
                 done += 1
-                if found.channels():
-                    differing[number] = (other, two, found)
-                progress.bar(done, len(values), "%d differ" % len(differing))
-                if until is not None and time.monotonic() > until and done < len(values):
-                    leak.findings.cut_short("--seconds ended leak after %d of %s" % (done, pairs_text(len(values))))
+                if compared.found.channels():
+                    differing[pair.number] = compared
+                progress.bar(done, len(pairs), "%d differ" % len(differing))
+                if until is not None and time.monotonic() > until and done < len(pairs):
+                    leak.findings.cut_short("--seconds ended leak after %d of %s" % (done, pairs_text(len(pairs))))
                     break
     except KeyboardInterrupt:
         cut = True
-    finish(leak, own, base, differing, done)
+    finish(leak, differing, done)
     if cut:
         raise KeyboardInterrupt
 
 
-def try_pair(leak: Leak, own: Secret, base: Observation, number: int, value: bytes) -> tuple[Secret, Observation, Comparison]:
-    """Compares the run with a drawn value, or with another if that is the secret itself; notes what was found."""
-    other = own.with_bytes(value if value != own.bytes else bytes(it ^ 0xA5 for it in value))
-    two = leak.observe(other)
-    found = leak.compared(base, two, own)
-    channels, both = found.channels(), [own.bytes.hex(), other.bytes.hex()]
-    leak.findings.add("pair %d" % number, "%s and %s differ in %s" % (*both, ", ".join(channels)) if channels else "")
+@dataclass(frozen=True)
+class Compared:
+    """A pair of secrets, their observations, and the comparison of these."""
+    secrets: Sequence[Secret]
+    both: Sequence[Observation]
+    found: Comparison
+
+
+def guesses_of(base: Observation, size: int) -> list[bytes]:
+    """Returns values that the host may give for the secret: aligned bytes of the window that the enclave loads."""
+    found: dict[bytes, None] = {}
+    for it in base.activations:
+        loaded = {at for op in it.operations if op.kind == "r" for at in range(op.address, op.address + op.width)}
+        for offset in range(0, len(it.before) - size + 1, min(size, WORD)):
+            if loaded.issuperset(range(it.enclave.window + offset, it.enclave.window + offset + size)):
+                found[it.before[offset:offset + size]] = None
+    return list(found)[:MOST_GUESSES]
+
+
+def try_pair(leak: Leak, own: Secret, base: Observation, pair: Pair) -> Compared:
+    """Compares the runs with the two secrets of a pair; notes what was found."""
+    one = own if pair.one is None else own.with_bytes(pair.one)
+    two = own.with_bytes(pair.two)
+    both = (base if pair.one is None else leak.observe(one)), leak.observe(two)
+    found = leak.compared(*both, own)
+    channels, shown = found.channels(), [one.bytes.hex(), two.bytes.hex()]
+    leak.findings.add("pair %d" % pair.number, "%s and %s differ in %s" % (*shown, ", ".join(channels)) if channels else "")
     if leak.printer.as_json:
-        leak.printer.object("pair", number=number, slot=own.slot, at=own.text(), bytes=both, channels=channels)
-    return other, two, found
+        leak.printer.object("pair", number=pair.number, slot=own.slot, at=own.text(), bytes=shown, channels=channels)
+    return Compared((one, two), both, found)
 
 
-def finish(leak: Leak, own: Secret, base: Observation | None, differing: Mapping[int, tuple[Secret, Observation, Comparison]], done: int) -> None:
+def finish(leak: Leak, differing: Mapping[int, Compared], done: int) -> None:
     """Prints the result of all pairs, and the first pair that differs."""
     printer = leak.printer
     if printer.as_json:
-        printer.object("leak", channels=sorted({it for *_, found in differing.values() for it in found.channels()}, key=CHANNELS.index),
+        printer.object("leak", channels=sorted({channel for it in differing.values() for channel in it.found.channels()}, key=CHANNELS.index),
                        pairs=done, differing=sorted(differing), compared=leak.channels)
         return
     if not differing:
         printer.line("no difference in %s: %s" % (pairs_text(done), ", ".join(leak.channels)))
         return
-    number = min(differing)
-    other, two, found = differing[number]
-    printer.line("pair %d of %d, the first that differs" % (number, done))
-    assert base is not None  # as something was found
-    pair_text(leak, [own, other], (base, two), found)
+    same = [number for number, it in differing.items() if "answer" not in it.found.channels()]
+    number = min(same or differing)
+    it = differing[number]
+    printer.line("pair %d of %d, the first that differs%s" % (number, done, " with the same answer" if same and min(differing) != number else ""))
+    pair_text(leak, it.secrets, it.both, it.found)
     numbers = ", ".join(map(str, sorted(differing)[:MOST_NUMBERS])) + (", ..." if len(differing) > MOST_NUMBERS else "")
-    channels = sorted({channel for *_, it in differing.values() for channel in it.channels()}, key=CHANNELS.index)
+    channels = sorted({channel for it in differing.values() for channel in it.found.channels()}, key=CHANNELS.index)
     printer.line("%d of %s differ, in %s: %s" % (len(differing), pairs_text(done), ", ".join(channels), numbers))
+    if same and len(same) < len(differing):
+        printer.line("%d of them differ in the answer too, and may show no more than that" % (len(differing) - len(same)))
 
 
 def pairs_text(count: int) -> str:

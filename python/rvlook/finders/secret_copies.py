@@ -30,6 +30,22 @@ def copies_in(data: bytes, secret: bytes) -> list[Copy]:
     return not_covered(found)
 
 
+def short_copies_in(data: bytes, other: bytes, secret: bytes) -> list[Copy]:
+    """Returns the copies that `copies_in` leaves out, because they are short or have equal bytes. Their complements are in `other`, the same bytes
+    of a run with the complement of the secret."""
+    least = min(LEAST, len(secret))
+    found = []
+    for at, (value, theirs) in enumerate(zip(data, other)):
+        offset = secret.find(bytes([value])) if value ^ theirs == 0xFF else -1
+        while offset >= 0:
+            size = 1
+            while data[at + size:at + size + 1] == secret[offset + size:offset + size + 1] != b"" and data[at + size] ^ other[at + size] == 0xFF:
+                size += 1
+            found.append(Copy(at, size, offset))
+            offset = secret.find(bytes([value]), offset + 1)
+    return [it for it in not_covered(found) if it.size < least or len(set(data[it.at:it.at + it.size])) == 1]
+
+
 def extended(data: bytes, secret: bytes, at: int, offset: int, size: int) -> Copy:
     """Returns the maximal copy that contains the bytes at an index."""
     while at and offset and data[at - 1] == secret[offset - 1]:

@@ -6,7 +6,7 @@ import random
 import re
 from contextlib import closing
 from dataclasses import dataclass, replace
-from typing import TYPE_CHECKING
+from typing import Optional, Sequence, TYPE_CHECKING
 
 from rvlook.protocol import names
 from rvlook.errors import RvlookError, Unfinished
@@ -25,6 +25,7 @@ ROW = 64
 REGISTER_AT = re.compile(r"(\w+)@(.+)\Z")
 CORNERS = (b"\0", b"\xff", b"\x7f", b"\x80", b"\x01", b"\x55", b"\xaa")  # of each byte
 WORD = 4
+NEAR = 3  # every so many pairs one has values that agree in a prefix
 Bytes = bytes  # a member of Secret has that name
 
 
@@ -118,6 +119,40 @@ def register_secret(match: re.Match[str], symbols: Symbols, run: Run, slot: int)
             if found is not None:
                 return Secret(slot, 0, found - 1, bytes(WORD), names.NUMBER_OF[match[1]], activation.hart)
     raise Unfinished("the enclave in slot %d never reaches %08x" % (slot, pc))
+
+
+@dataclass(frozen=True)
+class Pair:
+    """Two secrets to compare, by number; `one` is None for the secret of the program itself."""
+    number: int
+    one: Optional[Bytes]
+    two: Bytes
+
+
+def drawn_pairs(own: bytes, guesses: Sequence[bytes], seed: int, first: int, last: int) -> list[Pair]:
+    """Returns the pairs with numbers `first` to `last` of an endless list. Every third pair has two values that agree in prefixes of different length
+    with the secret itself or with a guess of the host, and equal neither. The other pairs compare the secret with the values of `drawn`."""
+    values, rng = iter(drawn(len(own), seed, 1, last)), random.Random(seed)
+    found = []
+    for number in range(1, last + 1):
+        turn = number // NEAR - 1
+        if number % NEAR == 0:
+            near = guesses[turn // 2 % len(guesses)] if turn % 2 and guesses else own
+            found.append(Pair(number, *near_pair(near, turn, rng)))
+        else:
+            value = next(values)[1]
+            found.append(Pair(number, None, value if value != own else bytes(it ^ 0xA5 for it in own)))
+    return found[max(0, first - 1):]
+
+
+def near_pair(value: bytes, turn: int, rng: random.Random) -> tuple[bytes, bytes]:
+    """Returns two values that differ from a value in one byte each: in the first and the last byte, and later in random ones."""
+    last = len(value) - 1
+    places = (0, last) if turn < 4 else sorted(rng.sample(range(last + 1), min(2, last + 1)))
+    changed = [value[:at] + bytes([value[at] ^ rng.randrange(1, 256)]) + value[at + 1:] for at in places]
+    if changed[0] == changed[-1]:
+        changed[-1] = value[:-1] + bytes([changed[0][-1] ^ 0xFF])
+    return changed[0], changed[-1]
 
 
 def drawn(size: int, seed: int, first: int, last: int) -> list[tuple[int, bytes]]:

@@ -1,0 +1,2 @@
+/* The memory layout of the example hmac. */
+INCLUDE ../hmac/link.ld

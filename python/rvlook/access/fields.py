@@ -1,0 +1,72 @@
+"""Names of the fields of a window, from the structures to which the parameters of functions point."""
+from __future__ import annotations
+
+from typing import Sequence, TYPE_CHECKING
+
+if TYPE_CHECKING:
+    from rvlook.access.activations import Activation
+    from rvlook.image.variables import Member, Parameter
+    from rvlook.protocol.run import Run
+    from rvlook.protocol.symbols import Symbols
+
+A0 = 10
+
+
+class Fields:
+    """Names of the fields of the window. `rows` has the address and the member of each."""
+
+    def __init__(self, symbols: Symbols) -> None:
+        self.symbols = symbols
+        self.rows: list[tuple[int, Member]] = []
+
+    def add(self, address: int, members: tuple[Member, ...]) -> None:
+        """Adds the members of the memory at an address, unless its fields are known. Structures come before single values."""
+        if members and (address, members[0]) not in self.rows:
+            rows = [(address + it.at, it) for it in members]
+            self.rows = self.rows + rows if not members[0].size else rows + self.rows
+
+    def name(self, address: int) -> str | None:
+        """Returns the name of the field at an address, else a symbol, or None."""
+        return self.known(address) or self.symbols.name(address)
+
+    def known(self, address: int) -> str | None:
+        """Returns the name of the field at an address, or None."""
+        for at, it in self.rows:
+            if at <= address < at + it.size:
+                return it.name + (index_text((address - at) // it.element) if it.element else offset_text(address - at))
+        for at, it in self.rows:
+            if not it.size and at <= address:
+                return it.name + index_text((address - at) // it.element)
+        return None
+
+
+def index_text(index: int) -> str:
+    """Returns an index in brackets."""
+    return "[%d]" % index
+
+
+def offset_text(offset: int) -> str:
+    """Returns an offset; empty for 0."""
+    return "+%x" % offset if offset else ""
+
+
+class FieldReader:
+    """Adds the fields that the calls of each activation of a run show."""
+
+    def __init__(self, run: Run, parameters: Sequence[Parameter], fields: Fields) -> None:
+        self.run, self.parameters, self.fields = run, parameters, fields
+        self.known: set[int] = set()  # functions
+
+    def read(self, activation: Activation) -> None:
+        """Reads the arguments at the first call of each function in an activation."""
+        first = {pc & -4: step for step, pc in zip(reversed(activation.steps), reversed(activation.pcs))} if self.parameters else {}
+        functions = {it.function for it in self.parameters} - self.known
+        for step, function in sorted((first[it], it) for it in functions & first.keys()):
+            self.known.add(function)
+            with self.run.replay() as replay:
+                replay.go(step - 1)
+                choose = ["hart %d" % activation.hart] if self.run.setup.harts > 1 else ["reg 0"]
+                for it in (it for it in self.parameters if it.function == function):
+                    value = int(replay.bench.ask(*choose, "reg %d" % (A0 + it.number))[-1][0].split("=")[1], 16)
+                    if activation.enclave.window <= value < activation.enclave.window + activation.enclave.window_size:
+                        self.fields.add(value, it.members)

@@ -1,0 +1,70 @@
+"""Call contexts: the calls that are open at a step, and where the stack frame of each of them is."""
+from __future__ import annotations
+
+from typing import Iterator
+
+from rvlook.finders.inputs.code import LINKS, SAVED, Code, Kind
+from rvlook.finders.inputs.trace import ROOT
+
+MONITOR_CALL = 9  # the cause of an ecall from S
+DEEPEST = 200  # calls that are open at the same time; deeper ones count as one
+
+
+class Contexts:
+    """The call contexts of all traces, by number. A context is its caller's context and the call."""
+
+    def __init__(self) -> None:
+        self.numbers: dict[tuple[int, int], int] = {}
+        self.parents, self.calls, self.depths, self.traps = [ROOT], [0], [0], [False]
+        self.frames: dict[int, int] = {}  # sp of each context
+        self.saved: dict[int, set[int]] = {}  # the addresses at which a context saves registers of its caller
+
+    def after(self, context: int, code: Code, pc: int, following: int, trap: tuple[int, int] | None) -> int:
+        """Returns the context after a step. `trap` is the cause and value of its trap, unless the enclave left."""
+        if trap and trap[0] != MONITOR_CALL:
+            return self.called(context, pc, True)
+        if code.kind in (Kind.CALL, Kind.INDIRECT) and code.link in LINKS:
+            return self.called(context, pc, False)
+        if code.kind is Kind.RETURN:
+            return self.returned(context, following)
+        if code.kind is Kind.TRAP_RETURN:
+            return next((self.parents[it] for it in self.chain(context) if self.traps[it]), ROOT)
+        return context
+
+    def called(self, context: int, pc: int, is_trap: bool) -> int:
+        """Returns the context of a call, or of a trap."""
+        if self.depths[context] >= DEEPEST:
+            return context
+        key = context, pc
+        if key not in self.numbers:
+            self.numbers[key] = len(self.parents)
+            self.parents.append(context)
+            self.calls.append(pc)
+            self.depths.append(self.depths[context] + 1)
+            self.traps.append(is_trap)
+        return self.numbers[key]
+
+    def returned(self, context: int, pc: int) -> int:
+        """Returns the context after a return to an address: that of the innermost call before this address."""
+        return next((self.parents[it] for it in self.chain(context) if self.calls[it] + 4 == pc), ROOT)
+
+    def is_return_address(self, context: int, pc: int) -> bool:
+        """Returns whether the innermost call of a context is right before an address. Outside every call any address is."""
+        return context == ROOT or self.calls[context] + 4 == pc
+
+    def chain(self, context: int) -> Iterator[int]:
+        """Yields a context, its caller's context, and so on."""
+        while context:
+            yield context
+            context = self.parents[context]
+
+    def note_frame(self, context: int, code: Code, address: int) -> None:
+        """Notes where the frame of a context is, from an access relative to sp or from a move of sp."""
+        if code.moves_sp:
+            caller = self.frames.get(self.parents[context]) if context else None
+            if caller is not None:
+                self.frames.setdefault(context, caller + code.moves_sp)
+            return
+        self.frames[context] = address - code.offset
+        if code.kind is Kind.STORE and code.probes[1] in SAVED:
+            self.saved.setdefault(context, set()).update(range(address, address + 4))

@@ -1,0 +1,252 @@
+"""Compares traces with those before them: which code and which objects they reach that no earlier one did, and which of this is a finding."""
+from __future__ import annotations
+
+from collections import defaultdict
+from dataclasses import dataclass, field
+from enum import Enum
+from typing import Iterator, Optional, TYPE_CHECKING, Tuple
+
+from rvlook.finders.inputs.code import ENDS_BLOCK, Code, Kind
+from rvlook.finders.inputs.objects import Place
+from rvlook.finders.inputs.trace import LEFT
+
+if TYPE_CHECKING:
+    from rvlook.finders.inputs.objects import Objects
+    from rvlook.finders.inputs.trace import Trace
+    from rvlook.finders.inputs.tracer import Tracer
+
+MEASURE, DIGEST = 5, 32  # the number of the call, and the bytes that it stores
+NO_FAULTS = (3, 8, 9)  # causes: ebreak and ecall
+STRIDE = 64  # bytes between two accesses of a loop
+DISTINCT = 3  # addresses of an access, of which the host chooses one
+FAULT = Place("a fault")
+Key = Tuple[int, int]  # a call context and a pc
+
+
+class What(Enum):
+    """The kind of a finding."""
+    LOAD = "load"
+    STORE = "store"
+    CALL = "call"
+    RETURN = "return"
+    FAULT = "fault"
+    STUCK = "no return"
+    SECRET = "secret"
+    CHECK = "check"
+    REPLAY = "replay"
+
+
+@dataclass
+class Finding:
+    """A finding: its trace, the index of the step, the address of the access, the object there, and those that the access reaches in other runs.
+    `is_walk` says that the access moves over the end of one of these. `note` is a further text."""
+    what: What
+    trace: Trace
+    index: int
+    pc: int
+    place: Place = Place("")
+    address: int = 0
+    usual: tuple[str, ...] = ()
+    is_walk: bool = False
+    note: str = ""
+    is_sure: bool = True
+    context: int = 0
+    after: tuple[Key, ...] = ()  # accesses before it in the trace that were no sure finding then
+
+    @property
+    def cost(self) -> tuple[int, int]:
+        """Returns the number of changes and of changed bytes."""
+        return len(self.trace.changes), sum(len(it.value) for it in self.trace.changes)
+
+
+@dataclass
+class Seen:
+    """Results of the traces up to now: pairs of pcs, branches, the objects and the addresses of each access, targets of jumps, and traps."""
+    pairs: set[tuple[int, int]] = field(default_factory=set)
+    objects: dict[Key, set[Place]] = field(default_factory=dict)
+    first: dict[Key, set[Place]] = field(default_factory=dict)
+    addresses: dict[Key, set[int]] = field(default_factory=lambda: defaultdict(set))
+    reached: set[tuple[Key, Place]] = field(default_factory=set)
+    targets: dict[Key, set[int]] = field(default_factory=lambda: defaultdict(set))
+    traps: set[tuple[int, int]] = field(default_factory=set)
+    pcs: set[int] = field(default_factory=set)
+
+
+class Judge:
+    """Judges the traces of a search. `findings` has one for each access, object and kind."""
+
+    def __init__(self, tracer: Tracer, objects: Objects, base: Trace) -> None:
+        self.tracer, self.objects, self.base, self.seen = tracer, objects, base, Seen()
+        self.findings: dict[tuple[object, ...], Finding] = {}
+        for index in range(len(base)):
+            self.learn(base, index)
+
+    def learn(self, trace: Trace, index: int) -> None:
+        """Takes a step of the run itself as usual."""
+        pc, code, key = trace.pcs[index], self.code(trace, index), (trace.contexts[index], trace.pcs[index])
+        self.seen.pcs.add(pc)
+        if index in trace.traps:
+            self.seen.traps.add((pc, trace.traps[index][0]))
+        if self.is_access(trace, index):
+            for at in self.places(trace, index):
+                self.seen.objects.setdefault(key, set()).add(at)
+                self.seen.reached.add((key, at))
+            self.seen.addresses[key].add(trace.addresses[index])
+        if code.kind in ENDS_BLOCK:
+            self.seen.pairs.add((pc, trace.following(index)))
+            self.seen.targets[key].add(trace.following(index))
+
+    def take(self, trace: Trace) -> bool:
+        """Takes a trace; returns whether it reached something new, and found nothing after which further steps mean nothing."""
+        is_new, found = False, None
+        unsure: list[Key] = []
+        code_of, seen = self.tracer.code, self.seen.pcs
+        for index in trace.differences():
+            pc = trace.pcs[index]
+            if code_of[pc].is_plain and index not in trace.traps:
+                seen.add(pc)
+                continue
+            is_new = self.covers(trace, index) or is_new
+            if found and found.pc != pc:  # a consequence
+                continue
+            other = self.judged(trace, index)
+            if other:
+                other.after = tuple(it for it in unsure if it[1] != pc)
+                self.add(other)
+                if other.is_sure or other.what is not What.LOAD:
+                    found = other
+                else:
+                    unsure.append((other.context, pc))
+                if other.place is FAULT or other.what in (What.CALL, What.RETURN):
+                    return False
+        if found:
+            return False
+        if trace.end == "stuck":
+            pc = trace.pcs[-1]
+            place = Place(self.objects.symbols.function(pc) or "")
+            self.add(Finding(What.STUCK, trace, len(trace) - 1, pc, place, after=tuple(unsure)))
+            return False
+        return is_new
+
+    def add(self, found: Finding) -> None:
+        """Adds a finding, or replaces one that needs more changes or is not sure."""
+        context = found.context if found.what in (What.LOAD, What.STORE) else 0
+        key = (found.what, 0 if found.what is What.STUCK else found.pc, context, found.place)
+        old = self.findings.get(key)
+        if old is None or (not found.is_sure, found.cost) < (not old.is_sure, old.cost):
+            self.findings[key] = found
+
+    def code(self, trace: Trace, index: int) -> Code:
+        """Returns the instruction of a step."""
+        return self.tracer.code[trace.pcs[index]]
+
+    def is_access(self, trace: Trace, index: int) -> bool:
+        """Returns whether a step accesses memory at an address of its own."""
+        code = self.code(trace, index)
+        if code.kind is Kind.ECALL:
+            trap = trace.traps.get(index)
+            return trace.values[index] == MEASURE and trap is not None and trap[0] == 9
+        return code.is_access
+
+    def places(self, trace: Trace, index: int) -> list[Place]:
+        """Returns the objects that an access reaches: at its first and at its last byte."""
+        width = DIGEST if self.code(trace, index).kind is Kind.ECALL else self.code(trace, index).width
+        address, context, pc = trace.addresses[index], trace.contexts[index], trace.pcs[index]
+        found = self.objects.at(address, context, pc)
+        last = self.objects.at(address + width - 1, context, pc) if width > 1 else found
+        return [found] if found == last else [found, last]
+
+    def covers(self, trace: Trace, index: int) -> bool:
+        """Returns whether a step reaches a pair of pcs, or an object by an instruction, that no step before it did."""
+        pc, code, is_new = trace.pcs[index], self.code(trace, index), False
+        self.seen.pcs.add(pc)
+        if code.kind in ENDS_BLOCK:
+            pair = pc, trace.following(index)
+            is_new = pair not in self.seen.pairs
+            self.seen.pairs.add(pair)
+        if self.is_access(trace, index) and index not in trace.traps:
+            key = trace.contexts[index], pc
+            for it in self.places(trace, index):
+                is_new = is_new or (key, it) not in self.seen.reached
+                self.seen.reached.add((key, it))
+        return is_new
+
+    # ---- what is a finding
+
+    def judged(self, trace: Trace, index: int) -> Finding | None:
+        """Returns the finding of a step, or None."""
+        code, pc = self.code(trace, index), trace.pcs[index]
+        key, trap = (trace.contexts[index], pc), trace.traps.get(index)
+        if code.is_access and not code.is_sp_relative and (trap is None or trap[0] not in NO_FAULTS or code.kind is Kind.ECALL):
+            found = self.access(trace, index, key) if self.is_access(trace, index) else None
+            if found:
+                return found
+        if code.kind in (Kind.INDIRECT, Kind.RETURN):
+            return self.jump(trace, index, key)
+        if trap and trap[0] not in NO_FAULTS and (pc, trap[0]) not in self.seen.traps:
+            return Finding(What.FAULT, trace, index, pc, FAULT, trap[1], note="cause %d" % trap[0], context=key[0])
+        return None
+
+    def access(self, trace: Trace, index: int, key: Key) -> Finding | None:
+        """Returns the finding of an access that reaches an object which it usually does not reach, or that traps."""
+        what = What.LOAD if self.code(trace, index).kind is Kind.LOAD else What.STORE
+        address, trap = trace.addresses[index], trace.traps.get(index)
+        if trap and trap[0] != 9:
+            if (key[1], trap[0]) in self.seen.traps:
+                return None
+            usual = self.seen.objects.get(key) or self.seen.first.get(key) or set()
+            return Finding(what, trace, index, key[1], FAULT, address, names(usual), note="cause %d" % trap[0], context=key[0])
+        places = self.places(trace, index)
+        usual = self.seen.objects.get(key) or self.seen.first.setdefault(key, set(places))
+        self.seen.addresses[key].add(address)
+        other = next((it for it in places if it not in usual), None)
+        if other is None:
+            return None
+        previous = self.previous(trace, index, key)
+        is_walk = previous is not None and abs(address - trace.addresses[previous]) <= STRIDE
+        if is_walk and self.is_inner(other, usual):
+            return None
+        is_sure = is_walk or len(self.seen.addresses[key]) >= DISTINCT or len(places) > 1
+        return Finding(what, trace, index, key[1], other, address, names(usual), is_walk, is_sure=is_sure, context=key[0])
+
+    @staticmethod
+    def is_inner(place: Place, usual: set[Place]) -> bool:
+        """Returns whether an object is a member of the same variable as a usual one, which the access may reach too: no array ends between them."""
+        return any(it.variable and it.variable == place.variable and not it.is_array for it in usual)
+
+    def previous(self, trace: Trace, index: int, key: Key) -> Optional[int]:
+        """Returns the index of the same access before a step, or None."""
+        for at in range(index - 1, max(-1, index - 400), -1):
+            if trace.pcs[at] == key[1] and trace.contexts[at] == key[0]:
+                return at
+        return None
+
+    def jump(self, trace: Trace, index: int, key: Key) -> Finding | None:
+        """Returns the finding of a jump to an address in a register: one that the host chooses, or a return to another address."""
+        target, is_return = trace.following(index), self.code(trace, index).kind is Kind.RETURN
+        if target == LEFT or target in self.seen.targets[key]:
+            return None
+        if is_return:
+            is_found = not self.tracer.contexts.is_return_address(key[0], target)
+        else:
+            chosen = {int.from_bytes(it.value, "little") for it in trace.changes}
+            is_found = not self.objects.is_function(target) or target in chosen
+        if not is_found:
+            return None
+        return Finding(What.RETURN if is_return else What.CALL, trace, index, key[1], self.objects.at(target, key[0], key[1]), target,
+                       tuple(sorted({self.objects.at(it, *key).name for it in self.seen.targets[key] if it != LEFT})), context=key[0])
+
+    def sure(self) -> Iterator[Finding]:
+        """Yields the findings that are sure now: an access that is not a walk has at least three addresses. Leaves out consequences of others."""
+        for it in self.findings.values():
+            if (it.is_sure or self.is_chosen((it.context, it.pc))) and not any(map(self.is_chosen, it.after)):
+                yield it
+
+    def is_chosen(self, key: Key) -> bool:
+        """Returns whether an access has so many addresses that the host chooses them."""
+        return len(self.seen.addresses[key]) >= DISTINCT
+
+
+def names(places: set[Place]) -> tuple[str, ...]:
+    """Returns the names of objects in order."""
+    return tuple(sorted(it.name for it in places))

@@ -1,0 +1,73 @@
+"""Writes each finding as an input of rvbench, and replays it before it is reported."""
+from __future__ import annotations
+
+import os
+from typing import Sequence, TYPE_CHECKING
+
+from rvlook.errors import RvlookError, Unfinished
+from rvlook.finders.inputs.judge import What
+from rvlook.finders.inputs.tracer import access_of
+from rvlook.finders.races.replay import comment
+from rvlook.protocol.bench_line import ended
+
+if TYPE_CHECKING:
+    from rvlook.finders.inputs.judge import Finding
+    from rvlook.finders.inputs.search import Search
+    from rvlook.protocol.run import Replay
+
+ROW = 64  # bytes that `mem` shows at once
+
+
+def replay_of(search: Search, finding: Finding) -> Replay:
+    """Starts the run with the changes of a finding."""
+    run = search.run
+    for it in finding.trace.changes:
+        run = run.with_lines(it.step, it.lines())
+    return run.replay()
+
+
+def lines_to_input(replay: Replay, finding: Finding) -> list[str]:
+    """Returns the commands up to the last change."""
+    return replay.lines_to(max((it.step for it in finding.trace.changes), default=0)) + replay.lines_up_to_next()
+
+
+def lines_after(search: Search, replay: Replay, finding: Finding) -> list[str]:
+    """Returns the commands from the last change to the step of the finding, with its instruction and operands, and the step."""
+    trace, index = finding.trace, finding.index
+    commands = replay.lines_to(trace.steps[index] - 1) + ["dis %x" % trace.pcs[index]]
+    commands += ["reg %d" % it for it in search.tracer.code[trace.pcs[index]].probes] + ["step 1"]
+    if finding.what is What.SECRET and finding.address:
+        commands.append("mem %x %d" % (finding.address, min(ROW, len(search.rules.secret.bytes) if search.rules else ROW)))
+    return commands
+
+
+def check(search: Search, finding: Finding) -> None:
+    """Replays a finding; raises Unfinished if the simulator does not execute the same step with the same operands."""
+    trace, index = finding.trace, finding.index
+    with replay_of(search, finding) as replay:
+        before, after = lines_to_input(replay, finding), lines_after(search, replay, finding)
+        replies = replay.bench.ask(*before, *after)
+    shown = replies[len(before) + after.index("dis %x" % trace.pcs[index]):]
+    reached = [it[0] for it in replies if it and it[0].startswith("ran ")][-2]
+    probes = search.tracer.code[trace.pcs[index]].probes
+    values = [int(it[0].split("=")[1], 16) for it in shown[1:1 + len(probes)]]
+    is_same = not probes or access_of(search.tracer.code[trace.pcs[index]], values)[0] == trace.addresses[index]
+    if " pc=%08x " % trace.pcs[index] not in reached or not is_same:
+        raise Unfinished("a finding at step %d differs in its replay on rvbench" % trace.steps[index])
+
+
+def write(folder: str, search: Search, findings: Sequence[Finding], headings: Sequence[str]) -> None:
+    """Writes two files for each finding: `finding_N` replays it, `finding_N.input` ends after its last change. Raises RvlookError."""
+    setup = search.run.setup
+    try:
+        os.makedirs(folder, exist_ok=True)
+        for number, (finding, heading) in enumerate(zip(findings, headings), 1):
+            with replay_of(search, finding) as replay:
+                before = lines_to_input(replay, finding)
+                after = lines_after(search, replay, finding)
+            head = [comment(heading), comment("./rvbench %s < this file" % " ".join(setup.arguments()))]
+            for name, lines in (("finding_%d", head + before + after), ("finding_%d.input", head[:1] + before)):
+                with open(os.path.join(folder, name % number), "wb") as file:
+                    file.write(setup.image.text + b"--\n" + "".join(map(ended, lines)).encode("latin-1", "replace"))
+    except OSError as error:
+        raise RvlookError("cannot write to '%s': %s" % (folder, error.strerror)) from None

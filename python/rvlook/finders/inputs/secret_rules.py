@@ -1,0 +1,281 @@
+"""Rules over the outputs of a trace: the secret comes out at an input, comes out although a check failed, or an older state is accepted again."""
+from __future__ import annotations
+
+from dataclasses import dataclass
+from typing import Iterator, NamedTuple, Sequence, TYPE_CHECKING
+
+from rvlook.finders.inputs.code import ENDS_BLOCK, Kind
+from rvlook.finders.inputs.judge import Finding, What
+from rvlook.finders.inputs.objects import Place
+from rvlook.finders.inputs.trace import Change
+from rvlook.finders.secret_copies import LEAST, copies_in
+from rvlook.protocol.replies import bytes_of
+
+if TYPE_CHECKING:
+    from rvlook.finders.inputs.search import Search
+    from rvlook.finders.inputs.trace import Trace, Visit
+    from rvlook.finders.leak import Public
+    from rvlook.finders.secrets import Secret
+
+ANSWER = 4  # bytes of a1
+
+
+@dataclass(frozen=True)
+class Output:
+    """A part of the secret that comes out: its offset and its size. `at` is its address in the window, or None for a1 of the host. `index` is the
+    step that stored its last byte, or that left."""
+    offset: int
+    size: int
+    at: int | None
+    index: int
+    end: int  # the index of the step that leaves
+    is_public: bool
+
+
+def steps_of(trace: Trace, visit: Visit) -> range:
+    """Returns the indices of an activation."""
+    return range(visit.first, (len(trace) - 1 if visit.last is None else visit.last) + 1)
+
+
+class SecretRules:
+    """Compares what of a secret comes out of each trace."""
+
+    def __init__(self, search: Search, secret: Secret, public: Public) -> None:
+        self.search, self.secret, self.public = search, secret, public
+        self.known: set[int] = set()  # bytes of the secret that come out, and are not public
+        self.found: list[Finding] = []
+        self.open: list[tuple[Trace, list[Output]]] = []
+        self.checks: dict[int, int] = {}  # of each branch whose other direction keeps the secret inside, where it goes then
+        self.usual = list(self.outputs(search.base))
+        self.report(search.base, self.usual)
+
+    def take(self, trace: Trace) -> None:
+        """Takes a trace of the search."""
+        outputs = list(self.outputs(trace))
+        self.report(trace, outputs)
+        if self.usual:
+            self.refused(trace, {trace.visit_at(it.end) for it in outputs})
+            if outputs:
+                self.open.append((trace, outputs))
+
+    def report(self, trace: Trace, outputs: Sequence[Output]) -> None:
+        """Reports the bytes of the secret that come out and are not public, once each."""
+        for it in outputs:
+            places = range(it.offset, it.offset + it.size)
+            if not it.is_public and not self.known.issuperset(places) and self.depends(trace, it):
+                self.known.update(places)
+                self.add(trace, it)
+
+    def add(self, trace: Trace, it: Output) -> None:
+        """Adds the finding that a part of the secret comes out."""
+        where = "the answer" if it.at is None else "%s (%08x)" % (self.search.values.name(it.at), it.at)
+        note = "%d bytes of the secret, from offset %d, in %s" % (it.size, it.offset, where)
+        self.found.append(Finding(What.SECRET, trace, it.index, trace.pcs[it.index], Place(where), it.at or 0, note=note))
+
+    def outputs(self, trace: Trace) -> Iterator[Output]:
+        """Yields the parts of the secret that each activation stores to the window or answers."""
+        for visit in trace.visits:
+            content: dict[int, tuple[int, int]] = {}
+            for index in steps_of(trace, visit):
+                code = self.search.tracer.code[trace.pcs[index]]
+                at = trace.addresses[index]
+                if code.kind is Kind.STORE and self.search.objects.is_window(at) and index not in trace.traps:
+                    content.update((at + n, (trace.values[index] >> 8 * n & 0xFF, index)) for n in range(code.width))
+            last = steps_of(trace, visit)[-1]
+            yield from self.stored(trace, content, last)
+            word = visit.answer[1].to_bytes(ANSWER, "little")
+            at = self.secret.bytes.find(word) if len(set(word)) > 1 else -1
+            if at >= 0 and visit.ended_by in ("stop", "exit"):
+                yield Output(at, ANSWER, None, last, last, self.public.answer)
+
+    def stored(self, trace: Trace, content: dict[int, tuple[int, int]], last: int) -> Iterator[Output]:
+        """Yields the copies of parts of the secret among stored bytes."""
+        for first, data in runs_of({at: value for at, (value, _) in content.items()}):
+            for it in copies_in(data, self.secret.bytes):
+                places = range(first + it.at, first + it.at + it.size)
+                writers = [content[at][1] for at in places]
+                is_public = all(self.public.has(at) or self.public.has(trace.pcs[index]) for at, index in zip(places, writers))
+                yield Output(it.offset, it.size, places[0], max(writers), last, is_public)
+
+    def depends(self, trace: Trace, it: Output) -> bool:
+        """Returns whether an output is another one if the secret is its complement. Else the host gave the bytes itself."""
+        run, secret = self.search.run, self.secret
+        run = run.with_lines(secret.step, secret.with_bytes(bytes(n ^ 0xFF for n in secret.bytes)).lines())
+        for change in trace.changes:
+            run = run.with_lines(change.step, change.lines())
+        with run.replay() as replay:
+            replay.go(trace.steps[it.end])
+            if it.at is None:
+                return int(replay.bench.one("reg 11").split("=")[1], 16) != trace.visits[trace.visit_at(it.end)].answer[1]
+            size = min(it.size, 64)
+            return bytes_of(replay.bench.one("mem %x %d" % (it.at, size))) != self.secret.bytes[it.offset:it.offset + size]
+
+    # ---- checks
+
+    def refused(self, trace: Trace, visits: set[int]) -> None:
+        """Takes a trace. The branch by which it leaves the trace of the run itself is a check, if the trace then keeps the secret inside. It is one
+        too if it depends on memory of the region, and the answer of the activation changes."""
+        base, at = self.search.base, first_difference(self.search.base, trace)
+        if len(trace.changes) != 1 or not 0 < at < min(len(trace), len(base)):
+            return
+        code, number = self.search.tracer.code[base.pcs[at - 1]], base.visit_at(at - 1)
+        inside = {base.visit_at(it.end) for it in self.usual} - visits
+        is_other = number < len(trace.visits) and trace.visits[number].answer != base.visits[number].answer
+        if code.kind is Kind.BRANCH and (inside and number <= min(inside) or is_other and self.is_private(at - 1)):
+            self.checks[base.pcs[at - 1]] = trace.following(at - 1)
+
+    def is_private(self, index: int) -> bool:
+        """Returns whether a branch of the run itself depends on memory of the region."""
+        base = self.search.base
+        return any(self.search.reader.is_private(base, index, it) for it in self.search.tracer.code[base.pcs[index]].sources)
+
+    def unchecked(self) -> Iterator[Finding]:
+        """Yields the findings that the secret came out although a check failed, or without it."""
+        reported: set[int] = set()
+        base = self.search.base
+        usual = branches_of(self.search, base, range(len(base) - 1))
+        every = [branches for *_, branches in self.segments([(base, self.usual)])]
+        for trace, output, branches in self.segments(self.open):
+            for pc, target in sorted(self.checks.items()):
+                is_skipped = pc not in branches and all(pc in it for it in every)
+                is_failed = branches.get(pc) == {target} and target not in usual.get(pc, ())
+                if (is_skipped or is_failed) and pc not in reported:
+                    reported.add(pc)
+                    where = self.search.symbols.line(pc) or self.search.symbols.name(pc) or "%08x" % pc
+                    note = "the secret comes out %s %s" % ("without the check at" if is_skipped else "although the check fails at", where)
+                    yield Finding(What.CHECK, trace, output.index, trace.pcs[output.index], Place(where), output.at or 0, note=note)
+
+    def segments(self, traces: Sequence[tuple[Trace, list[Output]]]) -> Iterator[tuple[Trace, Output, dict[int, set[int]]]]:
+        """Yields each output of some traces with the branches since the activation of the output before it. Leaves out those whose steps up to then
+        are the steps of the run itself, unless the trace is that of the run itself."""
+        base = self.search.base
+        for trace, outputs in traces:
+            same, first = 0 if trace is base else first_difference(base, trace), 0
+            for it in outputs:
+                if it.end > same and it.end >= first:
+                    yield trace, it, branches_of(self.search, trace, range(first, it.end))
+                first = max(first, it.end + 1)
+
+
+def branches_of(search: Search, trace: Trace, indices: range) -> dict[int, set[int]]:
+    """Returns where each branch goes in a range of steps."""
+    found: dict[int, set[int]] = {}
+    for index in indices:
+        if search.tracer.code[trace.pcs[index]].kind is Kind.BRANCH:
+            found.setdefault(trace.pcs[index], set()).add(trace.pcs[index + 1])
+    return found
+
+
+def first_difference(one: Trace, two: Trace) -> int:
+    """Returns the index of the first step at which two traces have different pcs."""
+    low, high = 0, min(len(one), len(two))
+    while low < high:
+        middle = (low + high + 1) // 2
+        if one.pcs[:middle] == two.pcs[:middle]:
+            low = middle
+        else:
+            high = middle - 1
+    return low
+
+
+def runs_of(content: dict[int, int]) -> Iterator[tuple[int, bytes]]:
+    """Yields the address and the bytes of each range without gaps."""
+    places = sorted(content)
+    start = 0
+    for n in range(1, len(places) + 1):
+        if n == len(places) or places[n] != places[n - 1] + 1:
+            yield places[start], bytes(content[at] for at in places[start:n])
+            start = n
+
+
+# ---- states that are given again
+
+@dataclass(frozen=True)
+class Older:
+    """An older state: the change that gives it, the activation that gets it, and the one that stored it, from 0; the latter is None if the host
+    gave it."""
+    change: Change
+    visit: int
+    stored_in: int | None
+
+
+def older_states(search: Search, loaded: dict[int, bytes]) -> Iterator[Older]:
+    """Yields older states for each activation of the run itself. `loaded` has the bytes of each load from the window. A state is a range of bytes
+    that the enclave stored in an earlier activation and loads now, at any address: the host may have kept it."""
+    base = search.base
+    stores = [dict(window_bytes(search, base, it, Kind.STORE, loaded)) for it in base.visits]
+    loads = [dict(window_bytes(search, base, it, Kind.LOAD, loaded)) for it in base.visits]
+    for number, visit in enumerate(base.visits):
+        for at, data in runs_of(loads[number]):
+            for place, size in known_states(data, stores[:number]):
+                for value, origin in versions(stores[:number], loads[:number], place, at, size):
+                    if value != data[place.offset:place.offset + size]:
+                        change = Change(base.steps[visit.first] - 1, at + place.offset, value, 0, search.values.name(at + place.offset),
+                                        data[place.offset:place.offset + size].hex())
+                        yield Older(change, number, origin)
+
+
+class Known(NamedTuple):
+    """A stored state: its offset in the loaded bytes, and the address at which it was stored."""
+    offset: int
+    at: int
+
+
+def known_states(data: bytes, stores: list[dict[int, int]]) -> Iterator[tuple[Known, int]]:
+    """Yields each part of loaded bytes that an earlier activation stored, the last such activation first, with its size in bytes."""
+    for content in reversed(stores):
+        for at, value in runs_of(content):
+            for it in copies_in(data, value):
+                if it.size >= LEAST:
+                    yield Known(it.at, at + it.offset), it.size
+
+
+def versions(stores: list[dict[int, int]], loads: list[dict[int, int]], known: Known, at: int, size: int) -> Iterator[tuple[bytes, int | None]]:
+    """Yields the other values that earlier activations stored at the same address, and those that the host gave them at the loaded one."""
+    for number, content in enumerate(stores):
+        if all(known.at + n in content for n in range(size)):
+            yield bytes(content[known.at + n] for n in range(size)), number
+    for content in loads:
+        if all(at + known.offset + n in content for n in range(size)):
+            yield bytes(content[at + known.offset + n] for n in range(size)), None
+
+
+def window_bytes(search: Search, trace: Trace, visit: Visit, kind: Kind, loaded: dict[int, bytes]) -> Iterator[tuple[int, int]]:
+    """Yields the address and the value of each byte of the window that an activation stores, or that it loads before it stores to it."""
+    own: set[int] = set()
+    for index in steps_of(trace, visit):
+        code, at = search.tracer.code[trace.pcs[index]], trace.addresses[index]
+        if code.kind is Kind.STORE and search.objects.is_window(at):
+            own.update(range(at, at + code.width))
+            if kind is Kind.STORE:
+                yield from ((at + n, trace.values[index] >> 8 * n & 0xFF) for n in range(code.width))
+        elif code.kind is Kind.LOAD and kind is Kind.LOAD and index in loaded:
+            yield from ((at + n, value) for n, value in enumerate(loaded[index]) if at + n not in own)
+
+
+def replayed_states(search: Search, loaded: dict[int, bytes]) -> Iterator[Finding]:
+    """Yields the findings that an activation accepts an older state: it takes no branch that the run itself does not take, and it answers or
+    stores something else."""
+    base, tried = search.base, set()
+    usual = {(base.pcs[n], base.following(n)) for n in range(len(base)) if search.tracer.code[base.pcs[n]].kind in ENDS_BLOCK}
+    for it in older_states(search, loaded):
+        key = it.change.step, it.change.at, it.change.value
+        if key in tried:
+            continue
+        tried.add(key)
+        trace = search.tracer.child(base, base.visits[it.visit].first, (it.change,))
+        search.judge.take(trace)
+        if len(trace.visits) <= it.visit or trace.visits[it.visit].last is None:
+            continue
+        steps = steps_of(trace, trace.visits[it.visit])
+        pairs = {(trace.pcs[n], trace.following(n)) for n in steps if search.tracer.code[trace.pcs[n]].kind in ENDS_BLOCK}
+        if pairs <= usual and shown(search, trace, it.visit) != shown(search, base, it.visit):
+            origin = "that the host gave it before" if it.stored_in is None else "that activation %d stored" % (it.stored_in + 1)
+            note = "activation %d accepts the state %s in %s" % (it.visit + 1, origin, it.change.name)
+            yield Finding(What.REPLAY, trace, steps[-1], trace.pcs[steps[-1]], Place(it.change.name), it.change.at, note=note)
+
+
+def shown(search: Search, trace: Trace, number: int) -> tuple[object, ...]:
+    """Returns what an activation stores to the window, and how it ends."""
+    visit = trace.visits[number]
+    return visit.ended_by, visit.answer, tuple(window_bytes(search, trace, visit, Kind.STORE, {}))
