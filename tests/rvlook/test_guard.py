@@ -74,7 +74,7 @@ def test_example_with_two_enclaves_has_no_violation(rvlook):
     lines = done.stdout.splitlines()
     assert (done.returncode, done.stderr, len(lines)) == (0, "", 5)
     assert all(int(re.search(r"(\d+) switches", it)[1]) >= 6 for it in lines[:4])
-    assert int(re.search(r"changed at (\d+) returns", lines[4])[1]) >= 8
+    assert int(re.search(r"changed at (\d+) returns", lines[4])[1]) == 6
 
 
 @pytest.mark.parametrize("name", ["adds", "timer"])

@@ -13,7 +13,7 @@ from rvlook.monitors.sides import MonitorSetup, poke_lines
 from rvlook.protocol.memory_map import MONITOR_END
 from rvlook.protocol.names import abi_name
 
-MOST_POINTS = 12  # returns to the host at which a second run begins to differ
+MOST_POINTS = 6  # returns to the host at which a second run begins to differ
 
 
 @dataclass
