@@ -14,7 +14,9 @@ from rvlook.cli.opening import opened  # noqa: E402
 from rvlook.cli.parser import read  # noqa: E402
 from rvlook.finders.inputs.code import Kind, code_of  # noqa: E402
 from rvlook.finders.inputs.contexts import Contexts  # noqa: E402
-from rvlook.finders.inputs.objects import NOTHING, OUTSIDE, UNUSED, WINDOW, Objects  # noqa: E402
+from rvlook.finders.inputs.details import Reader  # noqa: E402
+from rvlook.finders.inputs.judge import Judge  # noqa: E402
+from rvlook.finders.inputs.objects import NOTHING, OUTSIDE, UNUSED, WINDOW, Objects, Place  # noqa: E402
 from rvlook.finders.inputs.probes import Probe, Probes  # noqa: E402
 from rvlook.finders.inputs.search import Search  # noqa: E402
 from rvlook.finders.inputs.secret_rules import known_states, runs_of, versions  # noqa: E402
@@ -41,7 +43,7 @@ def search(bench, monkeypatch, tmp_path):
     return of
 
 
-@pytest.mark.parametrize("task", [3, 14, 15])
+@pytest.mark.parametrize("task", [5, 14, 15])
 def test_trace_along_its_parent_is_that_of_single_steps(search, task):
     it = search(task)
     parent = it.parents[0]
@@ -89,24 +91,22 @@ def objects():
     """Returns the objects of an enclave with two variables, a function, a local variable and two frames."""
     contexts = Contexts()
     outer = contexts.called(0, 0x80020100, False)
-    inner = contexts.called(outer, 0x80020200, False)
+    inner = contexts.called(outer, 0x80020104, False)
     contexts.note_frame(outer, code("sw x1, 28(x2)"), 0x80020f00 + 28)
     contexts.note_frame(inner, code("addi x2, x2, -32"), 0)
     contexts.note_frame(inner, code("sw x1, 28(x2)"), 0x80020ee0 + 28)
     symbols = Symbols([Symbol(0x80020100, 0x80, "outer", True), Symbol(0x80020200, 0x80, "inner", True), Symbol(0x80020800, 8, "key", False),
                        Symbol(0x80020900, 0, "application_stack_bottom", False)])
     variables = Variables([Member(0x80020800, 8, "user.name", 1), Member(0x80020808, 4, "user.is_admin")],
-                          [Local(0x80020200, 0x80020280, True, Member(8, 8, "part", 1)), Local(0x80020200, 0x80020280, False, Member(-24, 4, "sum"))])
+                          [Local(0x80020200, 0x80020280, True, Member(8, 8, "part", 1)), Local(0x80020200, 0x80020280, False, Member(-12, 4, "sum"))])
     return Objects(ENCLAVE, symbols, variables, contexts), inner
 
 
 def test_objects_are_named(objects):
     it, inner = objects
-    name = {at: it.at(at, inner, 0x80020210).name for at in (0x80020ee8, 0x80020ef0, 0x80020efc, 0x80020ee8 + 8, 0x80020804, 0x80020808, 0x80020110, 0x80020f04)}
-    assert name == {0x80020ee8: "sum in inner" if False else "part in inner", 0x80020ef0: "the frame of inner", 0x80020efc: "the saved registers of inner",
-                    0x80020804: "user.name", 0x80020808: "user.is_admin", 0x80020110: "outer", 0x80020f04: "the frame of inner"} or name
-    assert name[0x80020ee8] == "part in inner" and name[0x80020efc] == "the saved registers of inner" and name[0x80020f04].startswith("the frame of ")
-    assert (name[0x80020804], name[0x80020808], name[0x80020110]) == ("user.name", "user.is_admin", "outer")
+    names = {0x80020ee8: "part in inner", 0x80020ef0: "the frame of inner", 0x80020ef4: "sum in inner", 0x80020efc: "the saved registers of inner",
+             0x80020f04: "the frame of outer", 0x80020804: "user.name", 0x80020808: "user.is_admin", 0x80020110: "outer"}
+    assert {at: it.at(at, inner, 0x80020210).name for at in names} == names
     assert it.at(0x80030010, inner, 0) is WINDOW and it.at(0x80010000, inner, 0) is OUTSIDE and it.at(0x80020e00, inner, 0x80020210) is UNUSED
     assert it.at(0x80020010, inner, 0) is NOTHING
 
@@ -127,6 +127,9 @@ def test_probes_show_the_first_difference_of_the_path_and_each_of_an_access():
     assert (other.end, other.changed, other.answers) == (None, {5: [9, 3]}, {7: (1, 7)})
     left = it.compare(0, [*it.expected[:3], b"ran 2 pc=80020020 mode=U", *it.expected[4:]])
     assert (left.end, left.changed) == (3, {})
+    it = Probes([Probe(3, 14, b"reg 10\nreg 11\n", True), Probe(4, 20)])
+    it.expected = [b"x0=00000000", b"x10=00000001", b"x11=00000002", b"ran 6 pc=80020018 mode=U"]
+    assert it.compare(0, [*it.expected[:3], b"ran 6 pc=8001001c mode=S"]).end == 4
 
 
 def test_trace_knows_where_the_enclave_leaves():
@@ -159,6 +162,23 @@ def test_states_are_found_at_another_address_and_in_each_version():
 
 def test_ranges_have_no_gaps():
     assert list(runs_of({5: 1, 6: 2, 9: 3})) == [(5, b"\1\2"), (9, b"\3")] and list(runs_of({})) == []
+
+
+def test_only_members_after_an_array_are_other_objects():
+    name, header, body, other = Place("u.name", "u", True), Place("u.header", "u"), Place("u.body", "u", True), Place("v", "v")
+    assert Judge.is_inner(body, {header}) and not Judge.is_inner(header, {name}) and not Judge.is_inner(other, {header})
+
+
+def test_value_that_is_compared_with_private_memory_is_not_tried():
+    reader = object.__new__(Reader)
+    reader.objects = types.SimpleNamespace(has=lambda at: 0x80020000 <= at < 0x80021000, stack=0x80020900)
+    reader.tracer = types.SimpleNamespace(code={4: code("lw x10, 0(x5)"), 8: code("xor x11, x10, x12"), 12: code("beq x11, x0, 8")})
+    trace = Trace()
+    trace.pcs.extend([4, 8, 12])
+    for at, private in ((0x80020800, True), (0x80030000, False), (0x80020a00, False)):
+        trace.addresses = [at, 0, 0]
+        assert reader.is_private(trace, 2, 11) is private
+    assert not reader.is_private(trace, 2, 0) and not reader.is_private(trace, 2, 13)
 
 
 def test_signed_leb128():

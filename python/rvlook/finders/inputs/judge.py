@@ -229,8 +229,9 @@ class Judge:
         if is_return:
             is_found = not self.tracer.contexts.is_return_address(key[0], target)
         else:
-            chosen = {int.from_bytes(it.value, "little") for it in trace.changes}
-            is_found = not self.objects.is_function(target) or target in chosen
+            chosen, function = {int.from_bytes(it.value, "little") for it in trace.changes}, self.objects.symbols.function
+            is_table = not self.code(trace, index).link and function(target) == function(key[1])  # of a switch
+            is_found = not self.objects.is_function(target) and not is_table or target in chosen
         if not is_found:
             return None
         return Finding(What.RETURN if is_return else What.CALL, trace, index, key[1], self.objects.at(target, key[0], key[1]), target,

@@ -71,8 +71,8 @@ class Objects:
         """Returns the local variable at an address, the saved registers, or the rest of a frame."""
         frames, is_below = self.contexts.frames, True
         for it in self.contexts.chain(context):
-            sp = frames.get(it)
-            if sp is not None and address >= sp:
+            sp, caller = frames.get(it), frames.get(self.contexts.parents[it])
+            if sp is not None and address >= sp and not (caller is not None and sp < caller <= address):
                 return self.in_frame(address, it, sp, pc)
             is_below = is_below and (sp is None or address < sp)
             pc = self.contexts.calls[it]

@@ -19,13 +19,13 @@ if TYPE_CHECKING:
     from rvlook.finders.inputs.trace import Trace, Visit
     from rvlook.finders.inputs.tracer import Tracer
 
-WORD, FILL = 4, 512  # bytes of a word; most bytes that are filled at once
+WORD = 4  # bytes
 AHEAD = 400  # steps after a load in which branches and accesses are considered
 MOST_VALUES, MOST_ACCESSES, MOST_OBJECTS = 64, 6, 6
 MOST_WORDS = 4  # of the words of a buffer
 MOST_CONSTANTS = 12
 IMMEDIATE = re.compile(r"(?:lui|addi|xori|slti|sltiu) x(\d+), (?:x(\d+), )?(-?(?:0x)?[0-9a-f]+)\Z")
-FILLS = (0x41, 0xFF, 0x00)
+FILLS = ((0x41, 20), (0x41, 40), (0x41, 512), (0xFF, 512), (0x00, 512))  # values, and the most bytes that are filled with them
 MASK = 0xFFFFFFFF
 
 
@@ -44,6 +44,7 @@ class Input:
     is_again: bool = False
     register: int = 0
     pc: int = 0  # of the load
+    is_first: bool = False  # of those that the instruction loads in the activation
 
     @property
     def width(self) -> int:
@@ -102,7 +103,7 @@ class Values:
                     Input(number, index, start, trace.steps[index] - 1 if is_again else entry, at, details.loaded[index], is_again, 0,
                           trace.pcs[index]))
         for (_, is_again), several in groups.items():
-            yield from chosen(several)
+            yield from (replace(it, is_first=n == 0) for n, it in enumerate(chosen(several)))
         for it in words_of(content, first, number, entry):
             yield replace(it, pc=trace.pcs[it.index])
         yield from self.registers(trace, number, visit)
@@ -137,7 +138,7 @@ class Values:
             for it, values in every:
                 if number < len(values):
                     yield self.child(trace, it, values[number])
-                if number == 1 and not it.register:
+                if number == 1 and it.is_first:
                     yield from self.fills(trace, it)
 
     def child(self, trace: Trace, it: Input, value: bytes) -> Child:
@@ -152,8 +153,8 @@ class Values:
 
     def fills(self, trace: Trace, it: Input) -> Iterator[Child]:
         """Yields the trace with the bytes from an input on filled."""
-        count = min(FILL, self.objects.enclave.window + self.objects.enclave.window_size - it.at)
-        for value in FILLS if count > it.width else ():
+        for value, most in FILLS:
+            count = min(most, self.objects.enclave.window + self.objects.enclave.window_size - it.at)
             name = self.name(it.at)
             change = Change(it.step, it.at, bytes([value]) * count, 0, "%s and the following bytes" % name, it.value.hex())
             yield Child(with_change(trace.changes, change), it.start if it.is_again else min(it.start, trace.visits[it.visit].first))
@@ -165,7 +166,7 @@ class Values:
         wanted += [most >> 1, (most >> 1) + 1]
         if it.width == WORD:
             enclave = self.objects.enclave
-            wanted += [*self.targets[:MOST_OBJECTS], *self.relative(trace, it), own + 0x10000, 0xFF, 0x100]
+            wanted += [*self.targets[:MOST_OBJECTS], *self.relative(trace, it), own + 0x10000, own + (1 << 30), own + (1 << 31), 0xFF, 0x100]
             wanted += [enclave.window + enclave.window_size - WORD, enclave.base, RAM_BASE + self.rng.getrandbits(16)]
         wanted += [self.rng.getrandbits(8 * it.width), 2, 3, 4]
         found = list(dict.fromkeys(value & most for value in wanted if value & most != own))
