@@ -19,6 +19,7 @@ mod program_tests;
 mod recording;
 #[cfg(test)]
 mod run_tests;
+pub mod sources;
 #[cfg(test)]
 mod standard_tests;
 #[cfg(test)]

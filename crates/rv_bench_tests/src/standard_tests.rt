@@ -3,9 +3,8 @@
 use crate::byte_by_byte::{ByteReader, ByteWriter};
 use crate::expecting::{expect_bytes, expect_number, expect_outcome};
 use crate::recording::{RecordingReader, RecordingWriter};
-use rv_bench::{
-    BenchFault, BufferedSource, ReaderSource, Source, WriterSink, run_in_memory, run_job,
-};
+use crate::sources::source_over;
+use rv_bench::{BenchFault, Source, WriterSink, run_in_memory, run_job};
 use rv_command_line::{Harts, ImageKind, Job, Setup};
 use std::alloc::Global;
 use std::io::{Cursor, Read, Write};
@@ -64,12 +63,7 @@ fn written<R: Read + Drop, W: Write>(
     writer: W,
 ) -> W {
     let mut sink = WriterSink::new(writer);
-    let (_, outcome) = run_job(
-        alloc,
-        job,
-        BufferedSource::new(ReaderSource::new(reader)),
-        &mut sink,
-    );
+    let (_, outcome) = run_job(alloc, job, source_over(reader), &mut sink);
     expect_outcome(rt, outcome, Ok(()), 0);
     sink.into_writer()
 }
@@ -131,7 +125,7 @@ fn recorded(
 ) -> RecordingWriter {
     let mut sink = WriterSink::new(RecordingWriter::new(Vec::new(alloc), false));
     let reader = RecordingReader::new(example.input, set_call);
-    let source = BufferedSource::new(ReaderSource::new(reader));
+    let source = source_over(reader);
     let (_, outcome) = run_job(alloc, &example.job, source, &mut sink);
     expect_outcome(rt, outcome, want.0, set_call);
     let writer = sink.into_writer();
@@ -158,7 +152,7 @@ fn flush_reaches_the_writer_once(rt: HostRuntime) {
 /// Expects the output and a failed write if the flush of the writer fails.
 fn expect_refused_flush(rt: &impl Abort, alloc: Global, example: &Example) {
     let mut sink = WriterSink::new(RecordingWriter::new(Vec::new(alloc), true));
-    let source = BufferedSource::new(ReaderSource::new(example.input));
+    let source = source_over(example.input);
     let (_, outcome) = run_job(alloc, &example.job, source, &mut sink);
     expect_outcome(rt, outcome, Err(BenchFault::Write), 0);
     expect_bytes(rt, sink.into_writer().bytes(), example.output, 0);
@@ -171,7 +165,7 @@ fn failure_of_a_flush_is_reported(rt: HostRuntime) {
 
 #[test]
 fn reader_that_ended_is_not_called_again(rt: HostRuntime) {
-    let mut source = BufferedSource::new(ReaderSource::new(RecordingReader::new(b"ab", 0)));
+    let mut source = source_over(RecordingReader::new(b"ab", 0));
     let mut buffer = [0u8; 8];
     for want in [2usize, 0, 0, 0] {
         assert!(rt; source.read_some(&mut buffer) == Ok(want), "{want}");

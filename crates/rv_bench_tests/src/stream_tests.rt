@@ -3,10 +3,11 @@ use crate::expecting::{
     expect_beginning, expect_bytes, expect_line, expect_no_line, expect_number,
 };
 use crate::faulty::{AtSetCall, FaultySink, FaultySource};
+use crate::sources::source_over;
 use rv_asm::{AsmFault, AsmFaultKind};
 use rv_bench::{
-    BenchFault, BufferedSource, DeviceFault, Lines, MemorySink, MemorySource, ReaderSource, Sink,
-    Source, WriterSink, read_image, run_asm,
+    BenchFault, DeviceFault, Lines, MemorySink, MemorySource, Sink, Source, WriterSink, read_image,
+    run_asm,
 };
 use rv_elf::ElfFault;
 use rv_memory::RamFault;
@@ -245,7 +246,7 @@ fn streams_of_std_pass_all_bytes(rt: HostRuntime) {
     let mut queue = VecDeque::new(rt.alloc());
     write_lines(&rt, &mut queue);
     assert!(rt; queue.len() == 11000usize);
-    let mut lines = Lines::new(BufferedSource::new(ReaderSource::new(queue)));
+    let mut lines = Lines::new(source_over(queue));
     for _ in 0..1000 {
         expect_line(&rt, &mut lines, b"0123456789", 0);
     }

@@ -126,7 +126,7 @@ class Guard:
     def same_world(self, machine: Guarded, stay: Return, tval: int) -> None:
         """Checks a trap after which the same world continues."""
         left, world = self.last, self.world
-        if stay.cause != ECALL_FROM_S and checks.is_redirect(stay):
+        if stay.cause not in (ECALL_FROM_S, TIMER) and checks.is_redirect(stay):
             self.check(checks.wrong_redirect(world, left, stay, tval), "redirect", machine)
             machine.set_state(self.restored(left, stay.exit, False), {"sscratch": left.state.csrs["sscratch"], "sstatus": self.redirected(left)})
             return
