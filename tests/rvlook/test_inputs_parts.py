@@ -214,7 +214,7 @@ def with_task(rvlook, elf, tmp_path, task, *words):
 
 def test_local_variables_and_fields_are_named(rvlook, elf, tmp_path):
     text = with_task(rvlook, elf, tmp_path, 9, "--runs", "40")
-    assert "finding 1: store moves over the end of part in sum_on_stack into the frame of sum_on_stack, at application.c:" in text
+    assert "finding 1: store moves over the end of part in sum_on_stack into the saved registers of application, at application.c:" in text
     assert "  input  request->length = " in text and " lines" in text.splitlines()[-1]
 
 
