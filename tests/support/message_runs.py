@@ -94,7 +94,7 @@ class Runs:
 
     def stopped(self, words):
         """Runs it, and sends SIGINT after a second; later if it had not started, or if Python dropped the signal in a finalizer."""
-        for pause in (1, 2, 4):
+        for pause in (1, 2, 4, 8, 16):
             with subprocess.Popen([self.look, *map(str, words)], cwd=self.root, stdin=subprocess.PIPE, stdout=subprocess.DEVNULL,
                                   stderr=subprocess.PIPE, text=True, env=self.environment,
                                   preexec_fn=lambda: signal.signal(signal.SIGINT, signal.default_int_handler)) as process:
