@@ -91,8 +91,3 @@ def test_touch_counts_the_accesses_of_the_steps(results, name):
 def test_touch_counts_the_accesses_after_a_script(results):
     folder = PROGRAMS.parent / "images" / "trace_script"
     check_counts(results, folder / "image", ("--script", folder / "script", "--steps", "50"), 2)
-
-
-@pytest.mark.parametrize("name", ["programs/handler", "programs/pmp"])
-def test_touch_refuses_an_image_that_writes_a_pmp_register(results, name):
-    assert results("touch", input_of(EXAMPLES / name), status=2) == []
