@@ -10,7 +10,7 @@ from conftest import EXAMPLES
 
 MONITOR, HARTS = ("--monitor",), ("--monitor", "--harts", "2")
 TIMER, ADDS, BUG, TWO = (EXAMPLES / name / "image" for name in ("enclaves/timer", "enclaves/adds", "enclaves/bug", "enclaves/two_harts"))
-REFUSED = ("P20=00000180", "P0=01000000", "P59=03000000", "m7ffffffc,4", "M80100000,1:00", "X800fffff,2:ab", "M80010000,2:ab", "Hg3", "p99", "T3",
+REFUSED = ("P20=02000180", "P0=01000000", "P59=03000000", "m7ffffffc,4", "M80100000,1:00", "X800fffff,2:ab", "M80010000,2:ab", "Hg3", "p99", "T3",
            "Z2,80010000,33")
 CSRS = {"misa": "301", "pmpcfg0": "3a0", "pmpaddr0": "3b0"}
 
@@ -85,7 +85,7 @@ def test_packet_that_no_command_of_the_bench_serves_is_refused(debugger, text):
 
 def test_refusal_has_a_text_and_an_unknown_packet_an_empty_reply(debugger):
     with debugger(TIMER, MONITOR) as client:
-        assert client.ask("P20=00000180") == "E.rvbench cannot write pc"
+        assert client.ask("P59=03000000") == "E.rvbench cannot write priv; it can write x1 to x31 and pc"
         assert client.ask("vNothing") == ""
 
 

@@ -57,7 +57,8 @@ class Cases:
             "cannot open": ("map", SUM, "--script", "/none"), "'FILE' is a text file,": ("map", files.text),
             "'FILE' is a text file with": ("map", files.marked), "'FILE' is too large": ("map", "/dev/zero"),
             "script": ("map", SUM, "--script", files.lines_of_script), "cannot load 'FILE': rvbench: too": ("map", "--kind", "raw", files.large),
-            "cannot load 'FILE': rvbench: image": ("map", "--kind", "elf", SUM), "no symbols from": ("map", "--symbols", files.cut, SUM),
+            "cannot load 'FILE': rvbench: image NUMBER": ("map", "--kind", "elf", SUM),
+            "cannot load 'FILE': rvbench: image 9": ("map", "--no-monitor", "--ram", "65536", files.compressed), "no symbols from": ("map", "--symbols", files.cut, SUM),
             "no symbols in": ("map", "--symbols", files.text, SUM),
             "no symbol 'NAME'; did": ("trace", "--monitor", ADDS, "--symbols", LISTING, "--function", "man"),
             "no symbol 'NAME': no": ("trace", SUM, "--function", "main"), "no source lines": ("touch", SUM, "--lcov"),
@@ -99,6 +100,15 @@ class Cases:
             "invalid --outcome: WHY": self.counted("--outcome", "nowhere"), "invalid --outcome: the": self.counted("--outcome", "80011000:0x4"),
             "the step at ADDRESS reads": ("races", files.cycle), "cannot write to": self.counted("--scripts", files.text)}
 
+    def of_run(self):
+        """Messages of `run` about the end of a program."""
+        hello = EXAMPLES / "enclaves" / "hello"
+        again = self.files.write("again", "970200009382c2007390523073000000\n")  # sets mtvec to the address of its ecall
+        return {
+            "the program ended": ("run", hello / "image", "--symbols", hello / "symbols"), "the program is in": ("run", ADDS),
+            "the program did not end": ("run", self.files.loop, "--steps", "50"), "fault: CAUSE at": ("run", EXAMPLES / "programs" / "elf" / "image"),
+            "fault: CAUSE again": ("run", again), "fault: a jump": ("run", MONITORS / "own_monitor" / "image")}
+
     def of_monitors(self):
         """Messages of `conform` and `guard`."""
         files, own, pair = self.files, MONITORS / "own_monitor" / "image", MONITORS / "two_enclaves" / "image"
@@ -115,7 +125,8 @@ class Cases:
             "page does": ("page", SUM, "--json"), "no subcommand": ("mpa", SUM), "unrecognized": ("map", SUM, "--fly"),
             "argument --world": ("trace", SUM, "--world", "foo"), "argument --every": ("timer", SUM, "--every", "0"),
             "--to NUMBER": ("trace", SUM, "--from", "9", "--to", "3"), "--from NUMBER": self.tries("80020800:4", "--from", "3"),
-            "cannot listen": ("gdb", SUM, "--port", "99999"), "--harts 2": ("map", SUM, "--harts", "2"), "OPTION cannot": ("touch", SUM, "--lcov", "--json")}
+            "cannot listen": ("gdb", SUM, "--port", "99999"), "--schedule and": ("map", ADDS, "--schedule", "4"),
+            "the harts alternate": ("map", ADDS, "--harts", "2"), "'DIR' exists": ("new", ROOT), "cannot write 'DIR'": ("new", "/proc/none"), "--harts 2": ("map", SUM, "--harts", "2"), "OPTION cannot": ("touch", SUM, "--lcov", "--json")}
 
     def special(self):
         """Messages that need more than a command line: each has a function."""
@@ -123,7 +134,8 @@ class Cases:
         races = ("races", "--monitor", ADDS)
         return {
             "running the unproved": lambda: runs.unproved(self.folder, SUM), "cannot build rvbench": lambda: runs.unbuilt(self.folder, SUM),
-            "cannot find rvbench": lambda: runs.installed(self.folder, SUM),
+            "cannot find rvbench": lambda: runs.installed(self.folder, "map", SUM),
+            "cannot find the examples": lambda: runs.installed(self.folder, "new", str(self.folder / "new")),
             "MODULE is not installed, so WHAT 0": lambda: runs.run(("map", "--monitor", ADDS), PYTHONPATH=files.without("elftools")),
             "MODULE is not installed, so WHAT 3": lambda: runs.run(("page", SUM), PYTHONPATH=files.without("jinja2")),
             "the step at ADDRESS had": lambda: runs.patched(OTHERWISE, races), "the step at ADDRESS changed": lambda: runs.patched(MORE, races),
@@ -138,7 +150,7 @@ class Cases:
 
     def all(self):
         """Returns the function of each case, by the beginning of its line."""
-        simple = {**self.of_images(), **self.of_finders(), **self.of_races(), **self.of_monitors(), **self.of_arguments()}
+        simple = {**self.of_images(), **self.of_finders(), **self.of_races(), **self.of_run(), **self.of_monitors(), **self.of_arguments()}
         return {**{name: lambda words=words: self.runs.run(words) for name, words in simple.items()}, **self.special()}
 
 

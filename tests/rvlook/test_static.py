@@ -9,7 +9,7 @@ from conftest import ROOT
 
 PACKAGE = ROOT / "python" / "rvlook"
 ORDER = ("errors", "output", "protocol", "image", "access", "trace", "finders", "monitors", "page", "prompt", "gdb", "cli", "__main__")
-OPTIONAL = {"elftools", "jinja2", "junitparser", "jsonschema", "readline", "gdb"}  # packages that may be missing
+OPTIONAL = {"elftools", "jinja2", "argcomplete", "junitparser", "jsonschema", "readline", "gdb"}  # packages that may be missing
 MOST_PARAMETERS = 6
 MOST_LINES = 40
 FUNCTIONS = (ast.FunctionDef, ast.AsyncFunctionDef)

@@ -119,11 +119,11 @@ class Runs:
         (folder / "tools" / "program").symlink_to("/bin/false")
         return run()
 
-    def installed(self, folder, image):
+    def installed(self, folder, *words):
         """Runs the package outside a clone, with no program on the PATH."""
         shutil.copytree(Path(self.root, "python"), folder / "a" / "b" / "python")
         code = "import sys; sys.path[0] = %r; from rvlook.__main__ import main; sys.exit(main(sys.argv[1:]))" % str(folder / "a" / "b" / "python")
-        return self.ended([sys.executable, "-B", "-c", code, "map", image], env={**self.unset, "PATH": "/usr/bin:/bin"}, cwd=folder)
+        return self.ended([sys.executable, "-B", "-c", code, *words], env={**self.unset, "PATH": "/usr/bin:/bin"}, cwd=folder)
 
     def unproved(self, folder, image):
         """Runs it in a clone with an unproved program, which is a copy of the built one."""

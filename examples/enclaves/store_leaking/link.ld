@@ -35,6 +35,7 @@ SECTIONS
     region_size = LENGTH(REGION);
     window_base = ORIGIN(WINDOW);
     window_size = LENGTH(WINDOW);
+    PROVIDE(window_console = ORIGIN(WINDOW) + LENGTH(WINDOW) - 512);
     runtime_stack_top = ORIGIN(REGION) + LENGTH(REGION);
     application_stack_top = ORIGIN(REGION) + LENGTH(REGION) - 512;
     runtime_stack_bottom = application_stack_top;

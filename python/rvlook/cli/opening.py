@@ -1,6 +1,7 @@
 """Opens the run that the arguments describe: its image, script, symbols and profile."""
 from __future__ import annotations
 
+from dataclasses import replace
 from typing import Iterable, TYPE_CHECKING
 
 from rvlook.errors import UsageError, note, warn
@@ -8,8 +9,12 @@ from rvlook.image.detect import reason_for_monitor, has_compressed
 from rvlook.image.files import image_of, script_of
 from rvlook.image.symbols import symbols_from
 from rvlook.output.printer import Printer
+from rvlook.protocol.bench_line import tokens_of
 from rvlook.protocol.lines import error_text, resolved_script
 from rvlook.protocol.run import Setup, run_of
+from rvlook.protocol.schedule import TURN, alternating, random_schedule
+
+MOVING = (["step"], ["run"], ["sched"], ["hart"])  # commands of a script that sets the order of the harts itself
 
 if TYPE_CHECKING:
     from argparse import Namespace
@@ -26,7 +31,22 @@ def setup_of(arguments: Namespace) -> Setup:
     if has_compressed(image):
         warn("%s is built for compressed instructions, which rvbench does not support; rebuild it with -march=rv32im" % image.name)
     symbols = symbols_from(arguments.symbols, image)
-    return Setup(image, resolved_script(script, symbols), monitor, arguments.ram, arguments.kind, arguments.harts, arguments.steps, symbols)
+    lines = resolved_script(script, symbols)
+    schedule = schedule_of(arguments, lines)
+    return Setup(image, lines, monitor, arguments.ram, arguments.kind, arguments.harts, arguments.steps, schedule, symbols)
+
+
+def schedule_of(arguments: Namespace, lines: Iterable[ScriptLine]) -> str:
+    """Returns the schedule of two harts after the script; empty for the selected hart alone. A note reports the default."""
+    if not arguments.has_schedule:
+        return ""
+    if arguments.schedule is None and arguments.seed is None:
+        if arguments.harts == 1 or any(tokens_of(it.text)[:1] in MOVING for it in lines):
+            return ""
+        note("the harts alternate every %d steps; use --schedule N or --seed N for another order" % TURN)
+    elif arguments.harts == 1:
+        raise UsageError("--schedule and --seed require --harts 2")
+    return alternating(arguments.schedule or TURN) if arguments.seed is None else random_schedule(arguments.seed)
 
 
 def has_monitor(arguments: Namespace, image: Image, script: Iterable[ScriptLine]) -> bool:
@@ -40,9 +60,9 @@ def has_monitor(arguments: Namespace, image: Image, script: Iterable[ScriptLine]
     return bool(monitor or reason)
 
 
-def run_from(arguments: Namespace) -> Run:
+def run_from(arguments: Namespace, setup: Setup) -> Run:
     """Returns the run. Reports the script lines that rvbench rejects; the exit status is then 2."""
-    run = run_of(setup_of(arguments))
+    run = run_of(setup)
     for line, reply in run.errors:
         arguments.findings.refuse(error_text(line, reply, run.setup.symbols))
     return run
@@ -77,8 +97,14 @@ def opened(arguments: Namespace) -> tuple[Run, Symbols, Printer]:
     if arguments.opened:
         run, symbols = arguments.opened
         return run, symbols, Printer(arguments.json)
-    run = run_from(arguments)
+    run = run_from(arguments, setup_of(arguments))
     return run, run.setup.symbols, Printer(arguments.json)
+
+
+def opened_to_its_script(arguments: Namespace) -> tuple[Run, str, Printer]:
+    """Returns the run up to the end of its script, the schedule of the steps after it, and the printer."""
+    setup = setup_of(arguments)
+    return run_from(arguments, replace(setup, schedule="")), setup.schedule, Printer(arguments.json)
 
 
 def opened_monitored(arguments: Namespace) -> tuple[Run, Symbols, Printer]:

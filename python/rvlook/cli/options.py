@@ -6,6 +6,7 @@ import re
 from typing import Any, NoReturn, TYPE_CHECKING
 
 from rvlook.errors import UsageError
+from rvlook.protocol.schedule import TURN
 
 if TYPE_CHECKING:
     from argparse import ArgumentParser
@@ -45,6 +46,14 @@ def integer_of(text: str, least: int, what: str) -> int:
     return number
 
 
+def turn(text: str) -> int:
+    """Converts the number of steps of a turn, 1 to 32."""
+    number = integer_of(text, 1, "a number of steps from 1 to 32")
+    if number > TURN:
+        raise argparse.ArgumentTypeError("'%s' is not a number of steps from 1 to 32" % text)
+    return number
+
+
 def world(text: str) -> str:
     """Checks the name of a world, and returns it."""
     if not WORLD.match(text):
@@ -52,8 +61,8 @@ def world(text: str) -> str:
     return text
 
 
-def image_options(parser: ArgumentParser, has_json: bool = True) -> None:
-    """Adds the options of the image and its run; without `has_json`, --json is parsed but not in the help."""
+def image_options(parser: ArgumentParser, has_json: bool = True, steps: int = 1000000) -> None:
+    """Adds the options of the image and its run; without `has_json`, --json is parsed but not in the help. `steps` is the default of --steps."""
     parser.add_argument("image", metavar="IMAGE", help="an ELF file, raw bytes, or a hex image, which may be followed by -- and a script")
     parser.add_argument("--script", metavar="FILE", help="run the commands in FILE first; their steps are shown too")
     parser.add_argument("--monitor", action="store_true", default=None, help="run the image under the monitor (default: decided by the image)")
@@ -62,10 +71,20 @@ def image_options(parser: ArgumentParser, has_json: bool = True) -> None:
     parser.add_argument("--kind", choices=("auto", "raw", "elf"), default="auto", help="set the format of the image (default: auto)")
     parser.add_argument("--harts", type=int, choices=(1, 2), default=1, help="set the number of harts; 2 requires --monitor (default: 1)")
     parser.add_argument("--symbols", metavar="FILE", help="read symbols from an ELF file or from the output of nm (default: from the image)")
-    parser.add_argument("--steps", metavar="N", type=count, default=1000000, help="run at most N steps after the script (default: 1000000)")
+    parser.add_argument("--steps", metavar="N", type=count, default=steps,
+                        help="run at most N steps after the script (default: %d)" % steps)
     parser.add_argument("--json", action="store_true",
                         help="print one JSON object per line (see docs/LOOK.md)" if has_json else argparse.SUPPRESS)
-    parser.set_defaults(opened=None)
+    parser.set_defaults(opened=None, schedule=None, has_schedule=False)
+
+
+def schedule_options(parser: ArgumentParser) -> None:
+    """Adds the options that set the order of the steps of two harts."""
+    order = parser.add_mutually_exclusive_group()
+    order.add_argument("--schedule", metavar="N", type=turn, help="with --harts 2: alternate the harts every N steps, 1 to 32 (default: 32, "
+                       "unless the script executes steps or selects a hart)")
+    order.add_argument("--seed", metavar="N", type=count, help="with --harts 2: alternate the harts in random turns of 1 to 16 steps")
+    parser.set_defaults(has_schedule=True)
 
 
 def page_options(parser: ArgumentParser) -> None:
@@ -156,7 +175,7 @@ def timer_options(parser: ArgumentParser) -> None:
 def races_options(parser: ArgumentParser) -> None:
     """Adds the options of `races`."""
     parser.add_argument("--outcome", metavar="WHAT", action="append",
-                        help="distinguish final states by WHAT: PLACE[:BYTES], HART.REGISTER, enclaves, or e0 to e12; repeatable "
+                        help="distinguish final states by WHAT: PLACE[:BYTES], VARIABLE.MEMBER, HART.REGISTER, enclaves, or e0 to e12; repeatable "
                              "(default: all shared memory, and enclaves)")
     parser.add_argument("--forbid", metavar="CONDITION", action="append",
                         help="report final states that meet CONDITION instead of more than one final state: a comparison such as 'left != 2', "

@@ -7,11 +7,12 @@ import sys
 from typing import Any, Callable, Sequence, TYPE_CHECKING
 
 from rvlook.cli.options import (Parser, conform_options, findings_options, gdb_options, guard_options, image_options, inputs_options, leak_options,
-                                map_options, page_options, races_options, slot_option, timer_options, touch_options, trace_options,
-                                window_options)
-from rvlook.cli.subcommands import (do_conform, do_explain, do_gdb, do_guard, do_inputs, do_leak, do_map, do_measure, do_page, do_prompt, do_races,
-                                    do_timer, do_touch, do_trace, do_window)
+                                map_options, page_options, races_options, schedule_options, slot_option, timer_options, touch_options,
+                                trace_options, window_options)
+from rvlook.cli.subcommands import (do_conform, do_explain, do_gdb, do_guard, do_inputs, do_leak, do_map, do_measure, do_new, do_page, do_prompt,
+                                    do_races, do_run, do_timer, do_touch, do_trace, do_window)
 from rvlook.gdb.monitor import CommandLine
+from rvlook.cli.version import version
 from rvlook.errors import RvlookError, UsageError
 from rvlook.output.findings import Findings, check_junit, write_junit
 from rvlook.protocol.nearest import nearest
@@ -21,6 +22,7 @@ if TYPE_CHECKING:
 
 USAGE = "rvlook [SUBCOMMAND] IMAGE [OPTIONS]"
 SUBCOMMANDS = """subcommands:
+  run          run a program to its end, and print what it writes to its console
   map          show who can access what, and each change of it
   trace        show each step: instruction, registers, memory access, trap
   touch        show what each world read, wrote and executed
@@ -35,17 +37,21 @@ SUBCOMMANDS = """subcommands:
   explain      explain the errors of an rvbench input
   page         write the run as an HTML page
   gdb          serve the run to gdb: target remote | ./rvlook gdb IMAGE
+  new          make a folder for an enclave of your own
 
 Without a subcommand, rvlook IMAGE starts an interactive prompt.
 See 'rvlook SUBCOMMAND --help' and docs/LOOK.md."""
 
-NAMES = ("map", "trace", "touch", "window", "inputs", "leak", "timer", "races", "conform", "guard", "measure", "explain", "page", "gdb")
+NAMES = ("run", "map", "trace", "touch", "window", "inputs", "leak", "timer", "races", "conform", "guard", "measure", "explain", "page", "gdb", "new")
+
+
+MOST_STEPS, MOST_STEPS_OF_RUN = 1000000, 1000000000  # the defaults of --steps
 
 
 def add_subcommand(subparsers: Any, name: str, do: Callable[[Namespace], None], about: str, *more: Callable[[ArgumentParser], None]) -> Parser:
     """Adds a subcommand over an image; each function of `more` adds options."""
     parser = subparsers.add_parser(name, help=about, description=about + ".")
-    image_options(parser, name not in ("page", "gdb"))
+    image_options(parser, name not in ("page", "gdb"), MOST_STEPS_OF_RUN if name == "run" else MOST_STEPS)
     for options in more:
         options(parser)
     parser.set_defaults(do=do, subcommand=name)
@@ -84,11 +90,30 @@ def add_explain(subparsers: Any) -> None:
     parser.set_defaults(do=do_explain, subcommand="explain")
 
 
+class Version(argparse.Action):
+    """Prints the version, and exits."""
+
+    def __call__(self, *_: Any) -> None:
+        print(version())
+        sys.exit(0)
+
+
+def add_new(subparsers: Any) -> None:
+    """Adds the subcommand `new`."""
+    about = "Make a folder for an enclave of your own"
+    parser = subparsers.add_parser("new", help=about, description=about + ": sources, a Makefile, tasks for an editor, and a script for CI.")
+    parser.add_argument("folder", metavar="DIR", help="the folder, which must be new or empty")
+    parser.set_defaults(do=do_new, subcommand="new")
+
+
 OVER_AN_IMAGE: Sequence[Any] = (  # a name, its function, its help, and its options
-    ("map", do_map, "Show who can access what, and each change of it", map_options, findings_options),
-    ("trace", do_trace, "Show each step of a run", trace_options, findings_options),
-    ("touch", do_touch, "Show what each world read, wrote and executed, and what it was permitted to", touch_options, findings_options),
-    ("window", do_window, "Show what each enclave activation read, wrote and left in its window", window_options, findings_options),
+    ("run", do_run, "Run a program to its end, print what it writes to its console, and exit with its status", schedule_options),
+    ("map", do_map, "Show who can access what, and each change of it", map_options, schedule_options, findings_options),
+    ("trace", do_trace, "Show each step of a run", trace_options, schedule_options, findings_options),
+    ("touch", do_touch, "Show what each world read, wrote and executed, and what it was permitted to", touch_options, schedule_options,
+     findings_options),
+    ("window", do_window, "Show what each enclave activation read, wrote and left in its window", window_options, schedule_options,
+     findings_options),
     ("inputs", do_inputs, "Vary what the host gives an enclave, and show what the host can make it do", slot_option, inputs_options,
      findings_options),
     ("leak", do_leak, "Compare runs that differ only in a secret of an enclave, and show where they diverge", slot_option, leak_options,
@@ -96,7 +121,7 @@ OVER_AN_IMAGE: Sequence[Any] = (  # a name, its function, its help, and its opti
     ("timer", do_timer, "Interrupt an enclave before each of its steps, and check that the result stays the same", slot_option, timer_options,
      findings_options),
     ("races", do_races, "Search all schedules of two harts and of timer interrupts, and show the final states", races_options, findings_options),
-    ("page", do_page, "Write the run as an HTML page", page_options))
+    ("page", do_page, "Write the run as an HTML page", page_options, schedule_options))
 
 
 def parser_of() -> Parser:
@@ -104,6 +129,7 @@ def parser_of() -> Parser:
     parser = Parser(prog="rvlook", usage=USAGE, epilog=SUBCOMMANDS, formatter_class=argparse.RawDescriptionHelpFormatter,
                     description="Show what a host and its enclaves can access, and when, in a run of rvbench.")
     parser.set_defaults(findings=Findings(), is_report=False, junit=None, subcommand=None)
+    parser.add_argument("--version", action=Version, nargs=0, help="print the version, the commit and the Rattle kit")
     subparsers = parser.add_subparsers(prog="rvlook", metavar="SUBCOMMAND", help=argparse.SUPPRESS)
     for name, do, about, *options in OVER_AN_IMAGE:
         add_subcommand(subparsers, name, do, about, *options)
@@ -112,9 +138,17 @@ def parser_of() -> Parser:
                       guard_options)
     add_measure(subparsers)
     add_explain(subparsers)
-    gdb = add_subcommand(subparsers, "gdb", do_gdb, "Serve the run to a debugger by the GDB remote serial protocol", gdb_options)
+    add_new(subparsers)
+    gdb = add_subcommand(subparsers, "gdb", do_gdb, "Serve the run to a debugger by the GDB remote serial protocol", gdb_options, schedule_options)
     gdb.set_defaults(command_line=CommandLine(NAMES, read))
     return parser
+
+
+def complete() -> None:
+    """Prints the completions of a command line, and exits, if a shell asks for them by argcomplete's variables."""
+    if "_ARGCOMPLETE" in os.environ:
+        import argcomplete
+        argcomplete.autocomplete(parser_of(), print_suppressed=True)
 
 
 def unknown_subcommand(name: str) -> str:
@@ -134,13 +168,14 @@ def with_secrets(parser: Parser, arguments: Sequence[str]) -> Namespace:
 
 def read(arguments: Sequence[str]) -> Namespace:
     """Parses the command line."""
+    complete()
     parser = parser_of()
     if not arguments:
         parser.print_help()
         sys.exit(2)
     if arguments[0] == "leak":
         return with_secrets(parser, arguments)
-    if arguments[0] in NAMES or arguments[0] in ("-h", "--help"):
+    if arguments[0] in NAMES or arguments[0] in ("-h", "--help", "--version"):
         return parser.parse_args(arguments)
     if not arguments[0].startswith("-") and not os.path.exists(arguments[0]):
         raise UsageError(unknown_subcommand(arguments[0]))

@@ -21,9 +21,11 @@ from rvlook.image.variables import variables_of
 from rvlook.page.page import page_template, show_page
 from rvlook.prompt.explain import show_explain
 from rvlook.prompt.prompt import show_prompt
+from rvlook.trace.emulator import show_run
 from rvlook.trace.spike import show_spike
 from rvlook.trace.text import Filter, show_trace
-from rvlook.cli.opening import opened, opened_monitored, refuse_empty_part, refuse_json, refuse_monitored, setup_of
+from rvlook.cli.new import show_new
+from rvlook.cli.opening import opened, opened_monitored, opened_to_its_script, refuse_empty_part, refuse_json, refuse_monitored, setup_of
 from rvlook.errors import RvlookError, UsageError, warn
 from rvlook.output.printer import Printer
 from rvlook.protocol.lines import no_symbol
@@ -39,6 +41,11 @@ def report_overflows(arguments: Namespace, run: Run, symbols: Symbols) -> None:
     for it in overflows(run, symbols):
         warn(overflow_text(it, symbols))
         arguments.findings.add("stack", overflow_text(it, symbols))
+
+
+def do_run(arguments: Namespace) -> None:
+    """Runs `run`."""
+    show_run(*opened_to_its_script(arguments), arguments.findings)
 
 
 def do_map(arguments: Namespace) -> None:
@@ -132,6 +139,11 @@ def do_measure(arguments: Namespace) -> None:
     """Runs `measure`."""
     numbers = (arguments.base, arguments.size, arguments.window, arguments.window_size, arguments.entry)
     show_measure(arguments.file, numbers, arguments.symbols, Printer(arguments.json))
+
+
+def do_new(arguments: Namespace) -> None:
+    """Runs `new`."""
+    show_new(arguments.folder)
 
 
 def do_prompt(arguments: Namespace) -> None:

@@ -7,7 +7,9 @@ from typing import Any, Iterable, NamedTuple, Sequence, TYPE_CHECKING, Tuple, Un
 
 from rvlook.protocol import names
 from rvlook.errors import RvlookError
+from rvlook.image.variables import variables_of
 from rvlook.protocol.lines import no_symbol
+from rvlook.protocol.nearest import nearest
 from rvlook.finders.races.machine import operands
 from rvlook.protocol.replies import enclave_of
 from rvlook.output.printer import hex8
@@ -15,6 +17,8 @@ from rvlook.output.printer import hex8
 if TYPE_CHECKING:
     from rvlook.finders.races.final_states import FinalState
     from rvlook.finders.races.machine import Look, Machine, Memory, State
+    from rvlook.image.variables import Member
+    from rvlook.protocol.run import Run
     from rvlook.protocol.symbols import Symbols
 
 OPERATORS = {"==": operator.eq, "!=": operator.ne, "<=": operator.le, ">=": operator.ge, "<": operator.lt, ">": operator.gt}
@@ -127,8 +131,9 @@ def value_text(value: Value) -> str:
     return "%d" % number if number < 65536 else "%0*x" % (2 * size, number)
 
 
-def outcome_of(text: str, symbols: Symbols, harts: int) -> Observed:
-    """Parses --outcome: PLACE or PLACE:BYTES, HART.REGISTER, a slot, or `enclaves`. Raises RvlookError."""
+def outcome_of(text: str, symbols: Symbols, harts: int, members: Sequence[Member] = ()) -> Observed:
+    """Parses --outcome: PLACE or PLACE:BYTES, VARIABLE.MEMBER, HART.REGISTER, a slot, or `enclaves`. `members` has the variables at fixed
+    addresses, down to their members. Raises RvlookError."""
     hart, dot, register = text.partition(".")
     if text == "enclaves":
         return Table()
@@ -136,10 +141,15 @@ def outcome_of(text: str, symbols: Symbols, harts: int) -> Observed:
         return Slot(text, int(text[1:]))
     if dot and hart in map(str, range(harts)) and register in names.NUMBER_OF:
         return Register(text, int(hart), names.NUMBER_OF[register])
+    member = next((it for it in members if dot and it.name == text), None)
+    if member:
+        return Bytes(text, member.at, member.size)
     name, _, count = text.partition(":")
     at, symbol = symbols.address(name), symbols.by_name.get(name)
     if at is None:
-        raise RvlookError("invalid --outcome: %s (expected PLACE[:BYTES], HART.REGISTER, enclaves, or e0 to e12)" % no_symbol(name, symbols))
+        near = nearest(text, [it.name for it in members if it.name.startswith(hart + ".")]) if dot else None
+        raise RvlookError("invalid --outcome: %s (expected PLACE[:BYTES], VARIABLE.MEMBER, HART.REGISTER, enclaves, or e0 to e12)"
+                          % ("no member '%s'; did you mean '%s'?" % (text, near) if near else no_symbol(name, symbols)))
     if count and not count.isdigit():
         raise RvlookError("invalid --outcome: the number of bytes must be decimal, not '%s'" % count)
     return Bytes(text, at, int(count or (symbol and symbol.size) or WORD_BYTES))
@@ -170,10 +180,11 @@ def compared_with(name: str, value: str, symbols: Symbols) -> int | str:
         return at
 
 
-def outcomes_of(texts: Iterable[str] | None, conditions: Sequence[Condition], symbols: Symbols, harts: int) -> list[Observed]:
-    """Returns what distinguishes final states, with what --forbid compares; empty if it is all shared memory."""
+def outcomes_of(texts: Iterable[str] | None, conditions: Sequence[Condition], run: Run, path: str | None) -> list[Observed]:
+    """Returns what distinguishes final states, with what --forbid compares; empty if it is all shared memory. `path` is the file of --symbols."""
     named = list(texts or ()) + [part[0] for it in conditions for part in it.parts]
-    return [outcome_of(it, symbols, harts) for it in dict.fromkeys(named)]
+    members = variables_of(path, run.setup.image).fixed if any("." in it for it in named) else ()
+    return [outcome_of(it, run.setup.symbols, run.setup.harts, members) for it in dict.fromkeys(named)]
 
 
 def ranges_of(addresses: Iterable[int], symbols: Symbols) -> list[Bytes]:

@@ -10,6 +10,7 @@ from rvlook.gdb.lookahead import query_steps, by_turns, ends_of, first_equal, ju
 from rvlook.gdb.stops import INTERRUPTED, Halt, Stops, signal_of
 from rvlook.gdb.view import View
 from rvlook.protocol.run import EQUAL, MOST_STEPS
+from rvlook.protocol.schedule import TURN, alternating
 from rvlook.protocol.timeline import Steps, actions_between
 
 if TYPE_CHECKING:
@@ -17,7 +18,6 @@ if TYPE_CHECKING:
     from rvlook.protocol.replies import Ran
     from rvlook.protocol.timeline import Action, Timeline
 
-SCHEDULE = "0" * 32 + "1" * 32  # the default schedule of two harts
 FIRST_RUN, MORE = 1024, 4  # steps of the first part of a continue, and the factor for the next
 SHORT, LONG = 0.005, 0.02  # seconds: a part that took less is followed by a longer one, one that took more by a shorter one
 MOST_BY_TURNS = 1 << 17  # the most steps of a part with a reply per step, or with a schedule
@@ -36,7 +36,8 @@ class Moves:
     one to stops that it has passed."""
 
     def __init__(self, timeline: Timeline, link: Link) -> None:
-        self.timeline, self.view, self.link, self.stops, self.schedule = timeline, View(timeline), link, Stops(), SCHEDULE
+        self.timeline, self.view, self.link, self.stops = timeline, View(timeline), link, Stops()
+        self.schedule = timeline.setup.schedule or alternating(TURN)
         self.ready: dict[int, Timeline] = {}
         self.follower: Timeline | None = None
         self.careful = 0

@@ -12,11 +12,13 @@ from rvlook.protocol import names
 from rvlook.output.escapes import visible
 from rvlook.errors import BenchEnded, RvlookError, error as report_error, note, warn
 from rvlook.gdb.reverse import Back
+from rvlook.gdb.jumps import set_pc
 from rvlook.gdb.link import Gone, Link, escaped, hex_of, little, number_of, unescaped
 from rvlook.gdb.monitor import Monitor
 from rvlook.gdb.moves import Moves
 from rvlook.gdb.stops import Halt, Watch
 from rvlook.gdb.target import CORE, ENTERED, MODES, PC, PRIV, REGISTERS, TRIPLE, WORLD, WORLDS, memory_text, target_text, threads_text
+from rvlook.protocol.console import consoles_of
 from rvlook.protocol.run import error_of
 from rvlook.protocol.timeline import Timeline
 
@@ -59,6 +61,7 @@ class Server:
         self.back, self.commands = Back(moves), Monitor(moves, self.symbols, self.command_line, self.has_files)
         self.shown = self.last = moves.timeline.hart
         self.moved = None
+        self.consoles = consoles_of(self.setup.symbols)
 
     def close(self) -> None:
         """Ends the bench."""
@@ -172,16 +175,19 @@ class Server:
         self.commands.entry.limit(self.timeline.position)
 
     def write_register(self, rest: str) -> str:
-        """Replies to P. Only x1 to x31 can be written; raises Refused for others."""
+        """Replies to P. Only x1 to x31 and pc can be written; raises Refused for others."""
         digits, value = rest.split("=")
         number = number_of(digits)
-        if not 0 < number < PC:
-            raise Refused("rvbench cannot write %s" % REGISTERS[number])
+        if not 0 < number <= PC:
+            raise Refused("rvbench cannot write %s; it can write x1 to x31 and pc" % REGISTERS[number])
         if not VALUE.match(value):
             raise ValueError(value)
         self.changing()
         self.timeline.choose(self.shown)
-        self.moves.apply(["setreg %d %s" % (number, little(value))])
+        if number == PC:
+            set_pc(self.moves, int(little(value), 16))
+        else:
+            self.moves.apply(["setreg %d %s" % (number, little(value))])
         return "OK"
 
     def read_memory(self, rest: str) -> str:
@@ -271,12 +277,21 @@ class Server:
         else:
             halt = self.moves.go_on(sorted(running))
         self.moves.redo()
+        self.show_consoles()
         return self.halted(halt)
+
+    def show_consoles(self) -> None:
+        """Shows what the program has written to its consoles since they were last read."""
+        for console in self.consoles:
+            for line in console.read(self.timeline.ask):
+                self.link.show("%s console: %s" % (console.writer, line))
 
     def go_on(self, action: str, location: str) -> str:
         """Replies to c and s of a debugger without vCont."""
         if location:
-            raise Refused("rvbench cannot write pc")
+            self.changing()
+            self.timeline.choose(self.shown)
+            set_pc(self.moves, number_of(location))
         return self.resume(";%s:%s" % (action, "-1" if self.moved is None else "%x" % (self.moved + 1)))
 
     def step_back(self, _: str) -> str:

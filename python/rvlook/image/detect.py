@@ -5,16 +5,14 @@ import re
 import struct
 import sys
 from array import array
-from typing import Iterable, Iterator, TYPE_CHECKING
+from typing import Iterable, TYPE_CHECKING
 
 from rvlook.protocol.memory_map import MONITOR_END
 
 if TYPE_CHECKING:
     from rvlook.protocol.inputs import Image, ScriptLine
 
-AT_SEGMENTS, AT_FLAGS, AT_SIZES = 28, 36, 42  # in the header of an ELF file
-SEGMENT = struct.Struct("<8I")
-LOAD = 1
+AT_FLAGS = 36  # in the header of an ELF file
 COMPRESSED = 1  # EF_RISCV_RVC
 KEY_HIGH, KEY_HIGH_MASK = 0x0A455037, 0xFFFFF07F  # lui of any register, 0xa455
 KEY_LOW, KEY_LOW_MASK = 0xE4300893, 0xFFF07FFF  # addi a7 of any register, -445
@@ -22,32 +20,15 @@ ECALL = 0x00000073
 KEY_SET = re.compile(r"\s*setreg\s+(17|x17|a7)\s+(0x)?0?a454e43\s*\Z", re.I)
 
 
-def is_elf_32(image: Image) -> bool:
-    """Returns whether the image is a 32-bit little-endian ELF file with a complete header."""
-    data = image.data
-    return image.is_elf and data is not None and len(data) >= 52 and data[4:6] == b"\x01\x01"
-
-
-def segments_of(data: bytes) -> Iterator[tuple[int, int]]:
-    """Yields the address and the size in memory, in bytes, of each loaded segment."""
-    offset = struct.unpack_from("<I", data, AT_SEGMENTS)[0]
-    size, count = struct.unpack_from("<HH", data, AT_SIZES)
-    for number in range(count):
-        if offset + number * size + SEGMENT.size <= len(data):
-            kind, _, _, address, _, length, *_ = SEGMENT.unpack_from(data, offset + number * size)
-            if kind == LOAD and length:
-                yield address, length
-
-
 def has_compressed(image: Image) -> bool:
     """Returns whether the flags of an ELF file say that it has compressed instructions."""
-    return is_elf_32(image) and bool(struct.unpack_from("<I", image.data or b"", AT_FLAGS)[0] & COMPRESSED)
+    return image.is_elf_32 and bool(struct.unpack_from("<I", image.data or b"", AT_FLAGS)[0] & COMPRESSED)
 
 
 def reason_for_monitor(image: Image, script: Iterable[ScriptLine]) -> str | None:
     """Returns why an image seems to be made for the monitor, or None."""
-    if is_elf_32(image):
-        first = min((address for address, _ in segments_of(image.data or b"")), default=0)
+    if image.is_elf_32:
+        first = min((address for address, _ in image.segments()), default=0)
         return "its first address is %08x" % first if first == MONITOR_END else None
     if has_key(image.data or b"") or any(KEY_SET.match(line.given) for line in script):
         return "it calls the monitor (a7 = 0a454e43)"

@@ -9,11 +9,10 @@ from dataclasses import dataclass
 from functools import lru_cache
 
 from rvlook.errors import BenchEnded, RvlookError
-from rvlook.image.detect import LOAD, SEGMENT, is_elf_32
+from rvlook.protocol.inputs import LOAD, SEGMENT, Image
 from rvlook.monitors.encodings import MRET, is_store
 from rvlook.monitors.items import MASK, Item
 from rvlook.protocol.bench import Bench
-from rvlook.protocol.inputs import Image
 from rvlook.protocol.memory_map import MONITOR_END, RAM_BASE
 from rvlook.protocol.names import CSRS, TIMER
 from rvlook.protocol.replies import Enclave, Trap, bytes_of, enclave_of, step_of
@@ -59,7 +58,7 @@ class MonitorSetup:
 def return_addresses(image: Image) -> tuple[int, ...]:
     """Returns the addresses of the words `mret` in the segments of an ELF file. Raises RvlookError if there are none or too many."""
     data = image.data or b""
-    if not is_elf_32(image):
+    if not image.is_elf_32:
         raise RvlookError("'%s' is not a 32-bit ELF file, which a monitor must be" % image.name)
     offset, count = struct.unpack_from("<I", data, 28)[0], struct.unpack_from("<H", data, 44)[0]
     found: list[int] = []

@@ -21,6 +21,7 @@ class Findings:
         self.cases: list[Case] = []
         self.refused: list[str] = []
         self.cut = ""
+        self.program_status = 0  # the exit status of a program that was run
 
     def add(self, name: str, finding: str = "") -> None:
         """Adds a case."""
@@ -47,7 +48,7 @@ class Findings:
             return REFUSED
         if self.has_found and not is_report:
             return FOUND
-        return UNFINISHED if self.cut else 0
+        return UNFINISHED if self.cut else self.program_status
 
 
 def check_junit(path: str | None) -> None:

@@ -7,6 +7,7 @@ from typing import Callable, Protocol, Sequence, TYPE_CHECKING
 from rvlook.protocol import names
 from rvlook.protocol.bench_line import has_reply, is_malformed, tokens_of
 from rvlook.protocol.commands import COMMANDS, Form, is_form
+from rvlook.protocol.console import consoles_of
 from rvlook.output.escapes import visible
 from rvlook.protocol.messages import line_error
 from rvlook.errors import SymbolError
@@ -64,6 +65,7 @@ class Session:
 
     def __init__(self, keeper: Keeper, run: Run, symbols: Symbols, printer: Printer) -> None:
         self.keeper, self.setup, self.symbols, self.printer, self.finder = keeper, run.setup, symbols, printer, Finder(run)
+        self.consoles = consoles_of(symbols)
 
     @property
     def timeline(self) -> Timeline:
@@ -131,7 +133,14 @@ class Session:
         if replies and replies[0].startswith("error "):
             self.refused(replies[0], tokens_of(line))
         if replies and ran_of(replies[0]):
+            self.show_consoles()
             self.where()
+
+    def show_consoles(self) -> None:
+        """Prints what the program has written to its consoles since they were last read."""
+        for console in self.consoles:
+            for line in console.read(self.timeline.ask):
+                self.print("%s console: %s" % (console.writer, line))
 
     def refused(self, reply: str, tokens: Sequence[str]) -> None:
         """Prints the meaning of an error, and what to write instead."""
@@ -182,6 +191,7 @@ class Session:
             self.print(OWN["back"])
             return
         self.keeper.go(max(0, self.timeline.position - int(count)))
+        self.show_consoles()
         self.where()
 
     def until(self, what: str) -> None:

@@ -1,10 +1,15 @@
 """The input of the bench: an image, and the lines of a script."""
 from __future__ import annotations
 
+import struct
 from dataclasses import dataclass
-from typing import Optional
+from typing import Iterator, Optional
 
 ELF_MAGIC = b"\x7fELF"
+HEADER = 52  # bytes of the header of a 32-bit ELF file
+AT_SEGMENTS, AT_SIZES = 28, 42  # in that header
+SEGMENT = struct.Struct("<8I")
+LOAD = 1
 
 
 @dataclass(frozen=True)
@@ -29,3 +34,19 @@ class Image:
     def is_elf(self) -> bool:
         """Returns whether the bytes begin as an ELF file."""
         return self.data is not None and self.data.startswith(ELF_MAGIC)
+
+    @property
+    def is_elf_32(self) -> bool:
+        """Returns whether the image is a 32-bit little-endian ELF file with a complete header."""
+        return self.is_elf and self.data is not None and len(self.data) >= HEADER and self.data[4:6] == b"\x01\x01"
+
+    def segments(self) -> Iterator[tuple[int, int]]:
+        """Yields the address and the size in memory, in bytes, of each loaded segment of a 32-bit ELF file."""
+        data = self.data if self.is_elf_32 and self.data else bytes(HEADER)
+        offset = struct.unpack_from("<I", data, AT_SEGMENTS)[0]
+        size, count = struct.unpack_from("<HH", data, AT_SIZES)
+        for number in range(count):
+            if offset + number * size + SEGMENT.size <= len(data):
+                kind, _, _, address, _, length, *_ = SEGMENT.unpack_from(data, offset + number * size)
+                if kind == LOAD and length:
+                    yield address, length

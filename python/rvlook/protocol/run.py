@@ -13,7 +13,9 @@ from rvlook.protocol.bench_line import has_reply, tokens_of
 from rvlook.protocol.messages import INPUT_REPLIES, input_error
 from rvlook.errors import BenchEnded, RvlookError, Unfinished
 from rvlook.protocol.inputs import Image, ScriptLine
+from rvlook.protocol.memory_map import MONITOR_END, RAM_BASE
 from rvlook.protocol.replies import ran_of, step_of
+from rvlook.protocol.schedule import turns_of
 from rvlook.protocol.symbols import Symbols
 
 CHUNK = 16384  # single steps in one exchange
@@ -21,6 +23,7 @@ MOST_STEPS = 1000000  # of one command
 STATE_COMMANDS = ("poke", "setreg", "timer", "hart")  # commands that change the state without a step
 EQUAL = 3  # equal replies (pc, mode, world and trap) after which a hart counts as halted
 SINGLE = b"step 1\n"
+OUTSIDE = "rvbench: image 9"
 
 
 @dataclass(frozen=True)
@@ -33,6 +36,7 @@ class Setup:
     kind: str = "auto"
     harts: int = 1
     limit: int = 1000000  # the most steps after the script
+    schedule: str = ""  # of the harts after the script: digits that repeat; empty for the chosen hart alone
     symbols: Symbols = field(default_factory=Symbols, compare=False)
 
     @property
@@ -124,10 +128,13 @@ class Run:
         self.plan: list[Line | Steps] = []
         self.errors: list[tuple[ScriptLine, str]] = []
         self.mode, self.world = ("S", "host") if setup.monitor else ("M", "bare")
+        self.ended: str | None = None  # why the run ended, if the plan has its steps after the script
         with setup.bench() as bench:
             self.pc = bench.ask("regs")[0][32][3:]
             for line in setup.lines:
                 self.play(bench, line.text, line)
+            if setup.schedule:
+                self.add_turns(bench)
 
     def play(self, bench: Bench, line: str, script_line: ScriptLine) -> None:
         """Runs a line of the script, and adds it to the plan."""
@@ -158,6 +165,23 @@ class Run:
             self.plan.append(Line("hart " + part[0][0], hidden=True))
             self.add_steps(len(part[0]))
         self.plan.append(Line("hart %d" % self.hart, hidden=True))
+
+    def add_turns(self, bench: Bench) -> None:
+        """Adds the steps after the script by the schedule, to the limit or until every hart has halted."""
+        left, kept, equal = self.setup.limit, [b""] * self.setup.harts, [0] * self.setup.harts
+        for hart, turn in turns_of(self.setup.schedule):
+            count = min(turn, left)
+            if not count or min(equal) >= EQUAL:
+                break
+            replies = bench.block(b"hart %d\n" % hart + SINGLE * count, 1 + count).splitlines()[1:]
+            repeated = equal_at_end(replies)
+            is_same = repeated == count and replies[0] == kept[hart]
+            kept[hart], equal[hart] = replies[-1], repeated + (equal[hart] if is_same else 0)
+            self.plan.append(Line("hart %d" % hart, hidden=True))
+            self.hart = hart
+            self.add_steps(count)
+            left -= count
+        self.ended = "halted" if min(equal) >= EQUAL else "limit"
 
     def with_lines(self, step: int, lines: Sequence[str]) -> Run:
         """Returns the run with more lines after a step; the lines of the script stay at their steps."""
@@ -203,8 +227,8 @@ class Run:
 
     def tail(self, bench: Bench, position: int, hart: int, last: bytes) -> Iterator[Stretch | End]:
         """Yields the steps after the script, until the hart does nothing more or the limit is reached, and then the end."""
-        pending, left = b"", self.setup.limit
-        why = "limit"
+        pending, left = b"", 0 if self.ended else self.setup.limit
+        why = self.ended or "limit"
         while left > 0 and why == "limit":
             count = min(left, CHUNK)
             left -= count
@@ -317,4 +341,14 @@ def error_of(setup: Setup, error: BenchEnded) -> RvlookError:
     message = str(error)
     if message not in INPUT_REPLIES:
         return Unfinished("%s: %s" % (setup.image.name, message))
-    return RvlookError("cannot load '%s': %s: %s" % (setup.image.name, message, input_error(message)[0]))
+    return RvlookError("cannot load '%s': %s: %s" % (setup.image.name, message, segment_outside(setup, message) or input_error(message)[0]))
+
+
+def segment_outside(setup: Setup, message: str) -> str | None:
+    """Returns the text about the first segment of an ELF file that is not in RAM, if that is the error."""
+    first, end = MONITOR_END if setup.monitor else RAM_BASE, RAM_BASE + setup.ram
+    outside = next(((at, size) for at, size in setup.image.segments() if at < first or at + size > end), None)
+    if message != OUTSIDE or outside is None:
+        return None
+    return ("the segment %08x-%08x is outside the memory of programs, %08x-%08x; link it there, or use a larger --ram"
+            % (outside[0], outside[0] + outside[1] - 1, first, end - 1))

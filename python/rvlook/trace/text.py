@@ -2,9 +2,10 @@
 from __future__ import annotations
 
 from dataclasses import dataclass, field
-from typing import Optional, TYPE_CHECKING
+from typing import Iterable, Optional, Sequence, TYPE_CHECKING
 
 from rvlook.protocol import names
+from rvlook.protocol.console import consoles_of, followed
 from rvlook.output.escapes import visible_line
 from rvlook.protocol.instructions import short_form
 from rvlook.protocol.run import End
@@ -13,6 +14,7 @@ from rvlook.trace.tracer import Step, Tracer
 
 if TYPE_CHECKING:
     from rvlook.output.printer import Json, Printer, Writer
+    from rvlook.protocol.console import Console
     from rvlook.protocol.instructions import Instruction
     from rvlook.protocol.replies import Trap
     from rvlook.protocol.run import Run
@@ -58,18 +60,28 @@ def show_trace(run: Run, symbols: Symbols, printer: Printer, wanted: Filter, is_
     if printer.as_json:
         run_object(printer, run, symbols)
     writer: Objects | Lines = Objects(run, symbols, printer) if printer.as_json else Lines(run, symbols, printer, is_short)
-    shown = 0
+    shown, consoles = 0, consoles_of(symbols)
     for item in Tracer(run, wanted.first, wanted.last).events():
         if isinstance(item, Step):
             if wanted.takes(item, symbols):
                 writer.step(item)
                 shown += 1
+            for of, line in lines_of(item, consoles):
+                writer.console(item.number, of, line)
         elif isinstance(item, End):
             if not shown and item.steps >= wanted.first:
                 writer.none()
             writer.end(item)
         elif wanted.is_whole:
             writer.command(item)
+
+
+def lines_of(step: Step, consoles: Sequence[Console]) -> Iterable[tuple[str, str]]:
+    """Returns the lines of consoles that a step ends, each with its writer."""
+    touch = step.touch
+    if not (consoles and touch and touch.done and touch.kind == "w" and touch.value):
+        return ()
+    return followed(consoles, touch.address, touch.value)
 
 
 @dataclass
@@ -124,6 +136,10 @@ class Objects:
         """Writes a line of the script."""
         self.printer.object("command", step=command.step, hart=command.hart, line=command.line, given=command.given,
                             replies=list(command.replies))
+
+    def console(self, number: int, writer: str, text: str) -> None:
+        """Writes a line of a console."""
+        self.printer.object("console", step=number, writer=writer, text=text)
 
     def none(self) -> None:
         """Writes nothing if no step is wanted."""
@@ -218,6 +234,10 @@ class Lines:
         made = "" if command.line == command.given else "  (%s)" % visible_line(command.line)
         self.printer.line("%s%s  %s%s" % (self.printer.styled("> " + visible_line(command.given), Style.aside), made, shown,
                                           "  and %d more lines" % more if more > 0 else ""))
+
+    def console(self, number: int, writer: str, text: str) -> None:
+        """Prints a line of a console."""
+        self.printer.line("%6d  %s console: %s" % (number, writer, text))
 
     def none(self) -> None:
         """Prints that no step is wanted."""

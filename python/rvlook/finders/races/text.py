@@ -196,7 +196,7 @@ def level_text(search: Search) -> str:
 def show_races(run: Run, symbols: Symbols, printer: Printer, options: Namespace) -> None:
     """Searches all orders, and reports the final states. Raises Unfinished if the program cannot be searched."""
     conditions = [condition_of(it, symbols) for it in options.forbid or ()]
-    outcome = outcomes_of(options.outcome, conditions, symbols, run.setup.harts)
+    outcome = outcomes_of(options.outcome, conditions, run, options.symbols)
     ends = [address_of(it, symbols) for it in options.end or ()]
     bounds = Bounds(options.preemptions, options.timers, run.setup.limit, options.first, options.last)
     limit = TimeLimit(options.seconds)

@@ -1,0 +1,87 @@
+"""The console of a program, a convention in memory (examples/shared/console.h): a count of the characters written, whether the program has
+ended and with which status, and a ring with the last characters. A host has one, and an enclave one in its window."""
+from __future__ import annotations
+
+from dataclasses import dataclass, field
+from typing import Callable, Iterator, Sequence, TYPE_CHECKING
+
+from rvlook.output.escapes import visible_line
+from rvlook.protocol.replies import bytes_of
+
+if TYPE_CHECKING:
+    from rvlook.protocol.symbols import Symbols
+
+PLACES = {"host_console": "host", "window_console": "enclave"}  # the symbol of each console, and who writes to it
+WRITTEN, ENDED, STATUS, TEXT = 0, 4, 8, 16  # offsets in bytes
+SIZE = 256  # bytes of the ring
+MEM = 64  # the most bytes of a `mem`
+Ask = Callable[..., Sequence[Sequence[str]]]  # sends commands; returns the lines of each reply
+
+
+def word(data: bytes, offset: int) -> int:
+    """Returns the little-endian word at an offset."""
+    return int.from_bytes(data[offset:offset + 4], "little")
+
+
+@dataclass
+class Console:
+    """A console at an address. `written` counts its characters so far, `pending` is the line that has not ended yet."""
+    writer: str
+    address: int
+    written: int = 0
+    pending: str = ""
+    status: int | None = None  # of the program, once it has ended
+    ring: dict[int, str] = field(default_factory=dict)  # what stores left there, as two hexadecimal digits
+
+    def take(self, characters: bytes) -> list[str]:
+        """Adds characters; returns the lines that they end."""
+        *lines, self.pending = (self.pending + characters.decode("latin-1")).split("\n")
+        return [visible_line(it) for it in lines]
+
+    def flush(self) -> list[str]:
+        """Returns the last line if it has not ended, and forgets it."""
+        lines, self.pending = [visible_line(self.pending)] if self.pending else [], ""
+        return lines
+
+    def queries(self) -> list[str]:
+        """Returns the commands that read the console."""
+        ring = ["mem %x %d" % (self.address + TEXT + at, MEM) for at in range(0, SIZE, MEM)]
+        return ["mem %x %d" % (self.address, TEXT), *ring]
+
+    def read(self, ask: Ask) -> list[str]:
+        """Reads the console; returns the lines that are new. After a step back, nothing is new."""
+        data = b"".join(bytes_of(it[0]) for it in ask(*self.queries()) if not it[0].startswith("error "))
+        if len(data) < TEXT + SIZE:
+            return []
+        written = word(data, WRITTEN)
+        lost = written - self.written - SIZE
+        fresh = bytes(data[TEXT + at % SIZE] for at in range(self.written + max(0, lost), written))
+        if written < self.written:
+            self.pending = ""
+        self.written = written
+        if word(data, ENDED):
+            self.status = word(data, STATUS) & 0xFF
+        return ["[%d characters lost]" % lost] * (lost > 0) + self.take(fresh)
+
+    def store(self, address: int, value: str) -> list[str]:
+        """Follows a store of these hexadecimal digits; returns the lines that it ends."""
+        offset = address - self.address
+        if TEXT <= offset < TEXT + SIZE:
+            for at in range(len(value) // 2):
+                self.ring[offset - TEXT + at] = value[len(value) - 2 * at - 2:len(value) - 2 * at]
+        if offset != WRITTEN or len(value) != 8:
+            return []
+        before, self.written = self.written, int(value, 16)
+        return self.take(bytes(int(self.ring.get(at % SIZE, "3f"), 16) for at in range(max(before, self.written - SIZE), self.written)))
+
+
+def consoles_of(symbols: Symbols) -> list[Console]:
+    """Returns the consoles that the program has."""
+    return [Console(writer, address) for name, writer in PLACES.items() for address in [symbols.address(name)] if address is not None]
+
+
+def followed(consoles: Sequence[Console], address: int, value: str) -> Iterator[tuple[str, str]]:
+    """Yields the lines that a store ends, each with its writer."""
+    for console in consoles:
+        for line in console.store(address, value):
+            yield console.writer, line

@@ -1,0 +1,32 @@
+"""The order of the steps of two harts if no script sets it: a string of digits, each the number of a hart, that repeats."""
+from __future__ import annotations
+
+import random
+import re
+from typing import Iterator
+
+TURN = 32  # steps of a hart before the other one continues
+LONGEST = 64  # digits of a schedule, as in a `sched`
+MOST_IN_A_TURN = 16  # steps of a random turn
+
+
+def alternating(turn: int) -> str:
+    """Returns the schedule that alternates the harts every `turn` steps, 1 to 32."""
+    return "0" * turn + "1" * turn
+
+
+def random_schedule(seed: int) -> str:
+    """Returns a schedule of 64 digits whose turns are 1 to 16 steps long, the same for equal seeds."""
+    draw, digits = random.Random(seed), ""
+    hart = draw.randrange(2)
+    while len(digits) < LONGEST:
+        digits += str(hart) * draw.randint(1, MOST_IN_A_TURN)
+        hart = 1 - hart
+    return digits[:LONGEST]
+
+
+def turns_of(schedule: str) -> Iterator[tuple[int, int]]:
+    """Yields the turns of a schedule for ever, each as a hart and its number of steps."""
+    turns = [(int(it[0][0]), len(it[0])) for it in re.finditer("0+|1+", schedule)]
+    while True:
+        yield from turns

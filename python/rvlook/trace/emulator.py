@@ -1,0 +1,197 @@
+"""The subcommand `run`: runs a program to its end as an emulator does, prints what it writes to its consoles, and says why it ended."""
+from __future__ import annotations
+
+from dataclasses import dataclass
+from enum import Enum
+from typing import Iterator, Sequence, TYPE_CHECKING
+
+from rvlook.errors import UNFINISHED, note
+from rvlook.output.printer import place_text, run_object
+from rvlook.protocol import names
+from rvlook.protocol.console import ENDED, WRITTEN, consoles_of
+from rvlook.protocol.replies import Location, Ran, step_of
+from rvlook.protocol.run import EQUAL, MOST_STEPS
+from rvlook.protocol.schedule import turns_of
+
+if TYPE_CHECKING:
+    from rvlook.output.findings import Findings
+    from rvlook.output.printer import Printer
+    from rvlook.protocol.console import Console
+    from rvlook.protocol.run import Run
+
+FIRST_PART, MORE = 1000, 4  # steps of the first `run`, and the factor for the next one
+BATCH, SINGLY = 1024, 128  # steps of two harts in one exchange, and those at its end that are done one by one
+LONG_BATCH = 16384  # the same without a console
+AT_ZERO = "break 0"  # a trap goes there if its vector was never set
+NONE = "00000000"  # cause and pc of a trap before the first one
+
+
+class Why(Enum):
+    """Why a program ended."""
+    end = "ended"
+    loop = "endless loop"
+    fault = "fault"
+    limit = "limit"
+
+
+@dataclass(frozen=True)
+class Ending:
+    """The end of a program: its location, its exit status, and a text with the reason."""
+    why: Why
+    at: Location
+    status: int
+    text: str
+
+
+class Emulator:
+    """A program that runs. `left` counts the steps to the limit."""
+
+    def __init__(self, run: Run, schedule: str, printer: Printer) -> None:
+        self.run, self.schedule, self.printer, self.left = run, schedule, printer, run.setup.limit
+        self.symbols = run.setup.symbols
+        self.consoles = consoles_of(self.symbols)
+
+    def ending(self) -> Ending:
+        """Runs the program to its end."""
+        with self.run.replay() as replay:
+            self.bench = replay.bench
+            while replay.position < self.run.length:
+                replay.go(min(self.run.length, replay.position + BATCH if self.consoles else self.run.length))
+                self.show()
+            self.bench.ask(*replay.lines_up_to_next(), "reg 0")
+            ending = self.by_turns() if self.schedule else self.alone()
+            self.show()
+        for console in self.consoles:
+            self.print(console, console.flush())
+        return ending
+
+    def show(self) -> None:
+        """Prints what is new on the consoles."""
+        for console in self.consoles:
+            self.print(console, console.read(self.bench.ask))
+
+    def print(self, console: Console, lines: Sequence[str]) -> None:
+        """Prints lines of a console."""
+        for line in lines:
+            if self.printer.as_json:
+                self.printer.object("console", step=None, writer=console.writer, text=line)
+            else:
+                self.printer.line(line)
+
+    def status(self) -> int | None:
+        """Returns the exit status of the program, once it has ended by itself."""
+        return next((it.status for it in self.consoles if it.status is not None), None)
+
+    # one hart
+
+    def alone(self) -> Ending:
+        """Runs the selected hart."""
+        watches = ["watch %x" % (it.address + offset) for it in self.consoles for offset in (WRITTEN, ENDED)]
+        self.bench.ask(AT_ZERO, *watches)
+        part, ran = FIRST_PART, Ran(0, self.run.pc, self.run.mode, self.run.world, "done", None)
+        while self.left:
+            ran = step_of(self.bench.one("run %d" % min(part, self.left, MOST_STEPS)))
+            self.left -= ran.steps
+            if ran.why == "break":
+                return self.fault(ran)
+            halted = self.halted_step() if ran.why == "done" else None
+            part *= MORE if ran.why == "done" else 1
+            self.show()
+            if self.status() is not None:
+                return self.finished(ran)
+            if halted:
+                return self.halted(halted)
+        return self.cut(ran)
+
+    def halted_step(self) -> Ran | None:
+        """Returns the next step if the steps after it change nothing that a reply shows, else None. These steps do not count for the limit."""
+        replies = self.bench.ask(*["step 1"] * EQUAL)
+        return step_of(replies[0][0]) if all(it == replies[0] for it in replies) else None
+
+    # two harts
+
+    def by_turns(self) -> Ending:
+        """Runs both harts by the schedule."""
+        turns, ran = turns_of(self.schedule), Ran(0, self.run.pc, self.run.mode, self.run.world, "done", None)
+        while self.left:
+            batch = list(batch_of(turns, min(BATCH if self.consoles else LONG_BATCH, self.left)))
+            self.left -= sum(count for _, count in batch)
+            last = self.batch(batch)
+            ran = step_of(last[batch[-1][0]][-1])
+            self.show()
+            if self.status() is not None:
+                return self.finished(ran)
+            if len(last) > 1 and all(len(it) == EQUAL and len(set(it)) == 1 for it in last.values()):
+                return self.halted(next((it for it in map(step_of, (it[0] for it in last.values())) if it.trap), ran))
+        return self.cut(ran)
+
+    def batch(self, turns: Sequence[tuple[int, int]]) -> dict[int, list[str]]:
+        """Does turns in one exchange; returns the last replies of each hart, of single steps if it did enough of them at the end."""
+        lines: list[tuple[int, str]] = []
+        left = sum(count for _, count in turns)
+        for hart, count in turns:
+            lines.append((hart, "hart %d\n" % hart))
+            lines += [(hart, "step %d\n" % count)] if left > SINGLY else [(hart, "step 1\n")] * count
+            left -= count
+        last: dict[int, list[str]] = {}
+        replies = self.bench.block("".join(line for _, line in lines).encode(), len(lines)).decode().splitlines()
+        for (hart, _), reply in zip(lines[-SINGLY - 2 * len(turns):], replies[-SINGLY - 2 * len(turns):]):
+            if reply.startswith("ran "):
+                last.setdefault(hart, []).append(reply)
+        return {hart: rans[-EQUAL:] for hart, rans in last.items()}
+
+    # ends
+
+    def place(self, ran: Ran) -> str:
+        """Returns where a hart is, as a text."""
+        return "%s in %s of %s" % (place_text(ran.pc, self.symbols), ran.mode, ran.world)
+
+    def ended(self, why: Why, ran: Ran, status: int, text: str) -> Ending:
+        """Returns an end at the location of a reply."""
+        return Ending(why, Location(ran.pc, ran.mode, ran.world), status, text)
+
+    def finished(self, ran: Ran) -> Ending:
+        """Returns the end of a program that called finish()."""
+        status = self.status() or 0
+        return self.ended(Why.end, ran, status, "the program ended with status %d at %s" % (status, self.place(ran)))
+
+    def halted(self, ran: Ran) -> Ending:
+        """Returns the end of a program whose harts do nothing more: an instruction that jumps to itself, or one that traps again and again."""
+        if ran.trap:
+            cause = names.CAUSES.get(ran.trap.cause, ran.trap.cause)
+            return self.ended(Why.fault, ran, UNFINISHED, "fault: %s again at each step, at %s" % (cause, self.place(ran)))
+        return self.ended(Why.loop, ran, 0, "the program is in an endless loop at %s" % self.place(ran))
+
+    def fault(self, ran: Ran) -> Ending:
+        """Returns the end of a program that reached address 0: it trapped without a trap vector, or jumped there."""
+        mode = "m" if ran.mode == "M" else "s"
+        cause, pc, value, vector = (self.bench.one("csr %x" % names.CSRS[mode + it]).partition("=")[2] for it in ("cause", "epc", "tval", "tvec"))
+        if int(vector, 16) or cause == pc == NONE:
+            return self.ended(Why.fault, ran, UNFINISHED, "fault: a jump to 00000000 in %s of %s" % (ran.mode, ran.world))
+        text = "fault: %s at %s, %stval %s, and %stvec is not set"
+        return self.ended(Why.fault, ran, UNFINISHED, text % (names.CAUSES.get(cause, cause), place_text(pc, self.symbols), mode, value, mode))
+
+    def cut(self, ran: Ran) -> Ending:
+        """Returns the end of a program that reached the limit."""
+        return self.ended(Why.limit, ran, UNFINISHED, "the program did not end in %d steps; it is at %s" % (self.run.setup.limit, self.place(ran)))
+
+
+def batch_of(turns: Iterator[tuple[int, int]], most: int) -> Iterator[tuple[int, int]]:
+    """Yields turns until they have `most` steps."""
+    for hart, count in turns:
+        yield hart, min(count, most)
+        most -= count
+        if most <= 0:
+            return
+
+
+def show_run(run: Run, schedule: str, printer: Printer, findings: Findings) -> None:
+    """Runs a program to its end; `schedule` orders the steps of two harts after the script."""
+    if printer.as_json:
+        run_object(printer, run, run.setup.symbols)
+    ending = Emulator(run, schedule, printer).ending()
+    if printer.as_json:
+        printer.object("ended", why=ending.why.name, status=ending.status, pc=ending.at.pc, mode=ending.at.mode, world=ending.at.world)
+    printer.stream.flush()
+    note(ending.text)
+    findings.program_status = ending.status
