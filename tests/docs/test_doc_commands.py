@@ -89,3 +89,5 @@ def test_the_commands_of_a_page_work_with_the_proved_program(bench, clone, page)
 @pytest.mark.skipif(not shutil.which("rt"), reason="the command rt of the Rattle kit is not on the PATH")
 def test_the_commands_of_the_readme_work_with_an_unproved_program(clone):
     check_page(clone, "README.md")
+    out = clone / "crates" / "rvbench" / "out"
+    assert (out / "unproved").exists() and not (out / "unproved.plain").exists(), "it is built with optimisation"
