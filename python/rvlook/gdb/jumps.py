@@ -1,5 +1,5 @@
-"""Sets pc for a debugger. rvbench has no command for it, so a jump instruction is written at pc, executed by one step, and replaced by the bytes
-that were there."""
+"""Sets pc for a debugger. rvbench has no command for it, so a jump instruction is written at pc and executed by one step. Then the bytes that were
+there are restored."""
 from __future__ import annotations
 
 import struct

@@ -1,5 +1,5 @@
-"""The console of a program, a convention in memory (examples/shared/console.h): a count of the characters written, whether the program has
-ended and with which status, and a ring with the last characters. A host has one, and an enclave one in its window."""
+"""The console of a program, a convention in memory (examples/shared/console.h). It has a count of the characters written, the exit status once the
+program has ended, and a ring with the last characters. A host has one, and an enclave one in its window."""
 from __future__ import annotations
 
 from dataclasses import dataclass, field
@@ -39,7 +39,7 @@ class Console:
         return [visible_line(it) for it in lines]
 
     def flush(self) -> list[str]:
-        """Returns the last line if it has not ended, and forgets it."""
+        """Returns the last line if it has not ended, and clears it."""
         lines, self.pending = [visible_line(self.pending)] if self.pending else [], ""
         return lines
 
