@@ -206,3 +206,52 @@ def test_page_of_a_million_steps_is_fast(rvlook, driver, tmp_path):
     assert driver.execute_script("return run.steps") >= 1000000
     assert seconds < MOST_SECONDS
     assert median(driver.execute_script(TAKEN)) < MOST_MILLISECONDS
+
+
+@pytest.fixture(scope="module")
+def calls(driver, rvlook, built, tmp_path_factory):
+    """The page of a program with calls, variables and a console."""
+    elf = built("console")
+    done = rvlook("page", "--monitor", elf, timeout=SECONDS)
+    path = tmp_path_factory.mktemp("calls") / "page.html"
+    path.write_text(done.stdout, encoding="utf-8")
+    driver.set_window_size(1366, 768)
+    yield Page(driver, path)
+    driver.set_window_size(WIDTHS[0], 1000)
+
+
+def step_in(page, function):
+    """Returns a step of a function after its first ten."""
+    sites = [at for at, site in enumerate(page.data["sites"]) if site["function"] == function]
+    return page.run("return Array.from(run.site).findIndex((site, at) => at > 10 && arguments[0].includes(site)) + 6", sites)
+
+
+def test_call_stack_and_variables_of_a_step(calls):
+    at = step_in(calls, "print_number")
+    calls.run("show(arguments[0])", at)
+    stack = calls.text("stack").split("\n")
+    assert [line.split()[1] for line in stack if line.startswith("#")] == ["print_number", "main", "_start"]
+    assert any(line.startswith("number 00000000 0 ") for line in stack), stack
+    calls.run("document.querySelectorAll('#stack .frame')[0].click()")
+    assert calls.text("stack").split("\n")[1].startswith("#0 main")
+
+
+def test_returned_calls_leave_the_stack(calls):
+    last = calls.run("return run.steps")
+    calls.run("show(arguments[0])", last)
+    assert [line.split()[1] for line in calls.text("stack").split("\n") if line.startswith("#")] == ["main", "_start"]
+
+
+def test_console_line_is_shown_at_its_step(calls):
+    line = calls.data["consoles"][1]
+    calls.run("show(arguments[0])", line["step"])
+    assert "host console: red: ^[[31m numbers: 0 4294967295 0a454e43" in calls.text("did")
+
+
+def test_steps_source_and_find_box_are_above_the_fold(calls):
+    calls.run("show(arguments[0])", step_in(calls, "print_number"))
+    for name in ("steps", "source", "find", "stack"):
+        place = calls.run("const it = document.getElementById(arguments[0]).getBoundingClientRect(); return [it.top, it.bottom, it.right]", name)
+        limit = calls.run("return [window.innerHeight, window.innerWidth]")
+        assert (place[1] <= limit[0] or name == "stack" and place[0] < limit[0]) and place[2] <= limit[1], (name, place, limit)
+    calls.check_errors()

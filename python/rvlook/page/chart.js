@@ -4,7 +4,7 @@ const SHUT = 5, LEAST = 15, OUTSIDE = 28, AXIS = 20, EDGE = 10, NARROW = 600;
 // The visible part of the run: steps, and the part of the memory from its top to its bottom.
 const view = { from: 0, to: Math.max(1, run.steps), top: 0, bottom: 1 };
 const lanes = [
-  ...[[data.commands, "script"], [data.calls, "calls"], [faults, "traps"]].filter(([signs]) => signs.length)
+  ...[[data.commands, "script"], [data.consoles, "console"], [data.calls, "calls"], [faults, "traps"]].filter(([signs]) => signs.length)
     .map(([, name]) => ({ name, height: 28 })),
   ...Array.from({ length: hartCount }, (_, hart) => ({ name: hartCount > 1 ? "hart " + hart : "runs", hart, height: 20 })),
 ];
@@ -47,7 +47,7 @@ wholes.filter(it => !it.isHost && !it.own.some(segment => segment.open)).forEach
 function measure() {
   const width = chart.clientWidth, isNarrow = width < NARROW, gutter = isNarrow ? 66 : 200;
   const top = lanes.reduce((sum, lane) => { lane.top = sum; return sum + lane.height; }, 0) + 4;
-  const room = isNarrow ? 400 : Math.max(360, Math.min(760, window.innerHeight - top - 470));
+  const room = isNarrow ? 400 : Math.max(300, Math.min(760, window.innerHeight - top - 400));
   const weight = it => it.open && !it.outside ? 14 + 11 * Math.log2(1 + (it.high - it.low + 1) / 32) : 0;
   const fixedOf = it => it.outside ? OUTSIDE : it.named ? LEAST : SHUT;
   const fixed = segments.reduce((sum, it) => sum + (weight(it) ? 0 : fixedOf(it)), 0);

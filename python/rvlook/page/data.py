@@ -94,6 +94,7 @@ class Collector:
                       "value": array("I")}
         self.calls: list[dict[str, Any]] = []
         self.commands: list[dict[str, Any]] = []
+        self.consoles: list[dict[str, Any]] = []
         self.events: list[dict[str, Any]] = []
         self.granules: set[int] = set()
         self.labels: dict[str, int] = {}
@@ -123,6 +124,10 @@ class Collector:
     def take_command(self, it: dict[str, Any]) -> None:
         """Takes a line of the script."""
         self.commands.append(it)
+
+    def take_console(self, it: dict[str, Any]) -> None:
+        """Takes a line that the program wrote to a console."""
+        self.consoles.append(it)
 
     def take_event(self, it: dict[str, Any]) -> None:
         """Takes a event. Equal maps are stored once."""
@@ -183,4 +188,4 @@ class Collector:
             "names": list(self.names.numbers), "site": columns.add(self.site), "place": columns.add(self.place),
             "trap": columns.add(self.trap), "changes": columns.add(self.changes), "registers": columns.add(self.registers),
             "values": columns.add(self.values), "touch": {name: columns.add(column) for name, column in self.touch.items()},
-            "calls": self.calls, "commands": self.commands, "events": self.events}
+            "calls": self.calls, "commands": self.commands, "consoles": self.consoles, "events": self.events}

@@ -48,6 +48,7 @@ function show(step) {
   showMap(current);
   showRegisters(current);
   showSource(current);
+  showStack(current);
   keepStep();
 }
 

@@ -140,6 +140,8 @@ function drawLanes(pen) {
     pen.fillText(lane.name, 0, lane.top + lane.height - 5);
     if (lane.name === "script")
       drawLane(pen, lane, data.commands.map(it => ({ position: it.step, text: it.line })), flag);
+    if (lane.name === "console")
+      drawLane(pen, lane, data.consoles.map(it => ({ position: it.step, text: it.text })), flag);
     if (lane.name === "calls")
       drawLane(pen, lane, data.calls.map(it => ({ position: it.step - 0.5, text: callName(it), world: it })), triangle);
     if (lane.name === "traps") drawTraps(pen, lane);

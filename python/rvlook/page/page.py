@@ -7,13 +7,15 @@ from typing import Any, Sequence, TYPE_CHECKING
 from rvlook.errors import Unfinished, package_missing
 from rvlook.access.map_text import write_event
 from rvlook.access.map import events
+from rvlook.image.frames import frames_of
 from rvlook.page.axis import segments_of
 from rvlook.page.data import Collector, Columns, compressed
 from rvlook.page.sources import roots_of, source_texts
+from rvlook.protocol.console import consoles_of
 from rvlook.protocol.run import End
 from rvlook.output.printer import end_object, run_object
 from rvlook.trace.tracer import Step, Tracer
-from rvlook.trace.text import Objects
+from rvlook.trace.text import Objects, lines_of
 
 if TYPE_CHECKING:
     from rvlook.output.printer import Printer
@@ -21,7 +23,7 @@ if TYPE_CHECKING:
     from rvlook.protocol.symbols import Symbols
 
 FOLDER = os.path.dirname(os.path.abspath(__file__))
-SCRIPTS = ("data.js", "chart.js", "marks.js", "panel.js", "find.js", "keys.js")
+SCRIPTS = ("data.js", "chart.js", "marks.js", "panel.js", "stack.js", "find.js", "keys.js")
 
 
 def page_template() -> Any:
@@ -39,7 +41,8 @@ def show_page(run: Run, symbols: Symbols, printer: Printer, template: Any, paths
     found = collected(run, symbols)
     sources = source_texts(paths, found.source_names(), roots_of(folders))
     columns = Columns()
-    data = {**found.data(columns), "segments": segments_of(found), "sources": sources}
+    variables = [vars(it) for it in frames_of(paths[0] if len(paths) > 1 else None, run.setup.image)]
+    data = {**found.data(columns), "segments": segments_of(found), "sources": sources, "variables": variables}
     printer.document(template.render(title=found.title, data=compressed(data, columns), scripts=SCRIPTS))
 
 
@@ -47,10 +50,12 @@ def collected(run: Run, symbols: Symbols) -> Collector:
     """Returns all objects of the map and the trace of a run."""
     found = Collector()
     run_object(found, run, symbols)
-    writer = Objects(run, symbols, found)
+    writer, consoles = Objects(run, symbols, found), consoles_of(symbols)
     for item in Tracer(run).events():
         if isinstance(item, Step):
             writer.step(item)
+            for of, line in lines_of(item, consoles):
+                writer.console(item.number, of, line)
         elif isinstance(item, End):
             writer.end(item)
         else:

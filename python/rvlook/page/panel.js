@@ -1,5 +1,5 @@
 // The panel: the current step, the access rights after it, the registers, and the source.
-const BEFORE = 5, AFTER = 6, STEP_COLUMNS = 4, MOST_LINES = 12, SOURCE_BEFORE = 6, SOURCE_AFTER = 8;
+const BEFORE = 4, AFTER = 4, STEP_COLUMNS = 4, MOST_LINES = 12, SOURCE_BEFORE = 4, SOURCE_AFTER = 5;
 
 // Makes an element with a class and its contents.
 function element(tag, name, ...parts) {
@@ -57,7 +57,8 @@ function showWhere(step) {
   if (touch) lines.push(element("p", isRefused(touch.kind) ? "refused" : "", touchText(touch)));
   if (call) lines.push(element("p", call.refused ? "refused" : "", callText(call)));
   else if (trap && !isInterrupt(trap)) lines.push(element("p", "refused", `trap: ${trap.name}, value ${trap.value}`));
-  put("did", ...lines, ...commandsAfter(step));
+  const printed = data.consoles.filter(it => it.step === step).map(it => element("p", "mono", `${it.writer} console: ${it.text}`));
+  put("did", ...lines, ...printed, ...commandsAfter(step));
 }
 
 // The source line; for inlined code also that of the call.
@@ -147,7 +148,6 @@ function nameAndLine(source) {
 function showSource(step) {
   const site = step ? siteOf(step) : {}, source = site.caller || site.source;
   const [name, line] = source ? nameAndLine(source) : [null, 0], text = name === null ? "" : sourceTexts.get(name);
-  document.getElementById("below").classList.toggle("paired", Boolean(text));
   if (!text) return put("source");
   const lines = text.split("\n"), first = Math.max(1, line - SOURCE_BEFORE), last = Math.min(lines.length, line + SOURCE_AFTER);
   const pre = element("pre", "");
