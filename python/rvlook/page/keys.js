@@ -1,6 +1,6 @@
 // Navigation by keys, buttons and the picture.
 let current = 0;
-const LEAST_SPAN = 8, LEAST_PART = 1 / 64, ZOOM = 2, MOVED = 0.2, DRAGGED = 4;
+const LEAST_SPAN = 8, LEAST_PART = 1 / 1024, ZOOM = 2, MOVED = 0.2, DRAGGED = 4;
 const number = document.getElementById("number");
 
 function draw() {
