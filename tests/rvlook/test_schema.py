@@ -13,6 +13,8 @@ GUARD = (MONITORS / "two_enclaves" / "image", MONITORS / "two_enclaves" / "range
 EXIT_ZERO = ("timer", "leak", "window", "inputs", "races", "explain", "conform", "guard", "map")  # subcommands that end with 1 if they find something
 UNFINISHED = ("timer_not_resumed",)
 COMMANDS = {
+    "run": ("run", EXAMPLES / "enclaves" / "hello" / "image", "--symbols", EXAMPLES / "enclaves" / "hello" / "symbols"),
+    "trace_console": ("trace", EXAMPLES / "enclaves" / "hello" / "image", "--symbols", EXAMPLES / "enclaves" / "hello" / "symbols", "--to", "300"),
     "map": ("map", "--monitor", EXAMPLES / "enclaves" / "adds" / "image"), "map_pmp": ("map", EXAMPLES / "programs" / "pmp" / "stdin"),
     "map_returns": ("map", "--returns", IMAGES / "map_opened" / "image"),
     "touch": ("touch", "--monitor", input_of(EXAMPLES / "enclaves" / "refused"), "--symbols", EXAMPLES / "enclaves" / "refused" / "symbols"),
