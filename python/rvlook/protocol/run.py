@@ -348,7 +348,7 @@ def segment_outside(setup: Setup, message: str) -> str | None:
     """Returns the text about the first segment of an ELF file that is not in RAM, if that is the error."""
     first, end = MONITOR_END if setup.monitor else RAM_BASE, RAM_BASE + setup.ram
     outside = next(((at, size) for at, size in setup.image.segments() if at < first or at + size > end), None)
-    if message != OUTSIDE or outside is None:
+    if message != OUTSIDE or outside is None or first >= end:
         return None
     return ("the segment %08x-%08x is outside the memory of programs, %08x-%08x; link it there, or use a larger --ram"
             % (outside[0], outside[0] + outside[1] - 1, first, end - 1))
