@@ -1,5 +1,5 @@
 -- The result of each job, by its output for the input.
-use Rattle.std.proofs.Common.{◌≡◌, List, ℕ, ◌++◌, inl, inr, Ok, Err, sym, ap, ◌∙◌, subst}
+use Rattle.std.proofs.Common.{◌≡◌, ◌<◌, List, ℕ, ◌++◌, length, inl, inr, Ok, Err, sym, ap, ◌∙◌, subst, arith}
 use Rattle.std.specs.Result.{IsOkAnd}
 use Rattle.rv_memory.specs.declared.ram_fault.RamFault.TheVariants.{BadSize, NoMemory as NoRamMemory}
 use Rattle.rv_command_line.specs.declared.job.Job.{Job}
@@ -13,6 +13,7 @@ use Rattle.rv_streams.specs.Assemble.{RunsAsm}
 use Rattle.rv_streams.specs.Calls.{SourceFailed}
 use Rattle.rv_streams.specs.Disassemble.{RunsDis}
 use Rattle.rv_streams.specs.Faults.{Outcome}
+use Rattle.rv_streams.specs.Transfer.{WritesPrefix}
 use Rattle.rv_streams.specs.Unread.{unread}
 use Rattle.rv_bench.specs.Jobs.{DoesJob, ReadsByLines}
 use Rattle.rv_bench.specs.ProgramOutput.{FailsBy, MeetsOutput, job_output}
@@ -22,6 +23,12 @@ use Rattle.rv_bench.specs.Twin.{RunsTwin}
 module _ {S W : Type 0} (g : SourceGhosts S) (h : SinkGhosts W) (source left : S) (before after : W) where
   abbrev Wrote : List ℕ → Type 0
   Wrote text = h.taken after ≡ h.taken before ++ text
+
+  abbrev WrotePrefix : List ℕ → Type 0
+  WrotePrefix text = WritesPrefix (h.taken before) (h.taken after) text
+
+  some_read : length (g.remaining left) < length (g.remaining source) → 0 < length (g.remaining source)
+  some_read less = omega (arith, less)
 
   module _ (old new : Lines S g) (lines : ReadsByLines g source left old new) where
     -- the unread bytes of new lines are the remaining bytes of their source
@@ -42,14 +49,15 @@ module _ {S W : Type 0} (g : SourceGhosts S) (h : SinkGhosts W) (source left : S
       stream_meets : (outcome : Outcome) → RunsStream h setup old new before after outcome → MeetsOutput g h source left before after (Run setup) outcome
       stream_meets (Ok done) (size, run) = (run.sink, of_input (λ input. IsOkAnd (job_output (Run setup) input) Wrote) run.written)
       stream_meets (Err Read) (run, stops) = failed run.source
-      stream_meets (Err Write) (size, run, stops) = run.sink
+      stream_meets (Err Write) (size, run, stops) = (run.sink, of_input (λ input. IsOkAnd (job_output (Run setup) input) WrotePrefix) run.prefix)
       stream_meets (Err Hex) (finds, fault, unwritten) = (unwritten, of_input (λ input. FailsBy (Run setup) input Hex) (λ agrees. inl (fault agrees)))
       stream_meets (Err TooLong) (finds, fault, unwritten) =
           (unwritten, of_input (λ input. FailsBy (Run setup) input TooLong) (λ agrees. inl (fault agrees)))
-      stream_meets (Err NoMemory) (reads, unwritten) = (unwritten, λ agrees. inr tt)
+      stream_meets (Err NoMemory) (memory, unwritten) = (unwritten, of_input (λ input. FailsBy (Run setup) input NoMemory) (λ agrees. inr (_, memory.reads agrees)))
       stream_meets (Err (Ram BadSize)) (size, reads, fault, unwritten) =
           (unwritten, of_input (λ input. FailsBy (Run setup) input (Ram BadSize)) (λ agrees. inl (fault agrees)))
-      stream_meets (Err (Ram (NoRamMemory refused))) (size, bytes, reads, image, unwritten) = (unwritten, λ agrees. inr tt)
+      stream_meets (Err (Ram (NoRamMemory refused))) (size, bytes, reads, image, unwritten) =
+          (unwritten, of_input (λ input. FailsBy (Run setup) input (Ram (NoRamMemory refused))) (λ agrees. inr (size, bytes, image agrees)))
       stream_meets (Err (Image fault)) (size, reads, told, unwritten) =
           (unwritten, of_input (λ input. FailsBy (Run setup) input (Image fault)) (λ agrees. inl (told agrees)))
       stream_meets (Err (AsmText fault)) never = absurd never
@@ -61,13 +69,14 @@ module _ {S W : Type 0} (g : SourceGhosts S) (h : SinkGhosts W) (source left : S
         twin_meets : (outcome : Outcome) → RunsTwin h setup slot old new before after outcome → MeetsOutput g h source left before after twin outcome
         twin_meets (Ok done) (size, run) = (run.sink, of_input (λ input. IsOkAnd (job_output twin input) Wrote) run.written)
         twin_meets (Err Read) (run, stops) = failed run.source
-        twin_meets (Err Write) (size, run, stops) = run.sink
+        twin_meets (Err Write) (size, run, stops) = (run.sink, of_input (λ input. IsOkAnd (job_output twin input) WrotePrefix) run.prefix)
         twin_meets (Err Hex) (finds, fault, unwritten) = (unwritten, of_input (λ input. FailsBy twin input Hex) (λ agrees. inl (fault agrees)))
         twin_meets (Err TooLong) (finds, fault, unwritten) = (unwritten, of_input (λ input. FailsBy twin input TooLong) (λ agrees. inl (fault agrees)))
-        twin_meets (Err NoMemory) (reads, unwritten) = (unwritten, λ agrees. inr tt)
+        twin_meets (Err NoMemory) (memory, unwritten) = (unwritten, of_input (λ input. FailsBy twin input NoMemory) (λ agrees. inr (_, memory.reads agrees)))
         twin_meets (Err (Ram BadSize)) (size, reads, fault, unwritten) =
             (unwritten, of_input (λ input. FailsBy twin input (Ram BadSize)) (λ agrees. inl (fault agrees)))
-        twin_meets (Err (Ram (NoRamMemory refused))) (size, bytes, reads, image, unwritten) = (unwritten, λ agrees. inr tt)
+        twin_meets (Err (Ram (NoRamMemory refused))) (size, bytes, reads, image, unwritten) =
+            (unwritten, of_input (λ input. FailsBy twin input (Ram (NoRamMemory refused))) (λ agrees. inr (size, bytes, image agrees)))
         twin_meets (Err (Image fault)) (size, reads, told, unwritten) =
             (unwritten, of_input (λ input. FailsBy twin input (Image fault)) (λ agrees. inl (told agrees)))
         twin_meets (Err (AsmText fault)) never = absurd never
@@ -75,10 +84,10 @@ module _ {S W : Type 0} (g : SourceGhosts S) (h : SinkGhosts W) (source left : S
     dis_meets : (outcome : Outcome) → RunsDis h old new before after outcome → MeetsOutput g h source left before after Dis outcome
     dis_meets (Ok done) (reads, sink, written) = (sink, of_input (λ input. IsOkAnd (job_output Dis input) Wrote) written)
     dis_meets (Err Read) (fails, unwritten) = failed fails.source
-    dis_meets (Err Write) (reads, sink, prefix) = sink
+    dis_meets (Err Write) (reads, sink, prefix) = (sink, of_input (λ input. IsOkAnd (job_output Dis input) WrotePrefix) prefix)
     dis_meets (Err Hex) (finds, fault, unwritten) = (unwritten, of_input (λ input. FailsBy Dis input Hex) (λ agrees. inl (fault agrees)))
     dis_meets (Err TooLong) (finds, fault, unwritten) = (unwritten, of_input (λ input. FailsBy Dis input TooLong) (λ agrees. inl (fault agrees)))
-    dis_meets (Err NoMemory) (reads, unwritten) = (unwritten, λ agrees. inr tt)
+    dis_meets (Err NoMemory) (memory, unwritten) = (unwritten, of_input (λ input. FailsBy Dis input NoMemory) (λ agrees. inr (_, memory.reads agrees)))
     dis_meets (Err (Ram fault)) never = absurd never
     dis_meets (Err (Image fault)) never = absurd never
     dis_meets (Err (AsmText fault)) never = absurd never
@@ -86,10 +95,10 @@ module _ {S W : Type 0} (g : SourceGhosts S) (h : SinkGhosts W) (source left : S
   asm_meets : (outcome : Outcome) → RunsAsm g h source left before after outcome → MeetsOutput g h source left before after Asm outcome
   asm_meets (Ok done) (reads, sink, written) = (sink, written)
   asm_meets (Err Read) (fails, unwritten) = fails.source
-  asm_meets (Err Write) (reads, sink, prefix) = sink
+  asm_meets (Err Write) (reads, sink, prefix) = (sink, prefix)
   asm_meets (Err Hex) never = absurd never
   asm_meets (Err TooLong) (finds, fault, unwritten) = (unwritten, λ agrees. inl (fault agrees))
-  asm_meets (Err NoMemory) (reads, unwritten) = (unwritten, λ agrees. inr tt)
+  asm_meets (Err NoMemory) (reads, unwritten) = (unwritten, λ agrees. inr (some_read (reads.some agrees)))
   asm_meets (Err (Ram fault)) never = absurd never
   asm_meets (Err (Image fault)) never = absurd never
   asm_meets (Err (AsmText fault)) (reads, line, fails, unwritten) = (unwritten, fails)

@@ -32,6 +32,6 @@ module _ {S W : Type 0} (g : SourceGhosts S) (h : SinkGhosts W) (source left : S
       text_is = text_is output status nothing writes;
       status_is = writes.status_is;
     }
-    | inr (inl failed) ↦ absurd (gave failed)
-    | inr (inr failed) ↦ absurd (took failed)
+    | inr (inl failed, is) ↦ absurd (gave failed)
+    | inr (inr failed, is) ↦ absurd (took failed)
   ]

@@ -14,20 +14,20 @@ use Rattle.rv_streams.specs.Calls.{SourceFailed, SinkFlushed, SinkFailed}
 use Rattle.rv_streams.specs.Faults.{Outcome}
 use Rattle.rv_bench.specs.FaultText.{fault_text}
 use Rattle.rv_bench.specs.Performing.{Performs, Refuses, ReportsOutcome, TriesToWrite, exit_status}
-use Rattle.rv_bench.specs.ProgramOutput.{FailsBy, Means, MeetsOutput, RunsProgram, Writes, WritesOutput, output_of}
+use Rattle.rv_bench.specs.ProgramOutput.{FailsBy, Means, MeetsOutput, RunsProgram, StopsAtDevice, Writes, WritesOutput, failed_status, output_of}
 use Rattle.rv_bench.proofs.JobResults.{does_meets, does_same}
 
 module _ {S W : Type 0} (g : SourceGhosts S) (h : SinkGhosts W) (source left : S) (before after : W) where
   -- the output was written, or a device failed
   abbrev Ends : Result Job WordsFault → ℕ → Type 0
-  Ends read status = WritesOutput g h source left before after read (g.remaining source) status ⊎ (SourceFailed g source left ⊎ SinkFailed h before after)
+  Ends read status = WritesOutput g h source left before after read (g.remaining source) status ⊎ StopsAtDevice g h source left before after read status
 
   -- a text was written, or the sink failed
   tries : (read : Result Job WordsFault) (text : List ℕ) (status : ℕ) → TriesToWrite h before after text
       → (Writes g h source left before after (record { text = text; status = status }) status → WritesOutput g h source left before after read (g.remaining source) status)
-      → Ends read status
-  tries read text status (inl wrote) into = inl (into (record { sink = wrote.sink; written = wrote.written; status_is = refl }))
-  tries read text status (inr stopped) into = inr (inr stopped.sink)
+      → status ≡ failed_status read → Ends read status
+  tries read text status (inl wrote) into is = inl (into (record { sink = wrote.sink; written = wrote.written; status_is = refl }))
+  tries read text status (inr stopped) into is = inr (inr stopped.sink, is)
 
   -- the job succeeded
   succeeds : (job : Job) (result : Result (List ℕ) BenchFault) → SinkFlushed h before after
@@ -39,15 +39,15 @@ module _ {S W : Type 0} (g : SourceGhosts S) (h : SinkGhosts W) (source left : S
   fails : (job : Job) (fault : BenchFault) → TriesToWrite h before after (fault_text fault) → FailsBy job (g.remaining source) fault → Ends (Ok job) 1
   fails job fault told (inl is) =
       tries (Ok job) (fault_text fault) 1 told
-      (λ writes. inl (subst (λ result. Writes g h source left before after (output_of result) 1) (sym is) writes))
-  fails job fault told (inr memory) = tries (Ok job) (fault_text fault) 1 told (λ writes. inr (output_of (Err fault), (fault, memory, refl), writes))
+      (λ writes. inl (subst (λ result. Writes g h source left before after (output_of result) 1) (sym is) writes)) refl
+  fails job fault told (inr memory) = tries (Ok job) (fault_text fault) 1 told (λ writes. inr (output_of (Err fault), (fault, memory, refl), writes)) refl
 
   -- the arguments name no job
   refuses : (fault : WordsFault) (status : ℕ) → Refuses h before after fault status → Ends (Err fault) status
-  refuses words.Refused status (told, is) = subst (Ends (Err words.Refused)) (sym is) (tries (Err words.Refused) _ 2 told (λ writes. inl writes))
-  refuses words.NoMemory status (told, is) = subst (Ends (Err words.NoMemory)) (sym is) (tries (Err words.NoMemory) _ 1 told (λ writes. inl writes))
+  refuses words.Refused status (told, is) = subst (Ends (Err words.Refused)) (sym is) (tries (Err words.Refused) _ 2 told (λ writes. inl writes) refl)
+  refuses words.NoMemory status (told, is) = subst (Ends (Err words.NoMemory)) (sym is) (tries (Err words.NoMemory) _ 1 told (λ writes. inl writes) refl)
   refuses (words.Help text) status (inl (wrote, is)) = inl (inl (record { sink = wrote.sink; written = wrote.written; status_is = is }))
-  refuses (words.Help text) status (inr (stopped, is)) = inr (inr stopped.sink)
+  refuses (words.Help text) status (inr (stopped, is)) = inr (inr stopped.sink, is)
 
 module _ {S W : Type 0} (g : SourceGhosts S) (h : SinkGhosts W) (source left : S) (before : W) (job : Job) where
   -- the outcome of the job was reported
@@ -56,9 +56,9 @@ module _ {S W : Type 0} (g : SourceGhosts S) (h : SinkGhosts W) (source left : S
   reports (Ok done) mid after (sink, written) same follows =
       subst (λ after. Ends g h source left before after (Ok job) 0) (sym same)
       (inl (inl (succeeds g h source left before mid job _ sink (written follows))))
-  reports (Err Read) mid after failed told follows = inr (inl failed)
-  reports (Err Write) mid after failed same follows =
-      subst (λ after. Ends g h source left before after (Ok job) 1) (sym same) (inr (inr failed))
+  reports (Err Read) mid after failed told follows = inr (inl failed, refl)
+  reports (Err Write) mid after (failed, prefix) same follows =
+      subst (λ after. Ends g h source left before after (Ok job) 1) (sym same) (inr (inr failed, refl))
   reports (Err Hex) mid after (same, by) told follows =
       fails g h source left before after job Hex (subst (λ mid. TriesToWrite h mid after (fault_text Hex)) same told) (by follows)
   reports (Err TooLong) mid after (same, by) told follows =
@@ -80,6 +80,7 @@ runs_program g h source left before after given status (inl (accepted, does)) =
       same = does_same g h source left before does.mid (job_of given) does.outcome does.does;
       read = Ok (job_of given);
       means = (accepted, refl);
+      untouched = tt;
       writes = λ follows. subst (Ends g h source left before after (Ok (job_of given))) (sym does.status_is)
           (reports g h source left before (job_of given) does.outcome does.mid after meets does.told follows);
     }
@@ -87,6 +88,7 @@ runs_program g h source left before after given status (inr refused) = record {
   same = ap g.input refused.untouched;
   read = Err refused.fault;
   means = refused.reason;
+  untouched = refused.untouched;
   writes = λ follows. refuses g h source left before after refused.fault status refused.refuses;
 }
 
@@ -95,4 +97,4 @@ pub runs_refused : {S W : Type 0} (g : SourceGhosts S) (h : SinkGhosts W) (sourc
     (fault : WordsFault) (status : ℕ) → IsMeaning (Err fault) → Refuses h before after fault status
     → RunsProgram g h source source before after IsMeaning status
 runs_refused g h source before after IsMeaning fault status means told =
-    record { same = refl; read = Err fault; means = means; writes = λ follows. refuses g h source source before after fault status told }
+    record { same = refl; read = Err fault; means = means; untouched = refl; writes = λ follows. refuses g h source source before after fault status told }

@@ -1,10 +1,12 @@
 -- The program over a reader and a writer, by their logs.
-use Rattle.std.proofs.Common.{◌≡◌, ◌<◌, ◌+◌, ◌⊎◌, ℕ, List, [], ◌++◌, inl, inr, Result, sym, ◌∙◌, ap, subst, arith}
+use Rattle.std.proofs.Common.{◌≡◌, ◌<◌, ◌+◌, ◌⊎◌, ℕ, List, [], ◌++◌, inl, inr, Result, Ok, Err, sym, ◌∙◌, ap, subst, arith}
+use Rattle.std.specs.Result.{OnErr}
 use Rattle.clap.specs.Words.{Text}
 use Rattle.rv_command_line.specs.declared.job.Job.{Job}
 use Rattle.rv_command_line.specs.declared.words_fault.WordsFault.{WordsFault}
 use Rattle.rv_streams.specs.declared.device.Sink.{Ghosts as SinkGhosts}
 use Rattle.rv_streams.specs.declared.device.Source.{Ghosts as SourceGhosts}
+use Rattle.rv_streams.specs.CallLog.{no_call}
 use Rattle.rv_streams.specs.declared.log.CallLog.{CallLog}
 use Rattle.rv_streams.specs.Calls.{SinkFailed}
 use Rattle.rv_bench.specs.ProgramOutput.{MeansGiven, ProgramOutput, RunsProgram, StopsOutOfMemory, Writes, WritesOutput, program_output}
@@ -44,15 +46,22 @@ module _ {S W : Type 0} (g : SourceGhosts S) (h : SinkGhosts W) (source left : S
   sink_failed (inl risen) = inl (omega (arith, risen, logs.unfailed, logs.failures))
   sink_failed (inr risen) = inr (omega (arith, risen, logs.unrefused, logs.refusals))
 
+  -- nothing was read
+  read_nothing : (read : Result Job WordsFault) (Nothing : Type 0) → (left ≡ source → Nothing) → OnErr read (left ≡ source) → OnErr read Nothing
+  read_nothing (Ok job) Nothing none same = tt
+  read_nothing (Err fault) Nothing none same = none same
+
   pub runs_over : (given : Result (List Text) WordsFault) (input : List ℕ) (reader : CallLog) (status : ℕ)
       → (g.input left ≡ g.input source → Gave reader input → g.follows_input left) → g.remaining source ≡ input → g.failures source ≡ 0 → g.failures left ≡ reader.failures
+      → (left ≡ source → reader ≡ no_call input)
       → RunsProgram g h source left before after (MeansGiven given) status → RunsOverStreams given input reader writer status
-  runs_over given input reader status gave is unfailed failures runs = record {
+  runs_over given input reader status gave is unfailed failures none runs = record {
     read = runs.read;
     means = runs.means;
+    untouched = read_nothing runs.read (reader ≡ no_call input) none runs.untouched;
     writes = λ by. elim (runs.writes (gave runs.same by)) [
       | inl writes ↦ inl (outputs runs.read input status (subst (λ input. WritesOutput g h source left before after runs.read input status) is writes))
-      | inr (inl risen) ↦ let some : 0 < reader.failures = omega (arith, risen, unfailed, failures) in inr (inl some)
-      | inr (inr failed) ↦ inr (inr (sink_failed failed))
+      | inr (inl risen, is) ↦ let some : 0 < reader.failures = omega (arith, risen, unfailed, failures) in inr (inl some, is)
+      | inr (inr failed, is) ↦ inr (inr (sink_failed failed), is)
     ];
   }

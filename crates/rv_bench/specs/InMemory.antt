@@ -1,18 +1,19 @@
 -- The result of a job from bytes in memory to bytes in memory. (This project's own jobs.)
-use Rattle.std.specs.Prelude.{◌≡◌, ◌⊎◌, ℕ, ⊤, List, Result}
+use Rattle.std.specs.Prelude.{◌≡◌, ◌⊎◌, ℕ, ⊤, IsOk, List, Result}
 use Rattle.clap.specs.Words.{Text}
 use Rattle.rv_command_line.specs.declared.job.Job.{Job}
 use Rattle.rv_command_line.specs.declared.job.Job.TheVariants.{Run}
 use Rattle.rv_streams.specs.declared.fault.BenchFault.{BenchFault}
-use Rattle.rv_streams.specs.declared.fault.BenchFault.TheVariants.{Read, Write}
+use Rattle.rv_streams.specs.declared.fault.BenchFault.TheVariants.{Read, Write, NoMemory}
 use Rattle.rv_bench.specs.Noninterference.{SecretNoninterference}
 use Rattle.rv_command_line.specs.declared.words_fault.WordsFault.{WordsFault}
-use Rattle.rv_bench.specs.ProgramOutput.{FailsBy, Means, ProgramOutput, StopsOutOfMemory, program_output}
+use Rattle.rv_bench.specs.ProgramOutput.{FailsBy, Means, ProgramOutput, StopsOutOfMemory, job_output, program_output}
 
--- no device fails: an error is one of the input, or memory was refused
+-- no device fails: an error is one of the input, or memory was refused, also for the output
 abbrev pub FailsInMemory : Job → List ℕ → BenchFault → Type 0
 FailsInMemory job input Read = ⊥
 FailsInMemory job input Write = ⊥
+FailsInMemory job input NoMemory = FailsBy job input NoMemory ⊎ IsOk (job_output job input)
 FailsInMemory job input fault = FailsBy job input fault
 
 -- the output of a run reveals no secret that its script pokes

@@ -1,6 +1,6 @@
 -- The program: what it does with its arguments and its streams, and its exit status. (This project's own program; the text is ASCII, ISO/IEC
 -- 646.)
-use Rattle.std.specs.Prelude.{◌≡◌, ◌⊎◌, ℕ, List, [], ◌++◌, codes, string_bytes, Ok, Err}
+use Rattle.std.specs.Prelude.{◌≡◌, ◌⊎◌, ℕ, List, [], ◌++◌, codes, string_bytes, Result, Ok, Err}
 use Rattle.clap.specs.Words.{Text}
 use Rattle.rv_command_line.specs.declared.job.Job.{Job}
 use Rattle.rv_command_line.specs.declared.words_fault.WordsFault.{WordsFault}
@@ -72,3 +72,8 @@ module _ {S W : Type 0} (g : SourceGhosts S) (h : SinkGhosts W) (source left : S
   -- The arguments name a job, which the program executed, or they name none.
   abbrev pub Performs : List Text → ℕ → Type 0
   Performs given status = ((refusals_of given ≡ []) × DoesAndReports (job_of given) status) ⊎ RefusesArguments given status
+
+  -- The same for arguments that may be unreadable. Then the program reports why, and reads nothing.
+  abbrev pub PerformsGiven : Result (List Text) WordsFault → ℕ → Type 0
+  PerformsGiven (Ok given) status = Performs given status
+  PerformsGiven (Err fault) status = Refuses h before after fault status × (left ≡ source)

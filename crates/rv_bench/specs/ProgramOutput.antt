@@ -1,12 +1,15 @@
 -- The output of a job for an input, the output of the program for its arguments and its input, and the exit status. (This project's own program;
 -- the text is ASCII, ISO/IEC 646.)
-use Rattle.std.specs.Prelude.{◌≡◌, ◌⊎◌, ⊤, ℕ, List, [], ◌++◌, map, codes, string_bytes, IsOkAnd, Vec, String, Result, Ok, Err}
+use Rattle.std.specs.Prelude.{◌≡◌, ◌<◌, ◌⊎◌, ℕ, true, List, [], ◌++◌, length, map, codes, string_bytes, IsOk, IsOkAnd, OnErr, Vec, String, Result, Ok, Err}
 use Rattle.clap.specs.Words.{Text}
 use Rattle.rv_word.specs.Cases.{result_case}
 use Rattle.rv_asm.specs.OutOfMemory.{RunsOutOfMemory as RunsOutOfMemoryAt}
+use Rattle.rv_memory.specs.Memory.{is_ram_size}
+use Rattle.rv_memory.specs.declared.ram_fault.RefusedRam.{RefusedRam}
 use Rattle.rv_memory.specs.declared.ram_fault.RamFault.TheVariants.{NoMemory as NoRamMemory}
 use Rattle.rv_command_line.specs.declared.job.Job.{Job}
 use Rattle.rv_command_line.specs.declared.job.Job.TheVariants.{Run, Twin, Asm, Dis}
+use Rattle.rv_command_line.specs.declared.setup.Setup.{Setup}
 use Rattle.rv_command_line.specs.declared.words_fault.WordsFault.{WordsFault}
 use Rattle.rv_command_line.specs.declared.words_fault.WordsFault.TheVariants as words
 use Rattle.rv_command_line.specs.Faults.{IsFaultOf}
@@ -16,6 +19,8 @@ use Rattle.rv_streams.specs.AssemblyText.{asm_output}
 use Rattle.rv_streams.specs.Calls.{SourceFailed, SinkFlushed, SinkFailed}
 use Rattle.rv_streams.specs.DisassemblyText.{dis_output}
 use Rattle.rv_streams.specs.Faults.{Outcome}
+use Rattle.rv_streams.specs.Image.{image_in, ReadsPrefixOfImage}
+use Rattle.rv_streams.specs.Transfer.{WritesPrefix}
 use Rattle.rv_streams.specs.declared.device.Sink.{Ghosts as SinkGhosts}
 use Rattle.rv_streams.specs.declared.device.Source.{Ghosts as SourceGhosts}
 use Rattle.rv_streams.specs.declared.fault.BenchFault.{BenchFault}
@@ -33,11 +38,24 @@ job_output (Twin setup slot) input = twin_output setup slot input
 job_output Asm input = asm_output input
 job_output Dis input = dis_output input
 
--- memory was refused; in the assembly of a text, at a line without an error that is reported instead
+-- memory was refused for the bytes of an image, of which some were read: no line so far has an error
+abbrev pub OutOfMemoryForImage : List ℕ → Type 0
+OutOfMemoryForImage input = (left : List ℕ) × ReadsPrefixOfImage input left
+
+-- memory was refused for a RAM of the requested size, which is valid, as is the text of the image
+abbrev pub OutOfMemoryForRam : Setup → List ℕ → RefusedRam → Type 0
+OutOfMemoryForRam setup input refused = (is_ram_size setup.ram ≡ true) × (refused.bytes ≡ setup.ram) × IsOk (image_in input)
+
+-- Memory was refused for the input or for the RAM of a run. In the assembly of a text, this may also be at a line without an error that is
+-- reported instead.
 abbrev pub IsOutOfMemory : Job → List ℕ → BenchFault → Type 0
-IsOutOfMemory job input NoMemory = ⊤
-IsOutOfMemory job input (Ram (NoRamMemory refused)) = ⊤
+IsOutOfMemory (Run setup) input NoMemory = OutOfMemoryForImage input
+IsOutOfMemory (Run setup) input (Ram (NoRamMemory refused)) = OutOfMemoryForRam setup input refused
+IsOutOfMemory (Twin setup slot) input NoMemory = OutOfMemoryForImage input
+IsOutOfMemory (Twin setup slot) input (Ram (NoRamMemory refused)) = OutOfMemoryForRam setup input refused
+IsOutOfMemory Asm input NoMemory = 0 < length input
 IsOutOfMemory Asm input (AsmText fault) = RunsOutOfMemoryAt input fault
+IsOutOfMemory Dis input NoMemory = OutOfMemoryForImage input
 IsOutOfMemory job input _ = ⊥
 
 -- an error of the input, or memory was refused
@@ -51,7 +69,9 @@ module _ {S W : Type 0} (g : SourceGhosts S) (h : SinkGhosts W) (source left : S
       SinkFlushed h before after
       × (g.follows_input left → IsOkAnd (job_output job (g.remaining source)) (λ text. h.taken after ≡ h.taken before ++ text))
   MeetsOutput (Err Read) = SourceFailed g source left
-  MeetsOutput (Err Write) = SinkFailed h before after
+  MeetsOutput (Err Write) =
+      SinkFailed h before after
+      × (g.follows_input left → IsOkAnd (job_output job (g.remaining source)) (λ text. WritesPrefix (h.taken before) (h.taken after) text))
   MeetsOutput (Err fault) = (after ≡ before) × (g.follows_input left → FailsBy job (g.remaining source) fault)
 
 -- ---- the program
@@ -72,6 +92,13 @@ program_output (Ok job) input = output_of (job_output job input)
 program_output (Err words.Refused) input = record { text = codes "rvbench: command line\n"; status = 2 }
 program_output (Err words.NoMemory) input = record { text = codes "rvbench: memory\n"; status = 1 }
 program_output (Err (words.Help text)) input = record { text = string_bytes text; status = 0 }
+
+-- the exit status if a device failed
+abbrev pub failed_status : Result Job WordsFault → ℕ
+failed_status (Ok job) = 1
+failed_status (Err words.Refused) = 2
+failed_status (Err words.NoMemory) = 1
+failed_status (Err (words.Help text)) = 1
 
 -- what the arguments mean: their job, or a reason that they have none
 abbrev pub Means : List Text → Result Job WordsFault → Type 0
@@ -105,9 +132,15 @@ module _ {S W : Type 0} (g : SourceGhosts S) (h : SinkGhosts W) (source left : S
       Writes (program_output read input) status
       ⊎ ((output : ProgramOutput) × StopsOutOfMemory read input output × Writes output status)
 
-  -- The program wrote its output for its arguments and the assumed input, which stays the same, or a device failed.
+  -- a device failed, and the exit status reports an error
+  abbrev pub StopsAtDevice : Result Job WordsFault → ℕ → Type 0
+  StopsAtDevice read status = (SourceFailed g source left ⊎ SinkFailed h before after) × (status ≡ failed_status read)
+
+  -- The program wrote its output for its arguments and the assumed input, which stays the same, or a device failed. If the arguments name no
+  -- job, it read nothing.
   pub record RunsProgram (IsMeaning : Result Job WordsFault → Type 0) (status : ℕ) : Type 0 where
     pub same : g.input left ≡ g.input source
     pub read : Result Job WordsFault
     pub means : IsMeaning read
-    pub writes : g.follows_input left → WritesOutput read (g.remaining source) status ⊎ (SourceFailed g source left ⊎ SinkFailed h before after)
+    pub untouched : OnErr read (left ≡ source)
+    pub writes : g.follows_input left → WritesOutput read (g.remaining source) status ⊎ StopsAtDevice read status

@@ -4,7 +4,7 @@ ghost use Rattle.std.specs.Prelude.{◌≡◌, ◌≤◌, ◌++◌, IfOk, OnOk, 
 ghost use Rattle.clap.specs.Walk.{texts};
 ghost use Rattle.rv_asm.specs.Faults.{asm_fault_number};
 ghost use Rattle.rv_bench.specs.FaultText.{fault_text};
-ghost use Rattle.rv_bench.specs.Performing.{DoesAndReports, Performs, Refuses, WritesAll, WritesOnlyPrefix};
+ghost use Rattle.rv_bench.specs.Performing.{DoesAndReports, Performs, PerformsGiven, Refuses, WritesAll, WritesOnlyPrefix};
 ghost use Rattle.rv_bench.specs.ProgramOutput.{given_by, Means, MeansGiven, RunsProgram};
 
 use crate::job::run_job;
@@ -174,14 +174,16 @@ fn texts_of<'a>(alloc: Global, words: &'a [String]) -> Result<Vec<&'a str>, Allo
     Ok(found)
 }
 
-/// Performs the job that the arguments of a process request, as `perform` does. If they could not be read, a line reports the reason.
+/// Performs the job that the arguments of a process request, as `perform` does and with its clauses. If they could not be read, a line reports
+/// the reason, and nothing is read from the source.
 pub fn perform_arguments<S: Source, W: Sink>(
     alloc: Global,
     arguments: &Result<Vec<String>, WordsFault>,
     source: S,
     sink: &mut W,
 ) -> (S, u8)
-    ensures { RunsProgram S.Source W.Sink source result.0 sink.old sink.new (MeansGiven (given_by arguments.now)) result.1 }
+    ensures effects { PerformsGiven S.Source W.Sink source result.0 sink.old sink.new (given_by arguments.now) result.1 }
+    ensures output { RunsProgram S.Source W.Sink source result.0 sink.old sink.new (MeansGiven (given_by arguments.now)) result.1 }
 {
     match arguments {
         Ok(words) => match texts_of(alloc, words.as_slice()) {

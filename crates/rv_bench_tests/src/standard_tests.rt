@@ -4,7 +4,9 @@ use crate::byte_by_byte::{ByteReader, ByteWriter};
 use crate::expecting::{expect_bytes, expect_number, expect_outcome};
 use crate::recording::{RecordingReader, RecordingWriter};
 use crate::sources::source_over;
-use rv_bench::{BenchFault, Source, WriterSink, run_in_memory, run_job};
+use rv_bench::{
+    BenchFault, Source, WordsFault, WriterSink, run_in_memory, run_job, run_over_streams,
+};
 use rv_command_line::{Harts, ImageKind, Job, Setup};
 use std::alloc::Global;
 use std::io::{Cursor, Read, Write};
@@ -161,6 +163,40 @@ fn expect_refused_flush(rt: &impl Abort, alloc: Global, example: &Example) {
 #[test]
 fn failure_of_a_flush_is_reported(rt: HostRuntime) {
     expect_refused_flush(&rt, rt.alloc(), &RUN);
+}
+
+/// Runs the program over a reader and a writer. Expects these bytes with one flush, this status, and this number of calls of the reader.
+fn expect_over_streams(
+    rt: &impl Abort,
+    alloc: Global,
+    arguments: &Result<Vec<String>, WordsFault>,
+    input: &[u8],
+    want: (&[u8], u8, u64),
+) {
+    let reader = RecordingReader::new(input, 0);
+    let writer = RecordingWriter::new(Vec::new(alloc), false);
+    let (source, sink, status) = run_over_streams(alloc, arguments, reader, writer);
+    let writer = sink.into_writer();
+    expect_bytes(rt, writer.bytes(), want.0, 0);
+    expect_number(rt, writer.flushes(), 1, 0);
+    expect_number(rt, u64::from(status), u64::from(want.1), 0);
+    expect_number(rt, source.into_reader().calls(), want.2, 0);
+}
+
+/// Expects that the program calls its streams only for the input and the output, and reads nothing if it refuses its arguments.
+fn expect_program(rt: &impl Abort, alloc: Global, example: &Example) {
+    let name = String::from_str(alloc, "rvbench").expect(rt, "memory");
+    let mut words = Vec::new(alloc);
+    words.push(name).expect(rt, "memory");
+    expect_over_streams(rt, alloc, &Ok(words), example.input, (example.output, 0, 2));
+    let line = b"rvbench: command line\n".as_slice();
+    let refused = Err(WordsFault::Refused);
+    expect_over_streams(rt, alloc, &refused, example.input, (line, 2, 0));
+}
+
+#[test]
+fn program_makes_no_other_calls_of_its_streams(rt: HostRuntime) {
+    expect_program(&rt, rt.alloc(), &RUN);
 }
 
 #[test]

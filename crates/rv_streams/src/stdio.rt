@@ -29,6 +29,7 @@ impl<R: Read> ReaderSource<R> {
     /// Returns a source over this reader, from which nothing is read yet. The input that is assumed is any list of bytes.
     pub fn new(reader: R) -> ReaderSource<R>
         ghost input: { List ℕ }
+        ensures reader { result.reader ≡ reader }
         ensures log { result.log ≡ no_call input }
         ensures calls { result.calls_left ≡ 2 ^ 64 - 1 }
     {

@@ -7,4 +7,4 @@ returns g c =
     let writer = c.perform_arguments-source.new.sink.log in
     let reader = c.into_source.result.log in
     runs_over _ _ c.new-source.result _ _ _ writer (search rules) _ g.input reader _
-    (λ same gave. search rules) (search rules) (search rules) (search rules) c.perform_arguments-source.ensures
+    (λ same gave. search rules) (search rules) (search rules) (search rules) (λ same. search rules) c.perform_arguments-source.ensures.output
