@@ -1,6 +1,7 @@
 //! Laws of the commands for every bench that satisfies the invariant, for the crates above to cite. Each is proved about the definitions in
 //! `specs/`. The law of one command is also a clause of `Bench::command`.
 
+ghost use Rattle.rv_debug.specs.Declassification.{DeclassificationLaw, ListDeclassificationLaw, RelationLaw};
 ghost use Rattle.rv_debug.specs.Noninterference.{EquivalenceLaw, NoninterferenceLaw, PokeLaw, RunsOnNoHartLaw};
 ghost use Rattle.rv_debug.specs.Isolation.{IntegrityLaw, RunningLaw};
 ghost use Rattle.rv_debug.specs.Returns.{ReturnLaw};
@@ -48,4 +49,18 @@ pub const fn poking()
 #[tactic(auto, using(crate::proofs::Returned::return_law))]
 pub const fn host_is_restored()
     ensures { ReturnLaw }
+{}
+
+/// States noninterference with declassification, for one command and for lists of commands. Take two benches that are equivalent except for an
+/// enclave, and commands that may run it, to its exit and beyond. If it hands over the same at each exit, what others observe of the replies is
+/// equal. The two lists may poke different secrets into its region, and set different registers of the hart on which it runs.
+pub const fn noninterference_with_declassification()
+    ensures command { DeclassificationLaw }
+    ensures list { ListDeclassificationLaw }
+{}
+
+/// States that a bench is related to itself, and that benches which are equivalent except for an enclave are related if it runs on no hart.
+#[tactic(auto, using(crate::proofs::Declassification::relation_law))]
+pub const fn equivalent_benches_are_related()
+    ensures { RelationLaw }
 {}
