@@ -1,5 +1,6 @@
 mod PairLemmas
 mod NoninterferenceLemmas
+mod Declassified
 mod Entering
 mod PrefixLines
 mod RepliesLemmas
