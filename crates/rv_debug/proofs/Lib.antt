@@ -5,6 +5,7 @@ pub mod Execution
 pub mod ExecuteAlike
 pub mod Declassification
 pub mod NotRunning
+pub mod LowCommands
 mod ObservedAlike
 mod ObservedRuns
 mod RelatedChanges

@@ -1,15 +1,16 @@
 -- Noninterference with declassification for commands: what an enclave has and does has no influence on what others observe of the replies,
 -- except for what it hands over. The commands may run it, to its exit and beyond. (Laws of this project's own debugger and monitor;
 -- declassification: Sabelfeld and Sands, JCS 2009.)
-use Rattle.std.specs.Prelude.{ℕ, ◌≡◌, ◌⊎◌, true, List, [], ◌∷◌, IfSome}
-use Rattle.rv_monitor.specs.Declassification.{AreMoves, AreRelated, Both, First, Move, Second}
+use Rattle.std.specs.Prelude.{ℕ, ◌≡◌, ◌⊎◌, true, false, List, [], ◌∷◌, IfSome}
+use Rattle.rv_enclaves.specs.Table.{runs}
+use Rattle.rv_monitor.specs.Declassification.{AreMoves, AreRelated, Both, First, Move, SameWindow, Second}
 use Rattle.rv_debug.specs.Prelude.{Bare, Command, Done, Monitored, MonitoredMachine, Run, SetReg, Step, Stop, Target}
 use Rattle.rv_debug.specs.BenchState.{BenchState}
-use Rattle.rv_debug.specs.BothBenches.{BenchesEquivExcept, RunsOnNoHart}
+use Rattle.rv_debug.specs.BothBenches.{BenchesEquivExcept, RunsOnNoHart, RunsOnNoneIn, is_entered}
 use Rattle.rv_debug.specs.Effects.{effect, harts_stepped, steps_of}
 use Rattle.rv_debug.specs.Execute.{execute}
 use Rattle.rv_debug.specs.Isolation.{after_commands}
-use Rattle.rv_debug.specs.Noninterference.{PokesInto}
+use Rattle.rv_debug.specs.Noninterference.{PokesInto, harts_named}
 use Rattle.rv_debug.specs.Observed.{is_selected, observed}
 use Rattle.rv_debug.specs.Selected.{Selected}
 use Rattle.rv_debug.specs.Targets.{TargetInvariant, machine_in}
@@ -93,6 +94,26 @@ abbrev pub DeclassificationLaw : Type 0
 DeclassificationLaw =
     (e : ℕ) (first second : BenchState) (here there : Command) → TargetInvariant first.target → TargetInvariant second.target
     → BenchesAreRelated e first second → CommandsAlike e first second here there → ObservedAlike e first second here there
+
+-- ---- a command of which none of the steps is one of the enclave
+
+-- the bytes of the window are equal, if the enclave runs
+abbrev pub WindowsAreEqual : ℕ → BenchState → BenchState → Type 0
+WindowsAreEqual e first second =
+    IfSome (machine_in first.target) (λ one. IfSome (machine_in second.target) (λ other.
+    runs one.shared.table e ≡ true → SameWindow e one other))
+
+-- both execute the same steps, and the windows are equal again
+pub record IsLowCommand (e : ℕ) (first second : BenchState) (command : Command) : Type 0 where
+  pub same : IsSameCommand e first second command command
+  pub window : WindowsAreEqual e (execute first command).state (execute second command).state
+
+-- A command steps no hart on which the enclave runs, and does not enter it in the first bench. The condition on its steps then holds.
+abbrev pub LowCommandLaw : Type 0
+LowCommandLaw =
+    (e : ℕ) (first second : BenchState) (command : Command) → TargetInvariant first.target → TargetInvariant second.target
+    → BenchesAreRelated e first second → WindowsAreEqual e first second → RunsOnNoneIn e (harts_named first.target command) first.target
+    → is_entered e (execute first command).entered ≡ false → IsLowCommand e first second command
 
 -- ---- lists of commands
 

@@ -1,7 +1,7 @@
 //! Laws of the commands for every bench that satisfies the invariant, for the crates above to cite. Each is proved about the definitions in
 //! `specs/`. The law of one command is also a clause of `Bench::command`.
 
-ghost use Rattle.rv_debug.specs.Declassification.{DeclassificationLaw, ListDeclassificationLaw, RelationLaw};
+ghost use Rattle.rv_debug.specs.Declassification.{DeclassificationLaw, ListDeclassificationLaw, LowCommandLaw, RelationLaw};
 ghost use Rattle.rv_debug.specs.Noninterference.{EquivalenceLaw, NoninterferenceLaw, PokeLaw, RunsOnNoHartLaw};
 ghost use Rattle.rv_debug.specs.Isolation.{IntegrityLaw, RunningLaw};
 ghost use Rattle.rv_debug.specs.Returns.{ReturnLaw};
@@ -63,4 +63,10 @@ pub const fn noninterference_with_declassification()
 #[tactic(auto, using(crate::proofs::Declassification::relation_law))]
 pub const fn equivalent_benches_are_related()
     ensures { RelationLaw }
+{}
+
+/// States when the condition of that law on the steps of a command holds by itself. The command steps no hart on which the enclave runs, and does
+/// not enter it. If the enclave runs, the bytes of its window are equal before the command, and they are so after it.
+pub const fn low_commands_are_alike()
+    ensures { LowCommandLaw }
 {}
