@@ -5,6 +5,7 @@ use Rattle.std.specs.Prelude.{not, if◌then◌else◌, nat_le, nat_lt}
 use Rattle.rv_enclaves.specs.Table.{runs, window}
 use Rattle.rv_enclaves.proofs.EqualMemory.{same_write, write-none, write-some}
 use Rattle.rv_monitor.specs.Declassification.{AreMoves, AreRelated, Both, EquivToGuests, IsLowStep, Move, SameWindow}
+use Rattle.rv_monitor.specs.HartLaws.{AreLowSteps}
 use Rattle.rv_monitor.specs.declared.outcome.Outcome.{Outcome}
 use Rattle.rv_monitor.proofs.Declassification.{related_equiv}
 use Rattle.rv_monitor.proofs.GuestEquiv.{guest_step_equiv}
@@ -63,17 +64,18 @@ both_second [] = refl
 both_second (hart ∷ harts) = ap (λ (hs : List ℕ). hart ∷ hs) (both_second harts)
 
 -- these steps of both are moves, after which the machines are equivalent in the guest view
-record AreLowMoves (e : ℕ) (harts : List ℕ) (one other : MonitoredMachine) : Type 0 where
+pub record AreLowMoves (e : ℕ) (harts : List ℕ) (one other : MonitoredMachine) : Type 0 where
+  pub low : AreLowSteps e harts one
   moves : AreMoves e (both harts) one other
   state : EquivToGuests e (sched harts one).state (sched harts other).state
 
 no_moves : (e : ℕ) (one other : MonitoredMachine) → EquivToGuests e one other → AreLowMoves e [] one other
-no_moves e one other equiv = record { moves = tt; state = equiv }
+no_moves e one other equiv = record { low = tt; moves = tt; state = equiv }
 
 one_more_move : (e hart : ℕ) (harts : List ℕ) (one other : MonitoredMachine) → Invariant one → EquivToGuests e one other → runs_on e hart one ≡ false
     → AreLowMoves e harts (step_of hart one).state (step_of hart other).state → AreLowMoves e (hart ∷ harts) one other
 one_more_move e hart harts one other here equiv low rest =
-    record { moves = (inl (low_step e hart one other here equiv low), rest.moves); state = rest.state }
+    record { low = (low, rest.low); moves = (inl (low_step e hart one other here equiv low), rest.moves); state = rest.state }
 
 are_steps : (e : ℕ) (harts : List ℕ) (one other : MonitoredMachine) → AreLowMoves e harts one other → StepsAreMoves e one other harts harts
 are_steps e harts one other low = record { moves = both harts; first = both_first harts; second = both_second harts; are = low.moves }
@@ -170,7 +172,7 @@ module _ (e hart : ℕ) (breaks watches : List ℕ) where
 
 module _ (e hart : ℕ) (one other : MonitoredMachine) (here : Invariant one) (there : Invariant other) (related : AreRelated e one other)
     (window_equal : runs one.shared.table e ≡ true → SameWindow e one other) (breaks watches : List ℕ) where
-  abbrev at : MonitoredMachine → Target
+  abbrev pub at : MonitoredMachine → Target
   at machine = selected_at hart machine
 
   abbrev bench : MonitoredMachine → BenchState
@@ -192,15 +194,15 @@ module _ (e hart : ℕ) (one other : MonitoredMachine) (here : Invariant one) (t
       (sym (schedule_is_sched harts (record { hart = hart; state = other }) _ selected))
       (λ running. same_window e (sched harts one).state (sched harts other).state (sched_invariant harts one here) low.state))
 
-  abbrev runs_of : MonitoredMachine → List ℕ → List ℕ → ℕ → Ran
+  abbrev pub runs_of : MonitoredMachine → List ℕ → List ℕ → ℕ → Ran
   runs_of machine at_breaks at_watches count = (steps_of (at machine) at_breaks at_watches count).ran
 
   -- the two runs of a command
-  record LowRuns (at_breaks at_watches : List ℕ) (count : ℕ) : Type 0 where
+  pub record LowRuns (at_breaks at_watches : List ℕ) (count : ℕ) : Type 0 where
     ran : runs_of one at_breaks at_watches count ≡ runs_of other at_breaks at_watches count
-    low : AreLowMoves e (replicate (runs_of one at_breaks at_watches count).steps hart) one other
+    pub low : AreLowMoves e (replicate (runs_of one at_breaks at_watches count).steps hart) one other
 
-  low_runs : (at_breaks at_watches : List ℕ) (count : ℕ) → runs_on e hart one ≡ false
+  pub low_runs : (at_breaks at_watches : List ℕ) (count : ℕ) → runs_on e hart one ≡ false
       → is_entered e (entered_by (at one) (run_effect (at one) at_breaks at_watches count)) ≡ false → LowRuns at_breaks at_watches count
   low_runs at_breaks at_watches count low passed =
       let ran : AfterRun Target → Ran = λ after. after.ran in

@@ -4,14 +4,14 @@
 use Rattle.std.specs.Prelude.{ℕ, ◌≡◌, ◌⊎◌, true, false, List, [], ◌∷◌, IfSome}
 use Rattle.rv_enclaves.specs.Table.{runs}
 use Rattle.rv_monitor.specs.Declassification.{AreMoves, AreRelated, Both, First, Move, SameWindow, Second}
-use Rattle.rv_debug.specs.Prelude.{Bare, Command, Done, Monitored, MonitoredMachine, Run, SetReg, Step, Stop, Target}
+use Rattle.rv_debug.specs.Prelude.{Bare, Command, Csr, Done, Monitored, MonitoredMachine, Run, SetReg, Step, Stop, Target}
 use Rattle.rv_debug.specs.BenchState.{BenchState}
 use Rattle.rv_debug.specs.BothBenches.{BenchesEquivExcept, RunsOnNoHart, RunsOnNoneIn, is_entered}
 use Rattle.rv_debug.specs.Effects.{effect, harts_stepped, steps_of}
-use Rattle.rv_debug.specs.Execute.{execute}
+use Rattle.rv_debug.specs.Execute.{csr_reply, execute}
 use Rattle.rv_debug.specs.Isolation.{after_commands}
-use Rattle.rv_debug.specs.Noninterference.{PokesInto, harts_named}
-use Rattle.rv_debug.specs.Observed.{is_selected, observed}
+use Rattle.rv_debug.specs.Noninterference.{AvoidsEnclave, PokesInto, harts_named}
+use Rattle.rv_debug.specs.Observed.{guest_target, is_selected, observed}
 use Rattle.rv_debug.specs.Selected.{Selected}
 use Rattle.rv_debug.specs.Targets.{TargetInvariant, machine_in}
 
@@ -137,6 +137,23 @@ abbrev pub ListDeclassificationLaw : Type 0
 ListDeclassificationLaw =
     (e : ℕ) (first second : BenchState) (commands others : List Command) → TargetInvariant first.target → TargetInvariant second.target
     → BenchesAreRelated e first second → AllCommandsAlike e first second commands others → AllObservedAlike e first second commands others
+
+-- ---- the observation of a command that has nothing to do with the enclave
+
+-- the enclave of slot e does not run
+abbrev pub DoesNotRun : ℕ → Target → Type 0
+DoesNotRun e target = IfSome (machine_in target) (λ machine. runs machine.shared.table e ≡ false)
+
+-- the whole reply is observed; that of `csr` in the guest view
+abbrev pub IsObserved : ℕ → BenchState → Command → Type 0
+IsObserved e bench (Csr number) = observed e bench (Csr number) ≡ csr_reply (guest_target bench.target) number
+IsObserved e bench command = observed e bench command ≡ (execute bench command).reply
+
+-- The enclave does not run. The command does not enter it, and accesses no byte of its region.
+abbrev pub ObservationLaw : Type 0
+ObservationLaw =
+    (e : ℕ) (bench : BenchState) (command : Command) → TargetInvariant bench.target → DoesNotRun e bench.target → AvoidsEnclave e bench command
+    → IsObserved e bench command
 
 -- ---- where the relation begins
 

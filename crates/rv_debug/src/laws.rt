@@ -1,7 +1,7 @@
 //! Laws of the commands for every bench that satisfies the invariant, for the crates above to cite. Each is proved about the definitions in
 //! `specs/`. The law of one command is also a clause of `Bench::command`.
 
-ghost use Rattle.rv_debug.specs.Declassification.{DeclassificationLaw, ListDeclassificationLaw, LowCommandLaw, RelationLaw};
+ghost use Rattle.rv_debug.specs.Declassification.{DeclassificationLaw, ListDeclassificationLaw, LowCommandLaw, ObservationLaw, RelationLaw};
 ghost use Rattle.rv_debug.specs.Noninterference.{EquivalenceLaw, NoninterferenceLaw, PokeLaw, RunsOnNoHartLaw};
 ghost use Rattle.rv_debug.specs.Isolation.{IntegrityLaw, RunningLaw};
 ghost use Rattle.rv_debug.specs.Returns.{ReturnLaw};
@@ -69,4 +69,10 @@ pub const fn equivalent_benches_are_related()
 /// not enter it. If the enclave runs, the bytes of its window are equal before the command, and they are so after it.
 pub const fn low_commands_are_alike()
     ensures { LowCommandLaw }
+{}
+
+/// States what others observe if the enclave does not run. They observe the whole reply to a command that does not enter it, and accesses no byte of
+/// its region. The reply to `csr` shows the registers that no world reads as 0.
+pub const fn replies_are_observed()
+    ensures { ObservationLaw }
 {}
