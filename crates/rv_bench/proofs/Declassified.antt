@@ -1,22 +1,26 @@
 -- Lines keep two benches related, and what others observe of the replies is equal, by the law of one command; and from one input to another.
-use Rattle.std.proofs.Common.{◌≡◌, ℕ, List, [], ◌∷◌, ◌++◌, Result, Ok, Err, IfOk, refl, sym, ◌∙◌, ap, ap₂, true}
+use Rattle.std.proofs.Common.{◌≡◌, ℕ, false, inl, List, [], ◌∷◌, ◌++◌, Result, Ok, Err, IfOk, refl, sym, ◌∙◌, ap, ap₂, true}
 use Rattle.rv_word.specs.Cases.{result_case}
 use Rattle.rv_text.specs.Lines.{lines_of, through_last_feed}
 use Rattle.rv_script.specs.Command.{parse_of}
 use Rattle.rv_script.specs.declared.command.Command.{Command}
 use Rattle.rv_script.specs.declared.command.CommandFault.{CommandFault}
 use Rattle.rv_debug.specs.BenchState.{BenchState}
-use Rattle.rv_debug.specs.Declassification.{BenchesAreRelated}
-use Rattle.rv_debug.specs.Execute.{execute_line, execute_or_fault}
+use Rattle.rv_debug.specs.BothBenches.{RunsOnNoneIn, is_entered}
+use Rattle.rv_debug.specs.Declassification.{BenchesAreRelated, WindowsAreEqual}
+use Rattle.rv_debug.specs.Execute.{execute, execute_line, execute_or_fault}
+use Rattle.rv_debug.specs.Noninterference.{harts_named}
 use Rattle.rv_debug.specs.Observed.{observed}
 use Rattle.rv_debug.specs.ReplyText.{command_fault_text}
 use Rattle.rv_debug.specs.Targets.{TargetInvariant}
 use Rattle.rv_debug.proofs.Declassification.{declassification, relation_law}
+use Rattle.rv_debug.proofs.LowCommands.{low_command}
 use Rattle.rv_command_line.specs.declared.job.Job.{Job}
 use Rattle.rv_command_line.specs.declared.job.Job.TheVariants.{Run, Twin, Asm, Dis}
 use Rattle.rv_command_line.specs.declared.setup.Setup.{Setup}
 use Rattle.rv_streams.specs.Separator.{after_separator, has_separator}
 use Rattle.rv_streams.specs.declared.fault.BenchFault.{BenchFault}
+use Rattle.rv_bench.specs.Declassification.{LineIsLow, LinesAreLow}
 use Rattle.rv_bench.specs.Declassification.{LinesAlike, LinesObservedAlike, ParsedAlike, ScriptDeclassification, SecretDeclassification}
 use Rattle.rv_bench.specs.Declassification.{observed_line, observed_output}
 use Rattle.rv_bench.specs.InMemory.{InMemoryNoninterference}
@@ -63,6 +67,32 @@ module _ (e : ℕ) where
       (keeps_line second other kept') both.state alike.1 in
       record { text = ap₂ (λ (one others : List ℕ). one ++ others) both.text rest.text; state = rest.state }
 
+  -- ---- low lines
+
+  line_low : (first second : BenchState) (line : List ℕ) → TargetInvariant first.target → TargetInvariant second.target
+      → BenchesAreRelated e first second → WindowsAreEqual e first second → LineIsLow e first line
+      → ParsedAlike e first second (parse_of line) (parse_of line) × WindowsAreEqual e (execute_line first line).state (execute_line second line).state
+  unfolding execute_line
+  line_low first second line kept kept' related equal = go (parse_of line) where
+    go : (parsed : Result Command CommandFault)
+        → IfOk parsed (λ command. RunsOnNoneIn e (harts_named first.target command) first.target × (is_entered e (execute first command).entered ≡ false))
+        → ParsedAlike e first second parsed parsed × WindowsAreEqual e (execute_or_fault first parsed).state (execute_or_fault second parsed).state
+    go (Ok command) low = let is = low_command e first second command kept kept' related equal low.0 low.1 in (inl is.same, is.window)
+    go (Err fault) low = (refl, equal)
+
+  pub lines_low : (first second : BenchState) (lines : List (List ℕ)) → TargetInvariant first.target → TargetInvariant second.target
+      → BenchesAreRelated e first second → WindowsAreEqual e first second → LinesAreLow e first lines → LinesAlike e first second lines lines
+  lines_low first second [] kept kept' related equal low = tt
+  lines_low first second (line ∷ lines) kept kept' related equal low =
+      let (alike, windows) = line_low first second line kept kept' related equal low.0 in
+      let both = line_observed first second line line kept kept' related alike in (
+        alike,
+        lines_low (execute_line first line).state (execute_line second line).state lines (keeps_line first line kept) (keeps_line second line kept')
+            both.state windows low.1,
+      )
+
+  -- ---- scripts
+
   -- observed lines leave the same state
   same_state : (bench : BenchState) (lines : List (List ℕ)) → state_after (observed_line e) bench lines ≡ state_after bench_line bench lines
   same_state bench [] = refl
@@ -82,11 +112,13 @@ module _ (e : ℕ) where
       ∙ ap (λ (state : BenchState). text state others) (sym (same_state bench before))
       ∙ sym (replies-append (observed_line e) bench before others)
 
--- ---- scripts
-
 declassification_through : (bench : BenchState) → TargetInvariant bench.target → ScriptDeclassification bench
-declassification_through bench kept e before lines others other kept' related alike =
-    lines_observed e (state_after bench_line bench before) other lines others (keeps_lines bench before kept) kept' related alike
+declassification_through bench kept = record {
+  alike = λ e before lines others other kept' related alike.
+      lines_observed e (state_after bench_line bench before) other lines others (keeps_lines bench before kept) kept' related alike;
+  low = λ e before lines other kept' related equal low.
+      lines_low e (state_after bench_line bench before) other lines (keeps_lines bench before kept) kept' related equal low;
+}
 
 declassified_from : (bench : Result BenchState BenchFault) → IfOk bench (λ state. TargetInvariant state.target) → IfOk bench ScriptDeclassification
 declassified_from (Ok state) kept = declassification_through state kept

@@ -1,13 +1,16 @@
 -- Noninterference with declassification over scripts: the scripts may run an enclave, and what it hands over is equal. Then what others observe of
 -- the output is equal. (A law of this project's own monitor and debugger; declassification: Sabelfeld and Sands, JCS 2009.)
-use Rattle.std.specs.Prelude.{◌≡◌, ℕ, List, [], ◌∷◌, ◌++◌, true, IfOk, Result, Ok, Err}
+use Rattle.std.specs.Prelude.{◌≡◌, ℕ, List, [], ◌∷◌, ◌++◌, true, false, IfOk, Result, Ok, Err}
 use Rattle.rv_text.specs.Lines.{lines_of, through_last_feed}
 use Rattle.rv_word.specs.Cases.{result_case}
 use Rattle.rv_script.specs.Command.{parse_of}
 use Rattle.rv_script.specs.declared.command.Command.{Command}
 use Rattle.rv_script.specs.declared.command.CommandFault.{CommandFault}
 use Rattle.rv_debug.specs.BenchState.{BenchState}
-use Rattle.rv_debug.specs.Declassification.{BenchesAreRelated, CommandsAlike}
+use Rattle.rv_debug.specs.BothBenches.{RunsOnNoneIn, is_entered}
+use Rattle.rv_debug.specs.Declassification.{BenchesAreRelated, CommandsAlike, WindowsAreEqual}
+use Rattle.rv_debug.specs.Execute.{execute}
+use Rattle.rv_debug.specs.Noninterference.{harts_named}
 use Rattle.rv_debug.specs.Observed.{observed}
 use Rattle.rv_debug.specs.ReplyText.{command_fault_text}
 use Rattle.rv_debug.specs.Targets.{TargetInvariant}
@@ -50,12 +53,24 @@ pub record LinesObservedAlike (e : ℕ) (first second : BenchState) (lines other
   pub text : replies (observed_line e) first lines ≡ replies (observed_line e) second others
   pub state : BenchesAreRelated e (state_after bench_line first lines) (state_after bench_line second others)
 
--- After any lines, take the rest of the script, and other lines for a bench that is related. Line by line they are alike.
-abbrev pub ScriptDeclassification : BenchState → Type 0
-ScriptDeclassification bench =
-    (e : ℕ) (before lines others : List (List ℕ)) (other : BenchState) → TargetInvariant other.target
-    → BenchesAreRelated e (state_after bench_line bench before) other → LinesAlike e (state_after bench_line bench before) other lines others
-    → LinesObservedAlike e (state_after bench_line bench before) other lines others
+-- A line steps no hart on which the enclave runs, and does not enter it. A line with an error does neither.
+abbrev pub LineIsLow : ℕ → BenchState → List ℕ → Type 0
+LineIsLow e bench line = IfOk (parse_of line) (λ command.
+    RunsOnNoneIn e (harts_named bench.target command) bench.target × (is_entered e (execute bench command).entered ≡ false))
+
+abbrev pub LinesAreLow : ℕ → BenchState → List (List ℕ) → Type 0
+LinesAreLow e bench [] = Unit {0}
+LinesAreLow e bench (line ∷ lines) = LineIsLow e bench line × LinesAreLow e (bench_line bench line).state lines
+
+-- After any lines, take the rest of the script, and other lines for a bench that is related. If they are alike line by line, what others observe is
+-- equal. The same lines for both benches are alike if they are low in the first, and if the window is equal while the enclave runs.
+pub record ScriptDeclassification (bench : BenchState) : Type 0 where
+  pub alike : (e : ℕ) (before lines others : List (List ℕ)) (other : BenchState) → TargetInvariant other.target
+      → BenchesAreRelated e (state_after bench_line bench before) other → LinesAlike e (state_after bench_line bench before) other lines others
+      → LinesObservedAlike e (state_after bench_line bench before) other lines others
+  pub low : (e : ℕ) (before lines : List (List ℕ)) (other : BenchState) → TargetInvariant other.target
+      → BenchesAreRelated e (state_after bench_line bench before) other → WindowsAreEqual e (state_after bench_line bench before) other
+      → LinesAreLow e (state_after bench_line bench before) lines → LinesAlike e (state_after bench_line bench before) other lines lines
 
 -- ---- from bytes to bytes
 
