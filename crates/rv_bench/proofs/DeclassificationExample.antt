@@ -1,5 +1,5 @@
 -- An example of the law of declassification: an enclave runs on the selected hart. Two scripts poke different bytes into its region, and set
--- different registers of that hart. What others observe of the output is the same.
+-- different registers of that hart. The observed outputs are equal.
 use Rattle.std.proofs.Common.{◌≡◌, inl, inr, List, [], ℕ, ◌++◌, codes, IfOk, true, Option, Result, Ok, Err, Some, None, refl, ◌∙◌}
 use Rattle.std.specs.Option.{option_map}
 use Rattle.std.specs.Prelude.{IfSome}

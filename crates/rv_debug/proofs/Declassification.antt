@@ -10,8 +10,8 @@ use Rattle.rv_state.specs.CsrState.{CsrState}
 use Rattle.rv_debug.specs.Prelude.{Access, Clear, Unwatch, Bare, Command, Csr, Dis, Enclaves, Hart, HartState, Invariant, Machine, Mem, Monitored, MonitoredMachine, Pmp, Poke, Reg}
 use Rattle.rv_debug.specs.Prelude.{Entries, Regs, Run, Sched, SetReg, Slots, Step, Target, Timer, count_of, harts_in, has, has_all, hart_state_of, is_inside}
 use Rattle.rv_debug.specs.Prelude.{is_live, number_of_bytes, option_case, ram_base, reg_set, region, register, runs_on, sched, slot_at, timer_line_set, write, write_bytes}
-use Rattle.rv_debug.specs.Declassification.{CommandsAlike, DeclassificationLaw, HandsOverAlike}
-use Rattle.rv_debug.specs.Declassification.{ListDeclassificationLaw, ObservedAlike, RelationLaw, SetsOwnRegister, StepsAreMoves}
+use Rattle.rv_debug.specs.Declassification.{CommandsAlike, CommandDeclassificationLaw, HandsOverAlike}
+use Rattle.rv_debug.specs.Declassification.{ListDeclassificationLaw, ObservedAlike, BenchRelationLaw, SetsOwnRegister, StepsAreMoves}
 use Rattle.rv_debug.specs.Declassification.{TargetsAreRelated, stop_of}
 use Rattle.rv_debug.specs.EnclaveText.{table_text}
 use Rattle.rv_debug.specs.Execute.{breaks_after, watches_after}
@@ -296,7 +296,7 @@ targets_alike e (Bare one) (Bare other) breaks watches command command_too here 
 targets_alike e (Bare one) (Monitored other) breaks watches command command_too here there related alike = absurd related
 targets_alike e (Monitored one) (Bare other) breaks watches command command_too here there related alike = absurd related
 
-pub declassification : DeclassificationLaw
+pub declassification : CommandDeclassificationLaw
 declassification e first second command command_too here there related =
     subst (λ (breaks : List ℕ). CommandsAlike e first (over second.target breaks second.watches) command command_too
     → ObservedAlike e first (over second.target breaks second.watches) command command_too) related.breaks
@@ -330,7 +330,7 @@ targets_begin e (Monitored one) (Monitored other) equiv idle =
 targets_begin e (Bare one) (Monitored other) equiv idle = absurd equiv
 targets_begin e (Monitored one) (Bare other) equiv idle = absurd equiv
 
-pub relation_law : RelationLaw
+pub relation_law : BenchRelationLaw
 relation_law = record {
   itself = λ e bench. record { target = targets_itself e bench.target; breaks = refl; watches = refl };
   begins = λ e first second equiv idle.

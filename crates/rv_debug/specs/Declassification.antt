@@ -90,12 +90,12 @@ pub record ObservedAlike (e : ℕ) (first second : BenchState) (here there : Com
   pub observed : observed e first here ≡ observed e second there
   pub state : BenchesAreRelated e (execute first here).state (execute second there).state
 
-abbrev pub DeclassificationLaw : Type 0
-DeclassificationLaw =
+abbrev pub CommandDeclassificationLaw : Type 0
+CommandDeclassificationLaw =
     (e : ℕ) (first second : BenchState) (here there : Command) → TargetInvariant first.target → TargetInvariant second.target
     → BenchesAreRelated e first second → CommandsAlike e first second here there → ObservedAlike e first second here there
 
--- ---- a command of which none of the steps is one of the enclave
+-- ---- a command that executes no step of the enclave
 
 -- the bytes of the window are equal, if the enclave runs
 abbrev pub WindowsAreEqual : ℕ → BenchState → BenchState → Type 0
@@ -158,6 +158,6 @@ ObservationLaw =
 -- ---- where the relation begins
 
 -- A bench is related to itself. Benches that are equivalent except for an enclave are related, if it runs on no hart.
-pub record RelationLaw : Type 0 where
+pub record BenchRelationLaw : Type 0 where
   pub itself : (e : ℕ) (bench : BenchState) → BenchesAreRelated e bench bench
   pub begins : (e : ℕ) (first second : BenchState) → BenchesEquivExcept e first second → RunsOnNoHart e first.target → BenchesAreRelated e first second

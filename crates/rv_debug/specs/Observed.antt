@@ -1,6 +1,6 @@
--- The observation of a command: its reply without the parts that depend on what is private to an enclave. Left out are the state of a hart that
--- runs the enclave, the bytes of its region, those of its window while it runs, the registers that no world reads, and the number of its steps.
--- (This project's own commands.)
+-- The observation of a command: its reply without the parts that depend on what is private to an enclave. These are the state of a hart that
+-- runs the enclave, the bytes of its region, and those of its window while it runs. The number of its steps and the registers that no world reads
+-- are private too. (This project's own commands.)
 use Rattle.std.specs.Prelude.{ℕ, ◌+◌, ◌==◌, Bool, false, ◌&&◌, ◌||◌, List, [], ◌∷◌, ◌++◌, nat_lt, replicate, Option, if◌then◌else◌}
 use Rattle.std.specs.Option.{option_or}
 use Rattle.rv_enclaves.specs.Table.{runs, window}
