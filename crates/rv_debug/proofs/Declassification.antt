@@ -7,9 +7,11 @@ use Rattle.rv_monitor.specs.Declassification.{AreRelated, may_differ}
 use Rattle.rv_monitor.proofs.Declassification.{relation_law as machine_relation_law}
 use Rattle.rv_script.specs.declared.command.Command.TheVariants.{Break, Watch}
 use Rattle.rv_state.specs.CsrState.{CsrState}
-use Rattle.rv_debug.specs.Prelude.{Access, Clear, Unwatch, Bare, Command, Csr, Dis, Enclaves, Hart, HartState, Invariant, Machine, Mem, Monitored, MonitoredMachine, Pmp, Poke, Reg}
+use Rattle.rv_debug.specs.Prelude.{Access, Bare, Clear, Command, Csr, Dis, Enclaves, Hart, HartState, Invariant, Machine, Mem, Monitored, MonitoredMachine}
+use Rattle.rv_debug.specs.Prelude.{Pmp, Poke, Reg, Unwatch}
 use Rattle.rv_debug.specs.Prelude.{Entries, Regs, Run, Sched, SetReg, Slots, Step, Target, Timer, count_of, harts_in, has, has_all, hart_state_of, is_inside}
-use Rattle.rv_debug.specs.Prelude.{is_live, number_of_bytes, option_case, ram_base, reg_set, region, register, runs_on, sched, slot_at, timer_line_set, write, write_bytes}
+use Rattle.rv_debug.specs.Prelude.{is_live, number_of_bytes, option_case, ram_base, reg_set, region, register, runs_on, sched, slot_at, timer_line_set, write}
+use Rattle.rv_debug.specs.Prelude.{write_bytes}
 use Rattle.rv_debug.specs.Declassification.{CommandsAlike, CommandDeclassificationLaw, HandsOverAlike}
 use Rattle.rv_debug.specs.Declassification.{ListDeclassificationLaw, ObservedAlike, BenchRelationLaw, SetsOwnRegister, StepsAreMoves}
 use Rattle.rv_debug.specs.Declassification.{TargetsAreRelated, stop_of}
@@ -49,7 +51,8 @@ module _ (e hart : ℕ) (one other : MonitoredMachine) (here : Invariant one) (t
       (subst (TargetsAreRelated e (selected_at selected (sched harts one).state))
       (sym (schedule_is_sched others (record { hart = hart; state = other }) _ selected)) (record { hart = refl; state = moved.state }))
 
-  register_written : (number value : ℕ) → TargetsAreRelated e (done (at one) (effect (on one) (SetReg number value))) (done (at other) (effect (on other) (SetReg number value)))
+  register_written : (number value : ℕ)
+      → TargetsAreRelated e (done (at one) (effect (on one) (SetReg number value))) (done (at other) (effect (on other) (SetReg number value)))
   register_written number value = record {
     hart = refl;
     state = changed_related e hart (reg_set number value) (reg_set number value) one other related (record {
@@ -70,7 +73,8 @@ module _ (e hart : ℕ) (one other : MonitoredMachine) (here : Invariant one) (t
     });
   }
 
-  timer_written : (raised : Bool) → TargetsAreRelated e (done (at one) (effect (on one) (Timer raised))) (done (at other) (effect (on other) (Timer raised)))
+  timer_written : (raised : Bool)
+      → TargetsAreRelated e (done (at one) (effect (on one) (Timer raised))) (done (at other) (effect (on other) (Timer raised)))
   timer_written raised = record {
     hart = refl;
     state = changed_related e hart (timer_line_set raised) (timer_line_set raised) one other related (record {
@@ -97,7 +101,8 @@ module _ (e hart : ℕ) (one other : MonitoredMachine) (here : Invariant one) (t
             let first = write-some one.shared.memory address bytes inside in
             let second = write-some other.shared.memory address bytes (rw (← sizes) inside) in
             let written = same_write (may_differ one.shared.table e) one.shared.memory other.shared.memory address bytes _ _ memory first second in
-            let same : (is_live one.shared.table e ≡ false) → write_bytes one.shared.memory (address - ram_base) bytes ≡ write_bytes other.shared.memory (address - ram_base) bytes =
+            let same : (is_live one.shared.table e ≡ false)
+            → write_bytes one.shared.memory (address - ram_base) bytes ≡ write_bytes other.shared.memory (address - ram_base) bytes =
             λ dead. ap (λ (s : Shared). write_bytes s.memory (address - ram_base) bytes) (related.gone dead) in
             rw (first, second) (record {
               state = record { hart = refl; state = memory_related e one other _ _ related written same };
@@ -110,7 +115,8 @@ module _ (e hart : ℕ) (one other : MonitoredMachine) (here : Invariant one) (t
       ]
 
   -- pokes of two bytes into the region
-  secrets_poked : (address byte address_too byte_too : ℕ) → has (region one.shared.table e) address ≡ true → has (region other.shared.table e) address_too ≡ true
+  secrets_poked : (address byte address_too byte_too : ℕ) → has (region one.shared.table e) address ≡ true
+      → has (region other.shared.table e) address_too ≡ true
       → PokedAlike (write one.shared.memory address (byte ∷ [])) (write other.shared.memory address_too (byte_too ∷ []))
   secrets_poked address byte address_too byte_too within within_too =
       let first = written one e address byte here within in
@@ -283,7 +289,8 @@ targets_alike : (e : ℕ) (one other : Target) (breaks watches : List ℕ) (comm
     → TargetsAreRelated e one other → CommandsAlike e (over one breaks watches) (over other breaks watches) command command_too
     → ObservedAlike e (over one breaks watches) (over other breaks watches) command command_too
 targets_alike e (Monitored one) (Monitored other) breaks watches command command_too here there related alike =
-    let go : (hart : ℕ) → one.hart ≡ hart → CommandsAlike e (over (Monitored one) breaks watches) (over (selected_at hart other.state) breaks watches) command command_too
+    let go : (hart : ℕ) → one.hart ≡ hart
+    → CommandsAlike e (over (Monitored one) breaks watches) (over (selected_at hart other.state) breaks watches) command command_too
     → ObservedAlike e (over (Monitored one) breaks watches) (over (selected_at hart other.state) breaks watches) command command_too =
     λ hart is. subst (λ (h : ℕ). CommandsAlike e (over (Monitored one) breaks watches) (over (selected_at h other.state) breaks watches) command command_too
     → ObservedAlike e (over (Monitored one) breaks watches) (over (selected_at h other.state) breaks watches) command command_too) is

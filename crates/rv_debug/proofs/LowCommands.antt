@@ -267,7 +267,8 @@ module _ (e hart : ℕ) (one other : MonitoredMachine) (here : Invariant one) (t
         | inl inside ↦
             let first = write-some one.shared.memory address bytes inside in
             let second = write-some other.shared.memory address bytes (rw (← sizes) inside) in
-            rw (first, second) (λ running. same_write (λ (b : ℕ). not (has (window one.shared.table e) b)) one.shared.memory other.shared.memory address bytes _ _
+            rw (first, second) (λ running.
+            same_write (λ (b : ℕ). not (has (window one.shared.table e) b)) one.shared.memory other.shared.memory address bytes _ _
             (window_equal running) first second)
         | inr outside ↦
             let first = write-none one.shared.memory address bytes outside in
@@ -278,7 +279,8 @@ module _ (e hart : ℕ) (one other : MonitoredMachine) (here : Invariant one) (t
   abbrev IsLow : Command → Type 0
   IsLow command = IsLowCommand e (bench one) (bench other) command
 
-  low : (command : Command) → RunsOnNoneIn e (harts_named (at one) command) (at one) → is_entered e (execute (bench one) command).entered ≡ false → IsLow command
+  low : (command : Command) → RunsOnNoneIn e (harts_named (at one) command) (at one)
+      → is_entered e (execute (bench one) command).entered ≡ false → IsLow command
   unfolding execute
   low (Step count) none passed =
       let (steps, stop, after) = low_run_command [] [] count (low_runs [] [] count none.0 passed) in
@@ -288,7 +290,8 @@ module _ (e hart : ℕ) (one other : MonitoredMachine) (here : Invariant one) (t
       record { same = record { same = refl; steps = steps; stop = stop }; window = after }
   low (Sched schedule) none passed =
       let harts = harts_in schedule in
-      let (steps, after) = low_sched harts (has_all (count_of one) harts) (has_all (count_of other) harts) (ap (λ (n : ℕ). has_all n harts) related.harts) none passed in
+      let same = ap (λ (n : ℕ). has_all n harts) related.harts in
+      let (steps, after) = low_sched harts (has_all (count_of one) harts) (has_all (count_of other) harts) same none passed in
       record { same = record { same = refl; steps = steps; stop = refl }; window = after }
   low (Hart number) none passed =
       let (steps, after) = low_hart number (nat_lt number (count_of one)) (nat_lt number (count_of other)) in

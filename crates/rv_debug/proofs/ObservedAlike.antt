@@ -88,7 +88,8 @@ run_texts e hart one other a b first second both stop =
           ∙ ap₂ (text (guest_state (hart_state_of hart b.state)) ran_b.steps) trap stop)
     ]
 
-pub runs_alike : (e hart : ℕ) (one other : MonitoredMachine) (breaks watches : List ℕ) (count : ℕ) → Invariant one → Invariant other → AreRelated e one other
+pub runs_alike : (e hart : ℕ) (one other : MonitoredMachine) (breaks watches : List ℕ) (count : ℕ) → Invariant one → Invariant other
+    → AreRelated e one other
     → StepsAreMoves e one other (replicate (steps_of (selected_at hart one) breaks watches count).ran.steps hart)
     (replicate (steps_of (selected_at hart other) breaks watches count).ran.steps hart)
     → (steps_of (selected_at hart one) breaks watches count).ran.stop ≡ (steps_of (selected_at hart other) breaks watches count).ran.stop
@@ -230,7 +231,8 @@ module _ (e : ℕ) (one other : MonitoredMachine) (related : AreRelated e one ot
       elim (cases_Bool (runs one.shared.table e)) [
         | inr idle ↦ rw (outside, idle) refl
         | inl running ↦
-            let beyond = seen_block block (window one.shared.table e) (ap (λ (r : Bool). r && meets block (window one.shared.table e)) (sym running) ∙ parts.1) b low high in
+            let clear = ap (λ (r : Bool). r && meets block (window one.shared.table e)) (sym running) ∙ parts.1 in
+            let beyond = seen_block block (window one.shared.table e) clear b low high in
             rw (outside, running, beyond) refl
       ]
 

@@ -61,7 +61,6 @@ pub const fn noninterference_with_declassification()
 {}
 
 /// States that a bench is related to itself, and that benches which are equivalent except for an enclave are related if it runs on no hart.
-#[tactic(auto, using(crate::proofs::Declassification::relation_law))]
 pub const fn equivalent_benches_are_related()
     ensures { BenchRelationLaw }
 {}
