@@ -96,7 +96,7 @@ is_alike bench there = (
   (
     parsed_alike _ _ _ _ _ _ first_setreg second_setreg
         (inr (inr (runs_after bench _ _ _ first_poke there.runs, runs_after bench _ _ _ second_poke there.runs))),
-    (parsed_alike _ _ _ _ _ _ regs regs (inl (record { same = refl; steps = no_steps _ _; stop = refl })), tt),
+    (parsed_alike _ _ _ _ _ _ regs regs (inl (inl (record { same = refl; steps = no_steps _ _; stop = refl }))), tt),
   ),
 )
 

@@ -77,7 +77,7 @@ module _ (e : ℕ) where
     go : (parsed : Result Command CommandFault)
         → IfOk parsed (λ command. RunsOnNoneIn e (harts_named first.target command) first.target × (is_entered e (execute first command).entered ≡ false))
         → ParsedAlike e first second parsed parsed × WindowsAreEqual e (execute_or_fault first parsed).state (execute_or_fault second parsed).state
-    go (Ok command) low = let is = low_command e first second command kept kept' related equal low.0 low.1 in (inl is.same, is.window)
+    go (Ok command) low = let is = low_command e first second command kept kept' related equal low.0 low.1 in (inl (inl is.same), is.window)
     go (Err fault) low = (refl, equal)
 
   pub lines_low : (first second : BenchState) (lines : List (List ℕ)) → TargetInvariant first.target → TargetInvariant second.target

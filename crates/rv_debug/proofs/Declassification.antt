@@ -1,6 +1,6 @@
 -- Commands keep two benches related, and their observations are equal.
 use Rattle.std.proofs.Common.{◌≡◌, ℕ, ◌-◌, Bool, true, false, List, [], ◌∷◌, Option, None, refl, sym, ◌∙◌, ap, ap₂, subst, inl, inr}
-use Rattle.std.specs.Prelude.{nat_lt, if◌then◌else◌}
+use Rattle.std.specs.Prelude.{◌⊎◌, nat_lt, if◌then◌else◌}
 use Rattle.rv_enclaves.specs.declared.shared.Shared.{Shared}
 use Rattle.rv_enclaves.proofs.EqualMemory.{same_write, write-none, write-some}
 use Rattle.rv_monitor.specs.Declassification.{AreRelated, may_differ}
@@ -12,7 +12,7 @@ use Rattle.rv_debug.specs.Prelude.{Pmp, Poke, Reg, Unwatch}
 use Rattle.rv_debug.specs.Prelude.{Entries, Regs, Run, Sched, SetReg, Slots, Step, Target, Timer, count_of, harts_in, has, has_all, hart_state_of, is_inside}
 use Rattle.rv_debug.specs.Prelude.{is_live, number_of_bytes, option_case, ram_base, reg_set, region, register, runs_on, sched, slot_at, timer_line_set, write}
 use Rattle.rv_debug.specs.Prelude.{write_bytes}
-use Rattle.rv_debug.specs.Declassification.{CommandsAlike, CommandDeclassificationLaw, HandsOverAlike}
+use Rattle.rv_debug.specs.Declassification.{BenchesAreRelated, CommandDeclassificationLaw, HandsOverAlike, IsSameCommand}
 use Rattle.rv_debug.specs.Declassification.{ListDeclassificationLaw, ObservedAlike, BenchRelationLaw, SetsOwnRegister, StepsAreMoves}
 use Rattle.rv_debug.specs.Declassification.{TargetsAreRelated, stop_of}
 use Rattle.rv_debug.specs.EnclaveText.{table_text}
@@ -23,11 +23,18 @@ use Rattle.rv_debug.proofs.Prelude.{dis_text, memory_text, ok_text, option_map, 
 use Rattle.rv_debug.proofs.Prelude.{RunsOnNoHart, TargetsEquivExcept, access_reply, harts_stepped, no_hart_text, schedule_start, scheduled_steps, selected_at}
 use Rattle.rv_debug.proofs.EffectsInvariant.{bare_done, keeps_monitor, poke_of}
 use Rattle.rv_debug.proofs.ExecuteAlike.{over}
+use Rattle.rv_debug.proofs.LowCommands.{low_command}
 use Rattle.rv_debug.proofs.ObservedAlike.{accesses_alike, csrs_alike, entries_alike, hart_texts, memory_texts, runs_alike, schedules_alike}
 use Rattle.rv_debug.proofs.PokesAlike.{has_live, hidden_writes, written}
 use Rattle.rv_debug.proofs.RelatedChanges.{changed_related, memory_related, related_itself}
 use Rattle.rv_debug.proofs.RelatedMoves.{moved_by}
 use Rattle.rv_debug.proofs.ScheduledSteps.{by_bare, schedule_is_sched}
+
+-- the same command, pokes of secrets, or own registers set to secrets
+abbrev SecretsOrSame : ℕ → BenchState → BenchState → Command → Command → Type 0
+SecretsOrSame e first second here there =
+    IsSameCommand e first second here there
+    ⊎ ((PokesInto e first here × PokesInto e second there) ⊎ (SetsOwnRegister e first here × SetsOwnRegister e second there))
 
 module _ (e hart : ℕ) (one other : MonitoredMachine) (here : Invariant one) (there : Invariant other) (related : AreRelated e one other)
     (breaks watches : List ℕ) where
@@ -248,7 +255,7 @@ module _ (e hart : ℕ) (one other : MonitoredMachine) (here : Invariant one) (t
   own_registers (SetReg number value) _ sets sets_too = absurd sets_too
   own_registers _ command_too sets sets_too = absurd sets
 
-  commands_alike : (command command_too : Command) → CommandsAlike e (on one) (on other) command command_too → Alike command command_too
+  commands_alike : (command command_too : Command) → SecretsOrSame e (on one) (on other) command command_too → Alike command command_too
   commands_alike command command_too (inl is) =
       subst (Alike command) is.same (same_command command is.steps is.stop)
   commands_alike command command_too (inr (inl pokes)) = secrets command command_too pokes.0 pokes.1
@@ -280,36 +287,48 @@ module _ (e : ℕ) (machine : Machine) (breaks watches : List ℕ) where
   bare_sets (SetReg number value) sets = cc
   bare_sets _ sets = sets
 
-  bare_alike : (command command_too : Command) → CommandsAlike e bench bench command command_too → ObservedAlike e bench bench command command_too
+  bare_alike : (command command_too : Command) → SecretsOrSame e bench bench command command_too → ObservedAlike e bench bench command command_too
   bare_alike command command_too (inl is) = subst (ObservedAlike e bench bench command) is.same (bare_itself command)
   bare_alike command command_too (inr (inl pokes)) = absurd (bare_pokes command pokes.0)
   bare_alike command command_too (inr (inr sets)) = absurd (bare_sets command sets.0)
 
 targets_alike : (e : ℕ) (one other : Target) (breaks watches : List ℕ) (command command_too : Command) → TargetInvariant one → TargetInvariant other
-    → TargetsAreRelated e one other → CommandsAlike e (over one breaks watches) (over other breaks watches) command command_too
+    → TargetsAreRelated e one other → SecretsOrSame e (over one breaks watches) (over other breaks watches) command command_too
     → ObservedAlike e (over one breaks watches) (over other breaks watches) command command_too
 targets_alike e (Monitored one) (Monitored other) breaks watches command command_too here there related alike =
     let go : (hart : ℕ) → one.hart ≡ hart
-    → CommandsAlike e (over (Monitored one) breaks watches) (over (selected_at hart other.state) breaks watches) command command_too
+    → SecretsOrSame e (over (Monitored one) breaks watches) (over (selected_at hart other.state) breaks watches) command command_too
     → ObservedAlike e (over (Monitored one) breaks watches) (over (selected_at hart other.state) breaks watches) command command_too =
-    λ hart is. subst (λ (h : ℕ). CommandsAlike e (over (Monitored one) breaks watches) (over (selected_at h other.state) breaks watches) command command_too
+    λ hart is. subst (λ (h : ℕ). SecretsOrSame e (over (Monitored one) breaks watches) (over (selected_at h other.state) breaks watches) command command_too
     → ObservedAlike e (over (Monitored one) breaks watches) (over (selected_at h other.state) breaks watches) command command_too) is
     (commands_alike e one.hart one.state other.state here there related.state breaks watches command command_too) in
     go other.hart related.hart alike
 targets_alike e (Bare one) (Bare other) breaks watches command command_too here there related alike =
-    subst (λ (m : Machine). CommandsAlike e (over (Bare one) breaks watches) (over (Bare m) breaks watches) command command_too
+    subst (λ (m : Machine). SecretsOrSame e (over (Bare one) breaks watches) (over (Bare m) breaks watches) command command_too
     → ObservedAlike e (over (Bare one) breaks watches) (over (Bare m) breaks watches) command command_too) related
     (bare_alike e one breaks watches command command_too) alike
 targets_alike e (Bare one) (Monitored other) breaks watches command command_too here there related alike = absurd related
 targets_alike e (Monitored one) (Bare other) breaks watches command command_too here there related alike = absurd related
 
-pub declassification : CommandDeclassificationLaw
-declassification e first second command command_too here there related =
-    subst (λ (breaks : List ℕ). CommandsAlike e first (over second.target breaks second.watches) command command_too
+-- every case but that of a low command
+secrets_or_same : (e : ℕ) (first second : BenchState) (command command_too : Command) → TargetInvariant first.target → TargetInvariant second.target
+    → BenchesAreRelated e first second → SecretsOrSame e first second command command_too → ObservedAlike e first second command command_too
+secrets_or_same e first second command command_too here there related =
+    subst (λ (breaks : List ℕ). SecretsOrSame e first (over second.target breaks second.watches) command command_too
     → ObservedAlike e first (over second.target breaks second.watches) command command_too) related.breaks
-    (subst (λ (watches : List ℕ). CommandsAlike e first (over second.target first.breaks watches) command command_too
+    (subst (λ (watches : List ℕ). SecretsOrSame e first (over second.target first.breaks watches) command command_too
     → ObservedAlike e first (over second.target first.breaks watches) command command_too) related.watches
     (targets_alike e first.target second.target first.breaks first.watches command command_too here there related.target))
+
+pub declassification : CommandDeclassificationLaw
+declassification e first second command command_too here there related (inl (inl is)) =
+    secrets_or_same e first second command command_too here there related (inl is)
+declassification e first second command command_too here there related (inl (inr is)) =
+    let low = low_command e first second command here there related is.window is.none is.past in
+    subst (ObservedAlike e first second command) is.same
+    (secrets_or_same e first second command command here there related (inl low.same))
+declassification e first second command command_too here there related (inr secrets) =
+    secrets_or_same e first second command command_too here there related (inr secrets)
 
 -- ---- lists of commands
 

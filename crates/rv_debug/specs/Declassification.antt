@@ -79,10 +79,23 @@ pub record IsSameCommand (e : ℕ) (first second : BenchState) (here there : Com
   pub steps : HandsOverAlike e first second here
   pub stop : stop_of first here ≡ stop_of second here
 
+-- the bytes of the window are equal, if the enclave runs
+abbrev pub WindowsAreEqual : ℕ → BenchState → BenchState → Type 0
+WindowsAreEqual e first second =
+    IfSome (machine_in first.target) (λ one. IfSome (machine_in second.target) (λ other.
+    runs one.shared.table e ≡ true → SameWindow e one other))
+
+-- both execute the same command, which in the first bench steps no hart on which the enclave runs, and does not enter it
+pub record IsSameLowCommand (e : ℕ) (first second : BenchState) (here there : Command) : Type 0 where
+  pub same : here ≡ there
+  pub window : WindowsAreEqual e first second
+  pub none : RunsOnNoneIn e (harts_named first.target here) first.target
+  pub past : is_entered e (execute first here).entered ≡ false
+
 -- Or both poke a secret into the region of the enclave, or both set a register of the hart on which it runs to a secret.
 abbrev pub CommandsAlike : ℕ → BenchState → BenchState → Command → Command → Type 0
 CommandsAlike e first second here there =
-    IsSameCommand e first second here there
+    (IsSameCommand e first second here there ⊎ IsSameLowCommand e first second here there)
     ⊎ ((PokesInto e first here × PokesInto e second there) ⊎ (SetsOwnRegister e first here × SetsOwnRegister e second there))
 
 -- the observations are equal, and the benches are related again
@@ -96,12 +109,6 @@ CommandDeclassificationLaw =
     → BenchesAreRelated e first second → CommandsAlike e first second here there → ObservedAlike e first second here there
 
 -- ---- a command that executes no step of the enclave
-
--- the bytes of the window are equal, if the enclave runs
-abbrev pub WindowsAreEqual : ℕ → BenchState → BenchState → Type 0
-WindowsAreEqual e first second =
-    IfSome (machine_in first.target) (λ one. IfSome (machine_in second.target) (λ other.
-    runs one.shared.table e ≡ true → SameWindow e one other))
 
 -- both execute the same steps, and the windows are equal again
 pub record IsLowCommand (e : ℕ) (first second : BenchState) (command : Command) : Type 0 where
