@@ -1,5 +1,7 @@
 mod PairLemmas
 mod NoninterferenceLemmas
+mod Declassified
+mod DeclassificationExample
 mod Entering
 mod PrefixLines
 mod RepliesLemmas

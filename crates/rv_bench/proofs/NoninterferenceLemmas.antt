@@ -14,8 +14,6 @@ use Rattle.rv_script.specs.declared.command.CommandFault.{CommandFault}
 use Rattle.rv_debug.proofs.ExecuteAlike.{equiv_again, noninterference}
 use Rattle.rv_debug.proofs.NotRunning.{poked_rests, rest_law, scramble_rests}
 use Rattle.rv_debug.proofs.PokesAlike.{equiv_with_itself, poke_law}
-use Rattle.rv_command_line.specs.declared.job.Job.{Job}
-use Rattle.rv_command_line.specs.declared.job.Job.TheVariants.{Run, Twin, Asm, Dis}
 use Rattle.rv_command_line.specs.declared.setup.Setup.{Setup}
 use Rattle.rv_streams.specs.declared.fault.BenchFault.{BenchFault}
 use Rattle.rv_streams.specs.Image.{image_in}
@@ -23,7 +21,6 @@ use Rattle.rv_streams.specs.Separator.{after_separator, has_separator}
 use Rattle.rv_bench.specs.Noninterference.{RepliesAlike, AreSecret, SecretNoninterference, ScriptNoninterference, DifferInPokes}
 use Rattle.rv_bench.specs.Noninterference.{LineAvoidsHart, LineAvoidsEnclave}
 use Rattle.rv_bench.specs.Noninterference.{LinesAvoidHart, EachLineAvoidsHart, LinesAvoidEnclave, PokeOrPass}
-use Rattle.rv_bench.specs.InMemory.{InMemoryNoninterference}
 use Rattle.rv_bench.specs.Loaded.{started}
 use Rattle.rv_bench.specs.Output.{bench_in, output, replies_of}
 use Rattle.rv_bench.specs.Replies.{bench_line, replies, state_after}
@@ -255,9 +252,3 @@ secret_noninterference setup input e other differ =
     ∙ outputs_alike setup e differ.prefix differ.secret differ.another differ.rest differ.whole_prefix differ.separated
     differ.whole_secret differ.whole_another differ.poked
     ∙ sym (ap (output setup) differ.other_is)
-
-pub in_memory_noninterference : (job : Job) (input : List ℕ) → InMemoryNoninterference job input
-in_memory_noninterference (Run setup) input = secret_noninterference setup input
-in_memory_noninterference (Twin setup slot) input = tt
-in_memory_noninterference Asm input = tt
-in_memory_noninterference Dis input = tt

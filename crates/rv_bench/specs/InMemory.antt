@@ -2,10 +2,12 @@
 use Rattle.std.specs.Prelude.{◌≡◌, ◌⊎◌, ℕ, ⊤, IsOk, List, Result}
 use Rattle.clap.specs.Words.{Text}
 use Rattle.rv_command_line.specs.declared.job.Job.{Job}
-use Rattle.rv_command_line.specs.declared.job.Job.TheVariants.{Run}
+use Rattle.rv_command_line.specs.declared.job.Job.TheVariants.{Run, Twin}
 use Rattle.rv_streams.specs.declared.fault.BenchFault.{BenchFault}
 use Rattle.rv_streams.specs.declared.fault.BenchFault.TheVariants.{Read, Write, NoMemory}
+use Rattle.rv_bench.specs.Declassification.{SecretDeclassification}
 use Rattle.rv_bench.specs.Noninterference.{SecretNoninterference}
+use Rattle.rv_bench.specs.TwinLaws.{TwinNoninterference}
 use Rattle.rv_command_line.specs.declared.words_fault.WordsFault.{WordsFault}
 use Rattle.rv_bench.specs.ProgramOutput.{FailsBy, Means, ProgramOutput, StopsOutOfMemory, job_output, program_output}
 
@@ -16,9 +18,11 @@ FailsInMemory job input Write = ⊥
 FailsInMemory job input NoMemory = FailsBy job input NoMemory ⊎ IsOk (job_output job input)
 FailsInMemory job input fault = FailsBy job input fault
 
--- the output of a run reveals no secret that its script pokes
+-- The output of a run reveals no secret of an enclave, except for what it hands over. The two benches of a twin run reply the same until the
+-- enclave is entered.
 abbrev pub InMemoryNoninterference : Job → List ℕ → Type 0
-InMemoryNoninterference (Run setup) input = SecretNoninterference setup input
+InMemoryNoninterference (Run setup) input = SecretNoninterference setup input × SecretDeclassification setup input
+InMemoryNoninterference (Twin setup slot) input = TwinNoninterference setup slot input
 InMemoryNoninterference job input = ⊤
 
 -- The text and the status are the output of the program for its arguments and the input. Or memory was refused, and they report this.

@@ -1,6 +1,7 @@
 pub mod Responses
 pub mod Pair
 pub mod Noninterference
+pub mod Declassification
 pub mod FaultText
 pub mod InMemory
 pub mod Integrity

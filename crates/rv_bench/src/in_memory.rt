@@ -11,7 +11,8 @@ use rv_command_line::Job;
 use rv_streams::{BenchFault, MemorySource, VecSink};
 use std::alloc::{AllocError, Global};
 
-/// Returns the output of a job for an input. It calls `run_job` over a slice and a vector. `secret` is the clause of `run_stream`.
+/// Returns the output of a job for an input. It calls `run_job` over a slice and a vector. `secret` has the clauses `secret` and `declassification`
+/// of `run_stream` for a run, and the clause `noninterference` of `run_twin` for a twin run.
 ///
 /// # Errors
 ///

@@ -3,7 +3,14 @@ mod AddressLaws
 pub mod AddressLemmas
 pub mod Execution
 pub mod ExecuteAlike
+pub mod Declassification
 pub mod NotRunning
+pub mod LowCommands
+mod Observation
+mod ObservedAlike
+mod ObservedRuns
+mod RelatedChanges
+mod RelatedMoves
 pub mod BothAlike
 mod FastRuns
 mod FastTargets

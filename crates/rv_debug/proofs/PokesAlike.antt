@@ -37,7 +37,7 @@ hidden_write hidden m n address byte m' equiv written secret =
     }
 
 -- a hidden byte of each memory may change
-hidden_writes : (hidden : ℕ → Bool) (m n : List ℕ) (here there byte other : ℕ) (m' n' : List ℕ) → EqualOutside hidden m n
+pub hidden_writes : (hidden : ℕ → Bool) (m n : List ℕ) (here there byte other : ℕ) (m' n' : List ℕ) → EqualOutside hidden m n
     → write m here (byte ∷ []) ≡ Some m' → write n there (other ∷ []) ≡ Some n' → hidden here ≡ true → hidden there ≡ true
     → EqualOutside hidden m' n'
 hidden_writes hidden m n here there byte other m' n' equiv first second secret secret' =
@@ -48,7 +48,7 @@ hidden_writes hidden m n here there byte other m' n' equiv first second secret s
 -- ---- the region
 
 -- a region with a byte belongs to a live enclave, and the byte is in memory
-has_live : (o : Option SlotInfo) (address : ℕ) → has (region_of o) address ≡ true → is_some o ≡ true
+pub has_live : (o : Option SlotInfo) (address : ℕ) → has (region_of o) address ≡ true → is_some o ≡ true
 has_live None address is = let parts = and_parts (nat_le 0 address) (nat_lt address 0) is in let never = ltb-true address 0 parts.1 in
     absurd (omega (arith, never))
 has_live (Some info) address is = refl
@@ -66,7 +66,7 @@ has_inside memory (Some info) address law is =
     let high = ltb-true _ _ at.1 in
     and_from _ _ (le-leb ram_base address (omega (arith, inside.0, low))) (le-leb (address + 1) (ram_base + length memory) (omega (arith, inside.1, high)))
 
-written : (state : MonitoredMachine) (e address byte : ℕ) → Invariant state → has (region state.shared.table e) address ≡ true
+pub written : (state : MonitoredMachine) (e address byte : ℕ) → Invariant state → has (region state.shared.table e) address ≡ true
     → write state.shared.memory address (byte ∷ []) ≡ Some (write_bytes state.shared.memory (address - ram_base) (byte ∷ []))
 written state e address byte kept is =
     write-some state.shared.memory address (byte ∷ [])

@@ -59,7 +59,7 @@ earlier e start later one other still (inr past) = inr (record {
 })
 
 -- after a step that does not enter the enclave, it runs on none of these harts, if it did so before
-none_after : (e hart : ℕ) (harts : List ℕ) (machine : MonitoredMachine) → enters e (step_of hart machine).outcome.entered ≡ false
+pub none_after : (e hart : ℕ) (harts : List ℕ) (machine : MonitoredMachine) → enters e (step_of hart machine).outcome.entered ≡ false
     → RunsOnNone e harts machine → RunsOnNone e harts (step_of hart machine).state
 none_after e hart [] machine passes none = tt
 none_after e hart (own ∷ harts) machine passes none = (entry_law e hart own machine none.0 passes, none_after e hart harts machine passes none.1)
@@ -70,7 +70,7 @@ next hart did state outcome =
     let machine : Selected = record { hart = hart; state = state } in
     with_scheduled_step hart (after_schedule (Monitored machine) did) (record { state = Monitored machine; outcome = outcome.step; entered = outcome.entered })
 
-entered_next : (e hart : ℕ) (harts : List ℕ) (did : Scheduled) (state : MonitoredMachine) (outcome : Outcome) → outcome.entered ≡ Some e
+pub entered_next : (e hart : ℕ) (harts : List ℕ) (did : Scheduled) (state : MonitoredMachine) (outcome : Outcome) → outcome.entered ≡ Some e
     → is_entered e (scheduled_steps harts (next hart did state outcome)).did.entered ≡ true
 entered_next e hart harts did state outcome is =
     stays_entered e harts (next hart did state outcome) (enters-now e did.entered outcome.entered is)

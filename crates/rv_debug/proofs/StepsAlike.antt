@@ -72,7 +72,7 @@ module _ (e hart : ℕ) (breaks watches : List ℕ) where
       (λ after stop is. is) (λ before end more is. more (enters-with e before.entered (hart_stepped hart before.state).entered is))
 
   -- and so does a slot that this step enters
-  entered-next : (left : ℕ) (before : AfterSteps MonitoredMachine) (outcome : Outcome) (state : MonitoredMachine) → outcome.entered ≡ Some e
+  pub entered-next : (left : ℕ) (before : AfterSteps MonitoredMachine) (outcome : Outcome) (state : MonitoredMachine) → outcome.entered ≡ Some e
       → is_entered e (next_run left before outcome state).ran.entered ≡ true
   entered-next left before outcome state is =
       let after = after_step before outcome state in

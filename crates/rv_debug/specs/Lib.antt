@@ -6,9 +6,11 @@ pub mod BenchState
 pub mod Noninterference
 pub mod Effects
 pub mod EnclaveText
+pub mod Declassification
 pub mod FastSteps
 pub mod Isolation
 pub mod Returns
+pub mod Observed
 pub mod ReplyText
 pub mod Steps
 pub mod Stops

@@ -1,6 +1,8 @@
 //! Laws of the commands for every bench that satisfies the invariant, for the crates above to cite. Each is proved about the definitions in
 //! `specs/`. The law of one command is also a clause of `Bench::command`.
 
+ghost use Rattle.rv_debug.specs.Declassification.{BenchRelationLaw, CommandDeclassificationLaw, ListDeclassificationLaw};
+ghost use Rattle.rv_debug.specs.Declassification.{LowCommandLaw, ObservationLaw};
 ghost use Rattle.rv_debug.specs.Noninterference.{EquivalenceLaw, NoninterferenceLaw, PokeLaw, RunsOnNoHartLaw};
 ghost use Rattle.rv_debug.specs.Isolation.{IntegrityLaw, RunningLaw};
 ghost use Rattle.rv_debug.specs.Returns.{ReturnLaw};
@@ -48,4 +50,29 @@ pub const fn poking()
 #[tactic(auto, using(crate::proofs::Returned::return_law))]
 pub const fn host_is_restored()
     ensures { ReturnLaw }
+{}
+
+/// States noninterference with declassification, for one command and for lists of commands. Take two benches that are equivalent except for an
+/// enclave, and commands that may run it, to its exit and beyond. If it hands over the same at each exit, what others observe of the replies is
+/// equal. The two lists may poke different secrets into its region, and set different registers of the hart on which it runs.
+pub const fn noninterference_with_declassification()
+    ensures command { CommandDeclassificationLaw }
+    ensures list { ListDeclassificationLaw }
+{}
+
+/// States that a bench is related to itself, and that benches which are equivalent except for an enclave are related if it runs on no hart.
+pub const fn equivalent_benches_are_related()
+    ensures { BenchRelationLaw }
+{}
+
+/// States when the condition of that law on the steps of a command holds by itself. The command steps no hart on which the enclave runs, and does
+/// not enter it. If the enclave runs, the bytes of its window are equal before the command, and they are so after it.
+pub const fn low_commands_are_alike()
+    ensures { LowCommandLaw }
+{}
+
+/// States what others observe if the enclave does not run. They observe the whole reply to a command that does not enter it, and accesses no byte of
+/// its region. The reply to `csr` shows the registers that no world reads as 0.
+pub const fn replies_are_observed()
+    ensures { ObservationLaw }
 {}

@@ -1,4 +1,4 @@
-use Rattle.rv_bench.proofs.NoninterferenceLemmas.{in_memory_noninterference}
+use Rattle.rv_bench.proofs.Declassified.{in_memory_noninterference}
 use Rattle.rv_bench.proofs.in_memory.run_in_memory.Goals as goal
 
 pub returns-in-Ok-clause-secret : goal.returns-in-Ok-clause-secret

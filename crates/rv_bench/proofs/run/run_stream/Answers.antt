@@ -1,5 +1,6 @@
 use Rattle.std.proofs.Common.{◌∙◌, ap, sym, Ok}
 use Rattle.rv_streams.specs.Unread.{unread}
+use Rattle.rv_bench.proofs.Declassified.{secret_declassification}
 use Rattle.rv_bench.proofs.NoninterferenceLemmas.{secret_noninterference, stream_noninterference}
 use Rattle.rv_bench.proofs.IntegrityLemmas.{stream_integrity}
 use Rattle.rv_bench.proofs.Streams.{streamed}
@@ -28,3 +29,9 @@ returns-in_err-image-clause-secret g c = secret_noninterference c.args.setup.now
 
 pub returns-clause-secret : goal.returns-clause-secret
 returns-clause-secret g c = secret_noninterference c.args.setup.now (unread c.args.lines.now)
+
+pub returns-in_err-image-clause-declassification : goal.returns-in_err-image-clause-declassification
+returns-in_err-image-clause-declassification g c = secret_declassification c.args.setup.now (unread c.args.lines.now)
+
+pub returns-clause-declassification : goal.returns-clause-declassification
+returns-clause-declassification g c = secret_declassification c.args.setup.now (unread c.args.lines.now)

@@ -1,0 +1,122 @@
+-- An example of the law of declassification: an enclave runs on the selected hart. Two scripts poke different bytes into its region, and set
+-- different registers of that hart. The observed outputs are equal.
+use Rattle.std.proofs.Common.{◌≡◌, inl, inr, List, [], ℕ, ◌++◌, codes, IfOk, true, Option, Result, Ok, Err, Some, None, refl, ◌∙◌}
+use Rattle.std.specs.Option.{option_map}
+use Rattle.std.specs.Prelude.{IfSome}
+use Rattle.rv_word.specs.Cases.{option_case}
+use Rattle.rv_platform.specs.Blocks.{has}
+use Rattle.rv_text.specs.GoodLines.{is_text}
+use Rattle.rv_text.specs.Lines.{lines_of, through_last_feed}
+use Rattle.rv_text.specs.Numbers.{number_of_digits}
+use Rattle.rv_text.specs.Words.{words_of}
+use Rattle.rv_script.specs.Command.{keyword_of, meaning_of, parse_of}
+use Rattle.rv_script.specs.Numbers.{decimal_of, hexadecimal_of, byte_of_text}
+use Rattle.rv_script.specs.declared.command.Command.{Command}
+use Rattle.rv_script.specs.declared.command.Command.TheVariants.{Poke, Regs, SetReg}
+use Rattle.rv_script.specs.declared.command.CommandFault.{CommandFault}
+use Rattle.rv_monitor.specs.MonitoredMachine.{MonitoredMachine}
+use Rattle.rv_debug.specs.BenchState.{BenchState}
+use Rattle.rv_debug.specs.BothBenches.{region_in}
+use Rattle.rv_debug.specs.Declassification.{CommandsAlike, StepsAreMoves}
+use Rattle.rv_debug.specs.Execute.{execute, execute_line, execute_or_fault}
+use Rattle.rv_debug.specs.Observed.{is_selected}
+use Rattle.rv_debug.specs.Targets.{over_memory}
+use Rattle.rv_debug.specs.declared.target.Target.{Target}
+use Rattle.rv_debug.specs.declared.target.Target.TheVariants.{Bare, Monitored}
+use Rattle.rv_command_line.specs.declared.setup.Setup.{Setup}
+use Rattle.rv_streams.specs.declared.fault.BenchFault.{BenchFault}
+use Rattle.rv_streams.specs.Separator.{after_separator, has_separator}
+use Rattle.rv_bench.specs.Declassification.{LinesAlike, ParsedAlike, observed_output}
+use Rattle.rv_bench.specs.Output.{bench_in}
+use Rattle.rv_bench.specs.Replies.{bench_line, state_after}
+use Rattle.rv_bench.proofs.Declassified.{secret_declassification}
+
+abbrev script : List ℕ
+script = codes "poke 80020000 41\nsetreg 9 5ec2e701\nregs\n"
+
+abbrev other_script : List ℕ
+other_script = codes "poke 80020ffc 5a\nsetreg 5 0badc0de\nregs\n"
+
+-- the enclave of slot 0 runs on the selected hart, and these are bytes of its region
+pub record RunsEnclave (bench : BenchState) : Type 0 where
+  pub runs : is_selected 0 bench.target ≡ true
+  pub first : has (region_in 0 bench.target) 0x80020000 ≡ true
+  pub second : has (region_in 0 bench.target) 0x80020ffc ≡ true
+
+-- ---- the commands
+
+first_poke : parse_of (codes "poke 80020000 41") ≡ Ok (Poke 0x80020000 0x41)
+unfolding parse_of is_text meaning_of words_of keyword_of hexadecimal_of number_of_digits byte_of_text
+first_poke = refl
+
+second_poke : parse_of (codes "poke 80020ffc 5a") ≡ Ok (Poke 0x80020ffc 0x5a)
+unfolding parse_of is_text meaning_of words_of keyword_of hexadecimal_of number_of_digits byte_of_text
+second_poke = refl
+
+first_setreg : parse_of (codes "setreg 9 5ec2e701") ≡ Ok (SetReg 9 0x5ec2e701)
+unfolding parse_of is_text meaning_of words_of keyword_of hexadecimal_of decimal_of number_of_digits
+first_setreg = refl
+
+second_setreg : parse_of (codes "setreg 5 0badc0de") ≡ Ok (SetReg 5 0x0badc0de)
+unfolding parse_of is_text meaning_of words_of keyword_of hexadecimal_of decimal_of number_of_digits
+second_setreg = refl
+
+regs : parse_of (codes "regs") ≡ Ok Regs
+unfolding parse_of is_text meaning_of words_of keyword_of
+regs = refl
+
+-- ---- line by line
+
+-- after a poke the enclave runs on the selected hart as before
+poked_selected : (target : Target) (memory : Option (List ℕ))
+    → is_selected 0 (option_case (option_map (over_memory target) memory) target (λ after. after)) ≡ is_selected 0 target
+poked_selected (Bare machine) None = refl
+poked_selected (Bare machine) (Some memory) = refl
+poked_selected (Monitored selected) None = refl
+poked_selected (Monitored selected) (Some memory) = refl
+
+no_steps : (one other : Option MonitoredMachine) → IfSome one (λ a. IfSome other (λ b. StepsAreMoves 0 a b [] []))
+no_steps (Some one) (Some other) = record { moves = []; first = refl; second = refl; are = tt }
+no_steps (Some one) None = tt
+no_steps None other = tt
+
+parsed_alike : (first second : BenchState) (a b : Result Command CommandFault) (here there : Command) → a ≡ Ok here → b ≡ Ok there
+    → CommandsAlike 0 first second here there → ParsedAlike 0 first second a b
+parsed_alike first second a b here there a_is b_is alike = rw (a_is, b_is) alike
+
+runs_after : (bench : BenchState) (parsed : Result Command CommandFault) (address byte : ℕ) → parsed ≡ Ok (Poke address byte)
+    → is_selected 0 bench.target ≡ true → is_selected 0 (execute_or_fault bench parsed).state.target ≡ true
+unfolding execute
+runs_after bench parsed address byte is runs = rw is (poked_selected bench.target _ ∙ runs)
+
+is_alike : (bench : BenchState) → RunsEnclave bench → LinesAlike 0 bench bench (lines_of script) (lines_of other_script)
+unfolding execute_line
+is_alike bench there = (
+  parsed_alike bench bench _ _ _ _ first_poke second_poke (inr (inl (there.first, there.second))),
+  (
+    parsed_alike _ _ _ _ _ _ first_setreg second_setreg
+        (inr (inr (runs_after bench _ _ _ first_poke there.runs, runs_after bench _ _ _ second_poke there.runs))),
+    (parsed_alike _ _ _ _ _ _ regs regs (inl (inl (record { same = refl; steps = no_steps _ _; stop = refl }))), tt),
+  ),
+)
+
+from_bench : (bench : Result BenchState BenchFault) (before : List (List ℕ)) → IfOk bench (λ bench. RunsEnclave (state_after bench_line bench before))
+    → IfOk bench (λ bench.
+    let start = state_after bench_line bench before in LinesAlike 0 start start (lines_of script) (lines_of other_script))
+from_bench (Ok bench) before there = is_alike (state_after bench_line bench before) there
+from_bench (Err fault) before there = tt
+
+pub secrets_are_concealed : (setup : Setup) (prefix : List ℕ) → through_last_feed prefix ≡ prefix → has_separator prefix ≡ true
+    → IfOk (bench_in setup prefix) (λ bench. RunsEnclave (state_after bench_line bench (lines_of (after_separator prefix))))
+    → observed_output 0 setup (prefix ++ script) ≡ observed_output 0 setup (prefix ++ other_script)
+secrets_are_concealed setup prefix whole separated there =
+    secret_declassification setup (prefix ++ script) 0 (prefix ++ other_script) (record {
+      prefix = prefix;
+      rest = script;
+      another = other_script;
+      input_is = refl;
+      other_is = refl;
+      whole_prefix = whole;
+      separated = separated;
+      alike = from_bench (bench_in setup prefix) (lines_of (after_separator prefix)) there;
+    })

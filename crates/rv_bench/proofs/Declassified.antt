@@ -1,0 +1,164 @@
+-- Lines keep two benches related, and what others observe of the replies is equal, by the law of one command; and from one input to another.
+use Rattle.std.proofs.Common.{◌≡◌, ℕ, false, inl, List, [], ◌∷◌, ◌++◌, Result, Ok, Err, IfOk, refl, sym, ◌∙◌, ap, ap₂, true}
+use Rattle.rv_word.specs.Cases.{result_case}
+use Rattle.rv_text.specs.Lines.{lines_of, through_last_feed}
+use Rattle.rv_script.specs.Command.{parse_of}
+use Rattle.rv_script.specs.declared.command.Command.{Command}
+use Rattle.rv_script.specs.declared.command.CommandFault.{CommandFault}
+use Rattle.rv_debug.specs.BenchState.{BenchState}
+use Rattle.rv_debug.specs.BothBenches.{RunsOnNoneIn, is_entered}
+use Rattle.rv_debug.specs.Declassification.{BenchesAreRelated, WindowsAreEqual}
+use Rattle.rv_debug.specs.Execute.{execute, execute_line, execute_or_fault}
+use Rattle.rv_debug.specs.Noninterference.{harts_named}
+use Rattle.rv_debug.specs.Observed.{observed}
+use Rattle.rv_debug.specs.ReplyText.{command_fault_text}
+use Rattle.rv_debug.specs.Targets.{TargetInvariant}
+use Rattle.rv_debug.proofs.Declassification.{declassification, relation_law}
+use Rattle.rv_debug.proofs.LowCommands.{low_command}
+use Rattle.rv_command_line.specs.declared.job.Job.{Job}
+use Rattle.rv_command_line.specs.declared.job.Job.TheVariants.{Run, Twin, Asm, Dis}
+use Rattle.rv_command_line.specs.declared.setup.Setup.{Setup}
+use Rattle.rv_streams.specs.Separator.{after_separator, has_separator}
+use Rattle.rv_streams.specs.declared.fault.BenchFault.{BenchFault}
+use Rattle.rv_bench.specs.Declassification.{LineIsLow, LinesAreLow}
+use Rattle.rv_bench.specs.Declassification.{LinesAlike, LinesObservedAlike, ParsedAlike, ScriptDeclassification, SecretDeclassification}
+use Rattle.rv_bench.specs.Declassification.{observed_line, observed_output}
+use Rattle.rv_bench.specs.InMemory.{InMemoryNoninterference}
+use Rattle.rv_bench.specs.Loaded.{started}
+use Rattle.rv_bench.specs.Output.{bench_in}
+use Rattle.rv_bench.specs.Replies.{bench_line, replies, state_after}
+use Rattle.rv_bench.proofs.IntegrityLemmas.{keeps_line, keeps_lines}
+use Rattle.rv_bench.proofs.NoninterferenceLemmas.{bench_keeps, secret_noninterference}
+use Rattle.rv_bench.proofs.PrefixLines.{bench_in-prefix, script_lines-prefix}
+use Rattle.rv_bench.proofs.RepliesLemmas.{replies-append}
+use Rattle.rv_bench.proofs.Starts.{started_keeps}
+use Rattle.rv_bench.proofs.TwinAlike.{twin_noninterference}
+
+module _ (e : ℕ) where
+  -- ---- one line of each bench
+
+  record LineObserved (first second : BenchState) (line other : List ℕ) : Type 0 where
+    pub text : (observed_line e first line).reply ≡ (observed_line e second other).reply
+    pub state : BenchesAreRelated e (execute_line first line).state (execute_line second other).state
+
+  line_observed : (first second : BenchState) (line other : List ℕ) → TargetInvariant first.target → TargetInvariant second.target
+      → BenchesAreRelated e first second → ParsedAlike e first second (parse_of line) (parse_of other) → LineObserved first second line other
+  unfolding execute_line
+  line_observed first second line other kept kept' related alike =
+      let both = go (parse_of line) (parse_of other) alike in record { text = both.0; state = both.1 } where
+        go : (parsed parsed' : Result Command CommandFault) → ParsedAlike e first second parsed parsed'
+            → (result_case parsed (observed e first) command_fault_text ≡ result_case parsed' (observed e second) command_fault_text)
+            × BenchesAreRelated e (execute_or_fault first parsed).state (execute_or_fault second parsed').state
+        go (Ok here) (Ok there) alike = let both = declassification e first second here there kept kept' related alike in (both.observed, both.state)
+        go (Err here) (Err there) alike = (ap command_fault_text alike, related)
+        go (Ok here) (Err there) alike = absurd alike
+        go (Err here) (Ok there) alike = absurd alike
+
+  -- ---- lines
+
+  pub lines_observed : (first second : BenchState) (lines others : List (List ℕ)) → TargetInvariant first.target → TargetInvariant second.target
+      → BenchesAreRelated e first second → LinesAlike e first second lines others → LinesObservedAlike e first second lines others
+  lines_observed first second [] [] kept kept' related alike = record { text = refl; state = related }
+  lines_observed first second [] (other ∷ others) kept kept' related alike = absurd alike
+  lines_observed first second (line ∷ lines) [] kept kept' related alike = absurd alike
+  lines_observed first second (line ∷ lines) (other ∷ others) kept kept' related alike =
+      let both = line_observed first second line other kept kept' related alike.0 in
+      let rest = lines_observed (execute_line first line).state (execute_line second other).state lines others (keeps_line first line kept)
+      (keeps_line second other kept') both.state alike.1 in
+      record { text = ap₂ (λ (one others : List ℕ). one ++ others) both.text rest.text; state = rest.state }
+
+  -- ---- low lines
+
+  line_low : (first second : BenchState) (line : List ℕ) → TargetInvariant first.target → TargetInvariant second.target
+      → BenchesAreRelated e first second → WindowsAreEqual e first second → LineIsLow e first line
+      → ParsedAlike e first second (parse_of line) (parse_of line) × WindowsAreEqual e (execute_line first line).state (execute_line second line).state
+  unfolding execute_line
+  line_low first second line kept kept' related equal = go (parse_of line) where
+    go : (parsed : Result Command CommandFault)
+        → IfOk parsed (λ command. RunsOnNoneIn e (harts_named first.target command) first.target × (is_entered e (execute first command).entered ≡ false))
+        → ParsedAlike e first second parsed parsed × WindowsAreEqual e (execute_or_fault first parsed).state (execute_or_fault second parsed).state
+    go (Ok command) low = let is = low_command e first second command kept kept' related equal low.0 low.1 in (inl (inl is.same), is.window)
+    go (Err fault) low = (refl, equal)
+
+  pub lines_low : (first second : BenchState) (lines : List (List ℕ)) → TargetInvariant first.target → TargetInvariant second.target
+      → BenchesAreRelated e first second → WindowsAreEqual e first second → LinesAreLow e first lines → LinesAlike e first second lines lines
+  lines_low first second [] kept kept' related equal low = tt
+  lines_low first second (line ∷ lines) kept kept' related equal low =
+      let (alike, windows) = line_low first second line kept kept' related equal low.0 in
+      let both = line_observed first second line line kept kept' related alike in (
+        alike,
+        lines_low (execute_line first line).state (execute_line second line).state lines (keeps_line first line kept) (keeps_line second line kept')
+            both.state windows low.1,
+      )
+
+  -- ---- scripts
+
+  -- observed lines leave the same state
+  same_state : (bench : BenchState) (lines : List (List ℕ)) → state_after (observed_line e) bench lines ≡ state_after bench_line bench lines
+  same_state bench [] = refl
+  same_state bench (line ∷ lines) = same_state (bench_line bench line).state lines
+
+  script_observed : (bench : BenchState) (before lines others : List (List ℕ)) → TargetInvariant bench.target
+      → (let start = state_after bench_line bench before in LinesAlike e start start lines others)
+      → replies (observed_line e) bench (before ++ lines) ≡ replies (observed_line e) bench (before ++ others)
+  script_observed bench before lines others kept alike =
+      let start = state_after bench_line bench before in
+      let keeps = keeps_lines bench before kept in
+      let rest = lines_observed start start lines others keeps keeps (relation_law.itself e start) alike in
+      let text : BenchState → List (List ℕ) → List ℕ = λ state script. replies (observed_line e) bench before ++ replies (observed_line e) state script in
+      replies-append (observed_line e) bench before lines
+      ∙ ap (λ (state : BenchState). text state lines) (same_state bench before)
+      ∙ ap (λ (t : List ℕ). replies (observed_line e) bench before ++ t) rest.text
+      ∙ ap (λ (state : BenchState). text state others) (sym (same_state bench before))
+      ∙ sym (replies-append (observed_line e) bench before others)
+
+declassification_through : (bench : BenchState) → TargetInvariant bench.target → ScriptDeclassification bench
+declassification_through bench kept = record {
+  alike = λ e before lines others other kept' related alike.
+      lines_observed e (state_after bench_line bench before) other lines others (keeps_lines bench before kept) kept' related alike;
+  low = λ e before lines other kept' related equal low.
+      lines_low e (state_after bench_line bench before) other lines (keeps_lines bench before kept) kept' related equal low;
+}
+
+declassified_from : (bench : Result BenchState BenchFault) → IfOk bench (λ state. TargetInvariant state.target) → IfOk bench ScriptDeclassification
+declassified_from (Ok state) kept = declassification_through state kept
+declassified_from (Err fault) kept = tt
+
+pub started_declassification : (image : List ℕ) (setup : Setup) → IfOk (started image setup) ScriptDeclassification
+started_declassification image setup = declassified_from (started image setup) (started_keeps image setup)
+
+-- ---- inputs
+
+module _ (setup : Setup) (e : ℕ) (prefix : List ℕ) (whole : through_last_feed prefix ≡ prefix) (separated : has_separator prefix ≡ true) where
+  abbrev Observed : Result BenchState BenchFault → List (List ℕ) → Result (List ℕ) BenchFault
+  Observed bench script = result_case bench (λ state. Ok (replies (observed_line e) state script)) Err
+
+  observed_is : (rest : List ℕ)
+      → observed_output e setup (prefix ++ rest) ≡ Observed (bench_in setup prefix) (lines_of (after_separator prefix) ++ lines_of rest)
+  observed_is rest =
+      ap₂ Observed (bench_in-prefix prefix whole separated setup rest) (script_lines-prefix prefix whole separated rest)
+
+  from_bench : (bench : Result BenchState BenchFault) (rest another : List ℕ) → IfOk bench (λ state. TargetInvariant state.target)
+      → IfOk bench (λ bench.
+      let start = state_after bench_line bench (lines_of (after_separator prefix)) in LinesAlike e start start (lines_of rest) (lines_of another))
+      → Observed bench (lines_of (after_separator prefix) ++ lines_of rest) ≡ Observed bench (lines_of (after_separator prefix) ++ lines_of another)
+  from_bench (Ok bench) rest another kept alike =
+      ap Ok (script_observed e bench (lines_of (after_separator prefix)) (lines_of rest) (lines_of another) kept alike)
+  from_bench (Err fault) rest another kept alike = refl
+
+pub secret_declassification : (setup : Setup) (input : List ℕ) → SecretDeclassification setup input
+secret_declassification setup input e other differ =
+    ap (observed_output e setup) differ.input_is
+    ∙ observed_is setup e differ.prefix differ.whole_prefix differ.separated differ.rest
+    ∙ from_bench setup e differ.prefix differ.whole_prefix differ.separated (bench_in setup differ.prefix) differ.rest differ.another
+    (bench_keeps setup differ.prefix) differ.alike
+    ∙ sym (observed_is setup e differ.prefix differ.whole_prefix differ.separated differ.another)
+    ∙ sym (ap (observed_output e setup) differ.other_is)
+
+-- ---- jobs
+
+pub in_memory_noninterference : (job : Job) (input : List ℕ) → InMemoryNoninterference job input
+in_memory_noninterference (Run setup) input = (secret_noninterference setup input, secret_declassification setup input)
+in_memory_noninterference (Twin setup slot) input = twin_noninterference setup slot input
+in_memory_noninterference Asm input = tt
+in_memory_noninterference Dis input = tt

@@ -1,0 +1,270 @@
+-- The observations of a command in two related benches are equal.
+use Rattle.std.proofs.Common.{◌≡◌, ℕ, ◌==◌, Bool, true, false, List, [], ◌∷◌, Option, refl, sym, ◌∙◌, ap, ap₂, subst, inl, inr, arith}
+use Rattle.std.specs.Prelude.{◌&&◌, ◌||◌, ◌++◌, nat_lt, replicate, if◌then◌else◌}
+use Rattle.rv_pmp.specs.declared.access.Access.{Access as AccessKind}
+use Rattle.rv_enclaves.specs.Layout.{layout}
+use Rattle.rv_enclaves.specs.Table.{runs, window}
+use Rattle.rv_enclaves.specs.declared.world.World.{World}
+use Rattle.rv_enclaves.proofs.EqualMemory.{IsSeen, same_read, read-none}
+use Rattle.rv_monitor.specs.Declassification.{AreRelated, may_differ}
+use Rattle.rv_monitor.specs.GuestView.{guest_state}
+use Rattle.rv_monitor.proofs.GuestView.{guest_hart_state}
+use Rattle.rv_debug.specs.Prelude.{Block, Entries, HartRan, HartState, Invariant, M, Mode, Monitored, MonitoredMachine, Scheduled, Slots, Stop, Target, Trap}
+use Rattle.rv_debug.specs.Prelude.{Width, bytes_in, count_of, has, hart_state_of, is_inside, is_world_of, meets, read, read_result, region}
+use Rattle.rv_debug.specs.Prelude.{result_case, runs_on, sched, step_of}
+use Rattle.rv_debug.specs.Declassification.{StepsAreMoves}
+use Rattle.rv_debug.specs.Execute.{csr_reply}
+use Rattle.rv_debug.specs.Observed.{guest_target, observed_hart, observed_harts, observed_run, observed_steps, unless}
+use Rattle.rv_debug.specs.ScheduledSteps.{nothing_ran}
+use Rattle.rv_debug.proofs.Prelude.{AfterRun, Selected, access_reply, cases_Bool, cases_lt, csr_text, hart_text, hart_view_invariant, no_csr_text}
+use Rattle.rv_debug.proofs.Prelude.{no_steps, past_hart_state, ran_text, run, schedule_start, scheduled_steps, seen_block, selected_at, steps_of}
+use Rattle.rv_debug.proofs.Prelude.{harts_of, target_stepped, with_scheduled_step, with_selected, world_name}
+use Rattle.rv_debug.proofs.ObservedRuns.{RunObserved, own_steps, run_observed, same_numbers, same_traps, schedule_did}
+use Rattle.rv_debug.proofs.RelatedMoves.{Moved, moved_by}
+use Rattle.rv_debug.proofs.ScheduledSteps.{after_schedule}
+use Rattle.rv_debug.proofs.TargetRuns.{hart_pc, hart_stepped, run_monitored}
+
+-- ---- the state of a hart that does not run the enclave
+
+-- a text about a hart, in the guest view, is equal in both, or hidden in both
+pub hart_texts : (e hart : ℕ) (one other : MonitoredMachine) → AreRelated e one other → (text : HartState → List ℕ)
+    → unless (runs_on e hart one) (text (guest_state (hart_state_of hart one)))
+    ≡ unless (runs_on e hart other) (text (guest_state (hart_state_of hart other)))
+hart_texts e hart one other related text =
+    let own = related.hart_states hart in
+    elim (cases_Bool (runs_on e hart one)) [
+      | inl runs_here ↦ let there : runs_on e hart other ≡ true = sym (ap (is_world_of e) own.world) ∙ runs_here in rw (runs_here, there) refl
+      | inr low ↦
+          let there : runs_on e hart other ≡ false = sym (ap (is_world_of e) own.world) ∙ low in
+          rw (low, there) (ap text (own.same low))
+    ]
+
+-- ---- runs
+
+-- the summary of a run of a machine
+abbrev pub run_text : ℕ → ℕ → MonitoredMachine → AfterRun MonitoredMachine → List ℕ
+run_text e hart machine after =
+    let hart_state = hart_state_of hart after.state in
+    unless (runs_on e hart after.state)
+    (ran_text hart_state.hart.pc hart_state.hart.mode (world_name hart_state.world) (record {
+      steps = (observed_steps e hart (replicate after.ran.steps hart) machine nothing_ran).steps;
+      trap = after.ran.trap;
+      stop = after.ran.stop;
+      entered = 0;
+    }))
+
+run_text_is : (e hart : ℕ) (breaks watches : List ℕ) (count : ℕ) (machine : MonitoredMachine)
+    → observed_run e (selected_at hart machine) (steps_of (selected_at hart machine) breaks watches count)
+    ≡ run_text e hart machine (run (hart_stepped hart) (hart_pc hart) breaks watches count (no_steps machine))
+run_text_is e hart breaks watches count machine =
+    ap (observed_run e (selected_at hart machine)) (run_monitored hart breaks watches count (no_steps machine))
+
+-- the text with the observed steps and trap
+abbrev ran_with : ℕ → Stop → HartRan → HartState → List ℕ
+ran_with hart stop ran hart_state =
+    ran_text hart_state.hart.pc hart_state.hart.mode (world_name hart_state.world)
+    (record { steps = ran.steps; trap = ran.trap; stop = stop; entered = 0 })
+
+run_texts : (e hart : ℕ) (one other : MonitoredMachine) (a b : AfterRun MonitoredMachine) → RunObserved e hart one a → RunObserved e hart other b
+    → Moved e hart (replicate a.ran.steps hart) (replicate b.ran.steps hart) one other nothing_ran nothing_ran → a.ran.stop ≡ b.ran.stop
+    → run_text e hart one a ≡ run_text e hart other b
+run_texts e hart one other a b first second both stop =
+    let ran_a = observed_steps e hart (replicate a.ran.steps hart) one nothing_ran in
+    let ran_b = observed_steps e hart (replicate b.ran.steps hart) other nothing_ran in
+    let related : AreRelated e a.state b.state =
+    subst (λ (m : MonitoredMachine). AreRelated e m b.state) first.state (subst (AreRelated e _) second.state both.state) in
+    let same : runs_on e hart a.state ≡ false → ran_a ≡ ran_b =
+    λ low. both.ran (ap (runs_on e hart) first.state ∙ low) in
+    let own = related.hart_states hart in
+    elim (cases_Bool (runs_on e hart a.state)) [
+      | inl runs_here ↦ let there : runs_on e hart b.state ≡ true = sym (ap (is_world_of e) own.world) ∙ runs_here in rw (runs_here, there) refl
+      | inr low ↦
+          let there : runs_on e hart b.state ≡ false = sym (ap (is_world_of e) own.world) ∙ low in
+          let trap : a.ran.trap ≡ b.ran.trap = sym first.trap ∙ ap (λ (r : HartRan). r.trap) (same low) ∙ second.trap in
+          let steps : ran_a.steps ≡ ran_b.steps = ap (λ (r : HartRan). r.steps) (same low) in
+          let text : HartState → ℕ → Option Trap → Stop → List ℕ = λ s n t w.
+          ran_text s.hart.pc s.hart.mode (world_name s.world) (record { steps = n; trap = t; stop = w; entered = 0 }) in
+          rw (low, there) (ap₂ (λ (s : HartState) (n : ℕ). text s n a.ran.trap a.ran.stop) (own.same low) steps
+          ∙ ap₂ (text (guest_state (hart_state_of hart b.state)) ran_b.steps) trap stop)
+    ]
+
+pub runs_alike : (e hart : ℕ) (one other : MonitoredMachine) (breaks watches : List ℕ) (count : ℕ) → Invariant one → Invariant other
+    → AreRelated e one other
+    → StepsAreMoves e one other (replicate (steps_of (selected_at hart one) breaks watches count).ran.steps hart)
+    (replicate (steps_of (selected_at hart other) breaks watches count).ran.steps hart)
+    → (steps_of (selected_at hart one) breaks watches count).ran.stop ≡ (steps_of (selected_at hart other) breaks watches count).ran.stop
+    → observed_run e (selected_at hart one) (steps_of (selected_at hart one) breaks watches count)
+    ≡ observed_run e (selected_at hart other) (steps_of (selected_at hart other) breaks watches count)
+runs_alike e hart one other breaks watches count here there related steps stop =
+    let ran : MonitoredMachine → AfterRun MonitoredMachine = λ machine. run (hart_stepped hart) (hart_pc hart) breaks watches count (no_steps machine) in
+    let one_is = run_monitored hart breaks watches count (no_steps one) in
+    let other_is = run_monitored hart breaks watches count (no_steps other) in
+    let numbers : AfterRun Target → List ℕ = λ after. replicate after.ran.steps hart in
+    let stops : AfterRun Target → Stop = λ after. after.ran.stop in
+    let steps_too : StepsAreMoves e one other (replicate (ran one).ran.steps hart) (replicate (ran other).ran.steps hart) =
+    subst (λ (xs : List ℕ). StepsAreMoves e one other xs (replicate (ran other).ran.steps hart)) (ap numbers one_is)
+    (subst (StepsAreMoves e one other _) (ap numbers other_is) steps) in
+    run_text_is e hart breaks watches count one
+    ∙ run_texts e hart one other (ran one) (ran other) (run_observed e hart breaks watches count one) (run_observed e hart breaks watches count other)
+    (moved_by e hart _ _ one other here there related steps_too) (sym (ap stops one_is) ∙ stop ∙ ap stops other_is)
+    ∙ sym (run_text_is e hart breaks watches count other)
+
+-- ---- schedules
+
+-- the target after a schedule, with some hart selected
+record IsScheduled (harts : List ℕ) (machine : MonitoredMachine) (after : Target) : Type 0 where
+  hart : ℕ
+  is : after ≡ selected_at hart (sched harts machine).state
+
+scheduled : (harts : List ℕ) (machine : Selected) (did : Scheduled)
+    → IsScheduled harts machine.state (scheduled_steps harts (after_schedule (Monitored machine) did)).state
+unfolding scheduled_steps
+scheduled [] machine did = record { hart = machine.hart; is = refl }
+scheduled (hart ∷ harts) machine did =
+    let before = after_schedule (Monitored machine) did in
+    let rest = scheduled harts (record { hart = hart; state = (step_of hart machine.state).state })
+    (with_scheduled_step hart before (target_stepped (with_selected hart before.state))).did in
+    record { hart = rest.hart; is = rest.is }
+
+abbrev hart_line : ℕ → MonitoredMachine → ℕ → HartRan → List ℕ
+hart_line e machine hart ran =
+    let s = hart_state_of hart machine in unless (runs_on e hart machine) (hart_text hart s.hart.pc s.hart.mode (world_name s.world) ran)
+
+abbrev hart_lines : ℕ → MonitoredMachine → HartRan → HartRan → List ℕ
+hart_lines e machine first second = hart_line e machine 0 first ++ (if nat_lt 1 (count_of machine) then hart_line e machine 1 second else [])
+
+harts_are : (e : ℕ) (harts : List ℕ) (machine : Selected) (did : Scheduled)
+    → observed_harts e (scheduled_steps harts (after_schedule (Monitored machine) did))
+    ≡ hart_lines e (sched harts machine.state).state (own_steps 0 harts machine.state did.first) (own_steps 1 harts machine.state did.second)
+harts_are e harts machine did =
+    let after = scheduled_steps harts (after_schedule (Monitored machine) did) in
+    let state = scheduled harts machine did in
+    let told = schedule_did harts machine did in
+    let lines : Target → HartRan → HartRan → List ℕ = λ target first second.
+    observed_hart e target 0 first ++ (if nat_lt 1 (harts_of target) then observed_hart e target 1 second else []) in
+    ap (λ (target : Target). lines target after.did.first after.did.second) state.is
+    ∙ ap₂ (lines (selected_at state.hart (sched harts machine.state).state)) told.0 told.1
+
+module _ (e : ℕ) (harts : List ℕ) (one other : MonitoredMachine)
+    (moves : (own : ℕ) → Moved e own harts harts one other nothing_ran nothing_ran) where
+  same_line : (own : ℕ) → hart_line e (sched harts one).state own (own_steps own harts one nothing_ran)
+      ≡ hart_line e (sched harts other).state own (own_steps own harts other nothing_ran)
+  same_line own =
+      let both = moves own in
+      let a = own_steps own harts one nothing_ran in
+      let b = own_steps own harts other nothing_ran in
+      let hart_states = both.state.hart_states own in
+      elim (cases_Bool (runs_on e own (sched harts one).state)) [
+        | inl runs_here ↦
+            let there : runs_on e own (sched harts other).state ≡ true = sym (ap (is_world_of e) hart_states.world) ∙ runs_here in
+            rw (runs_here, there) refl
+        | inr low ↦
+            let there : runs_on e own (sched harts other).state ≡ false = sym (ap (is_world_of e) hart_states.world) ∙ low in
+            let steps : a.steps ≡ b.steps = same_numbers own harts one other nothing_ran nothing_ran refl in
+            let trap : a.trap ≡ b.trap = same_traps e own harts one nothing_ran nothing_ran refl ∙ ap (λ (r : HartRan). r.trap) (both.ran low)
+            ∙ sym (same_traps e own harts other nothing_ran nothing_ran refl) in
+            let text : HartState → ℕ → Option Trap → List ℕ = λ s n t.
+            hart_text own s.hart.pc s.hart.mode (world_name s.world) (record { steps = n; trap = t }) in
+            rw (low, there) (ap (λ (s : HartState). text s a.steps a.trap) (hart_states.same low)
+            ∙ ap₂ (text (guest_state (hart_state_of own (sched harts other).state))) steps trap)
+      ]
+
+  same_lines : hart_lines e (sched harts one).state (own_steps 0 harts one nothing_ran) (own_steps 1 harts one nothing_ran)
+      ≡ hart_lines e (sched harts other).state (own_steps 0 harts other nothing_ran) (own_steps 1 harts other nothing_ran)
+  same_lines =
+      let both = moves 0 in
+      ap₂ (λ (line lines : List ℕ). line ++ lines) (same_line 0)
+      (ap₂ (λ (n : ℕ) (line : List ℕ). if nat_lt 1 n then line else []) both.state.harts (same_line 1))
+
+pub schedules_alike : (e hart : ℕ) (harts : List ℕ) (one other : MonitoredMachine) → Invariant one → Invariant other → AreRelated e one other
+    → StepsAreMoves e one other harts harts
+    → observed_harts e (scheduled_steps harts (schedule_start (selected_at hart one)))
+    ≡ observed_harts e (scheduled_steps harts (schedule_start (selected_at hart other)))
+schedules_alike e hart harts one other here there related steps =
+    harts_are e harts (record { hart = hart; state = one }) _
+    ∙ same_lines e harts one other (λ own. moved_by e own harts harts one other here there related steps)
+    ∙ sym (harts_are e harts (record { hart = hart; state = other }) _)
+
+-- ---- registers
+
+pub csrs_alike : (e hart : ℕ) (one other : MonitoredMachine) (number : ℕ) → AreRelated e one other
+    → unless (runs_on e hart one) (csr_reply (guest_target (selected_at hart one)) number)
+    ≡ unless (runs_on e hart other) (csr_reply (guest_target (selected_at hart other)) number)
+csrs_alike e hart one other number related =
+    let text : HartState → List ℕ = λ s.
+    if number == 3860 then csr_text number hart else result_case (read_result s.hart.csrs number M) (csr_text number) (λ _. no_csr_text) in
+    ap (λ (s : HartState). unless (runs_on e hart one) (text s)) (guest_hart_state hart one)
+    ∙ hart_texts e hart one other related text
+    ∙ sym (ap (λ (s : HartState). unless (runs_on e hart other) (text s)) (guest_hart_state hart other))
+
+-- the PMP entries of every hart are those of the table and its world
+pub entries_alike : (e hart : ℕ) (one other : MonitoredMachine) → Invariant one → Invariant other → AreRelated e one other
+    → (hart_state_of hart one).hart.csrs.pmp ≡ (hart_state_of hart other).hart.csrs.pmp
+entries_alike e hart one other here there related =
+    let own = related.hart_states hart in
+    let size = related.harts in
+    let entries : HartState → Entries = λ hart_state. hart_state.hart.csrs.pmp in
+    elim (cases_lt hart (count_of one)) [
+      | inr past ↦ ap entries (past_hart_state one.hart_states hart past ∙ sym (past_hart_state other.hart_states hart (omega (arith, size, past))))
+      | inl has ↦
+          let of : Slots → World → Entries = λ slots world. layout slots world in
+          let mine = (hart_view_invariant hart one here has).hart.layout.entries in
+          let theirs = (hart_view_invariant hart other there (omega (arith, size, has))).hart.layout.entries in
+          mine ∙ ap₂ of related.table own.world ∙ sym theirs
+    ]
+
+-- ---- memory
+
+neither : (a b : Bool) → (a || b) ≡ false → (a ≡ false) × (b ≡ false)
+neither false b is = (refl, is)
+neither true b is = cc
+
+module _ (e : ℕ) (one other : MonitoredMachine) (related : AreRelated e one other) where
+  abbrev names : MonitoredMachine → Block → Bool
+  names machine block =
+      meets block (region machine.shared.table e) || (runs machine.shared.table e && meets block (window machine.shared.table e))
+
+  seen : (block : Block) → names one block ≡ false → IsSeen (may_differ one.shared.table e) block.base block.size
+  seen block apart b low high =
+      let parts = neither (meets block (region one.shared.table e)) _ apart in
+      let outside = seen_block block (region one.shared.table e) parts.0 b low high in
+      elim (cases_Bool (runs one.shared.table e)) [
+        | inr idle ↦ rw (outside, idle) refl
+        | inl running ↦
+            let clear = ap (λ (r : Bool). r && meets block (window one.shared.table e)) (sym running) ∙ parts.1 in
+            let beyond = seen_block block (window one.shared.table e) clear b low high in
+            rw (outside, running, beyond) refl
+      ]
+
+  reads_alike : (block : Block) → names one block ≡ false → read one.shared.memory block.base block.size ≡ read other.shared.memory block.base block.size
+  reads_alike block apart =
+      let memory = related.memory in
+      elim (cases_Bool (is_inside one.shared.memory block.base block.size)) [
+        | inl inside ↦ same_read (may_differ one.shared.table e) one.shared.memory other.shared.memory block.base block.size memory inside (seen block apart)
+        | inr outside ↦
+            let sizes = memory.size in
+            read-none one.shared.memory block.base block.size outside ∙ sym (read-none other.shared.memory block.base block.size (rw (← sizes) outside))
+      ]
+
+  -- a text about the bytes of a block
+  pub memory_texts : (block : Block) (text : Option (List ℕ) → List ℕ)
+      → unless (names one block) (text (read one.shared.memory block.base block.size))
+      ≡ unless (names other block) (text (read other.shared.memory block.base block.size))
+  memory_texts block text =
+      let tables : names one block ≡ names other block = ap (λ (t : Slots). meets block (region t e) || (runs t e && meets block (window t e))) related.table in
+      elim (cases_Bool (names one block)) [
+        | inl hidden ↦ let there : names other block ≡ true = sym tables ∙ hidden in rw (hidden, there) refl
+        | inr apart ↦ let there : names other block ≡ false = sym tables ∙ apart in rw (apart, there) (ap text (reads_alike block apart))
+      ]
+
+  -- the reply to `access` depends on its address and the PMP entries, not on the bytes
+  pub accesses_alike : (entries : Entries) (mode : Mode) (access : AccessKind) (address : ℕ) (width : Width)
+      → access_reply one.shared.memory entries mode access address width ≡ access_reply other.shared.memory entries mode access address width
+  unfolding read
+  accesses_alike entries mode access address width =
+      let memory = related.memory in
+      let sizes = memory.size in
+      elim (cases_Bool (is_inside one.shared.memory address (bytes_in width))) [
+        | inl inside ↦ rw (← sizes, inside) refl
+        | inr outside ↦ rw (← sizes, outside) refl
+      ]

@@ -1,0 +1,77 @@
+-- Two related machines stay related after a debugger's write to the same hart of both, or to memory.
+use Rattle.std.proofs.Common.{◌≡◌, ℕ, ◌<◌, true, false, List, refl, sym, ◌∙◌, ap, ap₂, inl, inr, arith}
+use Rattle.rv_enclaves.specs.SharedEquivExcept.{EqualOutside}
+use Rattle.rv_enclaves.specs.declared.shared.Shared.{Shared}
+use Rattle.rv_monitor.specs.Declassification.{AreRelated, SameHost, may_differ}
+use Rattle.rv_monitor.specs.EquivExcept.{HartStatesEquivExcept}
+use Rattle.rv_monitor.specs.GuestView.{guest_state}
+use Rattle.rv_monitor.proofs.HartCases.{hart_cases_of_both}
+use Rattle.rv_monitor.proofs.InvariantLemmas.{past_as_is}
+use Rattle.rv_monitor.proofs.Prelude.{length-set}
+use Rattle.rv_debug.specs.Prelude.{HartState, MonitoredMachine, changed, count_of, hart_state_of, is_live, is_world_of, with_memory}
+use Rattle.rv_debug.proofs.Prelude.{cases_lt}
+
+-- two changes of a hart keep its world, and keep what the two states have in common
+pub record ChangesAlike (e : ℕ) (one other : HartState) (change change_too : HartState → HartState) : Type 0 where
+  pub world : (change one).world ≡ one.world
+  pub state : HartStatesEquivExcept e (guest_state one) (guest_state other)
+      → HartStatesEquivExcept e (guest_state (change one)) (guest_state (change_too other))
+  pub host : SameHost (guest_state one) (guest_state other) → SameHost (guest_state (change one)) (guest_state (change_too other))
+
+module _ (e hart : ℕ) (change change_too : HartState → HartState) (one other : MonitoredMachine) (related : AreRelated e one other)
+    (alike : ChangesAlike e (hart_state_of hart one) (hart_state_of hart other) change change_too) where
+  changed_in : hart < count_of one → AreRelated e (changed hart change one) (changed hart change_too other)
+  changed_in has =
+      let a = change (hart_state_of hart one) in
+      let b = change_too (hart_state_of hart other) in
+      let size = related.harts in
+      record {
+        harts = length-set one.hart_states hart a ∙ size ∙ sym (length-set other.hart_states hart b);
+        hart_states = hart_cases_of_both one.hart_states other.hart_states hart a b
+            (λ j s t. HartStatesEquivExcept e (guest_state s) (guest_state t)) size has (alike.state (related.hart_states hart))
+            (λ j apart. related.hart_states j);
+        hosts = hart_cases_of_both one.hart_states other.hart_states hart a b
+            (λ j s t. is_world_of e s.world ≡ true → SameHost (guest_state s) (guest_state t)) size has
+            (λ runs. alike.host (related.hosts hart (ap (is_world_of e) (sym alike.world) ∙ runs)))
+            (λ j apart. related.hosts j);
+        table = related.table;
+        memory = related.memory;
+        contexts = related.contexts;
+        gone = related.gone;
+      }
+
+  pub changed_related : AreRelated e (changed hart change one) (changed hart change_too other)
+  changed_related = elim (cases_lt hart (count_of one)) [
+    | inl has ↦ changed_in has
+    | inr past ↦
+        let size = related.harts in
+        let here = past_as_is hart (change (hart_state_of hart one)) one past in
+        let there = past_as_is hart (change_too (hart_state_of hart other)) other (omega (arith, size, past)) in
+        rw (here, there) related
+  ]
+
+-- memories that are equal outside the same bytes, and equal once the enclave has ended
+pub memory_related : (e : ℕ) (one other : MonitoredMachine) (m n : List ℕ) → AreRelated e one other
+    → EqualOutside (may_differ one.shared.table e) m n → (is_live one.shared.table e ≡ false → m ≡ n)
+    → AreRelated e (with_memory one m) (with_memory other n)
+memory_related e one other m n related equal same = record {
+  harts = related.harts;
+  hart_states = related.hart_states;
+  hosts = related.hosts;
+  table = related.table;
+  memory = equal;
+  contexts = related.contexts;
+  gone = λ dead. ap₂ (λ (s : Shared) (x : List ℕ). record s { memory = x }) (related.gone dead) (same dead);
+}
+
+-- a machine is related to itself
+pub related_itself : (e : ℕ) (machine : MonitoredMachine) → AreRelated e machine machine
+related_itself e machine = record {
+  harts = refl;
+  hart_states = λ hart. record { world = refl; same = λ low. refl };
+  hosts = λ hart runs. record { host = refl; rest = refl };
+  table = refl;
+  memory = record { size = refl; bytes = λ i shown. refl };
+  contexts = record { size = refl; others = λ k apart. refl };
+  gone = λ dead. refl;
+}

@@ -1,0 +1,5 @@
+use Rattle.rv_debug.proofs.LowCommands.{low_command}
+use Rattle.rv_debug.proofs.laws.low_commands_are_alike.Goals as goal
+
+pub returns : goal.returns
+returns c = low_command

@@ -1,0 +1,8 @@
+use Rattle.rv_debug.proofs.Declassification.{declassification, list_declassification}
+use Rattle.rv_debug.proofs.laws.noninterference_with_declassification.Goals as goal
+
+pub returns-clause-command : goal.returns-clause-command
+returns-clause-command c = declassification
+
+pub returns-clause-list : goal.returns-clause-list
+returns-clause-list c = list_declassification

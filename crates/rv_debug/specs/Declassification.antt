@@ -1,0 +1,170 @@
+-- Noninterference with declassification for commands: what an enclave has and does has no influence on what others observe of the replies,
+-- except for what it hands over. The commands may run it, to its exit and beyond. (Laws of this project's own debugger and monitor;
+-- declassification: Sabelfeld and Sands, JCS 2009.)
+use Rattle.std.specs.Prelude.{ℕ, ◌≡◌, ◌⊎◌, true, false, List, [], ◌∷◌, IfSome}
+use Rattle.rv_enclaves.specs.Table.{runs}
+use Rattle.rv_monitor.specs.Declassification.{AreMoves, AreRelated, Both, First, Move, SameWindow, Second}
+use Rattle.rv_debug.specs.Prelude.{Bare, Command, Csr, Done, Monitored, MonitoredMachine, Run, SetReg, Step, Stop, Target}
+use Rattle.rv_debug.specs.BenchState.{BenchState}
+use Rattle.rv_debug.specs.BothBenches.{BenchesEquivExcept, RunsOnNoHart, RunsOnNoneIn, is_entered}
+use Rattle.rv_debug.specs.Effects.{effect, harts_stepped, steps_of}
+use Rattle.rv_debug.specs.Execute.{csr_reply, execute}
+use Rattle.rv_debug.specs.Isolation.{after_commands}
+use Rattle.rv_debug.specs.Noninterference.{AvoidsEnclave, PokesInto, harts_named}
+use Rattle.rv_debug.specs.Observed.{guest_target, is_selected, observed}
+use Rattle.rv_debug.specs.Selected.{Selected}
+use Rattle.rv_debug.specs.Targets.{TargetInvariant, machine_in}
+
+-- ---- two benches that are equivalent except for an enclave, whether it runs or not
+
+-- The selected hart is the same, and the machines are related. A bare machine has no enclave.
+pub record SelectedAreRelated (e : ℕ) (one other : Selected) : Type 0 where
+  pub hart : one.hart ≡ other.hart
+  pub state : AreRelated e one.state other.state
+
+abbrev pub TargetsAreRelated : ℕ → Target → Target → Type 0
+TargetsAreRelated e (Bare one) (Bare other) = one ≡ other
+TargetsAreRelated e (Monitored one) (Monitored other) = SelectedAreRelated e one other
+TargetsAreRelated e _ _ = ⊥
+
+pub record BenchesAreRelated (e : ℕ) (one other : BenchState) : Type 0 where
+  pub target : TargetsAreRelated e one.target other.target
+  pub breaks : one.breaks ≡ other.breaks
+  pub watches : one.watches ≡ other.watches
+
+-- ---- the steps of two commands
+
+-- the harts that step in the first machine, and those that step in the second
+abbrev pub first_steps : List Move → List ℕ
+first_steps [] = []
+first_steps (First hart ∷ moves) = hart ∷ first_steps moves
+first_steps (Second hart ∷ moves) = first_steps moves
+first_steps (Both hart ∷ moves) = hart ∷ first_steps moves
+
+abbrev pub second_steps : List Move → List ℕ
+second_steps [] = []
+second_steps (First hart ∷ moves) = second_steps moves
+second_steps (Second hart ∷ moves) = hart ∷ second_steps moves
+second_steps (Both hart ∷ moves) = hart ∷ second_steps moves
+
+-- Steps of two machines are those of a list of moves: the enclave takes any number of steps in each, and hands over the same at each exit.
+pub record StepsAreMoves (e : ℕ) (one other : MonitoredMachine) (harts others : List ℕ) : Type 0 where
+  pub moves : List Move
+  pub first : first_steps moves ≡ harts
+  pub second : second_steps moves ≡ others
+  pub are : AreMoves e moves one other
+
+-- the steps of a command in two benches; a command without steps has no condition
+abbrev pub HandsOverAlike : ℕ → BenchState → BenchState → Command → Type 0
+HandsOverAlike e first second command =
+    IfSome (machine_in first.target) (λ one. IfSome (machine_in second.target) (λ other.
+    StepsAreMoves e one other (harts_stepped (effect first command)) (harts_stepped (effect second command))))
+
+-- what ends the steps of a command
+abbrev pub stop_of : BenchState → Command → Stop
+stop_of bench (Step count) = (steps_of bench.target [] [] count).ran.stop
+stop_of bench (Run count) = (steps_of bench.target bench.breaks bench.watches count).ran.stop
+stop_of bench _ = Done
+
+-- ---- a command of each bench
+
+-- the command sets a register of a hart on which the enclave of slot e runs
+abbrev pub SetsOwnRegister : ℕ → BenchState → Command → Type 0
+SetsOwnRegister e bench (SetReg number value) = is_selected e bench.target ≡ true
+SetsOwnRegister e bench _ = ⊥
+
+-- both execute the same command; its steps hand over the same, and end for the same reason
+pub record IsSameCommand (e : ℕ) (first second : BenchState) (here there : Command) : Type 0 where
+  pub same : here ≡ there
+  pub steps : HandsOverAlike e first second here
+  pub stop : stop_of first here ≡ stop_of second here
+
+-- the bytes of the window are equal, if the enclave runs
+abbrev pub WindowsAreEqual : ℕ → BenchState → BenchState → Type 0
+WindowsAreEqual e first second =
+    IfSome (machine_in first.target) (λ one. IfSome (machine_in second.target) (λ other.
+    runs one.shared.table e ≡ true → SameWindow e one other))
+
+-- both execute the same command, which in the first bench steps no hart on which the enclave runs, and does not enter it
+pub record IsSameLowCommand (e : ℕ) (first second : BenchState) (here there : Command) : Type 0 where
+  pub same : here ≡ there
+  pub window : WindowsAreEqual e first second
+  pub none : RunsOnNoneIn e (harts_named first.target here) first.target
+  pub past : is_entered e (execute first here).entered ≡ false
+
+-- Or both poke a secret into the region of the enclave, or both set a register of the hart on which it runs to a secret.
+abbrev pub CommandsAlike : ℕ → BenchState → BenchState → Command → Command → Type 0
+CommandsAlike e first second here there =
+    (IsSameCommand e first second here there ⊎ IsSameLowCommand e first second here there)
+    ⊎ ((PokesInto e first here × PokesInto e second there) ⊎ (SetsOwnRegister e first here × SetsOwnRegister e second there))
+
+-- the observations are equal, and the benches are related again
+pub record ObservedAlike (e : ℕ) (first second : BenchState) (here there : Command) : Type 0 where
+  pub observed : observed e first here ≡ observed e second there
+  pub state : BenchesAreRelated e (execute first here).state (execute second there).state
+
+abbrev pub CommandDeclassificationLaw : Type 0
+CommandDeclassificationLaw =
+    (e : ℕ) (first second : BenchState) (here there : Command) → TargetInvariant first.target → TargetInvariant second.target
+    → BenchesAreRelated e first second → CommandsAlike e first second here there → ObservedAlike e first second here there
+
+-- ---- a command that executes no step of the enclave
+
+-- both execute the same steps, and the windows are equal again
+pub record IsLowCommand (e : ℕ) (first second : BenchState) (command : Command) : Type 0 where
+  pub same : IsSameCommand e first second command command
+  pub window : WindowsAreEqual e (execute first command).state (execute second command).state
+
+-- A command steps no hart on which the enclave runs, and does not enter it in the first bench. The condition on its steps then holds.
+abbrev pub LowCommandLaw : Type 0
+LowCommandLaw =
+    (e : ℕ) (first second : BenchState) (command : Command) → TargetInvariant first.target → TargetInvariant second.target
+    → BenchesAreRelated e first second → WindowsAreEqual e first second → RunsOnNoneIn e (harts_named first.target command) first.target
+    → is_entered e (execute first command).entered ≡ false → IsLowCommand e first second command
+
+-- ---- lists of commands
+
+-- a list of commands for each bench, command by command
+abbrev pub AllCommandsAlike : ℕ → BenchState → BenchState → List Command → List Command → Type 0
+AllCommandsAlike e first second [] [] = Unit {0}
+AllCommandsAlike e first second (here ∷ commands) (there ∷ others) =
+    CommandsAlike e first second here there × AllCommandsAlike e (execute first here).state (execute second there).state commands others
+AllCommandsAlike e first second _ _ = ⊥
+
+-- the observations of commands, one after another
+abbrev pub all_observed : ℕ → BenchState → List Command → List (List ℕ)
+all_observed e bench [] = []
+all_observed e bench (command ∷ commands) = observed e bench command ∷ all_observed e (execute bench command).state commands
+
+pub record AllObservedAlike (e : ℕ) (first second : BenchState) (commands others : List Command) : Type 0 where
+  pub observed : all_observed e first commands ≡ all_observed e second others
+  pub state : BenchesAreRelated e (after_commands first commands) (after_commands second others)
+
+abbrev pub ListDeclassificationLaw : Type 0
+ListDeclassificationLaw =
+    (e : ℕ) (first second : BenchState) (commands others : List Command) → TargetInvariant first.target → TargetInvariant second.target
+    → BenchesAreRelated e first second → AllCommandsAlike e first second commands others → AllObservedAlike e first second commands others
+
+-- ---- the observation of a command that has nothing to do with the enclave
+
+-- the enclave of slot e does not run
+abbrev pub DoesNotRun : ℕ → Target → Type 0
+DoesNotRun e target = IfSome (machine_in target) (λ machine. runs machine.shared.table e ≡ false)
+
+-- the whole reply is observed; that of `csr` in the guest view
+abbrev pub IsObserved : ℕ → BenchState → Command → Type 0
+IsObserved e bench (Csr number) = observed e bench (Csr number) ≡ csr_reply (guest_target bench.target) number
+IsObserved e bench command = observed e bench command ≡ (execute bench command).reply
+
+-- The enclave does not run. The command does not enter it, and accesses no byte of its region.
+abbrev pub ObservationLaw : Type 0
+ObservationLaw =
+    (e : ℕ) (bench : BenchState) (command : Command) → TargetInvariant bench.target → DoesNotRun e bench.target → AvoidsEnclave e bench command
+    → IsObserved e bench command
+
+-- ---- where the relation begins
+
+-- A bench is related to itself. Benches that are equivalent except for an enclave are related, if it runs on no hart.
+pub record BenchRelationLaw : Type 0 where
+  pub itself : (e : ℕ) (bench : BenchState) → BenchesAreRelated e bench bench
+  pub begins : (e : ℕ) (first second : BenchState) → BenchesEquivExcept e first second → RunsOnNoHart e first.target → BenchesAreRelated e first second

@@ -1,0 +1,96 @@
+-- The observation of a command: its reply without the parts that depend on what is private to an enclave. These are the state of a hart that
+-- runs the enclave, the bytes of its region, and those of its window while it runs. The number of its steps and the registers that no world reads
+-- are private too. (This project's own commands.)
+use Rattle.std.specs.Prelude.{ℕ, ◌+◌, ◌==◌, Bool, false, ◌&&◌, ◌||◌, List, [], ◌∷◌, ◌++◌, nat_lt, replicate, Option, if◌then◌else◌}
+use Rattle.std.specs.Option.{option_or}
+use Rattle.rv_enclaves.specs.Table.{runs, window}
+use Rattle.rv_monitor.specs.GuestView.{guest_view}
+use Rattle.rv_debug.specs.Prelude.{Bare, Command, Csr, Dis, HartRan, Mem, Monitored, MonitoredMachine, Reg, Regs, Run, Sched, Step, Target, Trap}
+use Rattle.rv_debug.specs.Prelude.{bytes_named, harts_in, has_all, meets, option_case, region, runs_on}
+use Rattle.rv_debug.specs.Prelude.{step_of}
+use Rattle.rv_debug.specs.BenchState.{BenchState}
+use Rattle.rv_debug.specs.Effects.{steps_of}
+use Rattle.rv_debug.specs.Execute.{csr_reply, hart_summary_text, reply_to}
+use Rattle.rv_debug.specs.ReplyText.{no_hart_text, ran_text}
+use Rattle.rv_debug.specs.ScheduledSteps.{AfterSchedule, nothing_ran, schedule_start, scheduled_steps}
+use Rattle.rv_debug.specs.Steps.{AfterRun}
+use Rattle.rv_debug.specs.Targets.{hart_of, harts_of, machine_in, pc_of, selected_at, selected_of, with_selected, world_text}
+
+-- whether the enclave of slot e runs on the selected hart
+abbrev pub is_selected : ℕ → Target → Bool
+is_selected e (Bare machine) = false
+is_selected e (Monitored selected) = runs_on e selected.hart selected.state
+
+-- a text, or nothing if it is hidden
+abbrev pub unless : Bool → List ℕ → List ℕ
+unless hidden text = if hidden then [] else text
+
+-- ---- steps
+
+-- the steps of a hart and one more; a step of the enclave sets their number to 0
+abbrev pub one_more_observed : Bool → Option Trap → HartRan → HartRan
+one_more_observed is_own trap ran = record { steps = if is_own then 0 else ran.steps + 1; trap = option_or trap ran.trap }
+
+-- the same after a step of any hart
+abbrev pub with_observed_step : ℕ → ℕ → ℕ → MonitoredMachine → HartRan → HartRan
+with_observed_step e own hart machine ran =
+    if own == hart then one_more_observed (runs_on e hart machine) (step_of hart machine).outcome.step.trap ran else ran
+
+-- the steps of hart `own` among one step of each of these harts, in order: their number after the last step of the enclave, and the last trap
+abbrev pub observed_steps : ℕ → ℕ → List ℕ → MonitoredMachine → HartRan → HartRan
+observed_steps e own [] machine ran = ran
+observed_steps e own (hart ∷ harts) machine ran =
+    observed_steps e own harts (step_of hart machine).state (with_observed_step e own hart machine ran)
+
+-- the number of steps of the selected hart after the last step of the enclave, among `count` steps
+abbrev pub observed_count : ℕ → Target → ℕ → ℕ
+observed_count e target count =
+    let hart = selected_of target in
+    option_case (machine_in target) count (λ machine. (observed_steps e hart (replicate count hart) machine nothing_ran).steps)
+
+-- the summary of a run, with this number of steps; nothing, if the enclave runs on the hart after it
+abbrev pub observed_run : ℕ → Target → AfterRun Target → List ℕ
+observed_run e before after =
+    unless (is_selected e after.state)
+    (ran_text (pc_of after.state) (hart_of after.state).mode (world_text after.state)
+    (record { steps = observed_count e before after.ran.steps; trap = after.ran.trap; stop = after.ran.stop; entered = 0 }))
+
+-- the summary of each hart on which the enclave does not run after a schedule
+abbrev pub observed_hart : ℕ → Target → ℕ → HartRan → List ℕ
+observed_hart e target hart ran = unless (is_selected e (with_selected hart target)) (hart_summary_text target hart ran)
+
+abbrev pub observed_harts : ℕ → AfterSchedule → List ℕ
+observed_harts e after =
+    observed_hart e after.state 0 after.did.first
+    ++ (if nat_lt 1 (harts_of after.state) then observed_hart e after.state 1 after.did.second else [])
+
+abbrev pub observed_sched : ℕ → Target → List ℕ → List ℕ
+observed_sched e target harts =
+    if has_all (harts_of target) harts then observed_harts e (scheduled_steps harts (schedule_start target)) else no_hart_text
+
+-- ---- what a command shows
+
+-- the guest view of a target: the registers that no world reads are 0
+abbrev pub guest_target : Target → Target
+guest_target (Bare machine) = Bare machine
+guest_target (Monitored selected) = selected_at selected.hart (guest_view selected.state)
+
+-- the command names a byte of the region, or of the window while the enclave runs
+abbrev pub names_private : ℕ → Target → Command → Bool
+names_private e target command =
+    option_case (machine_in target) false (λ machine.
+    meets (bytes_named command) (region machine.shared.table e)
+    || (runs machine.shared.table e && meets (bytes_named command) (window machine.shared.table e)))
+
+-- ---- every command
+
+abbrev pub observed : ℕ → BenchState → Command → List ℕ
+observed e bench (Step count) = observed_run e bench.target (steps_of bench.target [] [] count)
+observed e bench (Run count) = observed_run e bench.target (steps_of bench.target bench.breaks bench.watches count)
+observed e bench (Sched schedule) = observed_sched e bench.target (harts_in schedule)
+observed e bench (Reg number) = unless (is_selected e bench.target) (reply_to bench (Reg number))
+observed e bench Regs = unless (is_selected e bench.target) (reply_to bench Regs)
+observed e bench (Csr number) = unless (is_selected e bench.target) (csr_reply (guest_target bench.target) number)
+observed e bench (Mem address count) = unless (names_private e bench.target (Mem address count)) (reply_to bench (Mem address count))
+observed e bench (Dis address) = unless (names_private e bench.target (Dis address)) (reply_to bench (Dis address))
+observed e bench command = reply_to bench command
