@@ -38,7 +38,7 @@ job_output (Twin setup slot) input = twin_output setup slot input
 job_output Asm input = asm_output input
 job_output Dis input = dis_output input
 
--- memory was refused for the bytes of an image, of which some were read: no line so far has an error
+-- memory was refused for the bytes of an image, after some of them were read: no line so far has an error
 abbrev pub OutOfMemoryForImage : List ℕ → Type 0
 OutOfMemoryForImage input = (left : List ℕ) × ReadsPrefixOfImage input left
 
