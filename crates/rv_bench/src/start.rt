@@ -6,7 +6,7 @@ ghost use Rattle.rv_bench.specs.Loaded.{is_read_as_elf as is_read_as_elf_of, pla
 use rv_command_line::{ImageKind, Setup};
 use rv_debug::Bench;
 use rv_elf::{ElfFault, Plan, is_elf, load, plan, plan_raw};
-use rv_hart::Machine;
+use rv_hart::{BoxedCache, Machine};
 use rv_memory::Ram;
 use rv_monitor::MonitoredMachine;
 use rv_pmp::Mode;
@@ -42,14 +42,18 @@ fn planned(image: &[u8], setup: &Setup) -> Result<Plan, ElfFault>
 
 /// Returns the bench at reset with a RAM. A bare bench has the image on one hart in mode M. A monitored bench has the host on each hart, above
 /// the monitor.
-fn reset(ram: Ram, entry: u32, setup: &Setup) -> Bench
+fn reset(ram: Ram, cache: BoxedCache, entry: u32, setup: &Setup) -> Bench
     requires { entry % 4 ≡ 0 }
     ensures { result ≡ reset_over setup.now ram entry }
 {
     if setup.monitored {
-        Bench::monitored(MonitoredMachine::new(ram, entry, setup.harts))
+        let mut machine = MonitoredMachine::new(ram, entry, setup.harts);
+        machine.set_decode_cache(cache);
+        Bench::monitored(machine)
     } else {
-        Bench::bare(Machine::new(ram, entry, Mode::M))
+        let mut machine = Machine::new(ram, entry, Mode::M);
+        machine.set_decode_cache(cache);
+        Bench::bare(machine)
     }
 }
 
@@ -58,13 +62,13 @@ fn reset(ram: Ram, entry: u32, setup: &Setup) -> Bench
 /// # Errors
 ///
 /// The error of the lowest number that the image has.
-fn loaded(mut ram: Ram, image: &[u8], setup: &Setup) -> Result<Bench, ElfFault>
+fn loaded(mut ram: Ram, cache: BoxedCache, image: &[u8], setup: &Setup) -> Result<Bench, ElfFault>
     requires { ram ≡ replicate setup.now.ram 0 }
     ensures { result ≡ bench_of image.now setup.now }
 {
     let plan = planned(image, setup)?;
     load(&plan, image, &mut ram);
-    Ok(reset(ram, plan.entry(), setup))
+    Ok(reset(ram, cache, plan.entry(), setup))
 }
 
 /// Returns the bench at reset, with the image in its RAM.
@@ -78,11 +82,12 @@ fn loaded(mut ram: Ram, image: &[u8], setup: &Setup) -> Result<Bench, ElfFault>
 pub(crate) fn start(alloc: Global, image: &[u8], setup: &Setup) -> Result<Bench, BenchFault>
     ensures { Starts image.now setup.now result }
 {
+    let cache = BoxedCache::allocate(alloc);
     let ram = match Ram::new(alloc, setup.ram) {
         Ok(ram) => ram,
         Err(fault) => return Err(BenchFault::Ram(fault)),
     };
-    match loaded(ram, image, setup) {
+    match loaded(ram, cache, image, setup) {
         Ok(bench) => Ok(bench),
         Err(fault) => Err(BenchFault::Image(fault)),
     }

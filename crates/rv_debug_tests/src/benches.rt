@@ -2,7 +2,7 @@
 //! both would lengthen the proof of a test.
 
 use rv_debug::Bench;
-use rv_hart::Machine;
+use rv_hart::{BoxedCache, Machine};
 use rv_memory::{RAM_BASE, Ram};
 use rv_pmp::Mode;
 use rv_text::Reply;
@@ -25,7 +25,9 @@ pub(crate) fn poke_words(ram: &mut Ram, address: u32, words: &[u32]) {
 pub(crate) fn machine_with(rt: &impl Abort, alloc: Global, words: &[u32], mode: Mode) -> Machine {
     let mut ram = Ram::new(alloc, 65_536).expect(rt, "a RAM");
     poke_words(&mut ram, RAM_BASE, words);
-    Machine::new(ram, RAM_BASE, mode)
+    let mut machine = Machine::new(ram, RAM_BASE, mode);
+    machine.set_decode_cache(BoxedCache::allocate(alloc));
+    machine
 }
 
 /// Returns a bench with the words of a program, in mode M.

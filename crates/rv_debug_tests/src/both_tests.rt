@@ -3,6 +3,7 @@
 
 use crate::benches::{expect_text, poke_words, with_words};
 use rv_debug::{Bench, Both, BothLine, BothWhy, Command, both_command, both_line, parse, run_both};
+use rv_hart::BoxedCache;
 use rv_memory::Ram;
 use rv_monitor::{Harts, MonitoredMachine, Slot};
 use rv_text::Reply;
@@ -61,7 +62,9 @@ fn give(bench: &mut Bench, lines: &[&[u8]]) {
 fn bench_of_calls(rt: &impl Abort, alloc: Global, harts: Harts) -> Bench {
     let mut ram = Ram::new(alloc, 196_608).expect(rt, "a RAM");
     poke_words(&mut ram, FIRST, &[0x73; 4]);
-    Bench::monitored(MonitoredMachine::new(ram, FIRST, harts))
+    let mut machine = MonitoredMachine::new(ram, FIRST, harts);
+    machine.set_decode_cache(BoxedCache::allocate(alloc));
+    Bench::monitored(machine)
 }
 
 /// Returns a bench with an enclave in slot 0.

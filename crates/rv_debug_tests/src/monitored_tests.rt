@@ -2,6 +2,7 @@
 
 use crate::benches::{Line, expect, poke_words};
 use rv_debug::Bench;
+use rv_hart::BoxedCache;
 use rv_memory::Ram;
 use rv_monitor::{Harts, MonitoredMachine};
 use std::alloc::Global;
@@ -14,7 +15,9 @@ const FIRST: u32 = 0x8001_0000;
 fn bench_of(rt: &impl Abort, alloc: Global, words: &[u32], harts: Harts) -> Bench {
     let mut ram = Ram::new(alloc, 1_048_576).expect(rt, "a RAM");
     poke_words(&mut ram, FIRST, words);
-    Bench::monitored(MonitoredMachine::new(ram, FIRST, harts))
+    let mut machine = MonitoredMachine::new(ram, FIRST, harts);
+    machine.set_decode_cache(BoxedCache::allocate(alloc));
+    Bench::monitored(machine)
 }
 
 /// Gives lines to a monitored bench whose host starts with four ecalls. The first ecall creates an enclave.

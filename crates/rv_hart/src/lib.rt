@@ -29,7 +29,7 @@ mod request;
 mod returns;
 mod trap;
 
-pub use decode_cache::DecodeCache;
+pub use decode_cache::BoxedCache;
 pub use hart::Hart;
 pub use limits::{Interval, Limits};
 pub use machine::Machine;

@@ -13,7 +13,7 @@ use crate::hart_state::HartState;
 use crate::layout::program_pmp;
 use crate::outcome::Outcome;
 use rv_enclaves::{SLOT_COUNT, Shared, Slot, Table, World};
-use rv_hart::{DecodeCache, Hart, Limits};
+use rv_hart::{BoxedCache, Hart, Limits};
 use rv_memory::Ram;
 use rv_platform::Harts;
 use rv_pmp::Mode;
@@ -109,7 +109,7 @@ fn run_fast_in(
     by_hart: &mut [HartState; 2],
     harts: u8,
     shared: &mut Shared,
-    cache: &mut DecodeCache,
+    cache: &mut BoxedCache,
     hart: u8,
     limits: &Limits,
     count: u32,
@@ -184,7 +184,7 @@ pub struct MonitoredMachine {
     /// The number of harts.
     harts: u8,
     shared: Shared,
-    decode_cache: DecodeCache,
+    decode_cache: BoxedCache,
 }
 
 impl Model for MonitoredMachine {
@@ -211,13 +211,15 @@ impl MonitoredMachine {
     ghost use Rattle.rv_monitor.specs.StepLaws.{ObeysStepLaws};
 
     /// Returns the machine at reset with the given memory. On each hart the host runs in mode S with pc at `entry`, and there is no enclave.
-    /// Hart 1, if there are two harts, starts with x10 = 1. `entry` must be a multiple of 4.
+    /// Hart 1, if there are two harts, starts with x10 = 1. `entry` must be a multiple of 4. The machine has no decode cache.
     #[tactic(auto, unfolding(crate::specs::MonitoredMachine::at_start))]
     pub fn new(ram: Ram, entry: u32, harts: Harts) -> Self
         requires { entry % 4 ≡ 0 }
         ensures start { result ≡ at_start ram entry harts }
         ensures invariant { Invariant result }
     {
+        // gives the prover the invariant of the RAM
+        let _ = ram.size();
         MonitoredMachine {
             by_hart: [HartState::new(entry), HartState::beside(entry)],
             harts: harts.count(),
@@ -226,8 +228,15 @@ impl MonitoredMachine {
                 table: Table::new(),
                 contexts: [None; SLOT_COUNT],
             },
-            decode_cache: DecodeCache::new(),
+            decode_cache: BoxedCache::none(),
         }
+    }
+
+    /// Gives the machine a decode cache for fast steps.
+    pub fn set_decode_cache(&mut self, cache: BoxedCache)
+        ensures { self.new ≡ self.old }
+    {
+        self.decode_cache = cache;
     }
 
     /// Returns the number of harts: 1 or 2.

@@ -1,6 +1,6 @@
 //! Executes the lines of a test on a machine.
 
-use rv_hart::{Interval, Limits, Machine, StepOutcome, Trap};
+use rv_hart::{BoxedCache, Interval, Limits, Machine, StepOutcome, Trap};
 use rv_memory::{RAM_BASE, Ram};
 use rv_pmp::Mode;
 use rv_word::{Reg, le_bytes};
@@ -62,7 +62,9 @@ fn machine_with(rt: HostRuntime, words: &[u32]) -> Result<Machine, Fail> {
             address = address.wrapping_add(1);
         }
     }
-    Ok(Machine::new(ram, RAM_BASE, Mode::M))
+    let mut machine = Machine::new(ram, RAM_BASE, Mode::M);
+    machine.set_decode_cache(BoxedCache::allocate(rt.alloc()));
+    Ok(machine)
 }
 
 /// Executes a line, and returns whether its expectation holds.
