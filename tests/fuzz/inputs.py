@@ -186,7 +186,7 @@ def script(rng):
 
 def code(rng):
     """Returns a program that stores into its own cache line, the next one, and one of the same set; and runs of it."""
-    other = START + rng.choice((0x100, 0x3F00, 0x2000, 4 * rng.randrange(32), 0xF8))
+    other = START + rng.choice((0x100, 0x1FF00, 0x1FFF8, 0x2000, 4 * rng.randrange(32), 0xF8))
     pool = [lambda: assemble(rng.choice(("sw", "sw", "sh", "sb")), rng.choice((3, 4, 5)), rng.choice((0, 0, 4, -4, 8, 1, 2)), rng.choice((1, 2)))[1],
             lambda: assemble("addi", rng.choice((1, 5, 5, 0)), rng.choice((1, 5)), rng.choice((4, -4, 1)))[1],
             lambda: assemble(rng.choice(("xor", "add", "mul")), rng.choice((4, 5, 6)), rng.choice((3, 4, 5)), 5)[1],
@@ -199,12 +199,13 @@ def code(rng):
                                             (4, rng.choice(pool)()), (5, rng.getrandbits(rng.choice((2, 32)))), (7, START))]
     lines += ["poke %x %x" % (other + i, byte) for i, byte in enumerate(bytes.fromhex(digits_of([rng.choice(pool)(), words[-1]])))]
     for _ in range(rng.randrange(2, 8)):
-        lines.append("%s %d" % (rng.choice(("run", "run", "step")), rng.choice((1, 2, 7, 40, 200, 900))))
+        lines.append("%s %d" % (rng.choice(("run", "run", "step")), rng.choice((1, 2, 7, 40, 64, 65, 66, 200, 900))))
         if chance(rng, 0.3):
-            lines.append("poke %x %x" % (START + rng.randrange(4 * len(words)), rng.choice((0x13, 0x93, 0x33, rng.randrange(256)))))
+            changed = rng.choice((START + rng.randrange(4 * len(words)), other + rng.randrange(4)))
+            lines.append("poke %x %x" % (changed, rng.choice((0x13, 0x93, 0x33, rng.randrange(256)))))
         if chance(rng, 0.2):
             lines.append("%s %x" % (rng.choice(("break", "watch")), START + 4 * rng.randrange(len(words))))
-    return ["run", "--ram", "65536"], joined(in_lines(rng, digits_of(words)), [*lines, "regs", "mem 80000000 64", "mem %x 16" % other])
+    return ["run", "--ram", "131072"], joined(in_lines(rng, digits_of(words)), [*lines, "regs", "mem 80000000 64", "mem %x 16" % other])
 
 
 def segments_of(rng, size):
