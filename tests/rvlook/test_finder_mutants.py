@@ -107,7 +107,7 @@ MUTANTS = (
     Mutant("findings_end_with_zero", "output/findings.py", "if self.has_found and not is_report:", "if False:", "test_exit_status.py::test_leak"),
     Mutant("exit_zero_hides_refused_lines", "output/findings.py", "        if self.refused:\n", "        if self.refused and not is_report:\n",
            "test_exit_status.py::test_refused_line_counts_more_than_a_finding"),
-    Mutant("cut_work_ends_with_zero", "output/findings.py", "return UNFINISHED if self.cut else 0", "return 0", "test_exit_status.py::test_leak_that_seconds_cut"),
+    Mutant("cut_work_ends_with_zero", "output/findings.py", "return UNFINISHED if self.cut else self.program_status", "return self.program_status", "test_exit_status.py::test_leak_that_seconds_cut"),
     Mutant("reduction_ignores_calls_of_the_monitor", "finders/races/search.py", "if self.plain or look.uses_table:",
            "if self.plain or look.uses_table and look.kind != 'call':", "test_races_orders.py::test_final_states_are_those_of_all_schedules[37]"),
     Mutant("reduction_ignores_shared_bytes", "finders/races/search.py", "        self.shared |= shared\n        return True", "        return False",

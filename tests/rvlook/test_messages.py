@@ -48,7 +48,7 @@ def texts_of(node, functions):
 CONSTANTS = {}
 INTERNAL = ("a command must be a single line",)  # a check of rvlook's own callers
 OF_THE_SERVER = ("listening on localhost:%d", "rejected a second connection to the port", "the debugger disconnected")  # in docs/DEBUGGER.md
-IN_A_DEBUGGER = ("gdb/monitor.py",)  # its messages are printed in the debugger
+IN_A_DEBUGGER = ("gdb/monitor.py", "gdb/jumps.py")  # its messages are printed in the debugger
 
 
 def messages():
