@@ -56,8 +56,8 @@ def test_pc_that_cannot_be_executed_is_refused(debugger):
 
 def test_continue_at_an_address_jumps_there(debugger):
     with debugger(TIMER, MONITOR) as client:
-        assert client.ask("Z0,80010058,4")[:2] == "OK"
-        assert client.halt("c80010050")[1][PC] != "pc=80010000"
+        assert client.ask("Z0,80010054,4")[:2] == "OK"
+        assert client.halt("c80010050")[1][PC] == "pc=80010054", "no other path of the host's start leads from 80010000 to the handler's end"
 
 
 def test_jump_words_are_those_of_the_assembler(bench):

@@ -49,7 +49,7 @@ def test_default_is_reported_and_shared(rvlook, subcommand):
 
 def test_enclave_runs_in_map_and_window_without_a_script(rvlook):
     assert "hart 0  step 65  run e0" in rvlook("map", "--brief", *WORDS).stdout
-    assert "answered" in rvlook("window", *WORDS).stdout or "e0" in rvlook("window", *WORDS).stdout
+    assert "hart 0  e0, activation 1: steps 66 to 223, ended by exit  a0=00000000 a1=0000002a\n" in rvlook("window", *WORDS).stdout
 
 
 def test_map_and_trace_number_the_steps_alike(rvlook):
