@@ -3,3 +3,4 @@ pub mod Decoded
 pub mod DecodeCache
 pub mod FastOps
 pub mod PermittedRanges
+pub mod Fused

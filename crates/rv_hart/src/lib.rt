@@ -21,6 +21,7 @@ mod decoded;
 mod destination;
 mod fast;
 mod fast_ops;
+mod fused;
 mod hart;
 mod limits;
 mod machine;

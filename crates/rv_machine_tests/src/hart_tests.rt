@@ -341,7 +341,8 @@ const STOPPED: [Line; 14] = [
     Line::Fast(9, END, 0),
     Line::Csr(0xb02, 3),
     Line::Enter(Mode::M),
-    Line::Fast(1, END, 1),
+    // a single step is left to `step`
+    Line::Fast(1, END, 0),
     // an interrupt is left to `step`
     Line::Write(0x300, 8),
     Line::Mie(0x80),
