@@ -1,4 +1,4 @@
-"""Pairs of runs of one enclave: under unlike hosts, with loops of secret length, and interrupted by the timer.
+"""Pairs of runs of one enclave: under unlike hosts and in other slots, with loops of secret length, and interrupted by the timer.
 
 The theorems of docs/LAWS.md, section "The life of an enclave", are about all such pairs. Each test draws pairs from a fixed seed and compares
 the replies of the built program.
@@ -10,13 +10,14 @@ import pytest
 
 from generators.monitor_case import input_of
 from models.instruction_words import assemble
-from models.monitor_model import CREATE, DESTROY, EXIT, HOST_ENTRY, KEY, RUN, STOP
+from models.monitor_model import CREATE, DESTROY, EXIT, EXITED, HOST_ENTRY, KEY, MEASURE, RESUME, RUN, STOP, STOPPED
 
 PAGE = 0x1000
 REGION, WINDOW, OTHER, FREE = (HOST_ENTRY + n * PAGE for n in (1, 2, 3, 4))
+SPARE = HOST_ENTRY + 5 * PAGE
 SECRET = REGION + PAGE - 4
 STEPS = 40
-HOST_ECALLS = 8
+HOST_ECALLS = 24
 
 
 def word(name, *operands):
@@ -71,27 +72,73 @@ def first_run(chance):
     return handler + [operation(chance) for _ in range(2 * STEPS)]
 
 
-def unlike_host(chance, shared):
-    """Returns the lines of a host up to its run of slot 0: its registers, memory and enclaves are random; the bytes of the window are shared."""
+def unlike_host(chance, shared, slot):
+    """Returns the lines of a host up to its run of a slot: its registers, memory and enclaves are random; the bytes of the window are shared."""
     lines = ["setreg %d %x" % (it, chance.getrandbits(32)) for it in range(1, 32)]
     lines += ["poke %x %x" % (FREE + chance.randrange(PAGE), chance.randrange(256)) for _ in range(8)] + shared
+    for other in range(slot):
+        lines += call(CREATE, SPARE + other * PAGE, PAGE, 0, 0, SPARE + other * PAGE)
     lines += call(CREATE, REGION, PAGE, WINDOW, PAGE, REGION)
     if chance.random() < 0.5:
         lines += call(CREATE, OTHER, PAGE, 0, 0, OTHER)
-    return lines + call(RUN, 0, *(chance.getrandbits(32) for _ in range(4)))
+    if slot and chance.random() < 0.5:
+        lines += call(DESTROY, chance.randrange(slot))
+    return lines + call(RUN, slot, *(chance.getrandbits(32) for _ in range(4)))
+
+
+def shown(program, enclave, slot, parts):
+    """Returns the replies to the second lines of each pair, which follow its first lines. They name the enclave of the slot as e."""
+    groups = [[]]
+    for it in replies(program, enclave, [line for hidden, lines in parts for line in [*hidden, "mark", *lines, "mark"]]):
+        if it == "error command":
+            groups.append([])
+        else:
+            groups[-1].append(it.replace("world=e%d " % slot, "world=e "))
+    return groups[1::2]
 
 
 @pytest.mark.parametrize("seed", range(4))
-def test_enclave_takes_the_same_steps_under_unlike_hosts(bench, seed):
+def test_enclave_takes_the_same_steps_under_unlike_hosts_in_any_slots(bench, seed):
     chance = random.Random(seed)
     for _ in range(250):
-        enclave = first_run(chance)
+        enclave, slots = first_run(chance), [chance.randrange(12) for _ in range(2)]
         shared = ["poke %x %x" % (WINDOW + 0x400 + chance.randrange(0x3FC), chance.randrange(256)) for _ in range(8)]
-        shown = ["regs", *["step 1", "regs"] * STEPS, "mem %x 64" % (WINDOW + 0x400), "mem %x 64" % (REGION + 0x400)]
-        runs = [unlike_host(chance, shared) for _ in range(2)]
-        first, second = (replies(bench, enclave, it + shown)[len(it):] for it in runs)
-        assert any("world=e0" in it for it in first)
+        steps = ["regs", *["step 1", "regs"] * STEPS, "mem %x 64" % (WINDOW + 0x400), "mem %x 64" % (REGION + 0x400)]
+        first, second = (shown(bench, enclave, it, [(unlike_host(chance, shared, it), steps)])[0] for it in slots)
+        assert any("world=e " in it for it in first)
         assert first == second
+
+
+def calling_run(chance, values):
+    """Returns the code of an enclave that calls the monitor twice and stops with the first value. After a resume it stores what it received, calls
+    again, and exits with the second value. One call measures into its region, one is a measure that is refused, and one is not offered."""
+    calls = [
+        [*constant(11, REGION + 0x600), *leave(MEASURE)],
+        [*constant(11, chance.choice((0, OTHER, REGION - 4, WINDOW + PAGE - 4))), *leave(MEASURE)],
+        [*constant(10, chance.getrandbits(32)), *leave(chance.choice((0, CREATE, DESTROY, RUN, RESUME, 8)))],
+    ]
+    chance.shuffle(calls)
+    keep = [*constant(12, WINDOW), word("sw", 10, 0x400, 12), word("sw", 11, 0x404, 12), word("csrrs", 5, 0x143, 0), word("sw", 5, 0x408, 12)]
+    return [*calls[0], *calls[1], *constant(10, values[0]), *leave(STOP), *keep, *calls[2], *constant(10, values[1]), *leave(EXIT)]
+
+
+@pytest.mark.parametrize("seed", range(4))
+def test_monitor_answers_and_saves_an_enclave_alike_in_any_slots(bench, seed):
+    chance = random.Random(seed)
+    after = ["run 200", "reg 10", "reg 11", "mem %x 64" % (WINDOW + 0x400), "mem %x 64" % (REGION + 0x600)]
+    for _ in range(50):
+        values, runs = [chance.getrandbits(32) for _ in range(2)], []
+        enclave = calling_run(chance, values)
+        for slot in chance.sample(range(12), 2):
+            host = unlike_host(chance, [], slot)
+            back = HOST_ENTRY + 4 * host.count("step 1")
+            stops = [*["step 1", "regs"] * 16, "break %x" % back, *after]
+            exits = [*["step 1", "regs"] * 8, "break %x" % (back + 4), *after]
+            runs.append(shown(bench, enclave, slot, [(host, stops), (["clear %x" % back, *call(RESUME, slot)], exits)]))
+        # the two hosts continue at different addresses
+        first, second = ([[it for it in part if not it.startswith("ran") or "world=e " in it] for part in run] for run in runs)
+        assert first == second
+        assert [part[-4:-2] for part in first] == [["x10=%08x" % reason, "x11=%08x" % value] for reason, value in zip((STOPPED, EXITED), values)]
 
 
 def secret_loop(function):

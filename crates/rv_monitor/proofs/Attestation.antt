@@ -3,7 +3,6 @@ use Rattle.std.proofs.Common.{◌≡◌, ◌<◌, ◌≤◌, ℕ, ◌+◌, Bool,
 use Rattle.std.proofs.lemmas.Bool.{cases_Bool}
 use Rattle.std.specs.Prelude.{is_some, map, not}
 use Rattle.rv_state.specs.CsrState.{at_reset}
-use Rattle.rv_state.specs.GuestCsrs.{below_m_csrs}
 use Rattle.rv_state.specs.declared.cause.Cause.TheVariants as causes
 use Rattle.rv_platform.specs.declared.block.Block.{Block}
 use Rattle.rv_enclaves.specs.Measurement.{args_of}
@@ -12,18 +11,18 @@ use Rattle.rv_enclaves.specs.declared.create_args.CreateArgs.{CreateArgs}
 use Rattle.rv_enclaves.specs.declared.slot_info.EnclaveState.TheVariants.{Fresh}
 use Rattle.rv_enclaves.proofs.EqualMemory.{same_read}
 use Rattle.rv_enclaves.proofs.Measurement.{measurement_law, same_digest, same_measurement, valid_inside}
-use Rattle.rv_monitor.specs.Attestation.{AttestationLaw, IsAsCreated, IsEntry, KeepsAsCreated}
-use Rattle.rv_monitor.specs.EnclaveSteps.{SameEnclave, enclave_view, is_beyond}
-use Rattle.rv_monitor.specs.Entering.{entered_csrs, entered_machine, entered_shared}
+use Rattle.rv_monitor.specs.Attestation.{AttestationLaw, IsAsCreated, IsEntry, KeepsAsCreated, BothEnter, ReentryLaw}
+use Rattle.rv_monitor.specs.EnclaveSteps.{Place, SameEnclave, SameSaved, is_beyond, runs_at, step_at}
+use Rattle.rv_monitor.specs.Entering.{entered_hart, entered_machine, entered_shared}
 use Rattle.rv_monitor.specs.Integrity.{enters}
-use Rattle.rv_monitor.specs.Prelude.{Context, CsrState, Destroy, Enclave, EnclaveState, EnvironmentCallFromS, EqualOutside, HartState, IsValid, IsValidSlot, Running}
+use Rattle.rv_monitor.specs.Prelude.{Context, CsrState, Destroy, EnclaveState, EnvironmentCallFromS, EqualOutside, HartState, IsValid, IsValidSlot, Running}
 use Rattle.rv_monitor.specs.Prelude.{Shared, Slots, Trap, byte_at, bytes_of_block, is_inside, context_at, create_args_of, created, destroyed, first_context, has, is_live}
-use Rattle.rv_monitor.specs.Prelude.{measured, new_slot, option_case, ram_base, recorded, region, region_of, running_slot, slot_at, step, with_slot, with_state, write}
-use Rattle.rv_monitor.proofs.Prelude.{Handled, HartInvariant, HartView, Invariant, IsTaken, MayCreate, MonitoredMachine, SlotInfo, at_other, at_same}
+use Rattle.rv_monitor.specs.Prelude.{measured, new_slot, option_case, ram_base, recorded, region, region_of, running_slot, slot_at, step, with_state, write}
+use Rattle.rv_monitor.proofs.Prelude.{Handled, HartInvariant, HartView, Invariant, IsTaken, MayCreate, MonitoredMachine, SlotInfo, at_other, at_same, eq-eqb}
 use Rattle.rv_monitor.proofs.Prelude.{bare_machine, both_ways, cases_eq, and_from, confined, enclave_state_after, le-leb, lt-ltb, entered_slot, free_slot_from, get_or-set_at, handled, hart_state_at_start}
-use Rattle.rv_monitor.proofs.Prelude.{hart_state_of, hart_view, left, length-map, live_in_range, reprogrammed, runs_on, step_of, a0}
+use Rattle.rv_monitor.proofs.Prelude.{hart_state_of, hart_view, left, length-map, reprogrammed, runs_on, step_of, a0}
 use Rattle.rv_monitor.proofs.Beside.{runs_among}
-use Rattle.rv_monitor.proofs.EnclaveMemory.{beyond_again, put_size, state_extent}
+use Rattle.rv_monitor.proofs.EnclaveMemory.{beyond_again, put_size, state_extent, state_slot}
 use Rattle.rv_monitor.proofs.EnclaveStays.{index_same}
 use Rattle.rv_monitor.proofs.EnclaveSteps.{enclave_run_law}
 use Rattle.rv_monitor.proofs.Entering.{enter_law}
@@ -36,6 +35,8 @@ use Rattle.rv_monitor.specs.Records.{identity_at, identity_of}
 use Rattle.std.specs.Option.{option_map}
 use Rattle.rv_monitor.proofs.StepInvariant.{step_size}
 use Rattle.rv_monitor.proofs.TrapSteps.{hart_state_after, step_cases}
+use Rattle.rv_monitor.specs.Prelude.{Hart, is_world_of}
+use Rattle.rv_hart.specs.GuestView.{below_m_hart}
 
 -- ---- no step changes the size of memory
 
@@ -182,20 +183,14 @@ as_created_law hart machine kept k (inl dead) passes live =
 abbrev plain_csrs : Bool → CsrState
 plain_csrs timer = record at_reset { timer = timer }
 
-abbrev entry_view : CsrState → Slots → ℕ → Context → HartState
-entry_view c slots k context = record {
-  hart = record {
-    regs = context.regs;
-    csrs = below_m_csrs (entered_csrs c slots (record { cause = causes.Exception EnvironmentCallFromS; tval = 0 }) k context);
-    pc = context.pc;
-    mode = context.mode;
-  };
-  host_context = None;
-  world = Enclave k;
-}
+-- the hart of an enclave after its entry, from the CSRs before it
+abbrev entry_hart : CsrState → Slots → ℕ → Context → Hart
+entry_hart c slots k context =
+    let trap : Trap = record { cause = causes.Exception EnvironmentCallFromS; tval = 0 } in
+    below_m_hart (entered_hart (record { regs = []; csrs = c; pc = 0; mode = context.mode }) slots trap k context)
 
 plain_entry : (hart_state : HartState) (old slots : Slots) (k : ℕ) (context : Context) → HartInvariant old hart_state
-    → entry_view hart_state.hart.csrs slots k context ≡ entry_view (plain_csrs hart_state.hart.csrs.timer) [] k context
+    → entry_hart hart_state.hart.csrs slots k context ≡ entry_hart (plain_csrs hart_state.hart.csrs.timer) [] 0 context
 plain_entry hart_state old slots k context is =
     let mie = is.layout.mstatus_mie in
     let mprv = is.layout.mprv in
@@ -204,56 +199,59 @@ plain_entry hart_state old slots k context is =
     let tsr = is.layout.tsr in
     rw (mie, mprv, tvm, tw, tsr) refl
 
-slot_with : (slots : Slots) (k : ℕ) (o : Option SlotInfo) → length slots ≡ 13 → slot_at slots k ≡ o
-    → slot_at (option_case o slots (λ info. with_slot slots k (Some (record info { state = Running })))) k
-    ≡ option_case o None (λ info. Some (record info { state = Running }))
-slot_with slots k None count is = is
-slot_with slots k (Some info) count is =
-    let within = live_in_range slots k info count is in at_same slots k (Some (record info { state = Running })) (omega (arith, count, within))
+module _ (p : Place) (machine : MonitoredMachine) (context : Context) (kept : Invariant machine)
+    (held : context_at machine.shared.contexts p.slot ≡ Some context) (enters : IsEntry p machine) where
+  entered_is : (step_at p machine).state ≡ entered_machine p.hart machine p.slot enters.trap context
+  entered_is = (enter_law p.hart machine kept p.slot context enters.trap enters.host held enters.trapped enters.world).0
 
-module _ (k hart : ℕ) (machine : MonitoredMachine) (context : Context) (kept : Invariant machine) (held : context_at machine.shared.contexts k ≡ Some context)
-    (enters : IsEntry k hart machine) where
-  entered_is : (step_of hart machine).state ≡ entered_machine hart machine k enters.trap context
-  entered_is = (enter_law hart machine kept k context enters.trap enters.host held enters.trapped enters.world).0
+  runs_then : runs_at p (step_at p machine).state ≡ true
+  runs_then = ap (is_world_of p.slot) enters.world ∙ eq-eqb p.slot p.slot refl
 
-  entry_hart_state : enclave_view (hart_state_of hart (step_of hart machine).state) ≡ entry_view (plain_csrs (hart_state_of hart machine).hart.csrs.timer) [] k context
-  entry_hart_state =
-      let slots = (entered_shared machine.shared k).table in
-      let has = (is_trapping hart machine enters.trap enters.trapped).has in
+  hart_then : below_m_hart (hart_state_of p.hart (step_at p machine).state).hart
+      ≡ entry_hart (plain_csrs (hart_state_of p.hart machine).hart.csrs.timer) [] 0 context
+  hart_then =
+      let slots = (entered_shared machine.shared p.slot).table in
+      let has = (is_trapping p.hart machine enters.trap enters.trapped).has in
       let size = length-map machine.hart_states (reprogrammed slots) in
-      ap (λ (m : MonitoredMachine). enclave_view (hart_state_of hart m)) (entered_is)
-      ∙ ap enclave_view (get_or-set_at (map (reprogrammed slots) machine.hart_states) hart hart _ (hart_state_at_start 0) refl (omega (arith, size, has)))
-      ∙ plain_entry (hart_state_of hart machine) machine.shared.table slots k context (kept.hart_states hart has)
+      ap (λ (m : MonitoredMachine). below_m_hart (hart_state_of p.hart m).hart) entered_is
+      ∙ ap (λ (s : HartState). below_m_hart s.hart)
+      (get_or-set_at (map (reprogrammed slots) machine.hart_states) p.hart p.hart _ (hart_state_at_start 0) refl (omega (arith, size, has)))
+      ∙ plain_entry (hart_state_of p.hart machine) machine.shared.table slots p.slot context (kept.hart_states p.hart has)
 
-  entry_slot : slot_at (step_of hart machine).state.shared.table k
-      ≡ option_case (slot_at machine.shared.table k) None (λ info. Some (record info { state = Running }))
-  entry_slot =
-      ap (λ (m : MonitoredMachine). slot_at m.shared.table k) (entered_is)
-      ∙ slot_with machine.shared.table k (slot_at machine.shared.table k) kept.shared.valid.count refl
+  slot_then : slot_at (step_at p machine).state.shared.table p.slot
+      ≡ option_case (slot_at machine.shared.table p.slot) None (λ info. Some (record info { state = Running }))
+  slot_then =
+      ap (λ (m : MonitoredMachine). slot_at m.shared.table p.slot) entered_is
+      ∙ state_slot machine.shared.table p.slot (slot_at machine.shared.table p.slot) Running kept.shared.valid.count refl
 
-same_entry : (k hart : ℕ) (one two : MonitoredMachine) (context : Context) → Invariant one → Invariant two
-    → context_at one.shared.contexts k ≡ Some context → context_at two.shared.contexts k ≡ Some context
-    → slot_at one.shared.table k ≡ slot_at two.shared.table k → EqualOutside (is_beyond one.shared.table k) one.shared.memory two.shared.memory
-    → (hart_state_of hart one).hart.csrs.timer ≡ (hart_state_of hart two).hart.csrs.timer → IsEntry k hart one → IsEntry k hart two
-    → SameEnclave k hart (step_of hart one).state (step_of hart two).state
-same_entry k hart one two context here too held held_too slot memory timer left right =
-    let extent = state_extent one.shared.table k (slot_at one.shared.table k) Running here.shared.valid.count refl in
-    let shared_one = ap (λ (m : MonitoredMachine). m.shared) (entered_is k hart one context here held left) in
-    let shared_two = ap (λ (m : MonitoredMachine). m.shared) (entered_is k hart two context too held_too right) in
-    let bytes : EqualOutside (is_beyond (entered_shared one.shared k).table k) one.shared.memory two.shared.memory = record {
-      size = memory.size;
-      bytes = λ i shown. memory.bytes i (beyond_again k one.shared.table (entered_shared one.shared k).table _ extent shown);
+same_entry : (p q : Place) (one two : MonitoredMachine) → Invariant one → Invariant two → SameSaved p.slot q.slot one.shared two.shared
+    → BothEnter p q one two → SameEnclave p q (step_at p one).state (step_at q two).state
+same_entry p q one two here too saved both =
+    let i = p.slot in
+    let extent = state_extent one.shared.table i (slot_at one.shared.table i) Running here.shared.valid.count refl in
+    let shared_one = ap (λ (m : MonitoredMachine). m.shared) (entered_is p one saved.context here saved.first both.first) in
+    let shared_two = ap (λ (m : MonitoredMachine). m.shared) (entered_is q two saved.context too saved.second both.second) in
+    let bytes : EqualOutside (is_beyond (entered_shared one.shared i).table i) one.shared.memory two.shared.memory = record {
+      size = saved.memory.size;
+      bytes = λ n shown. saved.memory.bytes n (beyond_again i one.shared.table (entered_shared one.shared i).table _ extent shown);
     } in
     record {
-      hart_state = entry_hart_state k hart one context here held left
-          ∙ ap (λ (b : Bool). entry_view (plain_csrs b) [] k context) timer
-          ∙ sym (entry_hart_state k hart two context too held_too right);
-      slot = entry_slot k hart one context here held left
-          ∙ ap (λ (o : Option SlotInfo). option_case o None (λ info. Some (record info { state = Running }))) slot
-          ∙ sym (entry_slot k hart two context too held_too right);
-      memory = subst (λ (s : Shared). EqualOutside (is_beyond s.table k) s.memory (step_of hart two).state.shared.memory) (sym shared_one)
-          (subst (λ (s : Shared). EqualOutside (is_beyond (entered_shared one.shared k).table k) one.shared.memory s.memory) (sym shared_two) bytes);
+      first = runs_then p one saved.context here saved.first both.first;
+      second = runs_then q two saved.context too saved.second both.second;
+      hart = hart_then p one saved.context here saved.first both.first
+          ∙ ap (λ (b : Bool). entry_hart (plain_csrs b) [] 0 saved.context) both.timer
+          ∙ sym (hart_then q two saved.context too saved.second both.second);
+      slot = slot_then p one saved.context here saved.first both.first
+          ∙ ap (λ (o : Option SlotInfo). option_case o None (λ info. Some (record info { state = Running }))) saved.slot
+          ∙ sym (slot_then q two saved.context too saved.second both.second);
+      memory = subst (λ (s : Shared). EqualOutside (is_beyond s.table i) s.memory (step_at q two).state.shared.memory) (sym shared_one)
+          (subst (λ (s : Shared). EqualOutside (is_beyond (entered_shared one.shared i).table i) one.shared.memory s.memory) (sym shared_two) bytes);
     }
+
+pub reentry_law : ReentryLaw
+reentry_law p q count one other here there saved both high =
+    enclave_run_law p q count (step_at p one).state (step_at q other).state (invariant_law p.hart one here) (invariant_law q.hart other there)
+    (same_entry p q one other here there saved both) high
 
 -- ---- the law
 
@@ -265,26 +263,30 @@ same_info one other args digest fresh fresh_too =
     ap (λ (s : EnclaveState). record one { state = s }) fresh ∙ ap₂ made args digest ∙ sym (ap (λ (s : EnclaveState). record other { state = s }) fresh_too)
 
 pub attestation_law : AttestationLaw
-attestation_law k hart count one other here there same equal timer left right high =
+attestation_law p q count one other here there same equal both high =
+    let i = p.slot in
     let a = same.first in
     let b = same.second in
     let m = one.shared.memory in
     let n = other.shared.memory in
-    let measured = measurement_law m n a.info b.info here.shared.valid.ram equal.size (valid_slot k one here a) (valid_slot k other there b) same.input in
+    let measured = measurement_law m n a.info b.info here.shared.valid.ram equal.size (valid_slot i one here a) (valid_slot q.slot other there b) same.input in
     let digest : a.info.measurement ≡ b.info.measurement =
     a.measurement ∙ same_digest m n (args_of a.info) (args_of b.info) same.input ∙ sym b.measurement in
     let info = same_info a.info b.info measured.args digest a.fresh b.fresh in
     let some : SlotInfo → Option SlotInfo = λ i. Some i in
     let first : SlotInfo → Option Context = λ i. Some (first_context i) in
-    let memory : EqualOutside (is_beyond one.shared.table k) m n = record {
-      size = equal.size;
-      bytes = λ i shown. elim (cases_Bool (has (region one.shared.table k) (ram_base + i))) [
-        | inl own ↦
-            let own_too : has a.info.region (ram_base + i) ≡ true = ap (λ (o : Option SlotInfo). has (region_of o) (ram_base + i)) (sym a.is) ∙ own in
-            measured.bytes.bytes i (ap not own_too)
-        | inr out ↦ equal.bytes i (rw out at shown)
-      ];
-    } in
-    let entry = same_entry k hart one other (first_context a.info) here there a.context (b.context ∙ ap first (sym info))
-    (a.is ∙ ap some info ∙ sym b.is) memory timer left right in
-    enclave_run_law k hart count (step_of hart one).state (step_of hart other).state (invariant_law hart one here) (invariant_law hart other there) entry high
+    reentry_law p q count one other here there (record {
+      context = first_context a.info;
+      first = a.context;
+      second = b.context ∙ ap first (sym info);
+      slot = a.is ∙ ap some info ∙ sym b.is;
+      memory = record {
+        size = equal.size;
+        bytes = λ n shown. elim (cases_Bool (has (region one.shared.table i) (ram_base + n))) [
+          | inl own ↦
+              let own_too : has a.info.region (ram_base + n) ≡ true = ap (λ (o : Option SlotInfo). has (region_of o) (ram_base + n)) (sym a.is) ∙ own in
+              measured.bytes.bytes n (ap not own_too)
+          | inr out ↦ equal.bytes n (rw out at shown)
+        ];
+      };
+    }) both high

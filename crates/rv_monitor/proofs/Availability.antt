@@ -1,22 +1,21 @@
 -- A set timer line makes an enclave exit, and a destroy of a live enclave that does not run succeeds.
-use Rattle.std.proofs.Common.{◌≡◌, ◌<◌, ℕ, true, false, length, Option, Some, None, refl, sym, ◌∙◌, ap, subst, arith}
-use Rattle.std.specs.Prelude.{is_some, map}
+use Rattle.std.proofs.Common.{◌≡◌, ℕ, true, false, length, Option, Some, None, refl, sym, ◌∙◌, ap, subst, arith}
+use Rattle.std.specs.Prelude.{is_some}
 use Rattle.rv_state.specs.declared.cause.Cause.TheVariants as causes
 use Rattle.rv_state.specs.declared.cause.Interrupt.TheVariants.{MachineTimer}
 use Rattle.rv_state.specs.Interrupts.{pending}
 use Rattle.rv_monitor.specs.Availability.{DestroySucceeds, TimerExits, timer_trap}
-use Rattle.rv_monitor.specs.Leaving.{left_machine}
-use Rattle.rv_monitor.specs.Prelude.{Call, Cause, Context, Destroy, Enclave, EnclaveState, EnvironmentCallFromS, Host, Running}
+use Rattle.rv_monitor.specs.Prelude.{Call, Cause, Destroy, Enclave, EnclaveState, EnvironmentCallFromS, Host, Running}
 use Rattle.rv_monitor.specs.Prelude.{HartState, Shared, Slots, Machine, StepOutcome, Stopped, Trap, World, requested_call, destroyed, first_refusal, is_host, is_live}
 use Rattle.rv_monitor.specs.Prelude.{is_running, mie_of, option_case, slot_at, state_refusals, step, with_return_values, with_slot, NotSupported, is_world_of}
 use Rattle.rv_enclaves.specs.Calls.{takes}
 use Rattle.rv_monitor.proofs.Prelude.{Invariant, MonitoredMachine, HartView, HartViewStepped, SlotInfo, a0, returned_to_caller, at_same}
-use Rattle.rv_monitor.proofs.Prelude.{bare_machine, call_handled, called, count_of, handled, live_in_range, monitored_step, performed, returned, hart_state_of}
-use Rattle.rv_monitor.proofs.Prelude.{eq-eqb, get_or-set_at, handled_cause, left_hart, left_shared, length-map, refused, hart_state_at_start, reprogrammed, hart_view, step_of}
+use Rattle.rv_monitor.proofs.Prelude.{bare_machine, call_handled, called, handled, live_in_range, monitored_step, performed, returned, hart_state_of}
+use Rattle.rv_monitor.proofs.Prelude.{eq-eqb, handled_cause, refused, hart_view, step_of}
 use Rattle.rv_monitor.proofs.Exits.{exits_law, runs_here, timer_or_none, waits}
 use Rattle.rv_monitor.proofs.Beside.{running_is_live}
 use Rattle.rv_monitor.proofs.InvariantLemmas.{hart_view_invariant}
-use Rattle.rv_monitor.proofs.Leaving.{leave_law}
+use Rattle.rv_monitor.proofs.Leaving.{leave_law, left_hart_state}
 use Rattle.rv_monitor.proofs.HartCases.{is_trapping, step_seen}
 use Rattle.rv_monitor.proofs.TrapSteps.{same_outcome, hart_state_after, trapped_step}
 
@@ -26,7 +25,7 @@ taken : (state : Machine) → pending state.hart.csrs state.hart.mode ≡ Some M
 unfolding step
 taken state is = rw is refl
 
-host_is : (world : World) → is_host world ≡ true → world ≡ Host
+pub host_is : (world : World) → is_host world ≡ true → world ≡ Host
 host_is Host is = refl
 host_is (Enclave k) is = cc
 
@@ -38,17 +37,6 @@ stopped_ends slots k (Some info) count is live =
     let within = live_in_range slots k info count is in
     let there = at_same slots k (Some (record info { state = Stopped })) (omega (arith, count, within)) in
     rw there refl
-
-left_hart_state : (hart : ℕ) (machine : MonitoredMachine) (k : ℕ) (host : Context) → hart < count_of machine
-    → (let h = (hart_state_of hart machine).hart in
-    let shared = left_shared machine.shared k timer_trap.cause h in
-    let hart_state : HartState = record { hart = left_hart h shared.table timer_trap host; host_context = None; world = Host } in
-    hart_state_of hart (left_machine hart machine k timer_trap host) ≡ hart_state)
-left_hart_state hart machine k host has =
-    let h = (hart_state_of hart machine).hart in
-    let shared = left_shared machine.shared k timer_trap.cause h in
-    let size = length-map machine.hart_states (reprogrammed shared.table) in
-    get_or-set_at (map (reprogrammed shared.table) machine.hart_states) hart hart _ (hart_state_at_start 0) refl (omega (arith, size, has))
 
 pub timer_exits : (hart : ℕ) (machine : MonitoredMachine) → Invariant machine → TimerExits hart machine (step_of hart machine)
 timer_exits hart machine kept k host runs waiting up =
@@ -67,7 +55,7 @@ timer_exits hart machine kept k host runs waiting up =
     record {
       trapped = trap_is;
       state = left;
-      result = ap (λ (m : MonitoredMachine). (hart_state_of hart m).hart.regs) left ∙ ap (λ (s : HartState). s.hart.regs) (left_hart_state hart machine k host has);
+      result = ap (λ (m : MonitoredMachine). (hart_state_of hart m).hart.regs) left ∙ ap (λ (s : HartState). s.hart.regs) (left_hart_state hart machine k timer_trap host has);
       world = world;
       destroyable = ap (λ (m : MonitoredMachine). first_refusal (state_refusals m.shared.table Destroy k)) left
           ∙ stopped_ends machine.shared.table k (slot_at machine.shared.table k) own.valid.count refl live;

@@ -141,6 +141,13 @@ state_extent slots k (Some info) state count is =
     let there = at_same slots k (Some (record info { state = state })) (omega (arith, count, within)) in
     record { region = ap region_of there ∙ sym (ap region_of is); window = ap window_of there ∙ sym (ap window_of is) }
 
+pub state_slot : (slots : Slots) (k : ℕ) (o : Option SlotInfo) (state : EnclaveState) → length slots ≡ 13 → slot_at slots k ≡ o
+    → slot_at (option_case o slots (λ info. with_slot slots k (Some (record info { state = state })))) k
+    ≡ option_case o None (λ info. Some (record info { state = state }))
+state_slot slots k None state count is = is
+state_slot slots k (Some info) state count is =
+    let within = live_in_range slots k info count is in at_same slots k (Some (record info { state = state })) (omega (arith, count, within))
+
 pub put_size : (m : List ℕ) (address : ℕ) (bytes : List ℕ) (o : Option (List ℕ)) → write m address bytes ≡ o
     → length (option_case o m (λ after. after)) ≡ length m
 put_size m address bytes None is = refl

@@ -1,16 +1,18 @@
 -- After a trap, an enclave either continues, or exits and leaves the specified state.
-use Rattle.std.proofs.Common.{◌≡◌, ℕ, ◌⊎◌, true, Option, Some, None, IfSome, refl, sym, ◌∙◌, ap, subst, inl, inr}
+use Rattle.std.proofs.Common.{◌≡◌, ℕ, ◌⊎◌, true, Option, Some, None, IfSome, refl, sym, ◌∙◌, ap, subst, inl, inr, ◌<◌, arith}
 use Rattle.std.proofs.Math.Bool.{or-false}
 use Rattle.rv_state.specs.declared.cause.Cause.TheVariants as causes
 use Rattle.rv_monitor.specs.Prelude.{Cause, Context, Enclave, Host, Outcome, HartState, StepOutcome, Trap, can_go_on, is_set, step}
-use Rattle.rv_monitor.specs.Leaving.{LeavesOnly}
-use Rattle.rv_monitor.proofs.Prelude.{Handled, HartViewInvariant, HartView, HartViewStepped, bare_machine, handled, saved_after, left_hart}
+use Rattle.rv_monitor.specs.Leaving.{LeavesOnly, left_machine}
+use Rattle.rv_monitor.proofs.Prelude.{Handled, HartViewInvariant, HartView, HartViewStepped, bare_machine, handled, saved_after, left_hart, count_of}
 use Rattle.rv_monitor.proofs.Prelude.{left, left_shared, monitored_step, returned, hart_view, with_reprogrammed_hart, Invariant, MonitoredMachine, step_of}
 use Rattle.rv_monitor.proofs.InvariantLemmas.{hart_view_invariant}
 use Rattle.rv_monitor.proofs.HartCases.{is_trapping, programmed_by, step_seen}
 use Rattle.rv_monitor.proofs.Switched.{aligned_again}
 use Rattle.rv_monitor.proofs.TrapSteps.{hart_state_after, trapped_step}
 use Rattle.rv_monitor.proofs.HandlerCases.{handler_cases, saved_by, enclave_exit_of, lowered_by}
+use Rattle.std.specs.Prelude.{map}
+use Rattle.rv_monitor.proofs.Prelude.{get_or-set_at, hart_state_at_start, hart_state_of, length-map, reprogrammed}
 
 -- ---- the trap handler
 
@@ -84,3 +86,15 @@ leave_law hart machine kept k host trap runs saved_host is gone =
     let there = sym (ap (λ (after : HartViewStepped). after.state.hart_state.world) (step_seen hart machine trapping.has)) ∙ gone in
     let one = left_one (hart_view hart machine) k host runs saved_host trap (hart_view_invariant hart machine kept trapping.has) trapping.trapped there in
     (trapping.state ∙ ap (programmed_by hart machine) one.0, ap (λ (outcome : Outcome). outcome.entered) trapping.outcome ∙ one.1)
+
+-- the hart after the exit
+pub left_hart_state : (hart : ℕ) (machine : MonitoredMachine) (k : ℕ) (trap : Trap) (host : Context) → hart < count_of machine
+    → (let h = (hart_state_of hart machine).hart in
+    let shared = left_shared machine.shared k trap.cause h in
+    let hart_state : HartState = record { hart = left_hart h shared.table trap host; host_context = None; world = Host } in
+    hart_state_of hart (left_machine hart machine k trap host) ≡ hart_state)
+left_hart_state hart machine k trap host has =
+    let h = (hart_state_of hart machine).hart in
+    let shared = left_shared machine.shared k trap.cause h in
+    let size = length-map machine.hart_states (reprogrammed shared.table) in
+    get_or-set_at (map (reprogrammed shared.table) machine.hart_states) hart hart _ (hart_state_at_start 0) refl (omega (arith, size, has))

@@ -1,5 +1,5 @@
 -- Attestation: the measurement identifies what an enclave does. Two enclaves with the same measured bytes take the same steps from their first
--- entry on, under any hosts and tables. (Laws about the monitor's definitions; Keystone, EuroSys 2020, in this project's profile.)
+-- entry on, under any hosts and tables and in any slots. (Laws about the monitor's definitions; Keystone, EuroSys 2020, in this project's profile.)
 use Rattle.std.specs.Prelude.{◌≡◌, ◌⊎◌, ℕ, true, false, Some}
 use Rattle.rv_enclaves.specs.Create.{measured_bytes}
 use Rattle.rv_enclaves.specs.Measurement.{args_of}
@@ -7,10 +7,10 @@ use Rattle.rv_enclaves.specs.declared.slot_info.SlotInfo.{SlotInfo}
 use Rattle.rv_enclaves.specs.declared.slot_info.EnclaveState.TheVariants.{Fresh}
 use Rattle.rv_monitor.specs.Prelude.{Enclave, Host, Shared, Trap, context_at, first_context, is_live, measurement_of, slot_at}
 use Rattle.rv_monitor.specs.Declassification.{SameWindow}
-use Rattle.rv_monitor.specs.EnclaveSteps.{AreHighSteps, SameEnclaveRun}
+use Rattle.rv_monitor.specs.EnclaveSteps.{AreHighSteps, Place, SameEnclaveRun, SameSaved, step_at}
 use Rattle.rv_monitor.specs.Integrity.{enters}
 use Rattle.rv_monitor.specs.MonitoredMachine.{MonitoredMachine, Invariant, hart_state_of}
-use Rattle.rv_monitor.specs.Step.{MonitoredStepped, step_of}
+use Rattle.rv_monitor.specs.Step.{MonitoredStepped}
 
 -- ---- an enclave between create and its first entry
 
@@ -28,26 +28,40 @@ KeepsAsCreated before after =
     (k : ℕ) → (is_live before.shared.table k ≡ false) ⊎ IsAsCreated k before.shared → enters k after.outcome.entered ≡ false
     → is_live after.state.shared.table k ≡ true → IsAsCreated k after.state.shared
 
+-- ---- the entry
+
+-- the next step of the hart is a step of the host that enters the enclave
+pub record IsEntry (place : Place) (machine : MonitoredMachine) : Type 0 where
+  pub host : (hart_state_of place.hart machine).world ≡ Host
+  pub trap : Trap
+  pub trapped : (step_at place machine).outcome.step.trap ≡ Some trap
+  pub world : (hart_state_of place.hart (step_at place machine).state).world ≡ Enclave place.slot
+
+-- both machines enter an enclave next, with equal timer lines
+pub record BothEnter (p q : Place) (one other : MonitoredMachine) : Type 0 where
+  pub first : IsEntry p one
+  pub second : IsEntry q other
+  pub timer : (hart_state_of p.hart one).hart.csrs.timer ≡ (hart_state_of q.hart other).hart.csrs.timer
+
+-- two enclaves that are saved alike take the same steps from their entry on, as long as they run
+abbrev pub ReentryLaw : Type 0
+ReentryLaw =
+    (p q : Place) (count : ℕ) (one other : MonitoredMachine) → Invariant one → Invariant other → SameSaved p.slot q.slot one.shared other.shared
+    → BothEnter p q one other → AreHighSteps p count (step_at p one).state
+    → SameEnclaveRun p q count (step_at p one).state (step_at q other).state
+
 -- ---- its first run
 
--- the next step of the hart is a step of the host that enters the enclave of slot k
-pub record IsEntry (k hart : ℕ) (machine : MonitoredMachine) : Type 0 where
-  pub host : (hart_state_of hart machine).world ≡ Host
-  pub trap : Trap
-  pub trapped : (step_of hart machine).outcome.step.trap ≡ Some trap
-  pub world : (hart_state_of hart (step_of hart machine).state).world ≡ Enclave k
-
 -- both enclaves are as created, from the same input of the measurement
-pub record SameIdentity (k : ℕ) (one other : Shared) : Type 0 where
-  pub first : IsAsCreated k one
-  pub second : IsAsCreated k other
+pub record SameIdentity (i j : ℕ) (one other : Shared) : Type 0 where
+  pub first : IsAsCreated i one
+  pub second : IsAsCreated j other
   pub input : measured_bytes one.memory (args_of first.info) ≡ measured_bytes other.memory (args_of second.info)
 
--- Let two machines have an enclave of the same identity in slot k, with equal bytes in its window and the same timer line, and let both enter it.
--- It then takes the same steps in both, as long as it runs.
+-- Let two machines have an enclave of the same identity, with equal bytes in its window and the same timer line, and let both enter it. The slots
+-- and the harts may differ. It then takes the same steps in both, as long as it runs.
 abbrev pub AttestationLaw : Type 0
 AttestationLaw =
-    (k hart count : ℕ) (one other : MonitoredMachine) → Invariant one → Invariant other → SameIdentity k one.shared other.shared
-    → SameWindow k one other → (hart_state_of hart one).hart.csrs.timer ≡ (hart_state_of hart other).hart.csrs.timer
-    → IsEntry k hart one → IsEntry k hart other → AreHighSteps k hart count (step_of hart one).state
-    → SameEnclaveRun k hart count (step_of hart one).state (step_of hart other).state
+    (p q : Place) (count : ℕ) (one other : MonitoredMachine) → Invariant one → Invariant other → SameIdentity p.slot q.slot one.shared other.shared
+    → SameWindow p.slot one other → BothEnter p q one other → AreHighSteps p count (step_at p one).state
+    → SameEnclaveRun p q count (step_at p one).state (step_at q other).state

@@ -1,9 +1,10 @@
--- Steps of an enclave depend only on its record, the bytes of its region and its window, its registers and its timer line. The rest of the table,
--- the host, the other enclaves and the other harts have no influence. (Laws about the monitor's definitions, not rules of a standard.)
-use Rattle.std.specs.Prelude.{◌≡◌, ℕ, zero, suc, Bool, true, not, ◌||◌, None, replicate}
+-- Steps of an enclave depend only on its record, the bytes of its region and its window, its registers and its timer line. The number of its slot,
+-- its hart, the rest of the table, the host, the other enclaves and the other harts have no influence. (Laws about the monitor's definitions, not
+-- rules of a standard.)
+use Rattle.std.specs.Prelude.{◌≡◌, ℕ, zero, suc, Bool, true, false, not, ◌||◌, List, Some, replicate}
 use Rattle.rv_hart.specs.GuestView.{below_m_hart}
 use Rattle.rv_enclaves.specs.Table.{window}
-use Rattle.rv_monitor.specs.Prelude.{EqualOutside, HartState, Slots, has, region, slot_at}
+use Rattle.rv_monitor.specs.Prelude.{Context, EqualOutside, Host, Shared, Slots, context_at, has, region, slot_at, with_return_values}
 use Rattle.rv_monitor.specs.EquivExcept.{runs_on}
 use Rattle.rv_monitor.specs.HartLaws.{sched}
 use Rattle.rv_monitor.specs.MonitoredMachine.{MonitoredMachine, Invariant, hart_state_of}
@@ -13,41 +14,80 @@ use Rattle.rv_monitor.specs.Step.{MonitoredStepped, step_of}
 abbrev pub is_beyond : Slots → ℕ → ℕ → Bool
 is_beyond slots k byte = not (has (region slots k) byte || has (window slots k) byte)
 
--- the state of a hart without the saved context of its host, and without what no enclave reads: the PMP entries, mie and the other registers of
--- mode M
-abbrev pub enclave_view : HartState → HartState
-enclave_view hart_state = record hart_state { hart = below_m_hart hart_state.hart; host_context = None }
+-- the slot of an enclave, and a hart
+pub record Place : Type 0 where
+  pub slot : ℕ
+  pub hart : ℕ
 
--- two machines in which the enclave of slot k has the same state, and runs on this hart with the same registers
-pub record SameEnclave (k hart : ℕ) (one other : MonitoredMachine) : Type 0 where
-  pub hart_state : enclave_view (hart_state_of hart one) ≡ enclave_view (hart_state_of hart other)
-  pub slot : slot_at one.shared.table k ≡ slot_at other.shared.table k
-  pub memory : EqualOutside (is_beyond one.shared.table k) one.shared.memory other.shared.memory
+-- whether the enclave of the slot runs on the hart
+abbrev pub runs_at : Place → MonitoredMachine → Bool
+runs_at place machine = runs_on place.slot place.hart machine
 
--- two steps have equal outcomes, and the enclave has the same state again as long as it runs
-pub record SameEnclaveStep (k hart : ℕ) (one other : MonitoredStepped) : Type 0 where
+abbrev pub step_at : Place → MonitoredMachine → MonitoredStepped
+step_at place machine = step_of place.hart machine
+
+-- Two enclaves run and have the same state. Each hart is compared without the PMP entries, mie and the other registers of mode M, which no enclave
+-- reads.
+pub record SameEnclave (p q : Place) (one other : MonitoredMachine) : Type 0 where
+  pub first : runs_at p one ≡ true
+  pub second : runs_at q other ≡ true
+  pub hart : below_m_hart (hart_state_of p.hart one).hart ≡ below_m_hart (hart_state_of q.hart other).hart
+  pub slot : slot_at one.shared.table p.slot ≡ slot_at other.shared.table q.slot
+  pub memory : EqualOutside (is_beyond one.shared.table p.slot) one.shared.memory other.shared.memory
+
+-- ---- the exit
+
+-- two enclaves that do not run have equal records, equal saved contexts, and equal bytes in the region and the window
+pub record SameSaved (i j : ℕ) (one other : Shared) : Type 0 where
+  pub context : Context
+  pub first : context_at one.contexts i ≡ Some context
+  pub second : context_at other.contexts j ≡ Some context
+  pub slot : slot_at one.table i ≡ slot_at other.table j
+  pub memory : EqualOutside (is_beyond one.table i) one.memory other.memory
+
+-- the hart runs the host, which received a reason and a value in a0 and a1
+pub record HasReturned (reason value hart : ℕ) (machine : MonitoredMachine) : Type 0 where
+  pub world : (hart_state_of hart machine).world ≡ Host
+  pub host : List ℕ
+  pub regs : (hart_state_of hart machine).hart.regs ≡ with_return_values host reason value
+
+-- both enclaves exited; the hosts received equal values, and the enclaves are saved alike
+pub record SameExit (p q : Place) (one other : MonitoredMachine) : Type 0 where
+  pub reason : ℕ
+  pub value : ℕ
+  pub first : HasReturned reason value p.hart one
+  pub second : HasReturned reason value q.hart other
+  pub saved : SameSaved p.slot q.slot one.shared other.shared
+
+-- ---- one step
+
+-- both enclaves still run and have the same state again, or both exited
+pub record SameAfter (p q : Place) (one other : MonitoredMachine) : Type 0 where
+  pub runs : runs_at p one ≡ true → SameEnclave p q one other
+  pub exits : runs_at p one ≡ false → SameExit p q one other
+
+pub record SameEnclaveStep (p q : Place) (one other : MonitoredStepped) : Type 0 where
   pub outcome : one.outcome ≡ other.outcome
-  pub state : runs_on k hart one.state ≡ true → SameEnclave k hart one.state other.state
+  pub state : SameAfter p q one.state other.state
 
--- a step of the enclave that runs on the hart is the same in every machine in which the enclave has the same state
+-- a step of the enclave that runs on the hart is the same in every machine in which an enclave has the same state
 abbrev pub DependsOnEnclave : ℕ → MonitoredMachine → MonitoredStepped → Type 0
 DependsOnEnclave hart before after =
-    (k : ℕ) (other : MonitoredMachine) → Invariant other → SameEnclave k hart before other → runs_on k hart before ≡ true
-    → SameEnclaveStep k hart after (step_of hart other)
+    (k : ℕ) (q : Place) (other : MonitoredMachine) → Invariant other
+    → (let p : Place = record { slot = k; hart = hart } in SameEnclave p q before other → SameEnclaveStep p q after (step_at q other))
 
 -- ---- many steps of the enclave in a row
 
 -- before each of so many steps of the hart the enclave runs there
-abbrev pub AreHighSteps : ℕ → ℕ → ℕ → MonitoredMachine → Type 0
-AreHighSteps k hart zero machine = Unit {0}
-AreHighSteps k hart (suc count) machine = (runs_on k hart machine ≡ true) × AreHighSteps k hart count (step_of hart machine).state
+abbrev pub AreHighSteps : Place → ℕ → MonitoredMachine → Type 0
+AreHighSteps place zero machine = Unit {0}
+AreHighSteps place (suc count) machine = (runs_at place machine ≡ true) × AreHighSteps place count (step_at place machine).state
 
-pub record SameEnclaveRun (k hart count : ℕ) (one other : MonitoredMachine) : Type 0 where
-  pub outcomes : (sched (replicate count hart) one).outcomes ≡ (sched (replicate count hart) other).outcomes
-  pub state : runs_on k hart (sched (replicate count hart) one).state ≡ true
-      → SameEnclave k hart (sched (replicate count hart) one).state (sched (replicate count hart) other).state
+pub record SameEnclaveRun (p q : Place) (count : ℕ) (one other : MonitoredMachine) : Type 0 where
+  pub outcomes : (sched (replicate count p.hart) one).outcomes ≡ (sched (replicate count q.hart) other).outcomes
+  pub state : SameAfter p q (sched (replicate count p.hart) one).state (sched (replicate count q.hart) other).state
 
 abbrev pub EnclaveRunLaw : Type 0
 EnclaveRunLaw =
-    (k hart count : ℕ) (one other : MonitoredMachine) → Invariant one → Invariant other → SameEnclave k hart one other
-    → AreHighSteps k hart count one → SameEnclaveRun k hart count one other
+    (p q : Place) (count : ℕ) (one other : MonitoredMachine) → Invariant one → Invariant other → SameEnclave p q one other
+    → AreHighSteps p count one → SameEnclaveRun p q count one other

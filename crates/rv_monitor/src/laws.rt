@@ -2,7 +2,7 @@
 //! step are clauses of `MonitoredMachine::step`. The laws here are about the parts of a step, and about steps of the harts in any order.
 
 ghost use Rattle.rv_monitor.specs.AccessControl.{AccessControlLaw};
-ghost use Rattle.rv_monitor.specs.Attestation.{AttestationLaw};
+ghost use Rattle.rv_monitor.specs.Attestation.{AttestationLaw, ReentryLaw};
 ghost use Rattle.rv_monitor.specs.Declassification.{DeclassificationLaw, RelationLaw};
 ghost use Rattle.rv_monitor.specs.EnclaveSteps.{EnclaveRunLaw};
 ghost use Rattle.rv_monitor.specs.HandlerReads.{HandlerReadsLaw};
@@ -88,7 +88,8 @@ pub const fn any_order_changes()
 {}
 
 /// States that many steps of an enclave in a row depend only on its record, the bytes of its region and its window, its registers and its timer
-/// line. They are the same in every machine in which these are equal, whatever the host, the other enclaves and the rest of the table are.
+/// line. They are the same in every machine in which these are equal, whatever its slot, its hart, the host, the other enclaves and the rest of
+/// the table are.
 pub const fn enclave_run_depends_on_enclave()
     ensures { EnclaveRunLaw }
 {}
@@ -105,7 +106,9 @@ pub const fn equivalent_machines_are_related()
 {}
 
 /// States attestation: the measurement identifies what an enclave does. Two enclaves that were created from the same measured bytes take the same
-/// steps from their first entry on, whatever their hosts and the rest of the tables are.
+/// steps from their first entry to their exit. Their slots, their hosts and the rest of the tables have no influence. They exit alike. Two enclaves
+/// that are saved alike take the same steps from a later entry on.
 pub const fn measurement_identifies()
-    ensures { AttestationLaw }
+    ensures first_run { AttestationLaw }
+    ensures later_runs { ReentryLaw }
 {}

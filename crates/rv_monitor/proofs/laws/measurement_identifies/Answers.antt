@@ -1,5 +1,5 @@
-use Rattle.rv_monitor.proofs.Attestation.{attestation_law}
+use Rattle.rv_monitor.proofs.Attestation.{attestation_law, reentry_law}
 use Rattle.rv_monitor.proofs.laws.measurement_identifies.Goals as goal
 
 pub returns : goal.returns
-returns c = attestation_law
+returns c = record { first_run = attestation_law; later_runs = reentry_law }
