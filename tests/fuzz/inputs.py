@@ -1,5 +1,5 @@
-"""Random inputs for the program, of eight kinds. Five are texts or images: image texts, ELF files, assembler texts,
-images to disassemble, and self-modifying programs. Three are scripts: of a bare bench, and of one and of two monitored benches, with one hart and
+"""Random inputs for the program, of nine kinds. Six are texts or images: image texts, ELF files, assembler texts,
+images to disassemble, self-modifying programs, and programs of superinstructions. Three are scripts: of a bare bench, and of one and of two monitored benches, with one hart and
 with two. Each input has arguments and bytes, and is made from a
 random number generator. Independent of the code under test.
 """
@@ -206,6 +206,45 @@ def code(rng):
         if chance(rng, 0.2):
             lines.append("%s %x" % (rng.choice(("break", "watch")), START + 4 * rng.randrange(len(words))))
     return ["run", "--ram", "131072"], joined(in_lines(rng, digits_of(words)), [*lines, "regs", "mem 80000000 64", "mem %x 16" % other])
+
+
+FIRSTS = ("lui", "lw", "lbu", "lhu", "sw", "addi", "andi", "slli", "srli", "add", "sub", "sltu", "xor", "or", "and", "mul", "mulhu", "div", "divu")
+SECONDS = FIRSTS + ("sb", "rem", "remu", "beq", "bne", "blt", "bge", "bltu", "bgeu")
+
+
+def operation(rng, name):
+    """Returns an instruction that may be one of two in a superinstruction. Loads and stores are at x1 and x2, and results go to x5 to x8 or x0."""
+    to, left, right = rng.choice((5, 6, 7, 8, 0)), rng.choice((5, 6, 7, 8, 2)), rng.choice((5, 6, 7, 8))
+    small, base = rng.choice((0, 0, 1, 2, 4, -4, 8)), rng.choice((1, 2, 2, 2))
+    fields = {"lui": (to, rng.choice((0x80000, 1))), "branch": (left, right, 4 * rng.choice((1, 2, 2, 3, 3, -2))), "load": (to, small, base),
+              "store": (rng.choice((3, 4, right)), small, base), "immediate": (to, left, small), "shift": (to, left, rng.randrange(32)),
+              "register": (to, left, right)}
+    return assemble(name, *fields[ROWS[name][0]])[1]
+
+
+def pairs(rng):
+    """Returns a program of superinstructions, some across the end of a cache line. Every second or fourth turn of its loop stores over one of its
+    operations, two instructions by turns. Runs of all short lengths have breakpoints and watchpoints between the two operations."""
+    start = START + 4 * rng.choice((0, 0, 1, 40, 57, 60, 61, 62, 63))
+    words = [operation(rng, rng.choice(names)) for _ in range(rng.choice((1, 2, 3, 5))) for names in (FIRSTS, SECONDS)]
+    if chance(rng, 0.3):
+        words.insert(rng.randrange(len(words)), operation(rng, "addi"))
+    target = start + 4 * rng.randrange(len(words)) + rng.choice((0,) * 9 + (1, 2, 3))
+    new, other = (operation(rng, rng.choice(SECONDS)) for _ in range(2))
+    words += [assemble("addi", 9, 9, 1)[1], assemble("andi", 10, 9, rng.choice((1, 3)))[1], assemble("bne", 10, 0, 12)[1],
+              assemble(rng.choice(("sw", "sw", "sw", "sh", "sb")), 3, 0, 1)[1], assemble("xor", 3, 3, 4)[1]]
+    words.append(assemble("jal", 0, -4 * len(words))[1])
+    lines = ["setreg %d %x" % it for it in ((1, target), (2, START + 0x800), (3, new), (4, new ^ other),
+                                            *((i, rng.getrandbits(rng.choice((2, 32)))) for i in (5, 6, 7, 8)))]
+    lengths = rng.sample(range(1, 25), 10) if chance(rng, 0.3) else [rng.choice((8, 9, 40, 63, 64, 65, 200, 333)) for _ in range(4)]
+    for length in lengths:
+        lines.append("%s %d" % (rng.choice(("run", "step")), length))
+        if chance(rng, 0.2):
+            lines.append("%s %x" % (rng.choice(("break", "watch")), start + 4 * rng.randrange(len(words)) + rng.choice((0, 0, 2))))
+        if chance(rng, 0.1):
+            lines.append("poke %x %x" % (start + rng.randrange(4 * len(words)), rng.randrange(256)))
+    padded = [assemble("jal", 0, start - START)[1]] * (start > START) + [0x13] * ((start - START) // 4 - 1)
+    return ["run", "--ram", "131072"], joined(in_lines(rng, digits_of(padded + words)), [*lines, "regs", "mem %x 64" % start, "mem 80000800 16"])
 
 
 def segments_of(rng, size):
@@ -419,7 +458,7 @@ def twin(rng):
     return played(rng, TwinPlay) if chance(rng, 0.3) else staged(rng, True)
 
 
-KINDS = {"image": image, "script": script, "code": code, "elf": elf_file, "asm": asm, "dis": dis, "monitor": monitor, "twin": twin}
+KINDS = {"image": image, "script": script, "code": code, "pairs": pairs, "elf": elf_file, "asm": asm, "dis": dis, "monitor": monitor, "twin": twin}
 
 
 def drawn(rng, kind):

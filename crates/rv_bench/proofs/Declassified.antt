@@ -7,13 +7,14 @@ use Rattle.rv_script.specs.declared.command.Command.{Command}
 use Rattle.rv_script.specs.declared.command.CommandFault.{CommandFault}
 use Rattle.rv_debug.specs.BenchState.{BenchState}
 use Rattle.rv_debug.specs.BothBenches.{RunsOnNoneIn, is_entered}
-use Rattle.rv_debug.specs.Declassification.{BenchesAreRelated, WindowsAreEqual}
+use Rattle.rv_debug.specs.Declassification.{AreRelatedForAll, BenchesAreRelated, WindowsAreEqual}
 use Rattle.rv_debug.specs.Execute.{execute, execute_line, execute_or_fault}
 use Rattle.rv_debug.specs.Noninterference.{harts_named}
 use Rattle.rv_debug.specs.Observed.{observed}
 use Rattle.rv_debug.specs.ReplyText.{command_fault_text}
 use Rattle.rv_debug.specs.Targets.{TargetInvariant}
 use Rattle.rv_debug.proofs.Declassification.{declassification, relation_law}
+use Rattle.rv_debug.proofs.Ended.{ended_law}
 use Rattle.rv_debug.proofs.LowCommands.{low_command}
 use Rattle.rv_command_line.specs.declared.job.Job.{Job}
 use Rattle.rv_command_line.specs.declared.job.Job.TheVariants.{Run, Twin, Asm, Dis}
@@ -91,6 +92,29 @@ module _ (e : ℕ) where
             both.state windows low.1,
       )
 
+  -- ---- the same lines, after an enclave has ended
+
+  line_ended : (first second : BenchState) (line : List ℕ) → TargetInvariant first.target → TargetInvariant second.target → AreRelatedForAll first second
+      → ParsedAlike e first second (parse_of line) (parse_of line) × AreRelatedForAll (execute_line first line).state (execute_line second line).state
+  unfolding execute_line
+  line_ended first second line kept kept' related = go (parse_of line) where
+    go : (parsed : Result Command CommandFault) → ParsedAlike e first second parsed parsed
+        × AreRelatedForAll (execute_or_fault first parsed).state (execute_or_fault second parsed).state
+    go (Ok command) = (
+      inl (inl (ended_law.same e first second command kept kept' related)),
+      ended_law.again first second command kept kept' related,
+    )
+    go (Err fault) = (refl, related)
+
+  pub lines_ended : (first second : BenchState) (lines : List (List ℕ)) → TargetInvariant first.target → TargetInvariant second.target
+      → AreRelatedForAll first second → LinesAlike e first second lines lines
+  lines_ended first second [] kept kept' related = tt
+  lines_ended first second (line ∷ lines) kept kept' related =
+      let (alike, again) = line_ended first second line kept kept' related in (
+        alike,
+        lines_ended (execute_line first line).state (execute_line second line).state lines (keeps_line first line kept) (keeps_line second line kept') again,
+      )
+
   -- ---- scripts
 
   -- observed lines leave the same state
@@ -118,6 +142,10 @@ declassification_through bench kept = record {
       lines_observed e (state_after bench_line bench before) other lines others (keeps_lines bench before kept) kept' related alike;
   low = λ e before lines other kept' related equal low.
       lines_low e (state_after bench_line bench before) other lines (keeps_lines bench before kept) kept' related equal low;
+  ended = λ e k before lines other kept' related ended.
+      let start = state_after bench_line bench before in
+      let keeps = keeps_lines bench before kept in
+      lines_ended k start other lines keeps kept' (ended_law.ended e start other keeps related ended);
 }
 
 declassified_from : (bench : Result BenchState BenchFault) → IfOk bench (λ state. TargetInvariant state.target) → IfOk bench ScriptDeclassification

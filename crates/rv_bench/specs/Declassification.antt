@@ -8,7 +8,7 @@ use Rattle.rv_script.specs.declared.command.Command.{Command}
 use Rattle.rv_script.specs.declared.command.CommandFault.{CommandFault}
 use Rattle.rv_debug.specs.BenchState.{BenchState}
 use Rattle.rv_debug.specs.BothBenches.{RunsOnNoneIn, is_entered}
-use Rattle.rv_debug.specs.Declassification.{BenchesAreRelated, CommandsAlike, WindowsAreEqual}
+use Rattle.rv_debug.specs.Declassification.{BenchesAreRelated, CommandsAlike, EnclaveHasEnded, WindowsAreEqual}
 use Rattle.rv_debug.specs.Execute.{execute}
 use Rattle.rv_debug.specs.Noninterference.{harts_named}
 use Rattle.rv_debug.specs.Observed.{observed}
@@ -63,7 +63,8 @@ LinesAreLow e bench [] = Unit {0}
 LinesAreLow e bench (line ∷ lines) = LineIsLow e bench line × LinesAreLow e (bench_line bench line).state lines
 
 -- After any lines, take the rest of the script, and other lines for a bench that is related. If they are alike line by line, what others observe is
--- equal. The same lines for both benches are alike if they are low in the first, and if the window is equal while the enclave runs.
+-- equal. The same lines for both benches are alike if they are low in the first, and if the window is equal while the enclave runs. After the
+-- enclave has ended, the same lines are alike for every slot.
 pub record ScriptDeclassification (bench : BenchState) : Type 0 where
   pub alike : (e : ℕ) (before lines others : List (List ℕ)) (other : BenchState) → TargetInvariant other.target
       → BenchesAreRelated e (state_after bench_line bench before) other → LinesAlike e (state_after bench_line bench before) other lines others
@@ -71,6 +72,9 @@ pub record ScriptDeclassification (bench : BenchState) : Type 0 where
   pub low : (e : ℕ) (before lines : List (List ℕ)) (other : BenchState) → TargetInvariant other.target
       → BenchesAreRelated e (state_after bench_line bench before) other → WindowsAreEqual e (state_after bench_line bench before) other
       → LinesAreLow e (state_after bench_line bench before) lines → LinesAlike e (state_after bench_line bench before) other lines lines
+  pub ended : (e k : ℕ) (before lines : List (List ℕ)) (other : BenchState) → TargetInvariant other.target
+      → BenchesAreRelated e (state_after bench_line bench before) other → EnclaveHasEnded e (state_after bench_line bench before).target
+      → LinesAlike k (state_after bench_line bench before) other lines lines
 
 -- ---- from bytes to bytes
 

@@ -6,6 +6,7 @@ pub mod ExecuteAlike
 pub mod Declassification
 pub mod NotRunning
 pub mod LowCommands
+pub mod Ended
 mod Observation
 mod ObservedAlike
 mod ObservedRuns

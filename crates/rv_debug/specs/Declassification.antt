@@ -2,7 +2,7 @@
 -- except for what it hands over. The commands may run it, to its exit and beyond. (Laws of this project's own debugger and monitor;
 -- declassification: Sabelfeld and Sands, JCS 2009.)
 use Rattle.std.specs.Prelude.{ℕ, ◌≡◌, ◌⊎◌, true, false, List, [], ◌∷◌, IfSome}
-use Rattle.rv_enclaves.specs.Table.{runs}
+use Rattle.rv_enclaves.specs.Table.{is_live, runs}
 use Rattle.rv_monitor.specs.Declassification.{AreMoves, AreRelated, Both, First, Move, SameWindow, Second}
 use Rattle.rv_debug.specs.Prelude.{Bare, Command, Csr, Done, Monitored, MonitoredMachine, Run, SetReg, Step, Stop, Target}
 use Rattle.rv_debug.specs.BenchState.{BenchState}
@@ -161,6 +161,26 @@ abbrev pub ObservationLaw : Type 0
 ObservationLaw =
     (e : ℕ) (bench : BenchState) (command : Command) → TargetInvariant bench.target → DoesNotRun e bench.target → AvoidsEnclave e bench command
     → IsObserved e bench command
+
+-- ---- after the enclave has ended
+
+-- the enclave of slot e is not live
+abbrev pub EnclaveHasEnded : ℕ → Target → Type 0
+EnclaveHasEnded e target = IfSome (machine_in target) (λ machine. is_live machine.shared.table e ≡ false)
+
+-- the benches are related for every slot, so that no secret is left
+abbrev pub AreRelatedForAll : BenchState → BenchState → Type 0
+AreRelatedForAll first second = (k : ℕ) → BenchesAreRelated k first second
+
+-- After an enclave has ended, related benches are related for every slot. The same command then satisfies the condition on its steps for every slot,
+-- even if it runs another enclave, and the benches are related for every slot again.
+pub record EndedLaw : Type 0 where
+  pub ended : (e : ℕ) (first second : BenchState) → TargetInvariant first.target → BenchesAreRelated e first second → EnclaveHasEnded e first.target
+      → AreRelatedForAll first second
+  pub same : (k : ℕ) (first second : BenchState) (command : Command) → TargetInvariant first.target → TargetInvariant second.target
+      → AreRelatedForAll first second → IsSameCommand k first second command command
+  pub again : (first second : BenchState) (command : Command) → TargetInvariant first.target → TargetInvariant second.target
+      → AreRelatedForAll first second → AreRelatedForAll (execute first command).state (execute second command).state
 
 -- ---- where the relation begins
 

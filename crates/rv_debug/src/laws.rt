@@ -1,7 +1,7 @@
 //! Laws of the commands for every bench that satisfies the invariant, for the crates above to cite. Each is proved about the definitions in
 //! `specs/`. The law of one command is also a clause of `Bench::command`.
 
-ghost use Rattle.rv_debug.specs.Declassification.{BenchRelationLaw, CommandDeclassificationLaw, ListDeclassificationLaw};
+ghost use Rattle.rv_debug.specs.Declassification.{BenchRelationLaw, CommandDeclassificationLaw, EndedLaw, ListDeclassificationLaw};
 ghost use Rattle.rv_debug.specs.Declassification.{LowCommandLaw, ObservationLaw};
 ghost use Rattle.rv_debug.specs.Noninterference.{EquivalenceLaw, NoninterferenceLaw, PokeLaw, RunsOnNoHartLaw};
 ghost use Rattle.rv_debug.specs.Isolation.{IntegrityLaw, RunningLaw};
@@ -75,4 +75,10 @@ pub const fn low_commands_are_alike()
 /// its region. The reply to `csr` shows the registers that no world reads as 0.
 pub const fn replies_are_observed()
     ensures { ObservationLaw }
+{}
+
+/// States that no premise is left after an enclave has ended. The two benches are then related for every slot. The same command satisfies the
+/// condition on its steps for every slot, even if it runs another enclave in the same slot.
+pub const fn ended_enclaves_have_no_secret()
+    ensures { EndedLaw }
 {}

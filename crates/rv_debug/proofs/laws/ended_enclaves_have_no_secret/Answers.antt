@@ -1,0 +1,5 @@
+use Rattle.rv_debug.proofs.Ended.{ended_law}
+use Rattle.rv_debug.proofs.laws.ended_enclaves_have_no_secret.Goals as goal
+
+pub returns : goal.returns
+returns c = ended_law
