@@ -1,6 +1,6 @@
 //! Devices over memory. The source and the sink over borrowed memory allocate none, and never fail. The sink over a vector fails only if memory is
 //! refused.
-ghost use Rattle.std.specs.Prelude.{◌≡◌, ◌==◌, ◌&&◌, ◌++◌, ◌+◌, ◌≤◌, [], ⊤, true, nat_lt, min, length, take, is_err, is_ok};
+ghost use Rattle.std.specs.Prelude.{◌≡◌, ◌==◌, ◌&&◌, ◌||◌, ◌++◌, ◌+◌, ◌≤◌, ◌<◌, [], ⊤, true, nat_lt, min, length, take, is_err, is_ok, OnErr, vec_capacity};
 ghost use Rattle.rv_streams.specs.Device.{moved_count, moves_none, counted_if};
 ghost use Rattle.rv_streams.specs.CallLog.{no_call};
 ghost use Rattle.rv_streams.specs.MemoryStreams.{rest_in_memory, bytes_taken, room_of};
@@ -144,7 +144,8 @@ impl<'a> Sink for MemorySink<'a> {
     }
 }
 
-/// A sink that appends to a vector. A call fails only if memory is refused.
+/// A sink that appends to a vector. A write fails only if memory is refused, and requests it only if the vector has no room for the part. A flush
+/// never fails.
 #[derive(Drop, Debug)]
 pub struct VecSink {
     bytes: Vec<u8>,
@@ -198,7 +199,16 @@ impl Sink for VecSink {
 
     ghost failures = { λ sink. sink.log.failures };
 
-    fn write_some(&mut self, part: &[u8]) -> Result<usize, DeviceFault> {
+    fn write_some(&mut self, part: &[u8]) -> Result<usize, DeviceFault>
+        ensures bound { moved_count result ≤ length part.now }
+        ensures bytes { self.new.bytes.items ≡ self.old.bytes.items ++ take (moved_count result) part.now }
+        ensures flushed { self.new.log.is_flushed ≡ (self.old.log.is_flushed && (moved_count result == 0)) }
+        ensures flushes { self.new.log.flushes ≡ self.old.log.flushes }
+        ensures refusals { self.new.log.empty_calls ≡ counted_if (moves_none result (length part.now)) self.old.log.empty_calls }
+        ensures failures { self.new.log.failures ≡ counted_if (is_err result) self.old.log.failures }
+        // Memory is requested only if the vector has no room for the part.
+        ensures full { OnErr result (vec_capacity self.old.bytes < length self.old.bytes.items + length part.now) }
+    {
         match self.bytes.extend_from_slice(part) {
             Ok(()) => {
                 self.log.moved(part);
@@ -212,7 +222,14 @@ impl Sink for VecSink {
         }
     }
 
-    fn flush(&mut self) -> Result<(), DeviceFault> {
+    fn flush(&mut self) -> Result<(), DeviceFault>
+        ensures works { is_ok result ≡ true }
+        ensures bytes { self.new.bytes.items ≡ self.old.bytes.items }
+        ensures flushed { self.new.log.is_flushed ≡ (self.old.log.is_flushed || is_ok result) }
+        ensures flushes { self.new.log.flushes ≡ counted_if (is_ok result) self.old.log.flushes }
+        ensures refusals { self.new.log.empty_calls ≡ self.old.log.empty_calls }
+        ensures failures { self.new.log.failures ≡ counted_if (is_err result) self.old.log.failures }
+    {
         self.log.flushed();
         Ok(())
     }
