@@ -46,7 +46,7 @@ def search(bench, monkeypatch, tmp_path):
 @pytest.mark.parametrize("task", [5, 14, 15])
 def test_trace_along_its_parent_is_that_of_single_steps(search, task):
     it = search(task)
-    parent = it.parents[0]
+    parent = it.root
     for child in list(parent.children)[::9][:25]:
         found = it.tracer.child(parent.trace, child.index, child.changes)
         wanted = parent.trace.prefix(child.index, child.changes)
@@ -154,7 +154,7 @@ def test_bytes_that_are_loaded_one_by_one_make_words():
 
 def test_states_are_found_at_another_address_and_in_each_version():
     old, new = dict(enumerate(b"state 1x", 0x80030040)), dict(enumerate(b"state 2x", 0x80030040))
-    (known, size), = known_states(b"..state 2x", [new])
+    (known, size), = known_states(0x80030040, b"..state 2x", [new])
     assert (known.offset, known.at, size) == (2, 0x80030040, 8)
     loads = [dict(enumerate(b"..state 0x", 0x80030000))]
     assert list(versions([old, new], loads, known, 0x80030000, 8)) == [(b"state 1x", 0), (b"state 2x", 1), (b"state 0x", None)]
@@ -234,3 +234,20 @@ def test_races_start_after_the_input_of_a_finding(rvlook, tmp_path):
     for words in (("--timer", "1"), ("--harts", "2")):
         done = rvlook("races", "--monitor", *words, "--limit", "40", tmp_path / "finding_1.input")
         assert done.returncode in (0, 1) and "Covered: all" in done.stdout, done.stdout + done.stderr
+
+
+def known_parts(first, data, at, value):
+    """The parts of loaded bytes that an earlier activation stored: offset, address and size."""
+    return [(place.offset, place.at, size) for place, size in known_states(first, data, [{at + n: it for n, it in enumerate(value)}])]
+
+
+def test_small_number_is_a_state_only_where_it_was_stored():
+    five = (5).to_bytes(4, "little")
+    assert known_parts(0x80030000, five, 0x80030060, five) == []
+    assert known_parts(0x80030060, five, 0x80030060, five) == [(0, 0x80030060, 4)]
+
+
+def test_state_with_several_distinct_bytes_may_be_moved():
+    state = bytes.fromhex("03000000" "9a4c7781")
+    assert known_parts(0x80030000, state, 0x80030060, state) == [(0, 0x80030060, 8)]
+    assert known_parts(0x80030000, b"....." + state[4:], 0x80030060, state) == [(5, 0x80030064, 4)]

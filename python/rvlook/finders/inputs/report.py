@@ -59,7 +59,7 @@ def show_inputs(run: Run, symbols: Symbols, variables: Variables, printer: Print
         search.rules = SecretRules(search, secret.with_bytes(secret.bytes_in(run)), public_of(options.public, symbols))
     with Progress() as progress:
         search.start(search.rules.secret.at if search.rules else None, options.entry)
-        found = list(replayed_states(search, search.parents[0].details.loaded))
+        found = list(replayed_states(search, search.base_details.loaded))
         search.go(options.runs, until, progress)
     groups = groups_of(search, [*search.judge.sure(), *found, *secret_findings(search)])
     for it in groups:

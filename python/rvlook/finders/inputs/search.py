@@ -51,7 +51,9 @@ class Search:
         self.values = Values(self.tracer, self.objects, self.fields, self.reader, seed)
         self.judge = Judge(self.tracer, self.objects, self.base)
         self.rules: Optional[SecretRules] = None
-        self.parents: deque[Parent] = deque()
+        self.base_details: Details
+        self.root: Optional[Parent] = None  # the run itself, until all its values were tried
+        self.parents: deque[Parent] = deque()  # the others
         self.tried: set[tuple[object, ...]] = set()
         self.inputs: dict[tuple[object, ...], Input] = {}
         self.kept = 0
@@ -72,13 +74,18 @@ class Search:
         inputs = self.values.inputs(trace, details)
         for it in inputs:
             self.inputs.setdefault((it.visit, it.at, it.width, it.is_again, it.register), it)
-        self.parents.appendleft(Parent(trace, details, inputs, self.values.children(trace, details, inputs)))
+        parent = Parent(trace, details, inputs, self.values.children(trace, details, inputs))
+        if trace is self.base:
+            self.root, self.base_details = parent, details
+        else:
+            self.parents.appendleft(parent)
         self.kept += 1
 
     def go(self, runs: int, until: float | None, progress: Progress) -> None:
         """Tries values up to a number of runs or a time."""
-        while self.parents:
-            parent = self.parents.popleft()
+        parent: Parent | None = None
+        while self.root or self.parents:
+            parent = self.next_parent(parent)
             several = self.share(parent, runs)
             started: deque[Started] = deque()
             for child in [*several, *[None] * AHEAD]:
@@ -87,12 +94,19 @@ class Search:
                 if started and (child is None or len(started) > AHEAD):
                     self.take(self.tracer.finish(started.popleft()))
                 progress.show("%d of %d runs, %d reached something new, %d findings", self.tracer.runs, runs, self.kept, len(self.judge.findings))
-            if len(several) == SHARE:
+            if parent is self.root:
+                self.root = parent if len(several) == SHARE else None
+            elif len(several) == SHARE:
                 self.parents.append(parent)
             self.is_late = until is not None and time.monotonic() > until
             if self.is_late or self.tracer.runs >= runs:
                 return
         self.is_exhausted = True
+
+    def next_parent(self, last: Parent | None) -> Parent:
+        """Returns the trace of the next runs: every second time the run itself."""
+        is_turn_of_root = last is not self.root or not self.parents
+        return self.root if self.root and is_turn_of_root else self.parents.popleft()
 
     def share(self, parent: Parent, runs: int) -> list[Child]:
         """Returns the next runs from a trace that were not tried before: SHARE of them, unless fewer are left."""

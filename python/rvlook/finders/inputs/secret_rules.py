@@ -18,6 +18,7 @@ if TYPE_CHECKING:
     from rvlook.finders.secrets import Secret
 
 ANSWER = 4  # bytes of a1
+DISTINCT = 3  # bytes that are not 0 in a state that the host has moved
 
 
 @dataclass(frozen=True)
@@ -207,7 +208,7 @@ def older_states(search: Search, loaded: dict[int, bytes]) -> Iterator[Older]:
     loads = [dict(window_bytes(search, base, it, Kind.LOAD, loaded)) for it in base.visits]
     for number, visit in enumerate(base.visits):
         for at, data in runs_of(loads[number]):
-            for place, size in known_states(data, stores[:number]):
+            for place, size in known_states(at, data, stores[:number]):
                 for value, origin in versions(stores[:number], loads[:number], place, at, size):
                     if value != data[place.offset:place.offset + size]:
                         change = Change(base.steps[visit.first] - 1, at + place.offset, value, 0, search.values.name(at + place.offset),
@@ -221,12 +222,14 @@ class Known(NamedTuple):
     at: int
 
 
-def known_states(data: bytes, stores: list[dict[int, int]]) -> Iterator[tuple[Known, int]]:
-    """Yields each part of loaded bytes that an earlier activation stored, the last such activation first, with its size in bytes."""
+def known_states(first: int, data: bytes, stores: list[dict[int, int]]) -> Iterator[tuple[Known, int]]:
+    """Yields each part of the bytes loaded from an address that an earlier activation stored, the last such activation first, with its size in bytes.
+    At another address a few small numbers are equal by chance, so a state there has several bytes that are not 0."""
     for content in reversed(stores):
         for at, value in runs_of(content):
             for it in copies_in(data, value):
-                if it.size >= LEAST:
+                is_there = first + it.at == at + it.offset
+                if it.size >= LEAST and (is_there or it.size - data[it.at:it.at + it.size].count(0) >= DISTINCT):
                     yield Known(it.at, at + it.offset), it.size
 
 

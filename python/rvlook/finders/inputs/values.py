@@ -24,6 +24,7 @@ AHEAD = 400  # steps after a load in which branches and accesses are considered
 MOST_VALUES, MOST_ACCESSES, MOST_OBJECTS = 64, 6, 6
 MOST_WORDS = 4  # of the words of a buffer
 MOST_CONSTANTS = 12
+PER_PART = 3
 IMMEDIATE = re.compile(r"(?:lui|addi|xori|slti|sltiu) x(\d+), (?:x(\d+), )?(-?(?:0x)?[0-9a-f]+)\Z")
 FILLS = ((0x41, 20), (0x41, 40), (0x41, 512), (0xFF, 512), (0x00, 512))  # values, and the most bytes that are filled with them
 MASK = 0xFFFFFFFF
@@ -45,6 +46,7 @@ class Input:
     register: int = 0
     pc: int = 0  # of the load
     is_first: bool = False  # of those that the instruction loads in the activation
+    is_part: bool = False  # of a buffer
 
     @property
     def width(self) -> int:
@@ -103,9 +105,10 @@ class Values:
                     Input(number, index, start, trace.steps[index] - 1 if is_again else entry, at, details.loaded[index], is_again, 0,
                           trace.pcs[index]))
         for (_, is_again), several in groups.items():
-            yield from (replace(it, is_first=n == 0) for n, it in enumerate(chosen(several)))
+            is_part = len({it.at for it in several}) > 1
+            yield from (replace(it, is_first=n == 0, is_part=is_part) for n, it in enumerate(chosen(several)))
         for it in words_of(content, first, number, entry):
-            yield replace(it, pc=trace.pcs[it.index])
+            yield replace(it, pc=trace.pcs[it.index], is_part=True)
         yield from self.registers(trace, number, visit)
 
     def registers(self, trace: Trace, number: int, visit: Visit) -> Iterator[Input]:
@@ -132,13 +135,15 @@ class Values:
             yield from self.round_robin(trace, details, part)
 
     def round_robin(self, trace: Trace, details: Details, inputs: list[Input]) -> Iterator[Child]:
-        """Yields the first value of each input, then the second of each, and so on."""
+        """Yields the first value of each input, then the second of each, and so on. From the third on, other inputs get PER_PART values for each
+        value of a part of a buffer: branches and addresses more often depend on them."""
         every = [(it, list(self.values(trace, details, it))) for it in inputs]
-        for number in range(max((len(values) for _, values in every), default=0)):
+        for turn in range(PER_PART * max((len(values) for _, values in every), default=0)):
             for it, values in every:
-                if number < len(values):
+                number, is_turn = (1 + turn // PER_PART, turn % PER_PART == 0) if it.is_part and turn > 1 else (turn, True)
+                if number < len(values) and is_turn:
                     yield self.child(trace, it, values[number])
-                if number == 1 and it.is_first:
+                if turn == 1 and it.is_first:
                     yield from self.fills(trace, it)
 
     def child(self, trace: Trace, it: Input, value: bytes) -> Child:
@@ -162,18 +167,21 @@ class Values:
     def values(self, trace: Trace, details: Details, it: Input) -> Iterator[bytes]:
         """Yields the values to try for an input, without its own."""
         most, own = (1 << 8 * it.width) - 1, it.number
-        wanted = [most, 0, own + 0x100, *self.compared(trace, details, it), *self.constants(trace, it), own + 1, own - 1, 1]
+        wrapping = [own + (1 << 30)] if it.width == WORD else []  # a product with a size of 4 or more wraps around to the same value
+        compared = list(self.compared(trace, details, it))
+        wanted = [most, 0, *compared[:1], own + 0x100, *wrapping, *compared[1:], *self.constants(trace, it), own + 1, own - 1, 1]
         wanted += [most >> 1, (most >> 1) + 1]
         if it.width == WORD:
             enclave = self.objects.enclave
-            wanted += [*self.targets[:MOST_OBJECTS], *self.relative(trace, it), own + 0x10000, own + (1 << 30), own + (1 << 31), 0xFF, 0x100]
+            wanted += [*self.targets[:MOST_OBJECTS], *self.relative(trace, it), own + 0x10000, own + (1 << 31), 0xFF, 0x100]
             wanted += [enclave.window + enclave.window_size - WORD, enclave.base, RAM_BASE + self.rng.getrandbits(16)]
         wanted += [self.rng.getrandbits(8 * it.width), 2, 3, 4]
         found = list(dict.fromkeys(value & most for value in wanted if value & most != own))
         return iter([value.to_bytes(it.width, "little") for value in found[:MOST_VALUES]])
 
     def compared(self, trace: Trace, details: Details, it: Input) -> Iterator[int]:
-        """Yields values at which branches after the load go another way, for operands that move with the input."""
+        """Yields values at which branches after the load go another way. If one operand is the input, it becomes the other operand. If an operand
+        is near the other one, the input moves it there."""
         own = it.number
         for index in range(it.start, min(len(trace), it.start + AHEAD)):
             pair = details.operands.get(index)
@@ -183,9 +191,10 @@ class Values:
             if any(self.reader.is_private(trace, index, register) for register in sources):
                 continue
             apart = pair[1] - pair[0]
-            if own in pair or abs(apart) < 1 << 12:
-                for sign in (1, -1):
-                    yield from (own + sign * apart + n for n in (0, 1, -1))
+            if own in pair:
+                yield from (pair[own == pair[0]] + n for n in (0, 1, -1))
+            elif abs(apart) < 1 << 12:
+                yield from (own + sign * apart + n for sign in (1, -1) for n in (0, 1, -1))
 
     def constants(self, trace: Trace, it: Input) -> list[int]:
         """Returns the constants of the instructions after the load, without addresses."""
