@@ -1,6 +1,7 @@
 """Runs rvlook, and prints each error in one line."""
 from __future__ import annotations
 
+import gc
 import os
 import sys
 from typing import NoReturn, Sequence
@@ -9,6 +10,7 @@ from rvlook.cli.parser import perform, read
 from rvlook.errors import UNFINISHED, RvlookError, error
 
 INTERRUPTED, CLOSED = 130, 141  # the exit statuses of a shell for SIGINT and SIGPIPE
+COLLECT = 500000  # new objects before the garbage collector looks for cycles: a run has millions of objects, and few cycles
 
 
 def fail(line: str, status: int) -> int:
@@ -19,6 +21,7 @@ def fail(line: str, status: int) -> int:
 
 def main(arguments: Sequence[str]) -> int:
     """Runs rvlook with these arguments; returns the exit status. Prints every error in one line."""
+    gc.set_threshold(COLLECT)
     take_all_characters()
     try:
         return status_of(arguments)

@@ -176,6 +176,14 @@ def test_each_stack_is_reported(folder):
 
 
 @with_clang
+def test_stacks_of_a_program_with_many_symbols_are_reported(folder):
+    (folder / "host_more.s").write_text("".join("symbol_with_a_long_name_to_fill_the_pipe_%d = %d\n" % (it, it) for it in range(4000)))
+    done = build(folder)
+    assert done.returncode == 0, done.stderr
+    assert done.stdout == "build: stack sizes in bytes: host 65216, application 3264, runtime 512\n"
+
+
+@with_clang
 def test_a_small_stack_is_a_warning(tmp_path):
     path = tmp_path / "stack"
     shutil.copytree(PROGRAMS / "stack_overflow", path)

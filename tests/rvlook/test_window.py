@@ -10,6 +10,7 @@ from conftest import ROOT
 sys.path.insert(0, str(ROOT / "python"))
 from rvlook.finders.window import Byte, Leftovers, reread  # noqa: E402
 from rvlook.protocol.symbols import Symbols  # noqa: E402
+from rvlook.protocol.units import ALL, Unit
 
 KEY = ("--at", "key:20")
 ANSWER = "window_base+10"  # of the program: it depends on the key, and is public
@@ -124,7 +125,7 @@ def test_rows_name_the_fields_of_the_window(rvlook, built, tmp_path):
 def reread_rows(pairs, lines=()):
     """The rows of bytes that pairs of instructions load again, by offset."""
     found = {at: Byte(again=dict.fromkeys(several, True)) for at, several in pairs.items()}
-    return [(it.first, it.size, it.pcs) for it in reread(found, Symbols((), lines))]
+    return [(it.first, it.size, it.pcs) for it in reread(found, Symbols((), [Unit(ALL, lambda: lines)]))]
 
 
 def test_bytes_that_two_lines_load_again_are_one_row():

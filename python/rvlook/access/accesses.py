@@ -7,7 +7,7 @@ from typing import NamedTuple, Sequence, TYPE_CHECKING
 
 from rvlook.protocol import names
 from rvlook.protocol.instructions import instruction_of
-from rvlook.protocol.replies import NO_TRAP, RAN_FIELDS
+from rvlook.protocol.replies import NO_TRAP, step_fields
 from rvlook.protocol.run import End, Stretch
 
 if TYPE_CHECKING:
@@ -49,7 +49,7 @@ class Counting:
 
     def take(self, decoder: Replay, reader: Replay, stretch: Stretch) -> None:
         """Counts the accesses of the steps of a stretch."""
-        after, modes, worlds, traps = zip(*RAN_FIELDS.findall(stretch.data))
+        after, modes, worlds, traps = zip(*step_fields(stretch.data))
         worlds = modes if self.by_mode else worlds
         pc, world = self.locations[stretch.hart]
         self.locations[stretch.hart] = after[-1], worlds[-1]

@@ -15,7 +15,7 @@ from rvlook.protocol import names
 from rvlook.access.accesses import begin
 from rvlook.protocol.instructions import Memory, instruction_of
 from rvlook.protocol.memory_map import RAM_BASE
-from rvlook.protocol.replies import NO_TRAP, RAN_FIELDS, Enclave, enclave_of, register_values
+from rvlook.protocol.replies import NO_TRAP, Enclave, enclave_of, register_values, step_fields
 from rvlook.protocol.run import Line, Stretch
 
 if TYPE_CHECKING:
@@ -26,6 +26,7 @@ if TYPE_CHECKING:
 DIVIDES = re.compile(r"(?:div|rem)u? x\d+, x(\d+), x(\d+)")
 MODES = {b"U": 0, b"S": 1, b"M": 3}
 ENDED_BY = {0: "exit", 1: "stop", 2: "timer"}
+REG = [b"reg %d\n" % number for number in range(32)]
 ROW = 64  # bytes that `mem` shows at once
 BARE = "bare"
 
@@ -95,6 +96,20 @@ def registers_for(line: bytes, is_strict: bool) -> Needed | None:
     return (None, (int(match[1]), int(match[2]))) if match else None
 
 
+@lru_cache(maxsize=65536)
+def pc_and_mode(pc: bytes, mode: bytes) -> int:
+    """Returns a pc with the number of the mode in its lowest bits."""
+    return int(pc, 16) | MODES[mode]
+
+
+def runs_of(worlds: Sequence[bytes]) -> Iterator[tuple[bytes, int]]:
+    """Yields each world with the number of steps that it has in succession."""
+    if worlds.count(worlds[0]) == len(worlds):
+        yield worlds[0], len(worlds)
+    else:
+        yield from ((world, sum(1 for _ in group)) for world, group in itertools.groupby(worlds))
+
+
 class Activations:
     """The activations of a run after a step. `is_strict` records the operands of divisions too. A bare run is one activation without a window."""
 
@@ -125,7 +140,7 @@ class Activations:
     def take(self, stretch: Stretch) -> Iterator[Activation]:
         """Takes the steps of a stretch; yields the activations that end in it."""
         hart, index = stretch.hart, 0
-        after = list(zip(*RAN_FIELDS.findall(stretch.data)))
+        after = list(zip(*step_fields(stretch.data)))
         traps = after.pop()
         pcs, modes, worlds = ((before, *those[:-1]) for before, those in zip(self.locations[hart], after))
         self.locations[hart] = (after[0][-1], after[1][-1], after[2][-1])
@@ -133,8 +148,7 @@ class Activations:
             self.numbers.update(self.entered(worlds, after[2]))
             return
         self.offset, fields = -1, Fields(pcs, modes, traps)
-        for world, group in itertools.groupby(worlds):
-            count = sum(1 for _ in group)
+        for world, count in runs_of(worlds):
             if not self.run.setup.monitor or world.startswith(b"e"):
                 activation, inside = self.open[hart], range(index, index + count)
                 if activation is None:
@@ -158,12 +172,12 @@ class Activations:
         """Adds steps to an activation, by their indices in a stretch that begins with step `step`."""
         pcs, modes, traps = fields
         begin_at, first, end = len(activation.pcs), inside.start, inside.stop
-        activation.pcs.extend([int(pc, 16) | MODES[mode] for pc, mode in zip(pcs[first:end], modes[first:end])])
+        activation.pcs.extend(map(pc_and_mode, pcs[first:end], modes[first:end]))
         activation.steps.extend(range(step + first, step + end))
-        activation.traps.update((begin_at + n, it) for n, it in enumerate(traps[first:end]) if it != NO_TRAP)
-        found = [n for n in range(first, end) if n in operations]
-        activation.operations += [operations[n] for n in found]
-        activation.operations_at.extend([begin_at + n - first for n in found])
+        if traps.count(NO_TRAP) < len(traps):
+            activation.traps.update((begin_at + n, it) for n, it in enumerate(traps[first:end]) if it != NO_TRAP)
+        activation.operations += operations.values()
+        activation.operations_at.extend([begin_at + n - first for n in operations])
 
     # ---- begin and end of an activation
 
@@ -216,18 +230,22 @@ class Activations:
         if self.offset < 0:
             begin(self.reader, stretch)
             self.offset = 0
-        code, bench = self.code[stretch.hart], self.reader.bench
-        new, first = list({pcs[n] for n in inside} - code.keys()), inside.start - self.offset
+        code, bench, executed = self.code[stretch.hart], self.reader.bench, set(pcs[inside.start:inside.stop])
+        new, first = list(executed - code.keys()), inside.start - self.offset
         text = (b"step %d\n" % first if first else b"") + b"".join(b"dis %s\n" % it for it in new)
         code.update(zip(new, bench.block(text, len(new) + bool(first)).split(b"\n")[bool(first):]))
         self.offset = inside.start
-        operations = self.with_registers(bench, stretch, fields, inside, [code[pcs[n]] for n in inside])
-        stored = {at & -4: n for n, it in operations.items() if it.kind == "w" and it.done for at in range(it.address, it.address + it.width)}
-        written = [it for it in code if int(it, 16) in stored]
-        if any(pcs[n] in written and n > stored[int(pcs[n], 16)] for n in inside):
+        needs = {it: registers_for(code[it], self.is_strict) for it in executed}
+        operations = self.with_registers(bench, stretch, fields, inside, map(needs.__getitem__, pcs[inside.start:inside.stop]))
+        stored: dict[int, int] = {}  # the first store to each word
+        for n, it in operations.items():
+            for at in (it.address, it.address + it.width - 1) if it.kind == "w" and it.done else ():
+                stored.setdefault(at & -4, n)
+        written = [pc for pc in code if int(pc, 16) in stored]
+        if written and any(pcs[n] in written and n > stored[int(pcs[n], 16)] for n in inside):
             operations = self.step_by_step(stretch, fields, inside)
-        for it in written:
-            del code[it]
+        for pc in written:
+            del code[pc]
         return operations
 
     def step_by_step(self, stretch: Stretch, fields: Fields, inside: range) -> dict[int, Operation]:
@@ -237,26 +255,28 @@ class Activations:
             block = decoder.bench.block(b"".join([b"dis %s\nstep 1\n" % it for it in fields.pcs]), 2 * stretch.count).split(b"\n")
             begin(reader, stretch)
             kept, self.offset = self.offset, 0
-            operations = self.with_registers(reader.bench, stretch, fields, inside, [block[2 * n] for n in inside])
+            needs = [registers_for(block[2 * n], self.is_strict) for n in inside]
+            operations = self.with_registers(reader.bench, stretch, fields, inside, needs)
             self.offset = kept
             return operations
 
-    def with_registers(self, bench: Bench, stretch: Stretch, fields: Fields, inside: range, lines: Sequence[bytes]) -> dict[int, Operation]:
-        """Reads the registers of each operation before its step; returns the operations. The bench is then after the last step."""
-        needed = [(n, *found) for n, found in ((n, registers_for(line, self.is_strict)) for n, line in zip(inside, lines)) if found]
-        questions, count = [], 0
-        for n, _, registers in needed:
-            if n > self.offset:
-                questions.append(b"step %d\n" % (n - self.offset))
+    def with_registers(self, bench: Bench, stretch: Stretch, fields: Fields, inside: range, needs: Iterable[Needed | None]) -> dict[int, Operation]:
+        """Reads the registers of each operation before its step; returns the operations in the order of the steps. `needs` has the registers of
+        each step. The bench is then after the last step."""
+        needed = [(n, found) for n, found in zip(inside, needs) if found]
+        questions, count, offset = [], 0, self.offset
+        for n, (_, registers) in needed:
+            if n > offset:
+                questions.append(b"step %d\n" % (n - offset))
                 count += 1
-            questions += [b"reg %d\n" % it for it in registers]
-            count, self.offset = count + len(registers), n
-        questions.append(b"step %d\n" % (inside.stop - self.offset))
+            questions += [REG[it] for it in registers]
+            count, offset = count + len(registers), n
+        questions.append(b"step %d\n" % (inside.stop - offset))
         self.offset = inside.stop
-        replies = bench.block(b"".join(questions), count + 1).split(b"\n")
-        values = iter([int(it.split(b"=")[1], 16) for it in replies if it.startswith(b"x")])
+        replies = bench.block(b"".join(questions), count + 1).splitlines()
+        values = iter([int(it[-8:], 16) for it in replies if it.startswith(b"x")])
         found = {}
-        for n, memory, registers in needed:
+        for n, (memory, registers) in needed:
             values_before, trap = [next(values) for _ in registers], fields.traps[n]
             if trap == NO_TRAP or memory and trap[:8].decode() in names.ACCESS_FAULTS:
                 found[n] = self.operation_of(stretch.first + n, int(fields.pcs[n], 16), memory, values_before, trap == NO_TRAP)
@@ -268,4 +288,4 @@ class Activations:
         if memory is None:
             return Operation(step, pc, "d", 0, 0, tuple(values_before), done)
         stored = values_before[1].to_bytes(4, "little")[:memory.width] if memory.kind == "w" else b""
-        return Operation(step, pc, memory.kind, (values_before[0] + memory.offset) & 0xFFFFFFFF, memory.width, tuple(stored), done)
+        return Operation(step, pc, memory.kind, values_before[0] + memory.offset & 0xFFFFFFFF, memory.width, tuple(stored), done)

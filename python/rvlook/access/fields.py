@@ -59,9 +59,12 @@ class FieldReader:
 
     def read(self, activation: Activation) -> None:
         """Reads the arguments at the first call of each function in an activation."""
-        first = {pc & -4: step for step, pc in zip(reversed(activation.steps), reversed(activation.pcs))} if self.parameters else {}
         functions = {it.function for it in self.parameters} - self.known
-        for step, function in sorted((first[it], it) for it in functions & first.keys()):
+        first: dict[int, int] = {}
+        for pc in (it for it in set(activation.pcs) if it & -4 in functions):
+            step = activation.steps[activation.pcs.index(pc)]
+            first[pc & -4] = min(step, first.get(pc & -4, step))
+        for step, function in sorted((step, function) for function, step in first.items()):
             self.known.add(function)
             with self.run.replay() as replay:
                 replay.go(step - 1)

@@ -16,7 +16,7 @@ if TYPE_CHECKING:
 
 def show_lcov(run: Run, symbols: Symbols, printer: Printer, paths: Sequence[str]) -> None:
     """Prints a record for each world and each source file; raises RvlookError if there are no source lines."""
-    if not symbols.lines:
+    if not symbols.has_lines():
         raise RvlookError("no source lines; use an ELF file built with -g")
     touches = Touches(run)
     source_paths: dict[str, str] = {}

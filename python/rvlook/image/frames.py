@@ -2,8 +2,9 @@
 from __future__ import annotations
 
 import io
+from bisect import bisect_left
 from dataclasses import dataclass
-from typing import Any, Iterator, Optional, Sequence, Tuple, TYPE_CHECKING
+from typing import Any, Iterable, Iterator, Optional, Sequence, Tuple, TYPE_CHECKING
 
 from rvlook.image.files import read_file
 from rvlook.image.symbols import checked, knows_all_forms, ranges_of, readable
@@ -31,8 +32,9 @@ class Variable:
     size: int
 
 
-def frames_of(path: str | None, image: Image) -> Sequence[Variable]:
-    """Returns the variables of the ELF file of the symbols, or else of the image; none without DWARF."""
+def frames_of(path: str | None, image: Image, executed: Sequence[int]) -> Sequence[Variable]:
+    """Returns the variables of the ELF file of the symbols, or else of the image; none without DWARF. Leaves out each compilation unit
+    without an executed instruction. `executed` has the addresses of the executed instructions, in ascending order."""
     name, data = (path, read_file(path)) if path else (image.name, image.data)
     if data is None or not data.startswith(ELF_MAGIC):
         return ()
@@ -42,15 +44,22 @@ def frames_of(path: str | None, image: Image) -> Sequence[Variable]:
         return ()
     knows_all_forms()
     content = data
-    return readable(name, "no variables", lambda: read_frames(checked(ELFFile(io.BytesIO(content)), content))) or ()
+    return readable(name, "no variables", lambda: read_frames(checked(ELFFile(io.BytesIO(content)), content), executed)) or ()
 
 
-def read_frames(file: Any) -> list[Variable]:
+def read_frames(file: Any, executed: Sequence[int]) -> list[Variable]:
     """Reads the variables of an ELF file."""
     if not file.has_dwarf_info():
         return []
     dwarf = file.get_dwarf_info()
-    return [it for unit in dwarf.iter_CUs() for it in Frames(dwarf, unit).variables()]
+    units = (it for it in dwarf.iter_CUs() if has_any(ranges_of(dwarf, it, it.get_top_DIE()), executed))
+    return [it for unit in units for it in Frames(dwarf, unit).variables()]
+
+
+def has_any(ranges: Iterable[tuple[int, int]], executed: Sequence[int]) -> bool:
+    """Returns whether an address is in one of the ranges, or there are no ranges."""
+    each = list(ranges)
+    return not each or any(bisect_left(executed, first) < bisect_left(executed, end) for first, end in each)
 
 
 class Frames(Unit):

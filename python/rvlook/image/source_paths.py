@@ -3,7 +3,7 @@ from __future__ import annotations
 
 import io
 import os
-from collections import Counter
+from collections import Counter, defaultdict
 from typing import Any, Iterator
 
 from rvlook.image.files import read_file
@@ -13,7 +13,8 @@ from rvlook.output.escapes import name_of
 
 
 def files_of(path: str) -> dict[str, str]:
-    """Returns the path of each file that the line tables of an ELF file name, by its last part."""
+    """Returns the path of each file that the line tables of an ELF file name, by its last part. If several files have the same last part, it is
+    the one with the most rows."""
     data = read_file(path)
     if not data.startswith(ELF_MAGIC):
         return {}
@@ -22,20 +23,35 @@ def files_of(path: str) -> dict[str, str]:
     except ImportError:
         return {}
     knows_all_forms()
-    counts: Counter[bytes] = readable(path, "no source files", lambda: Counter(rows_of_file(checked(ELFFile(io.BytesIO(data)), data)))) or Counter()
-    best = sorted(counts, key=lambda name: counts[name])
-    return {name_of(os.path.basename(it)): os.fsdecode(it) for it in best}
+    return readable(path, "no source files", lambda: files_of_tables(checked(ELFFile(io.BytesIO(data)), data))) or {}
 
 
-def rows_of_file(file: Any) -> Iterator[bytes]:
-    """Yields the path of the file of each row of all line tables."""
+def files_of_tables(file: Any) -> dict[str, str]:
+    """Returns the same for an ELF file that was read. Decodes only the line tables that name one of several files with the same last part."""
     dwarf = file.get_dwarf_info() if file.has_dwarf_info() else None
-    for unit, program in line_programs(dwarf) if dwarf else ():
-        built_in = unit.get_top_DIE().attributes.get("DW_AT_comp_dir")
-        files = paths_in(program, built_in.value if built_in and isinstance(built_in.value, bytes) else b"")
-        for entry in program.get_entries():
-            if entry.state and not entry.state.end_sequence and entry.state.file in files:
-                yield files[entry.state.file]
+    tables = [(program, paths_in(program, folder_of(unit))) for unit, program in line_programs(dwarf)] if dwarf else []
+    found: dict[str, Counter[bytes]] = defaultdict(Counter)
+    for _, paths in tables:
+        for it in paths.values():
+            found[name_of(os.path.basename(it))][it] += 0
+    ambiguous = {it for paths in found.values() if len(paths) > 1 for it in paths}
+    for program, paths in tables:
+        for it in rows_of(program, paths) if not ambiguous.isdisjoint(paths.values()) else ():
+            found[name_of(os.path.basename(it))][it] += 1
+    return {name: os.fsdecode(max(paths, key=lambda it: paths[it])) for name, paths in found.items()}
+
+
+def folder_of(unit: Any) -> bytes:
+    """Returns the folder in which a unit was compiled; empty if it is not known."""
+    folder = unit.get_top_DIE().attributes.get("DW_AT_comp_dir")
+    return folder.value if folder and isinstance(folder.value, bytes) else b""
+
+
+def rows_of(program: Any, paths: dict[int, bytes]) -> Iterator[bytes]:
+    """Yields the path of the file of each row of a line table."""
+    for entry in program.get_entries():
+        if entry.state and not entry.state.end_sequence and entry.state.file in paths:
+            yield paths[entry.state.file]
 
 
 def paths_in(program: Any, built_in: bytes) -> dict[int, bytes]:

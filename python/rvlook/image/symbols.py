@@ -4,8 +4,10 @@ from __future__ import annotations
 import io
 import re
 import zlib
+from collections import Counter
 from functools import lru_cache
-from typing import Any, Callable, Iterator, TYPE_CHECKING, TypeVar
+from struct import Struct
+from typing import Any, Callable, Iterable, Iterator, NamedTuple, TYPE_CHECKING, TypeVar
 
 from rvlook.protocol.bench_line import lines_of
 from rvlook.output.escapes import name_of, visible
@@ -13,13 +15,16 @@ from rvlook.errors import RvlookError, package_missing, warn
 from rvlook.image.files import read_file
 from rvlook.protocol.inputs import ELF_MAGIC
 from rvlook.protocol.symbols import Symbol, Symbols
+from rvlook.protocol.units import ALL, Unit
 
 if TYPE_CHECKING:
     from rvlook.protocol.inputs import Image
-    from rvlook.protocol.symbols import Inlined
+    from rvlook.protocol.units import Inlined, Row
 
 NM_LINE = re.compile(r"([0-9a-fA-F]{8})\s+(?:[A-Za-z]\s+)?([A-Za-z_.$][\w.$]*)\s*\Z")
-PREFERRED = ("STT_FUNC", "STT_OBJECT")
+LABEL, OBJECT, FUNCTION = 0, 1, 2  # types of a symbol (ELF, Symbol Table)
+PREFERRED = (FUNCTION, OBJECT)
+GLOBAL, ABSOLUTE = 1, 0xFFF1  # a binding, and the section of a symbol that is in none
 LEAST_HEADER = 40  # bytes of a section header
 MOST_SECTIONS = 65536
 LONGEST_REASON = 200  # characters of an error of pyelftools that are shown
@@ -28,6 +33,26 @@ MOST_INFLATED = 1 << 26  # bytes of all compressed sections
 
 
 T = TypeVar("T")
+
+
+class Entry32(NamedTuple):
+    """An entry of the symbol table of an ELF32 file, as `IIIBBH`."""
+    name: int
+    value: int
+    size: int
+    info: int
+    other: int
+    section: int
+
+
+class Entry64(NamedTuple):
+    """An entry of the symbol table of an ELF64 file, as `IBBHQQ`."""
+    name: int
+    info: int
+    other: int
+    section: int
+    value: int
+    size: int
 
 
 def symbols_of(path: str, data: bytes | None) -> Symbols:
@@ -70,8 +95,7 @@ def elf_symbols(path: str, data: bytes) -> Symbols:
         return Symbols()
     knows_all_forms()
     return Symbols(readable(path, "no symbols", lambda: list(named(file))) or (),
-                   readable(path, "no source lines", lambda: list(source_lines(file))) or (),
-                   lambda: readable(path, "no inlined calls", lambda: list(inlined_calls(file))) or ())
+                   readable(path, "no source lines", lambda: list(units_of(path, file))) or ())
 
 
 def readable(path: str, without: str, read: Callable[[], T]) -> T | None:
@@ -129,31 +153,68 @@ def knows_all_forms() -> None:
 
 def named(file: Any) -> Iterator[Symbol]:
     """Yields the symbols of functions, objects and labels."""
-    table = file.get_section_by_name(".symtab")
     sections = {number for number, section in enumerate(file.iter_sections()) if section["sh_flags"] & 2}
     length = 0
-    for symbol in table.iter_symbols() if table else ():
-        kind, index = symbol["st_info"]["type"], symbol["st_shndx"]
-        length += len(symbol.name)
+    for name, it in symbol_entries(file):
+        length += len(name)
         if length > MOST_NAMED:
             raise ValueError("the symbol names exceed %d characters" % MOST_NAMED)
-        if symbol.name and not symbol.name.startswith(("$", ".L")) and (index in sections) \
-                and kind in (*PREFERRED, "STT_NOTYPE"):
-            rank = 0 if kind in PREFERRED else 1 if symbol["st_info"]["bind"] == "STB_GLOBAL" else 2
-            yield Symbol(symbol["st_value"], symbol["st_size"], visible(symbol.name), kind == "STT_FUNC", rank)
-        elif symbol.name and index == "SHN_ABS" and kind == "STT_NOTYPE":
-            yield Symbol(symbol["st_value"], 0, visible(symbol.name), False, 3)
+        kind, is_global = it.info % 16, it.info // 16 == GLOBAL
+        if not name.startswith(("$", ".L")) and it.section in sections and kind in (*PREFERRED, LABEL):
+            yield Symbol(it.value, it.size, visible(name), kind == FUNCTION, 0 if kind in PREFERRED else 1 if is_global else 2)
+        elif it.section == ABSOLUTE and kind == LABEL:
+            yield Symbol(it.value, 0, visible(name), False, 3)
 
 
-def source_lines(file: Any) -> Iterator[tuple[int, str | None]]:
-    """Yields the rows of all line tables: an address with its file and line, or with None at the end of a sequence."""
-    if not file.has_dwarf_info():
+def symbol_entries(file: Any) -> Iterator[tuple[str, Entry32 | Entry64]]:
+    """Yields each entry of the symbol table that has a name. pyelftools takes 60 microseconds for an entry, and an assembler may leave thousands
+    without a name."""
+    table = file.get_section_by_name(".symtab")
+    if not table:
         return
-    for _, program in line_programs(file.get_dwarf_info()):
-        names = file_names(program)
-        states = [entry.state for entry in program.get_entries() if entry.state]
-        yield from ((it.address, None if it.end_sequence or not it.line else "%s:%d" % (names.get(it.file, "?"), it.line))
-                    for it in states)
+    is_32 = file.elfclass == 32
+    layout = Struct(("<" if file.little_endian else ">") + ("IIIBBH" if is_32 else "IBBHQQ"))
+    if table["sh_entsize"] != layout.size:
+        raise ValueError("an entry of the symbol table has %d bytes" % table["sh_entsize"])
+    strings = table.stringtable.data()
+    for fields in layout.iter_unpack(table.data()):
+        it: Entry32 | Entry64 = Entry32(*fields) if is_32 else Entry64(*fields)
+        name = strings[it.name:max(it.name, strings.find(b"\0", it.name))] if it.name else b""
+        if name:
+            yield name.decode("utf-8", "replace"), it
+
+
+def units_of(path: str, file: Any) -> Iterator[Unit]:
+    """Yields the compilation units. A line table that several units share belongs to the first of them, whose ranges are then unknown."""
+    dwarf = file.get_dwarf_info() if file.has_dwarf_info() else None
+    entries = [(unit, unit.get_top_DIE()) for unit in dwarf.iter_CUs()] if dwarf else []
+    tables = Counter(table_of(top) for _, top in entries)
+    seen: set[int | None] = {None}
+    for unit, top in entries:
+        table = table_of(top)
+        ranges = list(ranges_of(dwarf, unit, top)) if tables[table] == 1 else []
+        yield Unit(ranges or ALL, reader(path, "no source lines", source_lines, dwarf, unit) if table not in seen else lambda: (),
+                   reader(path, "no inlined calls", inlined_calls, dwarf, unit))
+        seen.add(table)
+
+
+def table_of(top: Any) -> int | None:
+    """Returns the offset of the line table of a unit, or None."""
+    table = top.attributes.get("DW_AT_stmt_list")
+    return table.value if table else None
+
+
+def reader(path: str, without: str, read: Callable[[Any, Any], Iterable[T]], dwarf: Any, unit: Any) -> Callable[[], Iterable[T]]:
+    """Returns a function that reads a table of a unit; it returns nothing, and reports the error, if the table is damaged."""
+    return lambda: readable(path, without, lambda: list(read(dwarf, unit))) or ()
+
+
+def source_lines(dwarf: Any, unit: Any) -> Iterator[Row]:
+    """Yields the rows of the line table of a unit: an address with its file and line, or with None at the end of a sequence."""
+    program = dwarf.line_program_for_CU(unit)
+    names = file_names(program)
+    states = [entry.state for entry in program.get_entries() if entry.state]
+    yield from ((it.address, None if it.end_sequence or not it.line else "%s:%d" % (names.get(it.file, "?"), it.line)) for it in states)
 
 
 def line_programs(dwarf: Any) -> Iterator[tuple[Any, Any]]:
@@ -173,19 +234,15 @@ def file_names(program: Any) -> dict[int, str]:
             for number, entry in enumerate(program["file_entry"])}
 
 
-def inlined_calls(file: Any) -> Iterator[Inlined]:
-    """Yields for each outermost inlined call its first and last address, and the file and line of the call."""
-    if not file.has_dwarf_info():
-        return
-    dwarf = file.get_dwarf_info()
-    for unit in dwarf.iter_CUs():
-        program = dwarf.line_program_for_CU(unit)
-        names = file_names(program) if program else {}
-        for entry in outermost(dwarf, unit):
-            call = entry.attributes
-            if "DW_AT_call_file" in call and "DW_AT_call_line" in call:
-                source = "%s:%d" % (names.get(call["DW_AT_call_file"].value, "?"), call["DW_AT_call_line"].value)
-                yield from ((first, end - 1, source) for first, end in ranges_of(dwarf, unit, entry) if first < end)
+def inlined_calls(dwarf: Any, unit: Any) -> Iterator[Inlined]:
+    """Yields for each outermost inlined call of a unit its first and last address, and the file and line of the call."""
+    program = dwarf.line_program_for_CU(unit)
+    names = file_names(program) if program else {}
+    for entry in outermost(dwarf, unit):
+        call = entry.attributes
+        if "DW_AT_call_file" in call and "DW_AT_call_line" in call:
+            source = "%s:%d" % (names.get(call["DW_AT_call_file"].value, "?"), call["DW_AT_call_line"].value)
+            yield from ((first, end - 1, source) for first, end in ranges_of(dwarf, unit, entry) if first < end)
 
 
 def outermost(dwarf: Any, unit: Any) -> Iterator[Any]:

@@ -1,4 +1,4 @@
-"""Packs the objects of a run for the page: repeated values are numbers in a table, and numbers are columns of bytes. The result
+"""Packs a run for the page: repeated values are numbers in a table, and numbers are columns of bytes. The result
 is compressed by zlib, in base 64. It has the length of a JSON object in four bytes, little-endian, then the object, then the columns. The
 object names their offsets."""
 from __future__ import annotations
@@ -13,10 +13,14 @@ import zlib
 from array import array
 from typing import Any, Hashable, Mapping, TYPE_CHECKING
 
-from rvlook.protocol.names import STATUSES
+from rvlook.protocol import names
+from rvlook.trace.text import Objects
 
 if TYPE_CHECKING:
     from rvlook.output.printer import Json
+    from rvlook.protocol.run import Run
+    from rvlook.protocol.symbols import Symbols
+    from rvlook.trace.tracer import Step, Touch
 
 GRANULE = 16  # bytes that are touched are kept by so many, which bounds the memory for them
 KINDS = {"r": 0, "w": 1}
@@ -26,6 +30,7 @@ MAP = ("enclaves", "columns", "rows")
 REFUSED, NO_VALUE = 2, 4  # added to the kind of an access that trapped, and of one without a value
 LEVEL = 6  # of zlib
 BRANCH = re.compile(r"b|jal ")
+SITE = ("word", "abi", "symbol", "function", "source", "caller")  # of a site, after its pc
 
 
 class Table:
@@ -67,27 +72,23 @@ def compressed(data: Mapping[str, Any], columns: Columns) -> str:
     return base64.b64encode(zlib.compress(struct.pack("<I", len(header)) + header + bytes(columns.bytes), LEVEL)).decode("ascii")
 
 
-def refusal(step: Mapping[str, Any]) -> str | None:
+def refusal(step: Step) -> str | None:
     """Returns the status with which the monitor refused a call, or None. It is in a0 if no other world continues."""
-    status = step["registers"].get("x10", next(iter(step["call"]["arguments"].values())))
-    return STATUSES.get(int(status, 16)) if step["next"]["world"] == step["world"] else None
-
-
-def shown_text(step: Mapping[str, Any]) -> str | None:
-    """Returns the text of an instruction, with the target of a branch or jump in place of its offset."""
-    text, target = step["abi"], step["target"]
-    if not target or not BRANCH.match(text):
-        return text
-    return "%s%s%s" % (text[:text.rindex(" ") + 1], target["address"], " <%s>" % target["symbol"] if target["symbol"] else "")
+    assert step.call
+    status = int(step.changed[10], 16) if 10 in step.changed else next(iter(step.call.arguments.values()))
+    return names.STATUSES.get(status) if step.next.world == step.at.world else None
 
 
 class Collector:
-    """Takes objects as a printer does, and keeps those parts that the page shows."""
+    """Takes the steps of a run, and its other objects as a printer does, and keeps those parts that the page shows."""
 
-    def __init__(self) -> None:
+    def __init__(self, run: Run, symbols: Symbols) -> None:
+        self.objects, self.symbols = Objects(run, symbols, self), symbols
         self.run: dict[str, Any] = {}
         self.end: dict[str, Any] = {}
         self.sites, self.places, self.traps, self.names = Table(), Table(), Table(), Table()
+        self.site_numbers: dict[tuple[str, str | None, bool, bool], int] = {}  # by pc, word, and whether the word was fetched or an interrupt came
+        self.name_numbers: dict[int, int] = {}  # by address
         self.site, self.place, self.trap = array("I"), array("B"), array("I")
         self.changes, self.registers, self.values = array("B"), array("B"), array("I")
         self.touch = {"step": array("I"), "address": array("I"), "width": array("B"), "kind": array("B"), "name": array("I"),
@@ -137,41 +138,63 @@ class Collector:
         rest = {name: value for name, value in it.items() if name not in MAP}
         self.events.append({**rest, "map": self.maps.number(shown)})
 
-    def take_step(self, it: dict[str, Any]) -> None:
+    def step(self, step: Step) -> None:
         """Takes a step."""
-        self.site.append(self.sites.number((it["pc"], it["word"], it["abi"], it["symbol"], it["function"], it["source"], it["caller"],
-                                            shown_text(it))))
-        self.place.append(self.places.number((it["hart"], it["world"], it["mode"])))
-        trap = it["trap"]
-        self.trap.append(self.traps.number((trap["cause"], trap["value"], trap["name"])) + 1 if trap else 0)
-        self.changes.append(len(it["registers"]))
-        for name, value in it["registers"].items():
-            self.registers.append(int(name[1:]))
+        self.site.append(self.site_of(step))
+        self.place.append(self.places.number((step.hart, step.at.world, step.at.mode)))
+        trap = step.trap
+        self.trap.append(self.traps.number((trap.cause, trap.value, names.cause_name(trap.cause))) + 1 if trap else 0)
+        self.changes.append(len(step.changed))
+        for number, value in step.changed.items():
+            self.registers.append(number)
             self.values.append(int(value, 16))
-        if it["call"]:
-            self.calls.append({"step": it["step"], **it["call"], "to": it["next"]["world"], "refused": refusal(it)})
-        self.take_points(it)
+        if step.call:
+            call = self.objects.call(step.call) or {}
+            self.calls.append({"step": step.number, **call, "to": step.next.world, "refused": refusal(step)})
+        if not step.is_interrupt:
+            self.points += 1
+        if step.touch:
+            self.take_touch(step.number, step.touch)
 
-    def take_points(self, it: dict[str, Any]) -> None:
-        """Takes the accesses that are drawn for a step: its fetch, unless an interrupt came, and its load or store."""
-        if not (it["trap"] and it["trap"]["cause"].startswith("8")):
-            self.add_point(int(it["pc"], 16), 4, it["symbol"])
-        touch = it["touch"]
-        if touch:
-            address = int(touch["address"], 16)
-            self.add_point(address, touch["width"], touch["symbol"])
-            kind = KINDS[touch["kind"]] + (0 if touch["done"] else REFUSED) + (NO_VALUE if touch["value"] is None else 0)
-            values = (it["step"], address, touch["width"], kind, self.names.number(touch["symbol"]), int(touch["value"] or "0", 16))
-            for column, value in zip(self.touch.values(), values):
-                column.append(value)
+    def site_of(self, step: Step) -> int:
+        """Returns the number of the site of a step: its pc and instruction. A new site is drawn, unless an interrupt came in its place."""
+        key = step.at.pc, step.word, step.is_executed, step.is_interrupt
+        if key not in self.site_numbers:
+            it, target, pc = self.objects.site(step), step.target, int(step.at.pc, 16)
+            text = it["abi"]
+            if text and target is not None and BRANCH.match(text):
+                symbol = self.symbols.name(target)
+                text = "%s%08x%s" % (text[:text.rindex(" ") + 1], target, " <%s>" % symbol if symbol else "")
+            self.site_numbers[key] = self.sites.number((step.at.pc, *(it[name] for name in SITE), text))
+            if not step.is_interrupt:
+                self.add_place(pc, 4, it["symbol"])
+        return self.site_numbers[key]
 
-    def add_point(self, address: int, width: int, symbol: str | None) -> None:
-        """Takes an access of `width` bytes."""
+    def take_touch(self, step: int, touch: Touch) -> None:
+        """Takes the load or store of a step."""
         self.points += 1
+        number = self.name_numbers.get(touch.address)
+        if number is None:
+            name = self.symbols.name(touch.address)
+            number = self.name_numbers[touch.address] = self.names.number(name)
+            self.add_place(touch.address, touch.width, name)
+        elif touch.width > 1:
+            self.add_place(touch.address, touch.width, None)
+        kind = KINDS[touch.kind] + (0 if touch.done else REFUSED) + (NO_VALUE if touch.value is None else 0)
+        values = (step, touch.address, touch.width, kind, number, int(touch.value or "0", 16))
+        for column, value in zip(self.touch.values(), values):
+            column.append(value)
+
+    def add_place(self, address: int, width: int, symbol: str | None) -> None:
+        """Takes the address of an access of `width` bytes, with its symbol."""
         self.granules.update((address // GRANULE, (address + width - 1) // GRANULE))
         name = symbol and symbol.split("+")[0]
         if name and address < self.labels.get(name, 1 << 32):
             self.labels[name] = address
+
+    def executed(self) -> list[int]:
+        """Returns the addresses of the steps, in ascending order."""
+        return sorted({int(site[0], 16) for site in self.sites.numbers})
 
     def source_names(self) -> set[str]:
         """Returns the names of the files with executed lines."""
@@ -183,7 +206,7 @@ class Collector:
         return {
             "title": self.title, "run": self.run, "end": self.end, "steps": len(self.site), "points": self.points,
             "rows": self.rows, "maps": [json.loads(it) for it in self.maps.numbers],
-            "sites": self.sites.rows("pc", "word", "abi", "symbol", "function", "source", "caller", "shown"),
+            "sites": self.sites.rows("pc", *SITE, "shown"),
             "places": self.places.rows("hart", "world", "mode"), "traps": self.traps.rows("cause", "value", "name"),
             "names": list(self.names.numbers), "site": columns.add(self.site), "place": columns.add(self.place),
             "trap": columns.add(self.trap), "changes": columns.add(self.changes), "registers": columns.add(self.registers),

@@ -1,4 +1,4 @@
-"""The subcommand `page`: writes a run as one page for a browser, made from the objects of --json."""
+"""The subcommand `page`: writes a run as one page for a browser."""
 from __future__ import annotations
 
 import os
@@ -15,7 +15,7 @@ from rvlook.protocol.console import consoles_of
 from rvlook.protocol.run import End
 from rvlook.output.printer import end_object, run_object
 from rvlook.trace.tracer import Step, Tracer
-from rvlook.trace.text import Objects, lines_of
+from rvlook.trace.text import lines_of
 
 if TYPE_CHECKING:
     from rvlook.output.printer import Printer
@@ -41,19 +41,19 @@ def show_page(run: Run, symbols: Symbols, printer: Printer, template: Any, paths
     found = collected(run, symbols)
     sources = source_texts(paths, found.source_names(), roots_of(folders))
     columns = Columns()
-    variables = [vars(it) for it in frames_of(paths[0] if len(paths) > 1 else None, run.setup.image)]
+    variables = [vars(it) for it in frames_of(paths[0] if len(paths) > 1 else None, run.setup.image, found.executed())]
     data = {**found.data(columns), "segments": segments_of(found), "sources": sources, "variables": variables}
     printer.document(template.render(title=found.title, data=compressed(data, columns), scripts=SCRIPTS))
 
 
 def collected(run: Run, symbols: Symbols) -> Collector:
     """Returns all objects of the map and the trace of a run."""
-    found = Collector()
+    found, consoles = Collector(run, symbols), consoles_of(symbols)
+    writer = found.objects
     run_object(found, run, symbols)
-    writer, consoles = Objects(run, symbols, found), consoles_of(symbols)
     for item in Tracer(run).events():
         if isinstance(item, Step):
-            writer.step(item)
+            found.step(item)
             for of, line in lines_of(item, consoles):
                 writer.console(item.number, of, line)
         elif isinstance(item, End):

@@ -3,12 +3,14 @@ from __future__ import annotations
 
 import re
 from dataclasses import dataclass
-from typing import NamedTuple, Optional
+from functools import lru_cache
+from typing import NamedTuple, Optional, Tuple
 
 RAN = re.compile(r"ran (\d+) pc=(\w+) mode=(\w) world=(\w+) why=(\S+) trap=(\S+)")
 RAN_FIELDS = re.compile(rb"ran 1 pc=(\w+) mode=(\w) world=(\w+) why=\S+ trap=(\S+)")  # of one step: pc, mode, world and trap
 NO_TRAP = b"-"  # the trap of a step that has none
 STOPS = ("watch", "break")
+RanFields = Tuple[bytes, bytes, bytes, bytes]  # of RAN_FIELDS: pc, mode, world and trap
 
 
 class Location(NamedTuple):
@@ -101,3 +103,16 @@ def register_values(lines: list[str]) -> list[int]:
 def bytes_of(line: str) -> bytes:
     """Decodes a reply of `mem`."""
     return bytes.fromhex(line.split(":")[1])
+
+
+def step_fields(data: bytes) -> list[RanFields]:
+    """Decodes the replies to single steps: pc, mode, world and trap of each. Most replies of a run come many times."""
+    return list(map(fields_of, data.splitlines()))
+
+
+@lru_cache(maxsize=1 << 18)
+def fields_of(line: bytes) -> RanFields:
+    """Decodes the reply to a single step."""
+    match = RAN_FIELDS.fullmatch(line)
+    assert match
+    return match[1], match[2], match[3], match[4]

@@ -4,10 +4,11 @@ from __future__ import annotations
 from bisect import bisect_right
 from collections import defaultdict
 from dataclasses import dataclass
-from typing import Callable, Iterable, Iterator, Sequence, Tuple
+from typing import Iterable, Iterator, Sequence
 
 from rvlook.errors import SymbolError
 from rvlook.protocol.memory_map import RAM_BASE
+from rvlook.protocol.units import Unit, Units
 
 UNSIZED = 4096  # bytes that a symbol without a size has at most
 
@@ -22,15 +23,10 @@ class Symbol:
     rank: int = 0  # the lower one names the address where there are more
 
 
-Inlined = Tuple[int, int, str]  # the first and the last address of what a call was replaced by, and the source line of the call
-
-
 class Symbols:
-    """`symbols` are in any order; `lines` are pairs of an address and the source line from there on, None at the end of one; `inlined` reads
-    the inlined calls when they are needed."""
+    """`symbols` are in any order; `units` are the compilation units, which have the source lines."""
 
-    def __init__(self, symbols: Sequence[Symbol] = (), lines: Iterable[tuple[int, str | None]] = (),
-                 inlined: Callable[[], Iterable[Inlined]] = tuple) -> None:
+    def __init__(self, symbols: Sequence[Symbol] = (), units: Iterable[Unit] = ()) -> None:
         best = {it.address: it for it in sorted(symbols, key=lambda it: (it.rank, it.name), reverse=True)}
         self.ordered = [best[address] for address in sorted(best) if address >= RAM_BASE]
         self.addresses = [symbol.address for symbol in self.ordered]
@@ -38,11 +34,7 @@ class Symbols:
         self.addresses_by_name = defaultdict(set)  # of each name
         for it in symbols:
             self.addresses_by_name[it.name].add(it.address)
-        # Functions that the linker dropped have lines too, at addresses outside memory.
-        self.lines = sorted((it for it in lines if it[0] >= RAM_BASE), key=lambda it: (it[0], it[1] is not None))
-        self.line_starts = [address for address, _ in self.lines]
-        self.read_inlined = inlined
-        self.inlined: list[Inlined] | None = None
+        self.units = Units(units)
 
     def __bool__(self) -> bool:
         return bool(self.ordered)
@@ -72,31 +64,21 @@ class Symbols:
         symbol = self.at(address)
         return symbol.name if symbol else None
 
+    def has_lines(self) -> bool:
+        """Returns whether there are source lines."""
+        return self.units.has_lines()
+
     def source(self, address: int) -> str | None:
         """Returns the file and line of an instruction, or None."""
-        index = bisect_right(self.line_starts, address) - 1
-        return self.lines[index][1] if index >= 0 else None
+        return self.units.source(address)
 
     def sources_in(self, first: int, end: int) -> Iterator[str | None]:
-        """Yields the file and line, or None, of each row of the line table for the instructions from `first` up to before `end`. A damaged size
-        may span all memory; there are never more results than rows."""
-        index = max(0, bisect_right(self.line_starts, first) - 1)
-        for at in range(index, len(self.lines)):
-            start = max(self.line_starts[at], first)
-            start += (first - start) % 4
-            following = self.line_starts[at + 1] if at + 1 < len(self.lines) else end
-            if self.line_starts[at] >= end:
-                return
-            if start < min(following, end):
-                yield self.lines[at][1]
+        """Yields the file and line, or None, of each row of the line tables for the instructions from `first` up to before `end`."""
+        return self.units.sources_in(first, end)
 
     def caller(self, address: int) -> str | None:
         """Returns the file and line of the call that was replaced by inlined code, or None."""
-        if self.inlined is None:
-            self.inlined = sorted(self.read_inlined())
-        index = bisect_right(self.inlined, (address, 1 << 32)) - 1
-        _, last, source = self.inlined[index] if index >= 0 else (0, -1, None)
-        return source if address <= last else None
+        return self.units.caller(address)
 
     def line(self, address: int) -> str | None:
         """Returns the source line of an instruction, after that of the inlined call, or None."""

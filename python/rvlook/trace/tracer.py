@@ -2,12 +2,12 @@
 read. All registers are read after a trap and at the end of each part of the run, where the values so far must agree."""
 from __future__ import annotations
 
-from typing import Iterator, NamedTuple, Optional, Sequence, TYPE_CHECKING, Tuple
+from typing import Iterator, NamedTuple, Optional, Sequence, TYPE_CHECKING
 
 from rvlook.protocol import names
 from rvlook.errors import Unfinished
 from rvlook.protocol.instructions import Instruction, instruction_of
-from rvlook.protocol.replies import NO_TRAP, RAN_FIELDS, Location, Trap
+from rvlook.protocol.replies import NO_TRAP, Location, RanFields, Trap, step_fields
 from rvlook.protocol.run import End, Line
 
 if TYPE_CHECKING:
@@ -18,9 +18,6 @@ REGISTERS = 33  # lines of `regs`
 STEP = b"step 1\n"
 STEP_AND = [b"step 1\nreg %d\n" % number for number in range(32)]
 STEP_AND_ALL = b"step 1\nregs\n"
-
-
-RanFields = Tuple[bytes, bytes, bytes, bytes]  # of RAN_FIELDS: pc, mode, world and trap
 
 
 class Touch(NamedTuple):
@@ -151,7 +148,7 @@ class Tracer:
 
     def steps(self, decoder: Replay, reader: Replay, stretch: Stretch) -> Iterator[Step]:
         """Yields the wanted steps of a stretch; raises Unfinished if the registers do not agree."""
-        rans = RAN_FIELDS.findall(stretch.data)
+        rans = step_fields(stretch.data)
         end = stretch.first + stretch.count - 1
         begin, stop = max(self.first, stretch.first), min(end, self.last or end)
         hart = self.harts[stretch.hart]
