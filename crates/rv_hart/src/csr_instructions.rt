@@ -1,6 +1,7 @@
 //! Executes the instructions that read and change a control and status register (Unprivileged ISA, section 9.1).
 
-ghost use Rattle.std.specs.Prelude.{◌≡◌, ◌^◌, ◌<◌, Ok, Err, MatchResult, OnErr};
+ghost use Rattle.std.specs.Prelude.{◌≡◌, ◌^◌, ◌<◌, Ok, Err, Some, None, MatchResult, OnErr, if◌then◌else◌};
+ghost use Rattle.rv_state.specs.Counters.{wrote};
 ghost use Rattle.rv_hart.specs.CsrInstructions.{is_read as is_read_of, is_written as is_written_of, changed_word as changed_of};
 
 use crate::hart::Hart;
@@ -30,6 +31,16 @@ fn is_written(kind: CsrKind, source: u32) -> bool
         CsrKind::Write => true,
         CsrKind::Set | CsrKind::Clear => source != 0,
     }
+}
+
+/// Returns the number of the CSR that an instruction writes, if it may be a counter or half of one. A step that writes any other register counts
+/// as one that writes none.
+#[inline(always)]
+fn written_counter(kind: CsrKind, source: u32, csr: u16) -> Option<u16>
+    ensures cycles { wrote result 0xb00 0xb80 ≡ wrote (if is_written_of kind source then Some csr else None) 0xb00 0xb80 }
+    ensures retired { wrote result 0xb02 0xb82 ≡ wrote (if is_written_of kind source then Some csr else None) 0xb02 0xb82 }
+{
+    (is_written(kind, source) && csr / 256 == 0xb).then_some(csr)
 }
 
 /// Returns the word to write, from the old word and the operand.
@@ -120,7 +131,7 @@ impl Hart {
         {
             return self.trap(exception(Exception::IllegalInstruction, word), touched);
         }
-        let written = is_written(kind, source).then_some(csr.number());
+        let written = written_counter(kind, source, csr.number());
         self.csrs.tick_counters(true, inhibit, written);
         StepOutcome {
             trap: None,
