@@ -15,11 +15,16 @@ fn is_hart_digit(byte: u8) -> bool
     byte == b'0' || byte == b'1'
 }
 
-/// Returns whether each byte is the digit of a hart.
+/// Returns whether each byte is the digit of a hart. It tests all of them, since a loop without an early exit is compiled to vector
+/// instructions.
 fn are_hart_digits(word: &[u8]) -> bool
     ensures { result ≡ list_all is_hart_digit_of word.now }
 {
-    word.iter().all(|byte| is_hart_digit(*byte))
+    let mut are = true;
+    for byte in word {
+        are &= is_hart_digit(*byte);
+    }
+    are
 }
 
 /// Returns whether a word is 1 to 64 digits of harts.
