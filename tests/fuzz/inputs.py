@@ -1,7 +1,7 @@
-"""Random inputs for the program, of nine kinds. Six are texts or images: image texts, ELF files, assembler texts,
-images to disassemble, self-modifying programs, and programs of superinstructions. Three are scripts: of a bare bench, and of one and of two monitored benches, with one hart and
-with two. Each input has arguments and bytes, and is made from a
-random number generator. Independent of the code under test.
+"""Random inputs for the program, of ten kinds. Seven are texts or images: image texts, ELF files, assembler texts, images to disassemble,
+self-modifying programs, programs of superinstructions, and programs in several cache lines. Three are scripts: of a bare bench, and of one and of
+two monitored benches, with one hart and with two. Each input has arguments and bytes, and is made from a random number generator. Independent of
+the code under test.
 """
 import re
 
@@ -186,7 +186,7 @@ def script(rng):
 
 def code(rng):
     """Returns a program that stores into its own cache line, the next one, and one of the same set; and runs of it."""
-    other = START + rng.choice((0x100, 0x1FF00, 0x1FFF8, 0x2000, 4 * rng.randrange(32), 0xF8))
+    other = START + rng.choice((0x200, 0x1FF00, 0x1FFF8, 0x2000, 4 * rng.randrange(32), 0x1F8))
     pool = [lambda: assemble(rng.choice(("sw", "sw", "sh", "sb")), rng.choice((3, 4, 5)), rng.choice((0, 0, 4, -4, 8, 1, 2)), rng.choice((1, 2)))[1],
             lambda: assemble("addi", rng.choice((1, 5, 5, 0)), rng.choice((1, 5)), rng.choice((4, -4, 1)))[1],
             lambda: assemble(rng.choice(("xor", "add", "mul")), rng.choice((4, 5, 6)), rng.choice((3, 4, 5)), 5)[1],
@@ -225,7 +225,7 @@ def operation(rng, name):
 def pairs(rng):
     """Returns a program of superinstructions, some across the end of a cache line. Every second or fourth turn of its loop stores over one of its
     operations, two instructions by turns. Runs of all short lengths have breakpoints and watchpoints between the two operations."""
-    start = START + 4 * rng.choice((0, 0, 1, 40, 57, 60, 61, 62, 63))
+    start = START + 4 * rng.choice((0, 0, 1, 40, 63, 121, 124, 125, 126, 127))
     words = [operation(rng, rng.choice(names)) for _ in range(rng.choice((1, 2, 3, 5))) for names in (FIRSTS, SECONDS)]
     if chance(rng, 0.3):
         words.insert(rng.randrange(len(words)), operation(rng, "addi"))
@@ -245,6 +245,39 @@ def pairs(rng):
             lines.append("poke %x %x" % (start + rng.randrange(4 * len(words)), rng.randrange(256)))
     padded = [assemble("jal", 0, start - START)[1]] * (start > START) + [0x13] * ((start - START) // 4 - 1)
     return ["run", "--ram", "131072"], joined(in_lines(rng, digits_of(padded + words)), [*lines, "regs", "mem %x 64" % start, "mem 80000800 16"])
+
+
+def links(rng):
+    """Returns a program in pieces in several cache lines, two or three of them of one set. The pieces jump to each other, or go on into the next
+    line. Some of their stores are over a piece."""
+    places = [0, *rng.sample((0x40, 0xFC, 0x1F0, 0x1FC, 0x200, 0x2FC, 0x3F8), 3), rng.choice((0x1FE00, 0x1FE00, 0x1FFF4, 0x10000, 0x101F8))]
+    targets = [START + rng.choice((place, place, place + 4)) for place in places]
+    pool = [lambda: assemble("addi", rng.choice((5, 5, 6)), 5, rng.choice((1, 4, -4)))[1],
+            lambda: assemble(rng.choice(("xor", "add", "sltu")), rng.choice((5, 6)), 5, 6)[1],
+            lambda: assemble("sw", rng.choice((5, 6)), 4 * rng.randrange(3), 2)[1],
+            lambda: assemble("sw", 3, 0, rng.choice((1, 2, 2)))[1],
+            lambda: assemble("lw", rng.choice((3, 6)), 0, rng.choice((1, 2)))[1]]
+    memory = dict.fromkeys(range(0, 0x404, 4), 0x13)
+    for place in sorted(places):
+        at = place
+        for _ in range(rng.randrange(3)):
+            memory[at], at = rng.choice(pool)(), at + 4
+        target = rng.choice(targets)
+        leaves = [assemble("jal", rng.choice((0, 8)), target - START - at)[1], assemble("jalr", rng.choice((0, 8)), 0, rng.choice((9, 10, 11)))[1],
+                  assemble("jalr", 0, rng.choice((0, 4)), 8)[1]]
+        if abs(target - START - at) < 4096:
+            leaves += [assemble(rng.choice(("bne", "beq", "bltu")), 5, 6, target - START - at)[1]] * 2
+        memory[at] = rng.choice((*leaves, *leaves, 0x13))
+    memory[0x400] = assemble("jalr", 0, 0, 9)[1]
+    near = digits_of([memory.pop(at) for at in range(0, 0x404, 4)])
+    lines = ["poke %x %x" % (START + at + i, byte) for at, word in memory.items() for i, byte in enumerate(word.to_bytes(4, "little"))]
+    lines += ["setreg %d %x" % it for it in ((1, rng.choice(targets)), (2, START + 0x4000), (3, rng.choice(pool)()), (5, rng.randrange(9)), (6, 4),
+                                             (8, START), *zip((9, 10, 11), (START, *rng.sample(targets, 2))))]
+    for _ in range(rng.randrange(2, 6)):
+        lines.append("%s %d" % (rng.choice(("run", "step")), rng.choice((2, 3, 5, 8, 9, 40, 64, 65, 200, 333))))
+        if chance(rng, 0.1):
+            lines.append("%s %x" % (rng.choice(("break", "watch")), rng.choice(targets)))
+    return ["run", "--ram", "131072"], joined(in_lines(rng, near), [*lines, "regs", "mem 80000000 64", "mem 800001f0 64", "mem 80004000 16"])
 
 
 def segments_of(rng, size):
@@ -458,7 +491,8 @@ def twin(rng):
     return played(rng, TwinPlay) if chance(rng, 0.3) else staged(rng, True)
 
 
-KINDS = {"image": image, "script": script, "code": code, "pairs": pairs, "elf": elf_file, "asm": asm, "dis": dis, "monitor": monitor, "twin": twin}
+KINDS = {"image": image, "script": script, "code": code, "pairs": pairs, "links": links, "elf": elf_file, "asm": asm, "dis": dis, "monitor": monitor,
+         "twin": twin}
 
 
 def drawn(rng, kind):
