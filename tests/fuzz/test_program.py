@@ -15,7 +15,8 @@ OTHER_HART = ("other hart", *("other hart " + it for it in ("step", "run", "regs
 
 
 @pytest.mark.parametrize("arguments", [
-    "--seed 1 --count 600", "--seed 3 --count 120 --kind code", "--seed 5 --count 300 --kind pairs", "--seed 7 --count 300 --kind links", "--seed 2 --count 20 --kind monitor twin"])
+    "--seed 1 --count 600", "--seed 3 --count 120 --kind code", "--seed 5 --count 300 --kind pairs", "--seed 7 --count 300 --kind links",
+    "--seed 2 --count 20 --kind monitor twin"])
 def test_random_inputs(bench, capsys, arguments):
     assert program.main([bench, *arguments.split()]) == 0, capsys.readouterr().out
 
