@@ -1,16 +1,56 @@
 //! Schedules: steps of two harts in a given order, and a summary of them.
 
-ghost use Rattle.std.specs.Prelude.{◌≡◌, ◌+◌, ◌<◌, ◌≤◌, ◌^◌, bit_or, true, []};
-ghost use Rattle.rv_debug.specs.ScheduledSteps.{schedule_summary, with_scheduled_step, scheduled_steps, schedule_start};
-ghost use Rattle.rv_script.specs.Schedules.{harts_in, has_all};
+ghost use Rattle.std.specs.Prelude.{◌≡◌, ◌<◌, ◌≤◌, ◌+◌, ◌^◌, length, map, true};
+ghost use Rattle.rv_debug.specs.ScheduledSteps.{schedule_start, scheduled_steps, with_hart_step, with_own_step};
 ghost use Rattle.rv_debug.specs.Targets.{harts_of, target_stepped, with_selected, IsBare};
+ghost use Rattle.rv_script.specs.Schedules.{harts_in, has_all, hart_of_digit};
 
-use crate::addresses::Addresses;
-use crate::free_limits::nowhere;
-use crate::steps::{NO_STEPS, Ran};
+use crate::selected_hart::SelectedHart;
+use crate::steps::with_slot;
 use crate::target::Target;
-use rv_hart::{Limits, Trap};
+use rv_hart::{Machine, Trap};
+use rv_monitor::{Outcome, Slot};
 use rv_script::{Schedule, hart};
+
+/// A target whose harts execute steps in turn.
+trait Harts {
+    ghost use Rattle.rv_debug.specs.Prelude.{Target};
+
+    // The target.
+    ghost as_target: { Self → Target };
+
+    /// Executes one step of a hart, and selects the hart.
+    fn step_hart(&mut self, hart: u8) -> Outcome
+        requires { hart < harts_of (as_target self.old) }
+        ensures { target_stepped (with_selected hart (as_target self.old))
+            ≡ record { state = as_target self.new; outcome = result.step; entered = result.entered } };
+}
+
+impl Harts for Machine {
+    ghost use Rattle.rv_debug.specs.Prelude.{Bare};
+
+    ghost as_target = { Bare };
+
+    #[inline(always)]
+    fn step_hart(&mut self, _hart: u8) -> Outcome {
+        Outcome {
+            step: self.step_at::<Scheduled>(),
+            entered: None,
+        }
+    }
+}
+
+impl Harts for SelectedHart {
+    ghost use Rattle.rv_debug.specs.Prelude.{Monitored};
+
+    ghost as_target = { Monitored };
+
+    #[inline(always)]
+    fn step_hart(&mut self, hart: u8) -> Outcome {
+        self.hart = hart;
+        self.machine.step_at::<Scheduled>(hart)
+    }
+}
 
 /// A summary of the steps of one hart.
 #[derive(Clone, Copy)]
@@ -19,6 +59,18 @@ pub(crate) struct HartRan {
     pub(crate) steps: u32,
     /// The last trap, an interrupt included.
     pub(crate) trap: Option<Trap>,
+}
+
+impl HartRan {
+    /// Adds a step, which may have trapped.
+    #[inline(always)]
+    fn add(&mut self, trap: Option<Trap>)
+        requires { self.old.steps < 2 ^ 31 }
+        ensures { self.new ≡ with_own_step trap self.old }
+    {
+        self.steps += 1;
+        self.trap = trap.or(self.trap);
+    }
 }
 
 /// A summary of the steps of two harts.
@@ -32,49 +84,54 @@ pub(crate) struct Scheduled {
     pub(crate) entered: u16,
 }
 
-/// Returns the summary of a run of each hart.
-const fn told(first: &Ran, second: &Ran) -> Scheduled
-    ensures { result ≡ schedule_summary first.now second.now }
-{
-    Scheduled {
-        first: HartRan {
-            steps: first.steps,
-            trap: first.trap,
-        },
-        second: HartRan {
-            steps: second.steps,
-            trap: second.trap,
-        },
-        entered: first.entered | second.entered,
+/// The summary before the first step.
+const NOTHING_SCHEDULED: Scheduled = Scheduled {
+    first: HartRan {
+        steps: 0,
+        trap: None,
+    },
+    second: HartRan {
+        steps: 0,
+        trap: None,
+    },
+    entered: 0,
+};
+
+impl Scheduled {
+    /// Adds a step of a hart.
+    #[inline(always)]
+    fn add(&mut self, hart: u8, trap: Option<Trap>, entered: Option<Slot>)
+        requires hart { hart < 2 }
+        requires first { self.old.first.steps < 2 ^ 31 }
+        requires second { self.old.second.steps < 2 ^ 31 }
+        ensures step { self.new ≡ with_hart_step hart trap entered self.old }
+        ensures first_one { self.new.first.steps ≤ self.old.first.steps + 1 }
+        ensures second_one { self.new.second.steps ≤ self.old.second.steps + 1 }
+    {
+        if hart == 0 {
+            self.first.add(trap);
+        } else {
+            self.second.add(trap);
+        }
+        self.entered = with_slot(self.entered, entered);
     }
 }
 
-/// Executes one step of a hart, and adds it to the run of that hart. There are no breakpoints and no watchpoints. Then the hart is selected.
-#[inline(always)]
-fn scheduled_step(
-    target: &mut Target,
-    hart: u8,
-    first: &mut Ran,
-    second: &mut Ran,
-    none: &Addresses,
-    limits: &mut Limits,
-)
-    requires none { none.now ≡ [] }
-    requires has { hart < harts_of target.old }
-    requires which { hart < 2 }
-    requires first { first.old.steps < 2 ^ 31 }
-    requires second { second.old.steps < 2 ^ 31 }
-    ensures step_scheduled { with_scheduled_step hart (record { state = target.old; did = schedule_summary first.old second.old })
-        (target_stepped (with_selected hart target.old)) ≡ record { state = target.new; did = schedule_summary first.new second.new } }
-    ensures first { first.new.steps ≤ first.old.steps + 1 }
-    ensures second { second.new.steps ≤ second.old.steps + 1 }
-    ensures bare { IsBare target.old → bit_or first.old.entered second.old.entered ≡ bit_or first.new.entered second.new.entered }
+/// Executes one step of the hart of each digit, in their order. This loop is apart from that of single steps, so that a step is inlined in it.
+#[inline(never)]
+fn run_digits<T: Harts>(target: &mut T, digits: &[u8]) -> Scheduled
+    requires has { has_all (harts_of (T.as_target target.old)) (map hart_of_digit digits.now) ≡ true }
+    requires few { length digits.now ≤ 64 }
+    ensures { scheduled_steps (map hart_of_digit digits.now) (schedule_start (T.as_target target.old))
+        ≡ record { state = T.as_target target.new; did = result } }
 {
-    if hart == 0 {
-        target.step_on(0, first, none, limits);
-    } else {
-        target.step_on(1, second, none, limits);
+    let mut did = NOTHING_SCHEDULED;
+    for digit in digits {
+        let hart = hart(*digit);
+        let outcome = target.step_hart(hart);
+        did.add(hart, outcome.step.trap, outcome.entered);
     }
+    did
 }
 
 /// Executes one step of each hart of a schedule, in its order. Breakpoints and watchpoints have no effect. Then the hart of the last step is
@@ -85,20 +142,9 @@ pub(crate) fn run_schedule(target: &mut Target, schedule: &Schedule) -> Schedule
     ensures harts { harts_of target.new ≡ harts_of target.old }
     ensures bare { IsBare target.old → result.entered ≡ 0 }
 {
-    let none = Addresses::new();
-    let mut limits = nowhere();
-    let mut first = NO_STEPS;
-    let mut second = NO_STEPS;
     let digits = schedule.digits();
-    for digit in digits {
-        scheduled_step(
-            target,
-            hart(*digit),
-            &mut first,
-            &mut second,
-            &none,
-            &mut limits,
-        );
+    match target {
+        Target::Bare(machine) => run_digits(machine, digits),
+        Target::Monitored(selected) => run_digits(selected, digits),
     }
-    told(&first, &second)
 }

@@ -11,8 +11,8 @@ ghost use Rattle.rv_debug.specs.Targets.{selected_of, hart_of, harts_of, memory_
 
 use crate::addresses::Addresses;
 use crate::selected_hart::SelectedHart;
-use crate::steps::{Ran, Stop, one_more, run_steps};
-use rv_hart::{Limits, Machine};
+use crate::steps::{Ran, run_steps};
+use rv_hart::Machine;
 use rv_memory::Ram;
 use rv_monitor::{Block, Slot};
 use rv_pmp::Mode;
@@ -186,26 +186,6 @@ impl Target {
         }
     }
 
-    /// Executes one step of a hart, and adds it to a run. Then the hart is selected. The set is empty, so no breakpoint or watchpoint ends the
-    /// run.
-    #[inline(always)]
-    pub(crate) fn step_on(&mut self, hart: u8, ran: &mut Ran, none: &Addresses, limits: &mut Limits)
-        requires has { hart < harts_of self.old }
-        requires few { ran.old.steps < 2 ^ 31 }
-        requires none { none.now ≡ [] }
-        ensures step { ended (with_step (so_far_in (with_selected hart self.old) ran.old) (target_stepped (with_selected hart self.old))) Stop.Done
-            ≡ record { state = self.new; ran = ran.new } }
-        ensures bare { IsBare self.old → ran.new.entered ≡ ran.old.entered }
-    {
-        match self {
-            Target::Bare(machine) => step_bare(machine, ran, none, limits),
-            Target::Monitored(selected) => {
-                selected.hart = hart;
-                step_monitored(selected, ran, none, limits);
-            }
-        }
-    }
-
     /// Executes steps until one accesses a watched byte, all are executed, or the next instruction is at a breakpoint.
     #[inline(always)]
     pub(crate) fn run(&mut self, count: u32, breaks: &Addresses, watches: &Addresses) -> Ran
@@ -217,29 +197,6 @@ impl Target {
             Target::Monitored(selected) => run_monitored(selected, count, breaks, watches),
         }
     }
-}
-
-/// Executes one more step of a bare machine, which enters no enclave.
-#[inline(always)]
-fn step_bare(machine: &mut Machine, ran: &mut Ran, none: &Addresses, limits: &mut Limits)
-    requires few { ran.old.steps < 2 ^ 31 }
-    requires none { none.now ≡ [] }
-    ensures step { ended (with_step (so_far_in (Target.Bare machine.old) ran.old) (target_stepped (Target.Bare machine.old))) Stop.Done
-        ≡ record { state = Target.Bare machine.new; ran = ran.new } }
-    ensures none { ran.new.entered ≡ ran.old.entered }
-{
-    one_more(machine, ran, none, limits);
-}
-
-/// Executes one more step of the selected hart of a monitored machine.
-#[inline(always)]
-fn step_monitored(selected: &mut SelectedHart, ran: &mut Ran, none: &Addresses, limits: &mut Limits)
-    requires few { ran.old.steps < 2 ^ 31 }
-    requires none { none.now ≡ [] }
-    ensures { ended (with_step (so_far_in (Target.Monitored selected.old) ran.old) (target_stepped (Target.Monitored selected.old))) Stop.Done
-        ≡ record { state = Target.Monitored selected.new; ran = ran.new } }
-{
-    one_more(selected, ran, none, limits);
 }
 
 /// Executes the steps of a bare machine, which enter no enclave.

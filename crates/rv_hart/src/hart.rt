@@ -150,9 +150,9 @@ impl Hart {
     }
 
     /// Executes one step, as [`Hart::step`] does. Each `Site` has its own copy of the code, since the compiler inlines code of this size only if
-    /// it has one caller.
+    /// it has one caller. A loop of steps names a type of its own.
     #[inline(always)]
-    pub(crate) fn step_at<Site>(&mut self, ram: &mut Ram) -> StepOutcome
+    pub fn step_at<Site>(&mut self, ram: &mut Ram) -> StepOutcome
         ensures meaning { step (machine_of self.old ram.old) ≡ stepped self.new ram.new result }
         ensures laws { ObeysHartLaws (machine_of self.old ram.old) (stepped self.new ram.new result) }
     {

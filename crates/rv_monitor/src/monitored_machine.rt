@@ -33,14 +33,14 @@ const fn keeps_own(csrs: &Csrs)
 /// Executes one step of the hart of a `HartState` over the shared state.
 #[inline(always)]
 #[tactic(auto, unfolding(crate::specs::Step::monitored_step))]
-fn step_hart(hart_state: &mut HartState, shared: &mut Shared) -> Outcome
+fn step_hart<Site>(hart_state: &mut HartState, shared: &mut Shared) -> Outcome
     requires reprogrammed { HartInvariant shared.old.table hart_state.old }
     requires stored { HostContextIsLegal hart_state.old }
     ensures meaning { monitored_step (record { hart_state = hart_state.old; shared = shared.old })
         ≡ record { state = record { hart_state = hart_state.new; shared = shared.new }; outcome = result } }
     ensures legal { HostContextIsLegal hart_state.new }
 {
-    let step = hart_state.hart.step(&mut shared.memory);
+    let step = hart_state.hart.step_at::<Site>(&mut shared.memory);
     match step.trap {
         None => Outcome {
             step,
@@ -84,7 +84,13 @@ const fn counts(by_hart: &[HartState; 2], harts: u8)
 }
 
 /// Executes one step of a hart over the shared state. If the step traps, programs the PMP entries and mie of the other hart again.
-fn step_in(by_hart: &mut [HartState; 2], harts: u8, shared: &mut Shared, hart: u8) -> Outcome
+#[inline(always)]
+fn step_in<Site>(
+    by_hart: &mut [HartState; 2],
+    harts: u8,
+    shared: &mut Shared,
+    hart: u8,
+) -> Outcome
     requires has { hart < harts }
     requires few { harts ≤ 2 }
     requires kept { Invariant (machine_of_parts by_hart.old harts shared.old) }
@@ -93,7 +99,7 @@ fn step_in(by_hart: &mut [HartState; 2], harts: u8, shared: &mut Shared, hart: u
     ensures legal { HostContextsAreLegal (machine_of_parts by_hart.new harts shared.new) }
 {
     let hart_state = &mut by_hart[hart as usize];
-    let outcome = step_hart(hart_state, shared);
+    let outcome = step_hart::<Site>(hart_state, shared);
     match outcome.step.trap {
         None => outcome,
         Some(_) => {
@@ -291,7 +297,21 @@ impl MonitoredMachine {
         ensures laws { ObeysStepLaws hart self.old (record { state = self.new; outcome = result }) }
         ensures legal { HostContextsAreLegal self.new }
     {
-        step_in(&mut self.by_hart, self.harts, &mut self.shared, hart)
+        self.step_at::<Self>(hart)
+    }
+
+    /// Executes one step of a hart, as [`MonitoredMachine::step`] does. Each `Site` has its own copy of the code, as for
+    /// [`rv_hart::Hart::step_at`].
+    #[inline(always)]
+    pub fn step_at<Site>(&mut self, hart: u8) -> Outcome
+        requires { hart < count_of self.old }
+        ensures meaning { step_of hart self.old ≡ record { state = self.new; outcome = result } }
+        ensures harts { count_of self.new ≡ count_of self.old }
+        ensures invariant { Invariant self.new }
+        ensures laws { ObeysStepLaws hart self.old (record { state = self.new; outcome = result }) }
+        ensures legal { HostContextsAreLegal self.new }
+    {
+        step_in::<Site>(&mut self.by_hart, self.harts, &mut self.shared, hart)
     }
 
     /// Executes at most `count` steps of a hart, and returns how many it executed. Each ends in no trap and accesses nothing outside the limits.

@@ -6,15 +6,15 @@ use Rattle.rv_monitor.proofs.Switched.{handled_stored}
 use Rattle.rv_monitor.proofs.monitored_machine.step_hart.Goals as goal
 
 pub handle-next-requires-clause-unlocked : goal.handle-next-requires-clause-unlocked
-handle-next-requires-clause-unlocked c =
-    let after : Stepped = record { state = record { hart = c.step-step.new.self; memory = c.step-step.new.ram }; outcome = c.step-step.result } in
-    unlocked_after c.args.hart_state.now c.args.shared.now after c.in-Some.trap c.in-Some.is c.requires.reprogrammed c.step-step.ensures.laws.trap_keeps
+handle-next-requires-clause-unlocked g c =
+    let after : Stepped = record { state = record { hart = c.step_at-step.new.self; memory = c.step_at-step.new.ram }; outcome = c.step_at-step.result } in
+    unlocked_after c.args.hart_state.now c.args.shared.now after c.in-Some.trap c.in-Some.is c.requires.reprogrammed c.step_at-step.ensures.laws.trap_keeps
 
 pub returns-in-Some-clause-legal : goal.returns-in-Some-clause-legal
-returns-in-Some-clause-legal c =
-    let hart_state : HartState = record c.args.hart_state.now { hart = c.step-step.new.self } in
+returns-in-Some-clause-legal g c =
+    let hart_state : HartState = record c.args.hart_state.now { hart = c.step_at-step.new.self } in
     subst (λ (h : Handled). HostContextIsLegal h.hart_state) c.handle-next.ensures
     (handled_stored hart_state (record c.args.shared.now {
       memory =
-          c.step-step.new.ram;
+          c.step_at-step.new.ram;
     }) c.in-Some.trap c.requires.stored (subst KeepsOwn c.csrs.ensures c.keeps_own.ensures))

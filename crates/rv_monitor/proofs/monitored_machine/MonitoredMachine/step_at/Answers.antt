@@ -4,10 +4,10 @@ use Rattle.rv_monitor.proofs.Prelude.{MonitoredMachine, MonitoredStepped, count_
 use Rattle.rv_monitor.proofs.Held.{saved_after}
 use Rattle.rv_monitor.proofs.HartCases.{step_count}
 use Rattle.rv_monitor.proofs.StepLaws.{step_laws}
-use Rattle.rv_monitor.proofs.monitored_machine.MonitoredMachine.step.Goals as goal
+use Rattle.rv_monitor.proofs.monitored_machine.MonitoredMachine.step_at.Goals as goal
 
 pub invariant_of-self : goal.invariant_of-self
-invariant_of-self c =
+invariant_of-self g c =
     let inside = c.self.inside in
     let held_in = c.self.invariant in (
       saved_after c.args.hart (machine_of_parts inside.by_hart inside.harts inside.shared) _ held_in.0 c.step_in.ensures.meaning,
@@ -17,10 +17,10 @@ invariant_of-self c =
     )
 
 pub returns-clause-invariant : goal.returns-clause-invariant
-returns-clause-invariant c = (invariant_of-self c).0
+returns-clause-invariant g c = (invariant_of-self g c).0
 
 pub returns-clause-laws : goal.returns-clause-laws
-returns-clause-laws c =
+returns-clause-laws g c =
     let inside = c.self.inside in
     let before : MonitoredMachine = machine_of_parts inside.by_hart inside.harts inside.shared in
     let after : MonitoredStepped = record { state = machine_of_parts c.step_in.new.by_hart inside.harts c.step_in.new.shared; outcome = c.step_in.result } in
@@ -30,7 +30,7 @@ returns-clause-laws c =
     (step_laws c.args.hart before has c.self.invariant.0 c.self.invariant.1))
 
 pub returns-clause-harts : goal.returns-clause-harts
-returns-clause-harts c =
+returns-clause-harts g c =
     let inside = c.self.inside in
     let before : MonitoredMachine = machine_of_parts inside.by_hart inside.harts inside.shared in
     subst (λ (machine : MonitoredMachine). count_of
