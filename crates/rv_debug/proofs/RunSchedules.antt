@@ -1,5 +1,5 @@
 -- A run of the debugger is a schedule with only the selected hart.
-use Rattle.std.proofs.Common.{◌≡◌, ℕ, suc, ◌+◌, ◌==◌, List, replicate, refl, sym, ◌∙◌, ap, arith}
+use Rattle.std.proofs.Common.{◌≡◌, ℕ, suc, ◌+◌, List, replicate, refl, sym, ◌∙◌, ap, arith}
 use Rattle.rv_debug.specs.Prelude.{Bare, Monitored, Scheduled, Stop, Target}
 use Rattle.rv_debug.proofs.Prelude.{AfterRun, AfterSteps, AfterSchedule, selected_of, done, ended, entered_by, no_steps, schedule_start, pc_of, run}
 use Rattle.rv_debug.proofs.Prelude.{run_effect, target_stepped, steps_of, scheduled_steps, with_selected, slots_with, with_step, with_scheduled_step}

@@ -1,8 +1,8 @@
 -- The loop over a schedule: each iteration is one step of the hart that its digit names.
 use Rattle.std.proofs.Common.{◌≡◌, ◌<◌, ◌≤◌, ℕ, ◌+◌, true, List, [], ◌∷◌, map, drop, get_or}
-use Rattle.std.proofs.Common.{length, Option, Some, None, refl, sym, ◌∙◌, ap, arith}
+use Rattle.std.proofs.Common.{length, refl, sym, ◌∙◌, ap, arith}
 use Rattle.std.specs.Prelude.{◌&&◌, nat_lt}
-use Rattle.rv_debug.specs.Prelude.{Bare, Monitored, Scheduled, Target, hart_of_digit, has_all}
+use Rattle.rv_debug.specs.Prelude.{Bare, Monitored, Target, hart_of_digit, has_all}
 use Rattle.rv_debug.proofs.Prelude.{AfterSchedule, IsBare, and_parts, drop_all, drop_more, harts_of, nat_tests}
 use Rattle.rv_debug.proofs.Prelude.{step_count, target_stepped, scheduled_steps, with_selected, with_scheduled_step}
 use Rattle.rv_debug.proofs.ScheduledSteps.{after_schedule, by_bare, step_bare}

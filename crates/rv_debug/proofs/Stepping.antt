@@ -140,9 +140,3 @@ module _ {A : Type 0} (step : A → Stepped A) (pc : A → ℕ) (breaks watches 
   pub stops-done : (count done : ℕ) (so_far : AfterSteps A) → count ≤ done → run step pc breaks watches (count - done) so_far ≡ ended so_far Done
   unfolding run
   stops-done count done so_far over = let none : count - done ≡ 0 = omega arith in rw none refl
-
--- one step, whatever it accesses
-pub run-once : {A : Type 0} (step : A → Stepped A) (pc : A → ℕ) (before : AfterSteps A)
-    → run step pc [] [] 1 before ≡ ended (with_step before (step before.state)) Done
-unfolding run lowest_accessed
-run-once step pc before = refl

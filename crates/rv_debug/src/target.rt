@@ -1,11 +1,10 @@
 //! The target of commands.
 
-ghost use Rattle.std.specs.Prelude.{◌≡◌, ◌<◌, ◌^◌, [], Some, None};
+ghost use Rattle.std.specs.Prelude.{◌≡◌, ◌<◌, Some, None};
 ghost use Rattle.std.specs.Bool.{OnTrue, OnFalse};
 ghost use Rattle.rv_word.specs.Cases.{option_case};
 ghost use Rattle.rv_platform.specs.Blocks.{no_block};
-ghost use Rattle.rv_debug.specs.FastSteps.{so_far_in};
-ghost use Rattle.rv_debug.specs.Steps.{ended, no_steps, run, with_step};
+ghost use Rattle.rv_debug.specs.Steps.{no_steps, run};
 ghost use Rattle.rv_debug.specs.BothBenches.{TargetsEquivExcept, can_scramble_in, region_in, scrambled_in};
 ghost use Rattle.rv_debug.specs.Targets.{selected_of, hart_of, harts_of, memory_of, pc_of, target_stepped, with_selected, register_set, timer_set, poked, IsBare, HostContextsAreLegalIn, TargetInvariant};
 

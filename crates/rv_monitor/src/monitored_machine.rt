@@ -85,12 +85,7 @@ const fn counts(by_hart: &[HartState; 2], harts: u8)
 
 /// Executes one step of a hart over the shared state. If the step traps, programs the PMP entries and mie of the other hart again.
 #[inline(always)]
-fn step_in<Site>(
-    by_hart: &mut [HartState; 2],
-    harts: u8,
-    shared: &mut Shared,
-    hart: u8,
-) -> Outcome
+fn step_in<Site>(by_hart: &mut [HartState; 2], harts: u8, shared: &mut Shared, hart: u8) -> Outcome
     requires has { hart < harts }
     requires few { harts ≤ 2 }
     requires kept { Invariant (machine_of_parts by_hart.old harts shared.old) }

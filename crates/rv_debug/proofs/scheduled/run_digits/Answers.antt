@@ -1,4 +1,4 @@
-use Rattle.std.proofs.Common.{◌<◌, ◌+◌, ◌∙◌, ℕ, get_or, sym, ap, subst, refl, arith}
+use Rattle.std.proofs.Common.{◌<◌, ◌+◌, ◌∙◌, ℕ, sym, ap, subst, refl, arith}
 use Rattle.rv_debug.specs.Prelude.{Target, has_all}
 use Rattle.rv_debug.specs.Steps.{Stepped}
 use Rattle.rv_debug.proofs.Prelude.{AfterSchedule, harts_of, with_scheduled_step}
