@@ -1,0 +1,8 @@
+use Rattle.std.proofs.Common.{◌≡◌, take}
+use Rattle.std.specs.List.{list_all}
+use Rattle.rv_text.specs.GoodLines.{is_text}
+use Rattle.rv_text.proofs.good_line.are_text.Given as goal
+
+-- the test of the bytes so far
+abbrev pub invariant-loop-byte : goal.invariant-loop-byte
+invariant-loop-byte l = record { so_far : l.are ≡ list_all is_text (take l.byte-index l.bytes) }
