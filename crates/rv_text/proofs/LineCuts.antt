@@ -19,7 +19,7 @@ no_feed-step true n x xs is more = refl
 no_feed-step false n x xs is more =
     ap has_feed (take-one_more n x xs) ∙ ap (λ b. b || has_feed (take n xs)) is ∙ more
 
-no_feed : (xs : List ℕ) → has_feed (before_first is_feed xs) ≡ false
+pub no_feed : (xs : List ℕ) → has_feed (before_first is_feed xs) ≡ false
 no_feed [] = refl
 no_feed (x ∷ xs) = no_feed-step (is_feed x) (prefix_len (λ y. not (is_feed y)) xs) x xs refl (no_feed xs)
 
@@ -41,7 +41,7 @@ lines-cut text within =
     let parts : text ≡ before_first is_feed text ++ 10 ∷ after_first is_feed text = rw feed at (split_at_first is_feed text 0 within) in
     ap lines_of parts ∙ cut (before_first is_feed text) (after_first is_feed text) (no_feed text)
 
-all_taken : (text : List ℕ) → position_or_len is_feed text ≡ length text → has_feed text ≡ false
+pub all_taken : (text : List ℕ) → position_or_len is_feed text ≡ length text → has_feed text ≡ false
 all_taken text is =
     let whole : take (length text) text ≡ text = take_all (length text) text (omega arith) in
     sym (ap has_feed whole) ∙ rw is at (no_feed text)

@@ -3,12 +3,12 @@
 ghost use Rattle.std.specs.Prelude.{◌≡◌, ◌==◌, ◌≤◌, length};
 ghost use Rattle.std.specs.List.{position_or_len};
 
+use memchr::memchr;
+
 /// Returns the position of the first such byte, or the length of the text if there is none.
 pub fn position_of(text: &[u8], wanted: u8) -> usize
     ensures value { result ≡ position_or_len (λ b. b == wanted) text.now }
     ensures within { result ≤ length text.now }
 {
-    text.iter()
-        .position(|byte| *byte == wanted)
-        .unwrap_or(text.len())
+    memchr(wanted, text).unwrap_or(text.len())
 }

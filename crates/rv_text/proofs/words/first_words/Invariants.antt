@@ -1,5 +1,13 @@
-use Rattle.std.proofs.Common.{◌≡◌, ◌≤◌, length}
+use Rattle.std.proofs.Common.{◌≡◌, ◌≤◌, ◌++◌, length, map}
+use Rattle.rv_text.specs.Words.{words_of}
 use Rattle.rv_text.proofs.words.first_words.Given as goal
 
-abbrev pub invariant-loop-word : goal.invariant-loop-word
-invariant-loop-word l = record { kept : l.words.items ≡ l.yielded; few : length l.words.items ≤ 6 }
+-- the words so far, and those of the rest, are all
+abbrev pub invariant-loop-rest : goal.invariant-loop-rest
+invariant-loop-rest l = record {
+  all : words_of l.line ≡ map (λ word. word.now) l.words.items ++ words_of l.rest;
+  few : length l.words.items ≤ 6;
+}
+
+abbrev pub decreases-loop-rest : goal.decreases-loop-rest
+decreases-loop-rest l = length l.rest
