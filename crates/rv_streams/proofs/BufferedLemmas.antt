@@ -1,7 +1,11 @@
 -- Lemmas about bytes that were read ahead.
-use Rattle.std.proofs.Common.{◌≡◌, ◌≤◌, ℕ, ◌+◌, ◌-◌, min, List, ◌++◌, take, drop, length, arith, ◌∙◌, ap, sym, append_assoc}
+use Rattle.std.proofs.Common.{◌≡◌, ◌<◌, ◌≤◌, ◌==◌, ℕ, ◌+◌, ◌-◌, min, false, List, ◌++◌, take, drop, length, arith, ◌∙◌, ap, sym, append_assoc}
 use Rattle.std.proofs.Math.Seq.{take-add}
 use Rattle.std.proofs.lemmas.List.{drop-drop, length-take, take-take}
+use Rattle.std.specs.List.{position_or_len}
+use Rattle.rv_text.specs.Lines.{has_feed}
+use Rattle.rv_text.proofs.LineCuts.{no_feed, all_taken}
+use Rattle.rv_streams.proofs.LineTextLemmas.{has_feed-take}
 
 -- some of the bytes read ahead are returned, and the others stay
 pub ahead_given : (buffer rest given : List ℕ) (start end count room : ℕ) → count ≡ min (length (take (end - start) (drop start buffer))) room
@@ -15,3 +19,24 @@ ahead_given buffer rest given start end count room is copied =
     let prefix : take count (drop start buffer) ≡ given = sym (copied ∙ take-take count (end - start) (drop start buffer) few) in
     ap (λ t. t ++ rest) split ∙ (append_assoc (take count (drop start buffer)) _ rest
     ∙ ap (λ t. t ++ (take (end - (start + count)) (drop (start + count) buffer) ++ rest)) prefix)
+
+-- the same for the bytes of one line, which are some of those read ahead
+pub line_given : (buffer rest given line : List ℕ) (start end count room : ℕ) → line ≡ take (length line) (take (end - start) (drop start buffer))
+    → count ≡ min (length line) room → given ≡ take count line
+    → take (end - start) (drop start buffer) ++ rest ≡ given ++ (take (end - (start + count)) (drop (start + count) buffer) ++ rest)
+line_given buffer rest given line start end count room prefix is copied =
+    let ahead = take (end - start) (drop start buffer) in
+    let few : length line ≤ length ahead = omega (arith, ap length prefix, length-take (length line) ahead) in
+    let same : take count line ≡ take count ahead = ap (take count) prefix ∙ take-take count (length line) ahead (omega (arith, is)) in
+    ahead_given buffer rest given start end count count (omega (arith, is, few)) (copied ∙ same)
+
+-- the bytes up to the first line feed
+pub feedless-whole : (text : List ℕ) (end : ℕ) → end ≡ position_or_len (λ b. b == 10) text → end ≡ length text
+    → has_feed (take (length text - 1) text) ≡ false
+feedless-whole text end is all = has_feed-take (length text - 1) text (all_taken text (sym is ∙ all))
+
+pub feedless-cut : (text : List ℕ) (end : ℕ) → end ≡ position_or_len (λ b. b == 10) text → end < length text
+    → has_feed (take (length (take (end + 1) text) - 1) (take (end + 1) text)) ≡ false
+feedless-cut text end is within =
+    let len : length (take (end + 1) text) - 1 ≡ end = omega (arith, length-take (end + 1) text) in
+    rw len (ap has_feed (take-take end (end + 1) text (omega arith)) ∙ (ap (λ n. has_feed (take n text)) is ∙ no_feed text))

@@ -1,7 +1,9 @@
--- Lemmas about a line whose bytes are read one by one.
-use Rattle.std.proofs.Common.{◌≡◌, ◌≢◌, ℕ, ◌+◌, ◌<◌, ◌≤◌, Bool, true, false, List, [], ◌∷◌, ◌++◌, length, take, min, refl}
+-- Lemmas about a line whose bytes are read part by part.
+use Rattle.std.proofs.Common.{◌≡◌, ◌≢◌, ℕ, inl, inr, ◌+◌, ◌-◌, ◌<◌, ◌≤◌, Bool, true, false, ◌||◌, List, [], ◌∷◌, ◌++◌, length, take, drop, min, refl}
 use Rattle.std.proofs.Common.{sym, ◌∙◌, ap, arith, append_assoc, append-nil, add-one}
-use Rattle.std.proofs.lemmas.List.{take-append-le, take_all, take-take, length-take, length-append}
+use Rattle.std.proofs.Math.Seq.{take-append-add}
+use Rattle.std.proofs.lemmas.Bool.{cases_lt}
+use Rattle.std.proofs.lemmas.List.{take-append-le, take-append-drop, take_all, take-take, length-take, length-append}
 use Rattle.rv_text.specs.Lines.{has_feed, lines_of, after_line, after_lines}
 use Rattle.rv_streams.specs.LineText.{ReadsLineText, TakesLine, ReadsLines}
 use Rattle.rv_text.specs.Lines.{without_return}
@@ -15,27 +17,61 @@ ReadsText-none held left short open_ = record { text = held; split = refl; unfin
 pub has_feed-push : (text : List ℕ) (byte : ℕ) → has_feed text ≡ false → byte ≢ 10 → has_feed (text ++ byte ∷ []) ≡ false
 has_feed-push text byte h ne = rw (has_feed-append text (byte ∷ []), h, eq_false byte 10 ne) refl
 
-pub ReadsText-push : (unread old left kept : List ℕ) (byte : ℕ) → ReadsLineText unread old kept → old ≡ byte ∷ left → byte ≢ 10
-    → length kept < 122 → ReadsLineText unread left (kept ++ byte ∷ [])
-ReadsText-push unread old left kept byte reads next ne room =
-    let len : min 122 (length reads.text) < 122 = omega (arith, ap length reads.prefix, length-take 122 reads.text) in
-    let all : kept ≡ reads.text = reads.prefix ∙ take_all 122 reads.text (omega arith) in
-    let short : length (reads.text ++ byte ∷ []) ≤ 122 = omega (arith, length-append reads.text (byte ∷ [])) in record {
-      text = reads.text ++ byte ∷ [];
-      split = reads.split ∙ (ap (λ t. reads.text ++ t) next ∙ sym (append_assoc reads.text (byte ∷ []) left));
-      unfinished = has_feed-push reads.text byte reads.unfinished ne;
-      prefix = ap (λ t. t ++ byte ∷ []) all ∙ sym (take_all 122 (reads.text ++ byte ∷ []) short);
-    }
+pub has_feed-take : (n : ℕ) (text : List ℕ) → has_feed text ≡ false → has_feed (take n text) ≡ false
+has_feed-take n text h = go _ _ (sym (has_feed-append (take n text) (drop n text)) ∙ (ap has_feed (take-append-drop n text) ∙ h)) where
+  go : (a b : Bool) → a || b ≡ false → a ≡ false
+  go true b h = h
+  go false b h = refl
 
-pub ReadsText-skip : (unread old left kept : List ℕ) (byte : ℕ) → ReadsLineText unread old kept → old ≡ byte ∷ left → byte ≢ 10
-    → length kept ≡ 122 → ReadsLineText unread left kept
-ReadsText-skip unread old left kept byte reads next ne full =
-    let long : 122 ≤ length reads.text = omega (arith, ap length reads.prefix, length-take 122 reads.text) in record {
-      text = reads.text ++ byte ∷ [];
-      split = reads.split ∙ (ap (λ t. reads.text ++ t) next ∙ sym (append_assoc reads.text (byte ∷ []) left));
-      unfinished = has_feed-push reads.text byte reads.unfinished ne;
-      prefix = reads.prefix ∙ sym (take-append-le 122 reads.text (byte ∷ []) long);
-    }
+pub has_feed-kept : (most : ℕ) (line text : List ℕ) → has_feed line ≡ false → has_feed text ≡ false → has_feed (take most (line ++ text)) ≡ false
+has_feed-kept most line text first second = has_feed-take most (line ++ text) (rw (has_feed-append line text, first) second)
+
+-- the bytes before the last have no line feed
+pub has_feed-before_last : (part text : List ℕ) (last count : ℕ) → count ≤ length part → take count part ≡ text ++ last ∷ []
+    → length text + 1 ≡ length (take count part) → has_feed (take (count - 1) part) ≡ false → has_feed text ≡ false
+has_feed-before_last part text last count room cut len none =
+    let size : length text ≡ count - 1 = omega (arith, len, length-take count part, room) in
+    let is : take (count - 1) part ≡ text =
+    sym (take-take (count - 1) count part (omega arith)) ∙ (ap (take (count - 1)) cut
+    ∙ (take-append-le (count - 1) text (last ∷ []) (omega (arith, size)) ∙ take_all (count - 1) text (omega (arith, size)))) in
+    sym (ap has_feed is) ∙ none
+
+-- the part ends with the line feed
+pub feed_next : (old left part text : List ℕ) (last : ℕ) → old ≡ part ++ left → part ≡ text ++ last ∷ [] → last ≡ 10 → old ≡ text ++ 10 ∷ left
+feed_next old left part text last all cut feed =
+    all ∙ (ap (λ t. t ++ left) cut ∙ (append_assoc text (last ∷ []) left ∙ ap (λ n. text ++ n ∷ left) feed))
+
+take-min : (n : ℕ) (text : List ℕ) → take (min (length text) n) text ≡ take n text
+take-min n text = elim (cases_lt n (length text)) [
+  | inl less ↦ ap (λ k. take k text) (omega arith)
+  | inr all ↦ take_all _ text (omega arith) ∙ sym (take_all n text all)
+]
+
+-- as much of the text as there is room for
+pub take-room : (most count : ℕ) (line text : List ℕ) → length line ≤ most → count ≡ min (length text) (most - length line)
+    → line ++ take count text ≡ take most (line ++ text)
+take-room most count line text short is =
+    let sum : length line + (most - length line) ≡ most = omega (arith, short) in
+    ap (λ n. line ++ take n text) is ∙ (ap (λ t. line ++ t) (take-min (most - length line) text)
+    ∙ (sym (take-append-add line text (most - length line)) ∙ ap (λ n. take n (line ++ text)) sum))
+
+take-kept : (n : ℕ) (xs ys : List ℕ) → take n (take n xs ++ ys) ≡ take n (xs ++ ys)
+take-kept n xs ys = elim (cases_lt n (length xs)) [
+  | inl less ↦
+      take-append-le n (take n xs) ys (omega (arith, length-take n xs))
+      ∙ (take-take n n xs (omega arith) ∙ sym (take-append-le n xs ys (omega arith)))
+  | inr all ↦ ap (λ t. take n (t ++ ys)) (take_all n xs all)
+]
+
+-- the next bytes of the text are read, and as many of them are kept as there is room for
+pub ReadsText-more : (unread old left kept more : List ℕ) → ReadsLineText unread old kept → old ≡ more ++ left → has_feed more ≡ false
+    → ReadsLineText unread left (take 122 (kept ++ more))
+ReadsText-more unread old left kept more reads next none = record {
+  text = reads.text ++ more;
+  split = reads.split ∙ (ap (λ t. reads.text ++ t) next ∙ sym (append_assoc reads.text more left));
+  unfinished = rw (has_feed-append reads.text more, reads.unfinished) none;
+  prefix = ap (λ t. take 122 (t ++ more)) reads.prefix ∙ take-kept 122 reads.text more;
+}
 
 -- a line is taken when its line feed is read
 pub TakesLine-feed : (unread left kept shown : List ℕ) (is_at_end : Bool) → ReadsLineText unread (10 ∷ left) kept → shown ≡ take 121 (without_return kept)

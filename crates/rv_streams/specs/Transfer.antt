@@ -1,17 +1,5 @@
--- Reading a byte from a source, and writing a text to a sink. (This project's own streams.)
-use Rattle.std.specs.Prelude.{◌≡◌, ◌<◌, ◌≤◌, ℕ, Bool, true, false, List, [], length, ◌++◌, Result, Ok, Err, Option, Some, None}
-use Rattle.std.specs.Option.{option_to_list}
-
--- the byte that a call returned, if it returned one
-abbrev pub byte_given : {E : Type 0} → Result (Option ℕ) E → List ℕ
-byte_given (Ok byte) = option_to_list byte
-byte_given (Err e) = []
-
--- whether the call returned the end
-abbrev pub answers_end : {E : Type 0} → Result (Option ℕ) E → Bool
-answers_end (Ok None) = true
-answers_end (Ok (Some byte)) = false
-answers_end (Err e) = false
+-- Writing a text to a sink, and the number of bytes that were read. (This project's own streams.)
+use Rattle.std.specs.Prelude.{◌≡◌, ◌<◌, ◌≤◌, ℕ, List, length, ◌++◌}
 
 -- the text was written except for this rest
 abbrev pub WritesUpTo : List ℕ → List ℕ → List ℕ → List ℕ → Type 0

@@ -1,7 +1,9 @@
-//! A source that reads ahead from another, since lines are read byte by byte.
-ghost use Rattle.std.specs.Prelude.{◌≡◌, ◌≤◌, min, take, length};
+//! A source that reads ahead from another, so that it can give one line after the other.
+ghost use Rattle.std.specs.Prelude.{◌≡◌, ◌<◌, ◌≤◌, ◌-◌, false, min, take, length};
+ghost use Rattle.rv_text.specs.Lines.{has_feed};
 
 use crate::device::{DeviceFault, Source};
+use rv_text::position_of;
 
 /// The number of bytes that are read ahead at once.
 const READ_LEN: usize = 4096;
@@ -14,13 +16,24 @@ fn give(bytes: &[u8], buffer: &mut [u8]) -> usize
     ensures len { length buffer.new ≡ length buffer.old }
 {
     let count = bytes.len().min(buffer.len());
-    if count == 1 {
-        // lines are read byte by byte: copies one byte without a call
-        buffer[0] = bytes[0];
-        return 1;
-    }
     buffer[..count].copy_from_slice(&bytes[..count]);
     count
+}
+
+/// Returns the bytes through the first line feed, or all if there is none. Of a long text it returns at most the first `most` bytes.
+#[inline(always)]
+fn through_feed(bytes: &[u8], most: usize) -> &[u8]
+    ensures prefix { result.now ≡ take (length result.now) bytes.now }
+    ensures line { has_feed (take (length result.now - 1) result.now) ≡ false }
+    ensures most { length result.now ≤ most }
+    ensures some { 0 < most → 0 < length bytes.now → 0 < length result.now }
+{
+    let prefix = &bytes[..bytes.len().min(most)];
+    let end = position_of(prefix, b'\n');
+    if end == prefix.len() {
+        return prefix;
+    }
+    &prefix[..end + 1]
 }
 
 /// A source that reads ahead from another source. It has the ends and the failures of that source, and no others.
@@ -131,6 +144,15 @@ impl<S: Source> Source for BufferedSource<S> {
         }
         self.read_ahead()?;
         let count = give(&self.buffer[self.start..self.end], buffer);
+        self.start += count;
+        Ok(count)
+    }
+
+    #[inline(always)]
+    fn read_in_line(&mut self, buffer: &mut [u8]) -> Result<usize, DeviceFault> {
+        self.read_ahead()?;
+        let text = through_feed(&self.buffer[self.start..self.end], buffer.len());
+        let count = give(text, buffer);
         self.start += count;
         Ok(count)
     }

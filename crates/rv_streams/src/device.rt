@@ -1,6 +1,7 @@
 //! The contracts of a source of bytes and a sink for bytes.
-ghost use Rattle.std.specs.Prelude.{◌≡◌, ℕ, Bool, List, [], ◌++◌, ◌+◌, ◌≤◌, ◌==◌, ◌&&◌, ◌||◌, min, take, length, IsTrue, is_err, is_ok};
+ghost use Rattle.std.specs.Prelude.{◌≡◌, ℕ, Bool, false, List, [], ◌++◌, ◌+◌, ◌-◌, ◌<◌, ◌≤◌, ◌==◌, ◌&&◌, ◌||◌, min, take, length, IsTrue, is_err, is_ok};
 ghost use Rattle.rv_streams.specs.Device.{moved_count, moves_none, counted_if};
+ghost use Rattle.rv_text.specs.Lines.{has_feed};
 
 /// A call of a device failed. No byte was given or taken in that call.
 #[derive(Clone, Copy, Debug, PartialEq, Eq)]
@@ -40,6 +41,27 @@ pub trait Source {
         ensures ends { ends self.new ≡ counted_if (moves_none result (length buffer.new)) (ends self.old) }
         ensures failures { failures self.new ≡ counted_if (is_err result) (failures self.old) }
         ensures falls { calls_left self.new + min (moved_count result) 1 ≤ calls_left self.old };
+
+    /// Reads some bytes of one line to the start of the buffer, and returns how many. Only the last of them may be a line feed. It returns 0 only
+    /// at the end.
+    ///
+    /// # Errors
+    ///
+    /// As for `read_some`.
+    fn read_in_line(&mut self, buffer: &mut [u8]) -> Result<usize, DeviceFault>
+        requires space { 0 < length buffer.old }
+        ensures room { moved_count result ≤ length buffer.new }
+        ensures line { has_feed (take (moved_count result - 1) buffer.new) ≡ false }
+        ensures bytes { follows_input self.new → remaining self.old ≡ take (moved_count result) buffer.new ++ remaining self.new }
+        ensures end { follows_input self.new → IsTrue (moves_none result 1) → remaining self.new ≡ [] }
+        ensures same { input self.new ≡ input self.old }
+        ensures before { follows_input self.new → follows_input self.old }
+        ensures ends { ends self.new ≡ counted_if (moves_none result 1) (ends self.old) }
+        ensures failures { failures self.new ≡ counted_if (is_err result) (failures self.old) }
+        ensures falls { calls_left self.new + moved_count result ≤ calls_left self.old }
+    {
+        self.read_some(&mut buffer[..1])
+    }
 }
 
 /// A device that takes bytes.

@@ -1,4 +1,4 @@
-//! Reads one line, byte by byte.
+//! Reads one line, part by part.
 ghost use Rattle.std.specs.Prelude.{◌≡◌, ◌+◌, ◌<◌, ◌≤◌, false, [], ◌++◌, take, length, IsTrue, is_err};
 ghost use Rattle.rv_streams.specs.Device.{counted_if};
 ghost use Rattle.rv_text.specs.Lines.{has_feed};
@@ -6,7 +6,6 @@ ghost use Rattle.rv_streams.specs.LineText.{ReadsLineText, left_from, stops_at_e
 ghost use Rattle.rv_text.specs.Lines.{without_return};
 
 use crate::device::{DeviceFault, Source};
-use crate::transfer::read_byte;
 use arrayvec::ArrayVec;
 use std::mem;
 
@@ -15,6 +14,9 @@ pub(crate) const KEPT_MAX: usize = 122;
 
 /// The maximal number of bytes that are shown of a line. A line that shows as many is too long.
 pub(crate) const SHOWN_MAX: usize = 121;
+
+/// The maximal number of bytes of a line that are read at once.
+const PART_LEN: usize = 128;
 
 const LINE_FEED: u8 = b'\n';
 
@@ -28,6 +30,18 @@ pub type Line = ArrayVec<u8, KEPT_MAX>;
 pub(crate) enum Stop {
     LineFeed,
     End,
+}
+
+/// Appends a text to a line, as far as there is room.
+#[inline(always)]
+fn keep(line: &mut Line, text: &[u8])
+    requires { length line.old.items ≤ 122 }
+    ensures { line.new.items ≡ take 122 (line.old.items ++ text.now) }
+{
+    let count = text.len().min(line.remaining_capacity());
+    if line.try_extend_from_slice(&text[..count]).is_err() {
+        unreachable!();
+    }
 }
 
 /// Reads bytes after those that `line` holds, up to a line feed or the end of the source. Keeps the first `KEPT_MAX` bytes of the line.
@@ -50,15 +64,18 @@ pub(crate) fn read_text<S: Source>(source: &mut S, line: &mut Line) -> Result<St
     ensures falls { S.calls_left source.new + length line.new.items ≤ S.calls_left source.old + length line.old.items }
     ensures feed_falls { result ≡ Ok Stop.LineFeed → S.calls_left source.new + length line.new.items < S.calls_left source.old + length line.old.items }
 {
-    while let Some(byte) = read_byte(source)? {
-        if byte == LINE_FEED {
+    let mut part = [0; PART_LEN];
+    loop {
+        let count = source.read_in_line(&mut part)?;
+        let Some((last, text)) = part[..count].split_last() else {
+            return Ok(Stop::End);
+        };
+        if *last == LINE_FEED {
+            keep(line, text);
             return Ok(Stop::LineFeed);
         }
-        if !line.is_full() {
-            line.push(byte);
-        }
+        keep(line, &part[..count]);
     }
-    Ok(Stop::End)
 }
 
 /// Takes the first `count` bytes out of a line, and empties the line.

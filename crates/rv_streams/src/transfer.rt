@@ -1,31 +1,9 @@
-//! Reads one byte from a source, and writes a whole text to a sink.
-ghost use Rattle.std.specs.Prelude.{◌≡◌, ◌++◌, ◌⊎◌, ◌+◌, ◌≤◌, [], length, IsTrue, IfOk, OnOk, OnErr, IfNone, is_err};
-ghost use Rattle.rv_streams.specs.Device.{counted_if, HasRisen};
-ghost use Rattle.rv_streams.specs.Transfer.{byte_given, answers_end, WritesPrefix};
+//! Writes a whole text to a sink.
+ghost use Rattle.std.specs.Prelude.{◌≡◌, ◌++◌, ◌⊎◌, OnOk, OnErr};
+ghost use Rattle.rv_streams.specs.Device.{HasRisen};
+ghost use Rattle.rv_streams.specs.Transfer.{WritesPrefix};
 
-use crate::device::{DeviceFault, Sink, Source};
-
-/// Returns the next byte, or `None` if the source returned its end in this call.
-///
-/// # Errors
-///
-/// `DeviceFault`, if the source failed in this call.
-pub(crate) fn read_byte<S: Source>(source: &mut S) -> Result<Option<u8>, DeviceFault>
-    ensures bytes { S.follows_input source.new → S.remaining source.old ≡ byte_given result ++ S.remaining source.new }
-    ensures end { S.follows_input source.new → IfOk result (λ byte. IfNone byte (S.remaining source.new ≡ [])) }
-    ensures same { S.input source.new ≡ S.input source.old }
-    ensures before { S.follows_input source.new → S.follows_input source.old }
-    ensures ends { S.ends source.new ≡ counted_if (answers_end result) (S.ends source.old) }
-    ensures failures { S.failures source.new ≡ counted_if (is_err result) (S.failures source.old) }
-    ensures falls { S.calls_left source.new + length (byte_given result) ≤ S.calls_left source.old }
-{
-    let mut byte = [0];
-    let count = source.read_some(&mut byte)?;
-    if count == 0 {
-        return Ok(None);
-    }
-    Ok(Some(byte[0]))
-}
+use crate::device::{DeviceFault, Sink};
 
 /// Writes the whole text, part by part. For an empty text the sink is not called.
 ///

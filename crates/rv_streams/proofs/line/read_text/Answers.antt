@@ -1,15 +1,11 @@
-use Rattle.std.proofs.Common.{rules, ◌≡◌, ◌<◌, ◌≤◌, ◌==◌, ℕ, Bool, true, false, arith}
-use Rattle.rv_streams.proofs.LineTextLemmas.{ReadsText-none, ReadsText-push, ReadsText-skip, has_feed-push}
+use Rattle.std.proofs.Common.{rules, ◌≡◌, ◌++◌, false, take, length, arith, ap}
+use Rattle.std.proofs.lemmas.List.{length-take, length-append}
+use Rattle.rv_text.specs.Lines.{has_feed}
+use Rattle.rv_streams.proofs.LineTextLemmas.{ReadsText-none, ReadsText-more, feed_next, has_feed-before_last, has_feed-kept, has_feed-push}
 use Rattle.rv_streams.proofs.line.read_text.Goals as goal
 
-is_below : (n : ℕ) (full : Bool) → full ≡ (n == 122) → full ≡ false → n ≤ 122 → n < 122
-is_below n full e h short = grind arith
-
-is_all : (n : ℕ) (full : Bool) → full ≡ (n == 122) → full ≡ true → n ≡ 122
-is_all n full e h = grind arith
-
-pub loop-byte-init : goal.loop-byte-init
-loop-byte-init g c = record {
+pub loop-count-init : goal.loop-count-init
+loop-count-init g c = record {
   bytes = λ _. ReadsText-none _ _ c.requires.short c.requires.unfinished;
   same = search rules;
   before = search rules;
@@ -20,31 +16,71 @@ loop-byte-init g c = record {
   falls = search rules;
 }
 
-pub loop-byte-preserved-then-not-is_full : goal.loop-byte-preserved-then-not-is_full
-loop-byte-preserved-then-not-is_full g c =
-    let room = is_below _ _ c.is_full.ensures.value c.if-not-is_full.true c.loop-byte.invariant.short in record {
-      bytes = λ follows. rw c.push.ensures.items (
-          ReadsText-push _ _ _ _ c.in-Some.byte (c.loop-byte.invariant.bytes (c.in_ok-byte.ensures.before follows))
-          (rw c.in-Some.is at (c.in_ok-byte.ensures.bytes follows)) c.if-byte-eq-LINE_FEED.false room
-          );
+pub returns-then-last-eq-LINE_FEED-clause-bytes : goal.returns-then-last-eq-LINE_FEED-clause-bytes
+returns-then-last-eq-LINE_FEED-clause-bytes g c = λ follows.
+    let cut = c.in-Some.ensures.cases in
+    let read = c.in_ok-count.ensures in
+    rw c.keep.ensures (ReadsText-more _ _ _ _ _ (c.loop-count.invariant.bytes (read.before follows))
+    (feed_next _ _ _ _ _ (read.bytes follows) cut.0 c.if-last-eq-LINE_FEED.true)
+    (has_feed-before_last _ _ _ _ read.room cut.0 cut.1 read.line))
+
+pub returns-then-last-eq-LINE_FEED-clause-short : goal.returns-then-last-eq-LINE_FEED-clause-short
+returns-then-last-eq-LINE_FEED-clause-short g c =
+    omega (arith, ap length c.keep.ensures, length-take 122 (c.loop-count.line.items ++ c.in-Some.text.now))
+
+pub returns-then-last-eq-LINE_FEED-clause-unfinished : goal.returns-then-last-eq-LINE_FEED-clause-unfinished
+returns-then-last-eq-LINE_FEED-clause-unfinished g c =
+    let cut = c.in-Some.ensures.cases in
+    rw c.keep.ensures (has_feed-kept 122 c.loop-count.line.items c.in-Some.text.now c.loop-count.invariant.unfinished
+    (has_feed-before_last _ _ _ _ c.in_ok-count.ensures.room cut.0 cut.1 c.in_ok-count.ensures.line))
+
+pub returns-then-last-eq-LINE_FEED-clause-falls : goal.returns-then-last-eq-LINE_FEED-clause-falls
+returns-then-last-eq-LINE_FEED-clause-falls g c =
+    omega (
+      arith,
+      ap length c.keep.ensures,
+      length-take 122 (c.loop-count.line.items ++ c.in-Some.text.now),
+      length-append c.loop-count.line.items c.in-Some.text.now,
+      c.in-Some.ensures.cases.1,
+      length-take c.in_ok-count.count c.read_in_line.new.buffer,
+      c.loop-count.invariant.falls,
+      c.in_ok-count.ensures.falls,
+    )
+
+pub returns-then-last-eq-LINE_FEED-clause-feed_falls : goal.returns-then-last-eq-LINE_FEED-clause-feed_falls
+returns-then-last-eq-LINE_FEED-clause-feed_falls g c = λ _.
+    omega (
+      arith,
+      ap length c.keep.ensures,
+      length-take 122 (c.loop-count.line.items ++ c.in-Some.text.now),
+      length-append c.loop-count.line.items c.in-Some.text.now,
+      c.in-Some.ensures.cases.1,
+      length-take c.in_ok-count.count c.read_in_line.new.buffer,
+      c.loop-count.invariant.falls,
+      c.in_ok-count.ensures.falls,
+    )
+
+pub loop-count-preserved : goal.loop-count-preserved
+loop-count-preserved g c =
+    let cut = c.in-Some.ensures.cases in
+    let read = c.in_ok-count.ensures in
+    let part = take c.in_ok-count.count c.read_in_line.new.buffer in
+    let text : has_feed part ≡ false =
+    rw cut.0 (has_feed-push c.in-Some.text.now c.in-Some.last.now (has_feed-before_last _ _ _ _ read.room cut.0 cut.1 read.line) c.if-last-eq-LINE_FEED.false) in record {
+      bytes = λ follows. rw c.keep-in-loop-count.ensures (ReadsText-more _ _ _ _ _ (c.loop-count.invariant.bytes (read.before follows)) (read.bytes follows) text);
       same = search rules;
       before = search rules;
       failures = search rules;
       ends = search rules;
-      short = omega (arith, c.push.ensures.len, room);
-      unfinished = rw c.push.ensures.items (has_feed-push c.loop-byte.line.items c.in-Some.byte c.loop-byte.invariant.unfinished c.if-byte-eq-LINE_FEED.false);
-      falls = omega (arith, c.push.ensures.len, c.loop-byte.invariant.falls, rw c.in-Some.is at c.in_ok-byte.ensures.falls);
+      short = omega (arith, ap length c.keep-in-loop-count.ensures, length-take 122 (c.loop-count.line.items ++ part));
+      unfinished = rw c.keep-in-loop-count.ensures (has_feed-kept 122 c.loop-count.line.items part c.loop-count.invariant.unfinished text);
+      falls = omega (
+        arith,
+        ap length c.keep-in-loop-count.ensures,
+        length-take 122 (c.loop-count.line.items ++ part),
+        length-append c.loop-count.line.items part,
+        length-take c.in_ok-count.count c.read_in_line.new.buffer,
+        c.loop-count.invariant.falls,
+        read.falls,
+      );
     }
-
-pub loop-byte-preserved : goal.loop-byte-preserved
-loop-byte-preserved g c = record {
-  bytes = λ follows. ReadsText-skip _ _ _ _ c.in-Some.byte (c.loop-byte.invariant.bytes (c.in_ok-byte.ensures.before follows))
-      (rw c.in-Some.is at (c.in_ok-byte.ensures.bytes follows)) c.if-byte-eq-LINE_FEED.false (is_all _ _ c.is_full.ensures.value c.if-not-is_full.false);
-  same = search rules;
-  before = search rules;
-  failures = search rules;
-  ends = search rules;
-  short = search rules;
-  unfinished = search rules;
-  falls = omega (arith, c.loop-byte.invariant.falls, rw c.in-Some.is at c.in_ok-byte.ensures.falls);
-}

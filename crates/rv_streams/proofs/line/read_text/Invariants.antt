@@ -4,8 +4,8 @@ use Rattle.rv_streams.specs.LineText.{ReadsLineText}
 use Rattle.rv_streams.proofs.line.read_text.Given as goal
 
 -- the bytes read so far have no line feed, and no call has failed
-abbrev pub invariant-loop-byte : goal.invariant-loop-byte
-invariant-loop-byte g l = record {
+abbrev pub invariant-loop-count : goal.invariant-loop-count
+invariant-loop-count g l = record {
   bytes : g.S.Source.follows_input l.source → ReadsLineText (l.initial.line.items ++ g.S.Source.remaining l.initial.source) (g.S.Source.remaining l.source) l.line.items;
   same : g.S.Source.input l.source ≡ g.S.Source.input l.initial.source;
   before : g.S.Source.follows_input l.source → g.S.Source.follows_input l.initial.source;
@@ -16,5 +16,5 @@ invariant-loop-byte g l = record {
   falls : g.S.Source.calls_left l.source + length l.line.items ≤ g.S.Source.calls_left l.initial.source + length l.initial.line.items;
 }
 
-abbrev pub decreases-loop-byte : goal.decreases-loop-byte
-decreases-loop-byte g l = g.S.Source.calls_left l.source
+abbrev pub decreases-loop-count : goal.decreases-loop-count
+decreases-loop-count g l = g.S.Source.calls_left l.source

@@ -1,0 +1,10 @@
+use Rattle.std.proofs.Common.{arith}
+use Rattle.rv_streams.proofs.BufferedLemmas.{feedless-whole, feedless-cut}
+use Rattle.rv_streams.proofs.buffered.through_feed.Goals as goal
+
+pub returns-then-end-prefix-clause-line : goal.returns-then-end-prefix-clause-line
+returns-then-end-prefix-clause-line c = feedless-whole _ _ c.position_of-end.ensures.value c.if-end-prefix.true
+
+pub returns-clause-line : goal.returns-clause-line
+returns-clause-line c =
+    feedless-cut _ _ c.position_of-end.ensures.value (omega (arith, c.position_of-end.ensures.within, c.if-end-prefix.false))
