@@ -1,5 +1,5 @@
 -- The words of a text up to its first blank, and those after it.
-use Rattle.std.proofs.Common.{◌≡◌, ◌<◌, ◌≤◌, ◌==◌, ◌++◌, ℕ, Bool, true, false, cond, List, [], ◌∷◌, length, take, filter, refl, ap, sym, ◌∙◌, arith, append-nil}
+use Rattle.std.proofs.Common.{◌≡◌, ◌<◌, ◌==◌, ◌++◌, ℕ, Bool, true, false, cond, List, [], ◌∷◌, length, take, filter, refl, ap, sym, ◌∙◌, arith}
 use Rattle.std.proofs.lemmas.Bool.Decides.{nat_tests}
 use Rattle.std.proofs.lemmas.List.{take-append-le, take_all}
 use Rattle.std.specs.List.{position_or_len, before_first, after_first}
@@ -27,13 +27,9 @@ no_text : (text : List ℕ) (is : Bool) → is ≡ (length text == 0) → is ≡
 no_text [] is test h = refl
 no_text (x ∷ xs) is test h = grind (arith, nat_tests)
 
--- all words are found when no text is left
-pub words-end : (n : ℕ) (words all : List (List ℕ)) (rest : List ℕ) (is : Bool) → all ≡ words ++ words_of rest → length words ≤ n
-    → is ≡ (length rest == 0) → is ≡ true → words ≡ take n all
+pub words-none : (text rest : List ℕ) (is : Bool) → words_of text ≡ words_of rest → is ≡ (length rest == 0) → is ≡ true → words_of text ≡ []
 unfolding words_of
-words-end n words all rest is every few test h =
-    let found : all ≡ words = every ∙ ap (λ text. words ++ words_of text) (no_text rest is test h) ∙ append-nil words in
-    rw found (sym (take_all n words few))
+words-none text rest is every test h = every ∙ ap words_of (no_text rest is test h)
 
 pub words-full : (n : ℕ) (words more all : List (List ℕ)) → all ≡ words ++ more → length words ≡ n → words ≡ take n all
 words-full n words more all every len = rw every (sym (take-append-le n words more (omega (arith, len)) ∙ take_all n words (omega (arith, len))))

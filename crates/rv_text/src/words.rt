@@ -1,6 +1,6 @@
 //! Splits a line into words.
 
-ghost use Rattle.std.specs.Prelude.{◌≡◌, ◌<◌, ◌≤◌, ◌++◌, [], ◌∷◌, filter, length, map, take};
+ghost use Rattle.std.specs.Prelude.{◌≡◌, ◌<◌, ◌≤◌, ◌++◌, [], ◌∷◌, filter, length, map, take, MatchOption};
 ghost use Rattle.std.specs.List.{position_or_len};
 ghost use Rattle.rv_text.specs.GoodLines.{is_blank as is_blank_of};
 ghost use Rattle.rv_text.specs.Words.{is_filled, words_of};
@@ -34,6 +34,22 @@ fn split_blank(text: &[u8]) -> (&[u8], &[u8])
     (&text[..end], &text[end + 1..])
 }
 
+/// Returns the first word of a text and the text after it, or `None` if there is no word.
+#[inline(always)]
+fn next_word(text: &[u8]) -> Option<(&[u8], &[u8])>
+    ensures { MatchOption result (words_of text.now ≡ []) (λ cut. words_of text.now ≡ cut.0.now ∷ words_of cut.1.now) }
+{
+    let mut rest = text;
+    while !rest.is_empty() {
+        let (word, after) = split_blank(rest);
+        if !word.is_empty() {
+            return Some((word, after));
+        }
+        rest = after;
+    }
+    None
+}
+
 /// Returns the first words of a line, at most `MOST_WORDS`.
 #[inline(always)]
 pub fn first_words(line: &[u8]) -> ArrayVec<&[u8], MOST_WORDS>
@@ -41,11 +57,11 @@ pub fn first_words(line: &[u8]) -> ArrayVec<&[u8], MOST_WORDS>
 {
     let mut words = ArrayVec::new();
     let mut rest = line;
-    while !words.is_full() && !rest.is_empty() {
-        let (word, after) = split_blank(rest);
-        if !word.is_empty() {
-            words.push(word);
-        }
+    while !words.is_full() {
+        let Some((word, after)) = next_word(rest) else {
+            break;
+        };
+        words.push(word);
         rest = after;
     }
     words

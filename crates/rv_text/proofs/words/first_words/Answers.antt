@@ -1,13 +1,8 @@
 use Rattle.std.proofs.Common.{◌≡◌, length, map, arith}
 use Rattle.std.proofs.lemmas.List.{length-map}
 use Rattle.std.proofs.lemmas.Bool.Decides.{nat_tests}
-use Rattle.rv_text.proofs.WordCuts.{words-end, words-full}
+use Rattle.rv_text.proofs.WordCuts.{words-full}
 use Rattle.rv_text.proofs.words.first_words.Goals as goal
-
-pub returns-else-not-is_empty : goal.returns-else-not-is_empty
-returns-else-not-is_empty c =
-    words-end 6 _ _ _ _ c.loop-rest.invariant.all (omega (arith, c.loop-rest.invariant.few, length-map c.loop-rest.words.items (λ word. word.now)))
-    c.is_empty.ensures c.if-not-is_empty.false
 
 pub returns-after-loop-rest : goal.returns-after-loop-rest
 returns-after-loop-rest c =

@@ -1,4 +1,4 @@
-use Rattle.std.proofs.Common.{◌≡◌, ◌≤◌, ◌++◌, length, map}
+use Rattle.std.proofs.Common.{◌≡◌, ◌≤◌, ◌-◌, ◌++◌, length, map}
 use Rattle.rv_text.specs.Words.{words_of}
 use Rattle.rv_text.proofs.words.first_words.Given as goal
 
@@ -10,4 +10,4 @@ invariant-loop-rest l = record {
 }
 
 abbrev pub decreases-loop-rest : goal.decreases-loop-rest
-decreases-loop-rest l = length l.rest
+decreases-loop-rest l = 6 - length l.words.items

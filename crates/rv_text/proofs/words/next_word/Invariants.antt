@@ -1,0 +1,10 @@
+use Rattle.std.proofs.Common.{◌≡◌, length}
+use Rattle.rv_text.specs.Words.{words_of}
+use Rattle.rv_text.proofs.words.next_word.Given as goal
+
+-- no word is passed
+abbrev pub invariant-loop-rest : goal.invariant-loop-rest
+invariant-loop-rest l = record { all : words_of l.text ≡ words_of l.rest }
+
+abbrev pub decreases-loop-rest : goal.decreases-loop-rest
+decreases-loop-rest l = length l.rest
