@@ -114,9 +114,9 @@ command_row keyword.Sched = record { spelling = codes "sched"; form = one schedu
 
 abbrev pub keywords : List Keyword
 keywords =
-    keyword.Step ∷ keyword.Run ∷ keyword.Break ∷ keyword.Clear ∷ keyword.Watch ∷ keyword.Unwatch ∷ keyword.Reg ∷ keyword.Regs ∷ keyword.SetReg
-    ∷ keyword.Csr ∷ keyword.Mem ∷ keyword.Poke ∷ keyword.Dis ∷ keyword.Pmp ∷ keyword.Enclaves ∷ keyword.Access ∷ keyword.Timer ∷ keyword.Hart
-    ∷ keyword.Sched ∷ []
+    keyword.Step ∷ keyword.Run ∷ keyword.Sched ∷ keyword.Break ∷ keyword.Clear ∷ keyword.Watch ∷ keyword.Unwatch ∷ keyword.Reg ∷ keyword.Regs
+    ∷ keyword.SetReg ∷ keyword.Csr ∷ keyword.Mem ∷ keyword.Poke ∷ keyword.Dis ∷ keyword.Pmp ∷ keyword.Enclaves ∷ keyword.Access ∷ keyword.Timer
+    ∷ keyword.Hart ∷ []
 
 abbrev pub spelling_of : Keyword → List ℕ
 spelling_of k = (command_row k).spelling

@@ -29,10 +29,11 @@ pub(crate) enum Keyword {
     Sched,
 }
 
-/// The texts of the keywords.
+/// The texts of the keywords. Those of the commands that execute steps are first, since long scripts repeat them.
 const SPELLINGS: &[(&str, Keyword)] = &[
     ("step", Keyword::Step),
     ("run", Keyword::Run),
+    ("sched", Keyword::Sched),
     ("break", Keyword::Break),
     ("clear", Keyword::Clear),
     ("watch", Keyword::Watch),
@@ -49,7 +50,6 @@ const SPELLINGS: &[(&str, Keyword)] = &[
     ("access", Keyword::Access),
     ("timer", Keyword::Timer),
     ("hart", Keyword::Hart),
-    ("sched", Keyword::Sched),
 ];
 
 impl Keyword {
