@@ -48,7 +48,7 @@ impl Harts for SelectedHart {
     #[inline(always)]
     fn step_hart(&mut self, hart: u8) -> Outcome {
         self.hart = hart;
-        self.machine.step_at::<Scheduled>(hart)
+        self.machine.step_at::<Self>(hart)
     }
 }
 
