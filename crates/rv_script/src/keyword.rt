@@ -54,6 +54,7 @@ const SPELLINGS: &[(&str, Keyword)] = &[
 
 impl Keyword {
     /// Returns the keyword with this text, if there is one. Keywords are case-sensitive.
+    #[inline(never)]
     pub(crate) fn find(word: &[u8]) -> Option<Keyword>
         ensures { result ≡ keyword_of word.now }
     {

@@ -3,10 +3,13 @@ ghost use Rattle.std.specs.Prelude.{◌≡◌, ◌<◌, ◌≤◌, ◌-◌, fals
 ghost use Rattle.rv_text.specs.Lines.{has_feed};
 
 use crate::device::{DeviceFault, Source};
-use rv_text::position_of;
+use rv_text::{position_in_short, position_of};
 
 /// The number of bytes that are read ahead at once.
 const READ_LEN: usize = 4096;
+
+/// The number of bytes in which a line feed is searched first, since many lines are short.
+const HEAD_LEN: usize = 16;
 
 /// Copies as many bytes as there are and as the buffer has room for, and returns how many.
 #[inline(always)]
@@ -29,6 +32,11 @@ fn through_feed(bytes: &[u8], most: usize) -> &[u8]
     ensures some { 0 < most → 0 < length bytes.now → 0 < length result.now }
 {
     let prefix = &bytes[..bytes.len().min(most)];
+    let head = &prefix[..prefix.len().min(HEAD_LEN)];
+    let end = position_in_short(head, b'\n');
+    if end < head.len() {
+        return &head[..end + 1];
+    }
     let end = position_of(prefix, b'\n');
     if end == prefix.len() {
         return prefix;

@@ -24,6 +24,6 @@ pub use good_line::{MAX_LINE, is_blank, is_good_line};
 pub use hexadecimal::hex;
 pub use lines::split_line;
 pub use number::digits;
-pub use position::position_of;
+pub use position::{position_in_short, position_of};
 pub use reply::{Reply, push_count, push_decimal, push_hex, push_text};
 pub use words::{MOST_WORDS, first_words};

@@ -35,6 +35,7 @@ pub fn push_hex(out: &mut Reply, value: u32, places: usize)
 }
 
 /// Appends a number in decimal, which has at most 10 digits.
+#[inline(always)]
 pub fn push_decimal(out: &mut Reply, value: u32)
     requires room { array_vec_len out.old + 10 ≤ 2048 }
     ensures items { out.new.items ≡ out.old.items ++ decimal value }

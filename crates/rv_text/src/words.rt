@@ -5,11 +5,15 @@ ghost use Rattle.std.specs.List.{position_or_len};
 ghost use Rattle.rv_text.specs.GoodLines.{is_blank as is_blank_of};
 ghost use Rattle.rv_text.specs.Words.{is_filled, words_of};
 
+use crate::good_line::is_blank;
 use arrayvec::ArrayVec;
 use memchr::memchr2;
 
 /// The number of words that are read from a line: more than any command has.
 pub const MOST_WORDS: usize = 6;
+
+/// The number of bytes from which on a text is searched by `memchr2`. A call costs more than the search of a shorter text.
+const LONG: usize = 16;
 
 /// Returns the position of the first blank, or the length of the text if there is none.
 #[inline(always)]
@@ -17,6 +21,12 @@ fn blank_position(text: &[u8]) -> usize
     ensures value { result ≡ position_or_len is_blank_of text.now }
     ensures within { result ≤ length text.now }
 {
+    if text.len() < LONG {
+        return text
+            .iter()
+            .position(|byte| is_blank(*byte))
+            .unwrap_or(text.len());
+    }
     memchr2(b' ', b'\t', text).unwrap_or(text.len())
 }
 
