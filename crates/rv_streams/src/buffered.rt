@@ -23,7 +23,7 @@ fn give(bytes: &[u8], buffer: &mut [u8]) -> usize
     count
 }
 
-/// Returns the bytes through the first line feed, or all if there is none. Of a long text it returns at most the first `most` bytes.
+/// Returns the bytes through the first line feed, or all if there is none, but at most the first `most` bytes.
 #[inline(always)]
 fn through_feed(bytes: &[u8], most: usize) -> &[u8]
     ensures prefix { result.now ≡ take (length result.now) bytes.now }
