@@ -37,7 +37,7 @@ fn napot(cfg: u8, block: Block) -> Entry
 }
 
 /// Returns the entry for the region of a slot whose enclave is live.
-#[inline(never)]
+#[inline(always)]
 fn region_entry(world: &World, slot: Slot, info: &SlotInfo) -> Entry
     ensures cfg { result.cfg ≡ (region_entry_of world.now slot (Some info.now)).cfg }
     ensures addr { result.addr ≡ (region_entry_of world.now slot (Some info.now)).addr }
