@@ -84,9 +84,8 @@ pub(crate) fn take_prefix(line: &mut Line, count: usize) -> Line
     ensures taken { result.items ≡ take count line.old.items }
     ensures rest { line.new.items ≡ [] }
 {
-    let mut prefix = mem::replace(line, ArrayVec::new());
-    prefix.truncate(count);
-    prefix
+    line.truncate(count);
+    mem::replace(line, ArrayVec::new())
 }
 
 /// Returns the number of bytes that are shown of a text before a line feed.
