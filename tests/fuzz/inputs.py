@@ -13,7 +13,7 @@ from models.instruction_words import ROWS, WHOLE, assemble
 from models.monitor_bench import LIMITS, FORMS
 from models.monitor_model import CREATE, DESTROY, EXIT, KEY, MEASURE, RESUME, RUN, STOP, meet
 from fuzz.monitor_play import REGIONS, WINDOWS, Play, TwinPlay
-from models.privileged_hart import KEPT, MEPC, MSTATUS, MTVEC, PMPADDR, PMPCFG
+from models.privileged_hart import KEPT, MEPC, MIE_CSR, MSTATUS, MTVEC, PMPADDR, PMPCFG
 
 BLANKS = ("", "", "", "", " ", "\t", "  ", " \t ")
 ENDS = ("\n",) * 12 + ("\r\n",) * 3 + ("\r\r\n", "", " \n")
@@ -185,8 +185,8 @@ def script(rng):
 
 
 def code(rng):
-    """Returns a program that stores into its own cache line, the next one, and one of the same set; and runs of it."""
-    other = START + rng.choice((0x200, 0x1FF00, 0x1FFF8, 0x2000, 4 * rng.randrange(32), 0x1F8))
+    """Returns a program that stores into its own cache line, the next one, and one of the same set; and runs of it. Traps restart the program."""
+    other = START + rng.choice((0x400, 0x1FC00 + 4 * rng.randrange(8), 0x1FFF8, 0x2000, 4 * rng.randrange(32), 0x3F8))
     pool = [lambda: assemble(rng.choice(("sw", "sw", "sh", "sb")), rng.choice((3, 4, 5)), rng.choice((0, 0, 4, -4, 8, 1, 2)), rng.choice((1, 2)))[1],
             lambda: assemble("addi", rng.choice((1, 5, 5, 0)), rng.choice((1, 5)), rng.choice((4, -4, 1)))[1],
             lambda: assemble(rng.choice(("xor", "add", "mul")), rng.choice((4, 5, 6)), rng.choice((3, 4, 5)), 5)[1],
@@ -194,9 +194,9 @@ def code(rng):
             lambda: assemble("beq", rng.choice((3, 5)), rng.choice((4, 5)), 4 * rng.randrange(-6, 7))[1],
             lambda: assemble("jal", rng.choice((0, 0, 6)), 4 * rng.randrange(-8, 9))[1],
             lambda: assemble("jalr", rng.choice((0, 6)), 0, rng.choice((2, 2, 7)))[1]]
-    words = [rng.choice(pool)() for _ in range(rng.choice((6, 12, 24, 70)))] + [assemble("jalr", 0, 0, 7)[1]]
+    words = [written(MTVEC, 7), *(rng.choice(pool)() for _ in range(rng.choice((6, 12, 24, 70)))), assemble("jalr", 0, 0, 7)[1]]
     lines = ["setreg %d %x" % it for it in ((1, START + 4 * rng.randrange(len(words))), (2, other), (3, rng.choice(pool)()),
-                                            (4, rng.choice(pool)()), (5, rng.getrandbits(rng.choice((2, 32)))), (7, START))]
+                                            (4, rng.choice(pool)()), (5, rng.getrandbits(rng.choice((2, 32)))), (7, START + 4))]
     lines += ["poke %x %x" % (other + i, byte) for i, byte in enumerate(bytes.fromhex(digits_of([rng.choice(pool)(), words[-1]])))]
     for _ in range(rng.randrange(2, 8)):
         lines.append("%s %d" % (rng.choice(("run", "run", "step")), rng.choice((1, 2, 7, 40, 64, 65, 66, 200, 900))))
@@ -208,13 +208,19 @@ def code(rng):
     return ["run", "--ram", "131072"], joined(in_lines(rng, digits_of(words)), [*lines, "regs", "mem 80000000 64", "mem %x 16" % other])
 
 
-FIRSTS = ("lui", "lw", "lbu", "lhu", "sw", "addi", "andi", "slli", "srli", "add", "sub", "sltu", "xor", "or", "and", "mul", "mulhu", "div", "divu")
-SECONDS = FIRSTS + ("sb", "rem", "remu", "beq", "bne", "blt", "bge", "bltu", "bgeu")
+# the superinstructions: their first operation, and the second operations that follow it
+JOINED = {first: seconds.split() for first, seconds in (
+    ("lui", "addi"), ("lw", "lw sw addi srli add xor beq bne mulhu andi sltu"), ("lbu", "addi add bne"), ("lhu", "sub"), ("sw", "lw sw addi"),
+    ("addi", "lw sw addi add xor beq bne blt bge bltu bgeu"), ("andi", "beq bne slli"), ("slli", "sb add or"), ("srli", "slli xor andi or"),
+    ("add", "lw sw addi srli add sltu xor lb lbu"), ("sub", "addi"), ("sltu", "add sub"), ("xor", "sw srli add and lw slli xor"),
+    ("or", "srli add xor"), ("and", "add or"), ("mul", "addi add"), ("mulhu", "mul lw"), ("div", "rem"), ("divu", "remu"))}
+SECONDS = sorted({*JOINED, *(name for names in JOINED.values() for name in names)})
+SUPERINSTRUCTIONS = [(first, second) for first, names in JOINED.items() for second in names]
 
 
 def operation(rng, name):
     """Returns an instruction that may be one of two in a superinstruction. Loads and stores are at x1 and x2, and results go to x5 to x8 or x0."""
-    to, left, right = rng.choice((5, 6, 7, 8, 0)), rng.choice((5, 6, 7, 8, 2)), rng.choice((5, 6, 7, 8))
+    to, left, right = rng.choice((5, 6, 7, 8, 5, 6, 7, 8, 0)), rng.choice((5, 6, 7, 8, 2)), rng.choice((5, 6, 7, 8))
     small, base = rng.choice((0, 0, 1, 2, 4, -4, 8)), rng.choice((1, 2, 2, 2))
     fields = {"lui": (to, rng.choice((0x80000, 1))), "branch": (left, right, 4 * rng.choice((1, 2, 2, 3, 3, -2))), "load": (to, small, base),
               "store": (rng.choice((3, 4, right)), small, base), "immediate": (to, left, small), "shift": (to, left, rng.randrange(32)),
@@ -222,62 +228,130 @@ def operation(rng, name):
     return assemble(name, *fields[ROWS[name][0]])[1]
 
 
+def pair(rng):
+    """Returns two instructions, mostly those of a superinstruction."""
+    first, second = rng.choice(SUPERINSTRUCTIONS)
+    return [operation(rng, first), operation(rng, second if chance(rng, 0.8) else rng.choice(SECONDS))]
+
+
+def stored_over(rng, address, instruction_of):
+    """Returns two numbers to store over instructions at an address. Each has the last bytes of one instruction and the first bytes of another. The
+    two often differ in one bit."""
+    one, other = ((instruction_of(rng) << 32 | instruction_of(rng)) >> 8 * (address % 4) & ONES for _ in range(2))
+    return one, rng.choice((other, one ^ 1 << rng.choice((rng.randrange(32), rng.randrange(25, 32)))))
+
+
+def prologue(rng, entry, after, guarded):
+    """Returns code for START and its registers. The code stores and loads at x2, and goes to the entry. In some inputs it first sets two PMP entries,
+    one of them at the guarded address, and it goes to the entry in another mode or with MPRV. Its handler of traps disables interrupts, and goes to
+    the address `after` and to the entry by turns."""
+    order = [(PMPADDR[0], 16), (PMPADDR[1], 17), (PMPCFG[0], 18), (MTVEC, 19), (MIE_CSR, 20), (MEPC, 21), (MSTATUS, 22)]
+    words = [*(written(*it) for it in order[:-1]), assemble("sw", 26, 0, 2)[1], assemble("lw", 24, 0, 2)[1], written(*order[-1]), WHOLE["mret"]]
+    handler = START + 4 * len(words)
+    words += [written(MIE_CSR, 0), written(MEPC, 23), assemble("xor", 23, 23, 25)[1], WHOLE["mret"]]
+    region = guarded >> 2 | rng.choice((0, 0, 1, 3, 7, 15))
+    cfg = rng.choice((0x08, 0x10, 0x18, 0x18, 0x90, 0x98)) | rng.choice((0, 1, 1, 3, 4, 5, 5)) if chance(rng, 0.4) else 0
+    status = rng.choice((0x80, 0x880, 0x21880, 0x21880)) if cfg else 0x1880
+    values = (region, ONES, cfg and cfg | 0x1F00, handler, rng.choice((0, 0x80)), entry, status, after, 0, after ^ entry, rng.getrandbits(32))
+    return words, list(zip(range(16, 27), values))
+
+
 def pairs(rng):
-    """Returns a program of superinstructions, some across the end of a cache line. Every second or fourth turn of its loop stores over one of its
-    operations, two instructions by turns. Runs of all short lengths have breakpoints and watchpoints between the two operations."""
-    start = START + 4 * rng.choice((0, 0, 1, 40, 63, 121, 124, 125, 126, 127))
-    words = [operation(rng, rng.choice(names)) for _ in range(rng.choice((1, 2, 3, 5))) for names in (FIRSTS, SECONDS)]
+    """Returns a program of superinstructions, some across the end of a sector or of a cache line. Every second or fourth turn of its loop stores over
+    one of its operations, or over bytes of two; it stores two values by turns. Runs of all short lengths have breakpoints and watchpoints between the
+    two operations."""
+    place = 4 * rng.choice((16, rng.randrange(16, 64), rng.randrange(21, 32, 2), rng.randrange(245, 256, 2), rng.randrange(249, 256)))
+    start, words = START + place, [word for _ in range(rng.choice((1, 2, 3, 5))) for word in pair(rng)]
     if chance(rng, 0.3):
         words.insert(rng.randrange(len(words)), operation(rng, "addi"))
-    target = start + 4 * rng.randrange(len(words)) + rng.choice((0,) * 9 + (1, 2, 3))
-    new, other = (operation(rng, rng.choice(SECONDS)) for _ in range(2))
+    offset, after, end = rng.choice((0, 0, 0, 0, 1, 2, 3, 3)), start + 4 * len(words), (start | 63) + 1
+    edges = [at for at in (end - 4, end - 4, end) if at < after]
+    target = rng.choice((*edges, *rng.sample(range(start, after, 4), 2))) + offset
+    new, other = stored_over(rng, target, lambda rng: operation(rng, rng.choice(SECONDS)))
     words += [assemble("addi", 9, 9, 1)[1], assemble("andi", 10, 9, rng.choice((1, 3)))[1], assemble("bne", 10, 0, 12)[1],
               assemble(rng.choice(("sw", "sw", "sw", "sh", "sb")), 3, 0, 1)[1], assemble("xor", 3, 3, 4)[1]]
+    words += [assemble("add", 11, 11, rng.choice((5, 6, 7, 8)))[1]] * chance(rng, 0.5)
     words.append(assemble("jal", 0, -4 * len(words))[1])
-    lines = ["setreg %d %x" % it for it in ((1, target), (2, START + 0x800), (3, new), (4, new ^ other),
+    first, registers = prologue(rng, start, after, rng.choice((start + 4 * rng.randrange(len(words)), target & -4, *[START + 0x800] * 2)))
+    lines = ["setreg %d %x" % it for it in ((1, target), (2, START + 0x800), (3, new), (4, new ^ other), *registers,
                                             *((i, rng.getrandbits(rng.choice((2, 32)))) for i in (5, 6, 7, 8)))]
-    lengths = rng.sample(range(1, 25), 10) if chance(rng, 0.3) else [rng.choice((8, 9, 40, 63, 64, 65, 200, 333)) for _ in range(4)]
+    lengths = rng.sample(range(1, 25), 10) if chance(rng, 0.3) else [rng.choice((8, 9, 40, 63, 64, 65, 200, 333)) for _ in range(3)]
     for length in lengths:
-        lines.append("%s %d" % (rng.choice(("run", "step")), length))
+        lines += ["%s %d" % (rng.choice(("run", "step")), length), "regs"]
         if chance(rng, 0.2):
-            lines.append("%s %x" % (rng.choice(("break", "watch")), start + 4 * rng.randrange(len(words)) + rng.choice((0, 0, 2))))
+            stop = rng.choice((start + 4 * rng.randrange(len(words)), end - 4, target, START + 0x800)) + rng.choice((0, 0, 2))
+            lines.append("%s %x" % (rng.choice(("break", "watch")), stop))
         if chance(rng, 0.1):
             lines.append("poke %x %x" % (start + rng.randrange(4 * len(words)), rng.randrange(256)))
-    padded = [assemble("jal", 0, start - START)[1]] * (start > START) + [0x13] * ((start - START) // 4 - 1)
-    return ["run", "--ram", "131072"], joined(in_lines(rng, digits_of(padded + words)), [*lines, "regs", "mem %x 64" % start, "mem 80000800 16"])
+        lines += ["timer on"] * chance(rng, 0.03)
+    padded = [*first, *[0x13] * (place // 4 - len(first)), *words]
+    return ["run", "--ram", "131072"], joined(in_lines(rng, digits_of(padded)), [*lines, "csr b02", "mem %x 64" % start, "mem 80000800 16"])
+
+
+def poked(at, word):
+    """Returns the lines that write a word at an offset from the start of RAM."""
+    return ["poke %x %x" % (START + at + i, byte) for i, byte in enumerate(word.to_bytes(4, "little"))]
+
+
+def piece_word(rng):
+    """Returns an instruction of a piece. It computes, or loads and stores at x1 and x2."""
+    name = rng.choice(("addi", "addi", "add", "xor", "sltu", "sw", "lw", "lw", "auipc"))
+    fields = {"addi": (rng.choice((5, 5, 6)), 5, rng.choice((1, 4, -4))), "sw": (rng.choice((5, 6)), 4 * rng.randrange(3), 2),
+              "lw": (6, 0, rng.choice((1, 2))), "auipc": (6, 0)}
+    return assemble(name, *fields.get(name, (rng.choice((5, 6)), 5, 6)))[1]
+
+
+def jump(rng, link, at, target, addresses):
+    """Returns a jump from an offset to another one: by an offset, or to a register that has the address of the target."""
+    ways = [("jalr", link, 0, register) for register, place in addresses.items() if place == target]
+    ways += [("jal", link, target - at)] * (abs(target - at) < 1 << 20)
+    return assemble(*rng.choice(ways))[1]
+
+
+def piece(rng, at, target, addresses):
+    """Returns the words of a piece from an offset on. The last one jumps to the target. Before it, the piece may store over the word at x1 with two
+    values by turns. By a counter it then branches to another address of those of registers, or returns, in some turns."""
+    words = [piece_word(rng) for _ in range(rng.randrange(3))]
+    if chance(rng, 0.5):
+        words += [assemble("sw", 3, 0, 1)[1], assemble("xor", 3, 3, 4)[1]]
+    if chance(rng, 0.5):
+        words += [assemble("addi", 12, 12, 1)[1], assemble("andi", 13, 12, rng.choice((2, 4, 4, 6, 8)))[1]]
+        here, test = at + 4 * len(words), rng.choice(("beq", "bne"))
+        near = [other for other in addresses.values() if abs(other - here) < 4096]
+        far = assemble("jalr", rng.choice((0, 8)), rng.choice((0, 0, 0, 1, 2)), rng.choice((8, *addresses)))[1]
+        words += rng.choice(([assemble(test, 13, 0, rng.choice(near or [here + 4]) - here)[1]], [assemble(test, 13, 0, 8)[1], far]))
+    words.append(jump(rng, rng.choice((0, 0, 8)), at + 4 * len(words), target, addresses))
+    return [*words, *[0x13] * rng.randrange(3), assemble("jalr", 0, 0, 9)[1]]
 
 
 def links(rng):
-    """Returns a program in pieces in several cache lines, two or three of them of one set. The pieces jump to each other, or go on into the next
-    line. Some of their stores are over a piece."""
-    places = [0, *rng.sample((0x40, 0xFC, 0x1F0, 0x1FC, 0x200, 0x2FC, 0x3F8), 3), rng.choice((0x1FE00, 0x1FE00, 0x1FFF4, 0x10000, 0x101F8))]
-    targets = [START + rng.choice((place, place, place + 4)) for place in places]
-    pool = [lambda: assemble("addi", rng.choice((5, 5, 6)), 5, rng.choice((1, 4, -4)))[1],
-            lambda: assemble(rng.choice(("xor", "add", "sltu")), rng.choice((5, 6)), 5, 6)[1],
-            lambda: assemble("sw", rng.choice((5, 6)), 4 * rng.randrange(3), 2)[1],
-            lambda: assemble("sw", 3, 0, rng.choice((1, 2, 2)))[1],
-            lambda: assemble("lw", rng.choice((3, 6)), 0, rng.choice((1, 2)))[1]]
-    memory = dict.fromkeys(range(0, 0x404, 4), 0x13)
-    for place in sorted(places):
-        at = place
-        for _ in range(rng.randrange(3)):
-            memory[at], at = rng.choice(pool)(), at + 4
-        target = rng.choice(targets)
-        leaves = [assemble("jal", rng.choice((0, 8)), target - START - at)[1], assemble("jalr", rng.choice((0, 8)), 0, rng.choice((9, 10, 11)))[1],
-                  assemble("jalr", 0, rng.choice((0, 4)), 8)[1]]
-        if abs(target - START - at) < 4096:
-            leaves += [assemble(rng.choice(("bne", "beq", "bltu")), 5, 6, target - START - at)[1]] * 2
-        memory[at] = rng.choice((*leaves, *leaves, 0x13))
-    memory[0x400] = assemble("jalr", 0, 0, 9)[1]
-    near = digits_of([memory.pop(at) for at in range(0, 0x404, 4)])
-    lines = ["poke %x %x" % (START + at + i, byte) for at, word in memory.items() for i, byte in enumerate(word.to_bytes(4, "little"))]
-    lines += ["setreg %d %x" % it for it in ((1, rng.choice(targets)), (2, START + 0x4000), (3, rng.choice(pool)()), (5, rng.randrange(9)), (6, 4),
-                                             (8, START), *zip((9, 10, 11), (START, *rng.sample(targets, 2))))]
-    for _ in range(rng.randrange(2, 6)):
-        lines.append("%s %d" % (rng.choice(("run", "step")), rng.choice((2, 3, 5, 8, 9, 40, 64, 65, 200, 333))))
+    """Returns a program in pieces in several cache lines, often two of them of one set. The pieces jump to each other in a cycle, or go on into the
+    next line. Some of their stores are over a piece, and some words of pieces change between two runs. Lines have 1024
+    bytes, and there are 64 sets. The lines at 0x1FC00 and 0x400000 have the set of the line at 0. The line at 0x10000 has that of 0x400."""
+    far = rng.choice((0x1FC00, 0x1FC40, 0x1FC40, 0x1FC38, 0x1FFC0, 0x10000, 0x100FC, 0x103E0, 0x400040))
+    size = 0x410000 if far == 0x400040 else 0x20000
+    places = [0x40, *map(rng.choice, ((0x80, 0xA0, 0xFC), (0x3D8, 0x3F0, 0x3F8, 0x3FC, 0x400), (0x440, 0x4FC, 0x7F8))), far]
+    addresses = dict(zip((9, *rng.sample((10, 11, 14, 15), 4)), places))
+    over = START + rng.choice((far, far, far, *places)) + rng.choice((0, 0, 0, 0, 4, 4, 4, 8, 8, 12, -3, -2, -1, -1, -1, 1, 2, 3, 3))
+    data = START + rng.choice((0x4000, 0x4000, 0x4000, 0x4000, size - 3, size - 6, size - 8))
+    guarded = rng.choice((over & -4, START + rng.choice(places) + rng.choice((0, 0, 4, 8)), data & -4))
+    first, registers = prologue(rng, START + 0x40, START + rng.choice(places), guarded)
+    cycle, memory = rng.sample(places, 5), dict(zip(range(0, 0x40, 4), first))
+    for place in places:
+        target = cycle[cycle.index(place) - 1]
+        memory.update(zip(range(place, size, 4), piece(rng, place, target, addresses)))
+    near = digits_of([memory.pop(at, 0x13) for at in range(0, 0x430, 4)])
+    lines, (new, other) = [line for at, word in memory.items() for line in poked(at, word)], stored_over(rng, over, piece_word)
+    lines += ["setreg %d %x" % it for it in ((1, over), (2, data), (3, new), (4, new ^ other), (5, rng.randrange(9)), (6, 4),
+                                             (8, START + 0x40), *registers, *((i, START + at) for i, at in addresses.items()))]
+    for _ in range(rng.randrange(2, 5)):
+        lines += ["timer on"] * chance(rng, 0.05)
+        lines += ["%s %d" % (rng.choice(("run", "step")), rng.choice((2, 3, 9, 25, 65, 150, 200, 333))), "regs"]
         if chance(rng, 0.1):
-            lines.append("%s %x" % (rng.choice(("break", "watch")), rng.choice(targets)))
-    return ["run", "--ram", "131072"], joined(in_lines(rng, near), [*lines, "regs", "mem 80000000 64", "mem 800001f0 64", "mem 80004000 16"])
+            lines.append("%s %x" % (rng.choice(("break", "watch")), START + rng.choice(places)))
+        lines += poked(rng.choice(places) + rng.choice((0, 0, 4)), piece_word(rng)) * chance(rng, 0.4)
+    shown = ["csr b02", "mem 80000040 64", "mem 800003f0 64", "mem 80004000 16"]
+    return ["run", "--ram", str(size)], joined(in_lines(rng, near), [*lines, *shown])
 
 
 def segments_of(rng, size):

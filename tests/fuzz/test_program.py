@@ -4,7 +4,8 @@ import stat
 
 import pytest
 
-from fuzz import monitor_play, program
+from conftest import ROOT
+from fuzz import inputs, monitor_play, program
 
 STATES = ("free to Fresh", "Fresh to Running", "Running to Stopped", "Stopped to Running", "Running to Exited", "Fresh to free",
           "Stopped to free", "Exited to free")
@@ -19,6 +20,11 @@ OTHER_HART = ("other hart", *("other hart " + it for it in ("step", "run", "regs
     "--seed 2 --count 20 --kind monitor twin"])
 def test_random_inputs(bench, capsys, arguments):
     assert program.main([bench, *arguments.split()]) == 0, capsys.readouterr().out
+
+
+def test_superinstructions_are_those_of_the_decode_cache():
+    table = re.findall(r"\(Operation::(\w+), Operation::(\w+)\) =>", (ROOT / "crates/rv_hart/src/fused.rt").read_text(encoding="utf-8"))
+    assert sorted((first.lower(), second.lower()) for first, second in table) == sorted(inputs.SUPERINSTRUCTIONS)
 
 
 @pytest.mark.parametrize("edit, status, kind, wanted", [
