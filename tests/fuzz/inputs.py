@@ -210,10 +210,10 @@ def code(rng):
 
 # the superinstructions: their first operation, and the second operations that follow it
 JOINED = {first: seconds.split() for first, seconds in (
-    ("lui", "addi"), ("lw", "lw sw addi srli add xor beq bne mulhu andi sltu"), ("lbu", "addi add bne"), ("lhu", "sub"), ("sw", "lw sw addi"),
-    ("addi", "lw sw addi add xor beq bne blt bge bltu bgeu"), ("andi", "beq bne slli"), ("slli", "sb add or"), ("srli", "slli xor andi or"),
-    ("add", "lw sw addi srli add sltu xor lb lbu"), ("sub", "addi"), ("sltu", "add sub"), ("xor", "sw srli add and lw slli xor"),
-    ("or", "srli add xor"), ("and", "add or"), ("mul", "addi add"), ("mulhu", "mul lw"), ("div", "rem"), ("divu", "remu"))}
+    ("lui", "addi"), ("lw", "bne lw sw addi andi srli add sltu xor"), ("lbu", "bne add"), ("lhu", "sub"), ("sw", "lw sw addi"),
+    ("addi", "beq bne bltu lw sw addi add xor"), ("andi", "slli"), ("slli", "sb or"), ("srli", "andi slli xor or"),
+    ("add", "lb lw lbu sw addi add sltu xor"), ("sltu", "add sub"), ("xor", "lw sw slli srli add xor and"), ("or", "srli add xor"), ("and", "add or"),
+    ("mul", "addi"), ("mulhu", "lw mul"), ("div", "rem"), ("divu", "remu"))}
 SECONDS = sorted({*JOINED, *(name for names in JOINED.values() for name in names)})
 SUPERINSTRUCTIONS = [(first, second) for first, names in JOINED.items() for second in names]
 

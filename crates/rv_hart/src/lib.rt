@@ -23,6 +23,7 @@ mod fast;
 mod fast_ops;
 mod fused;
 mod hart;
+mod interpreter;
 mod limits;
 mod machine;
 mod permitted_ranges;
