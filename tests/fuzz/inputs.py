@@ -211,7 +211,7 @@ def code(rng):
 # the superinstructions: their first operation, and the second operations that follow it
 JOINED = {first: seconds.split() for first, seconds in (
     ("lw", "lw addi srli add xor"), ("lbu", "add"), ("lhu", "sub"), ("sw", "addi"), ("addi", "beq bne bltu addi xor"), ("slli", "sb or"),
-    ("srli", "andi slli xor"), ("add", "lw addi add sltu xor"), ("sltu", "add"), ("xor", "srli add xor and"), ("or", "srli add xor"),
+    ("srli", "andi slli xor"), ("add", "lw addi add sltu xor"), ("sltu", "add"), ("xor", "sw srli add xor and"), ("or", "srli add xor"),
     ("and", "add"), ("mul", "addi"), ("mulhu", "mul"), ("div", "rem"), ("divu", "remu"))}
 SECONDS = sorted({*JOINED, *(name for names in JOINED.values() for name in names)})
 SUPERINSTRUCTIONS = [(first, second) for first, names in JOINED.items() for second in names]
