@@ -13,9 +13,11 @@
 mod access_fault;
 mod ram;
 mod ram_fault;
+mod refused_ram;
 mod touched;
 
 pub use access_fault::AccessFault;
 pub use ram::{RAM_BASE, Ram, number_in, put_in};
-pub use ram_fault::{RamFault, RefusedRam};
+pub use ram_fault::RamFault;
+pub use refused_ram::RefusedRam;
 pub use touched::{Span, Touched};

@@ -9,10 +9,11 @@ ghost use Rattle.rv_memory.specs.Accesses.{loaded, stored, fetched, verdict_on};
 ghost use Rattle.rv_memory.specs.Changes.{ChangesOnly};
 
 use crate::access_fault::AccessFault;
-use crate::ram_fault::{RamFault, RefusedRam};
+use crate::ram_fault::RamFault;
+use crate::refused_ram::zeros;
 use rv_pmp::{Access, Mode, Pmp};
 use rv_word::{Width, le_bytes, le_word};
-use std::alloc::{AllocError, Global};
+use std::alloc::Global;
 use std::marker::Model;
 
 /// The address of the first byte.
@@ -61,9 +62,9 @@ impl Ram {
         if bytes % 65536 != 0 || bytes < 65536 || bytes > 16_777_216 {
             return Err(RamFault::BadSize);
         }
-        match vec![in alloc; 0; bytes as usize] {
+        match zeros(alloc, bytes) {
             Ok(bytes) => Ok(Ram { bytes }),
-            Err(AllocError) => Err(RamFault::NoMemory(RefusedRam::of(bytes))),
+            Err(refused) => Err(RamFault::NoMemory(refused)),
         }
     }
 

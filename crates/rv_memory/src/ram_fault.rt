@@ -3,28 +3,7 @@
 ghost use Rattle.std.specs.Prelude.{◌≡◌};
 ghost use Rattle.rv_memory.specs.Faults.{ram_fault_number};
 
-/// A refused allocation of a RAM. Only `Ram::new` makes one, when its allocation fails. No other crate can report that memory is exhausted for a
-/// RAM without having received one.
-#[derive(Clone, Copy, Debug, PartialEq, Eq)]
-pub struct RefusedRam {
-    bytes: u32,
-}
-
-impl RefusedRam {
-    /// Returns the refusal of a RAM of this many bytes.
-    pub(crate) fn of(bytes: u32) -> RefusedRam
-        ensures { result.bytes ≡ bytes }
-    {
-        RefusedRam { bytes }
-    }
-
-    /// Returns the size that was refused, in bytes.
-    pub fn bytes(self) -> u32
-        ensures { result ≡ self.bytes }
-    {
-        self.bytes
-    }
-}
+use crate::refused_ram::RefusedRam;
 
 /// Why a RAM was not made.
 #[derive(Clone, Copy, Debug, PartialEq, Eq)]
