@@ -5,16 +5,13 @@ use rv_bench::{WordsFault, run_over_streams};
 use std::env;
 use std::process::ExitCode;
 
-/// Returns the arguments of the process.
-fn arguments(rt: &HostRuntime) -> Result<Vec<String>, WordsFault> {
-    let words = env::args(rt).map_err(|error| WordsFault::of_unreadable(&error))?;
-    words
-        .collect::<Vec<String>>(rt.alloc())
-        .map_err(|_| WordsFault::NoMemory)
-}
-
 fn main(rt: HostRuntime) -> ExitCode {
-    let arguments = arguments(&rt);
+    let arguments = match env::args(&rt) {
+        Ok(words) => words
+            .collect::<Vec<String>>(rt.alloc())
+            .map_err(|_| WordsFault::NoMemory),
+        Err(error) => Err(WordsFault::of_unreadable(&error)),
+    };
     let (_, _, status) = run_over_streams(rt.alloc(), &arguments, rt.stdin(), rt.stdout());
     ExitCode::from(status)
 }
