@@ -76,7 +76,7 @@ poked_selected (Monitored selected) None = refl
 poked_selected (Monitored selected) (Some memory) = refl
 
 no_steps : (one other : Option MonitoredMachine) → IfSome one (λ a. IfSome other (λ b. StepsAreMoves 0 a b [] []))
-no_steps (Some one) (Some other) = record { moves = []; first = refl; second = refl; are = tt }
+no_steps (Some one) (Some other) = record { moves = []; steps = refl; first = refl; second = refl; are = tt }
 no_steps (Some one) None = tt
 no_steps None other = tt
 

@@ -5,7 +5,7 @@ use Rattle.clap.specs.Words.{Text}
 use Rattle.rv_word.specs.Cases.{result_case}
 use Rattle.rv_asm.specs.OutOfMemory.{RunsOutOfMemory as RunsOutOfMemoryAt}
 use Rattle.rv_memory.specs.Memory.{is_ram_size}
-use Rattle.rv_memory.specs.declared.ram_fault.RefusedRam.{RefusedRam}
+use Rattle.rv_memory.specs.declared.refused_ram.RefusedRam.{RefusedRam}
 use Rattle.rv_memory.specs.declared.ram_fault.RamFault.TheVariants.{NoMemory as NoRamMemory}
 use Rattle.rv_command_line.specs.declared.job.Job.{Job}
 use Rattle.rv_command_line.specs.declared.job.Job.TheVariants.{Run, Twin, Asm, Dis}

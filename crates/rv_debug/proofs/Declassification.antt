@@ -26,7 +26,7 @@ use Rattle.rv_debug.proofs.ExecuteAlike.{over}
 use Rattle.rv_debug.proofs.LowCommands.{low_command}
 use Rattle.rv_debug.proofs.ObservedAlike.{accesses_alike, csrs_alike, entries_alike, hart_texts, memory_texts, runs_alike, schedules_alike}
 use Rattle.rv_debug.proofs.PokesAlike.{has_live, hidden_writes, written}
-use Rattle.rv_debug.proofs.RelatedChanges.{changed_related, memory_related, related_itself}
+use Rattle.rv_monitor.proofs.RelatedChanges.{changed_related, memory_related, related_itself}
 use Rattle.rv_debug.proofs.RelatedMoves.{moved_by}
 use Rattle.rv_debug.proofs.ScheduledSteps.{by_bare, schedule_is_sched}
 

@@ -33,7 +33,11 @@ use Rattle.rv_monitor.specs.declared.outcome.Outcome.{Outcome}
 use Rattle.rv_monitor.proofs.EnclaveSteps.{enclave_step}
 use Rattle.rv_monitor.proofs.EnclaveMemory.{not_host, world_is}
 use Rattle.rv_monitor.proofs.Exits.{exits_law}
-use Rattle.rv_monitor.proofs.Declassification.{declassification_law}
+use Rattle.rv_monitor.specs.Debugger.{with_timer}
+use Rattle.rv_monitor.specs.Events.{LineOf, StepOf}
+use Rattle.rv_monitor.proofs.Declassification.{declassification_law, hands_over}
+use Rattle.rv_monitor.proofs.Events.{line_invariant}
+use Rattle.rv_monitor.proofs.LowSteps.{window_read}
 use Rattle.rv_debug.specs.Declassification.{first_steps, second_steps}
 use Rattle.rv_debug.proofs.Prelude.{harts_stepped}
 use Rattle.rv_debug.proofs.EffectsInvariant.{keeps_monitor}
@@ -184,15 +188,15 @@ module _ (e hart : ℕ) (machine : MonitoredMachine) (kept : Invariant machine) 
 
 guest_moves : (e : ℕ) (harts : List ℕ) (one other : MonitoredMachine) → Invariant one → Invariant other → AreRelated slot_count one other
     → StepsAreMoves e one other harts harts
-guest_moves e [] one other here there related = record { moves = []; first = refl; second = refl; are = tt }
+guest_moves e [] one other here there related = record { moves = []; steps = refl; first = refl; second = refl; are = tt }
 guest_moves e (hart ∷ harts) one other here there related =
     let idle = never_runs one here hart in
     let same = (related.hart_states hart).same idle in
     let shared = related.gone (ap (λ (o : Option SlotInfo). is_some o) (never_at one here)) in
     let window : (k : ℕ) → SameWindow k one other = λ k.
     record { size = related.memory.size; bytes = λ i shown. ap (λ (s : Shared). slice_index s.memory i) shared } in
-    let both = declassification_law slot_count (Both hart ∷ []) one other here there related
-    (inl (record { low = idle; window = λ running. window slot_count }), tt) in
+    let both = declassification_law slot_count (Both (StepOf hart) ∷ []) one other here there related
+    (inl (record { low = idle; window = λ running. window_read slot_count hart one other (window slot_count) }), tt) in
     let rest = guest_moves e harts (step_of hart one).state (step_of hart other).state (invariant_law hart one here) (invariant_law hart other there)
     both.state in
     let first = ap (λ (hs : List ℕ). hart ∷ hs) rest.first in
@@ -201,14 +205,16 @@ guest_moves e (hart ∷ harts) one other here there related =
     let there_after = ap (is_world_of e) (sym (both.state.hart_states hart).world) in
     elim (cases_Bool (runs_on e hart one)) [
       | inr low ↦ record {
-        moves = Both hart ∷ rest.moves;
+        moves = Both (StepOf hart) ∷ rest.moves;
+        steps = rest.steps;
         first = first;
         second = second;
-        are = (inl (record { low = low; window = λ running. window e }), rest.are);
+        are = (inl (record { low = low; window = λ running. window_read e hart one other (window e) }), rest.are);
       }
       | inl high ↦ elim (cases_Bool (runs_on e hart (step_of hart one).state)) [
         | inl still ↦ record {
           moves = First hart ∷ Second hart ∷ rest.moves;
+          steps = rest.steps;
           first = first;
           second = second;
           are = (record { before = high; after = still }, (record { before = there_before ∙ high; after = there_after ∙ still }, rest.are));
@@ -216,17 +222,18 @@ guest_moves e (hart ∷ harts) one other here there related =
         | inr out ↦
             let exit = exits_now e hart one here high out in
             record {
-              moves = Both hart ∷ rest.moves;
+              moves = Both (StepOf hart) ∷ rest.moves;
+              steps = rest.steps;
               first = first;
               second = second;
               are = (
                 inr (record {
                   runs = high;
                   window = window e;
-                  handover = record {
+                  handover = hands_over exit.trap.cause _ _ (record {
                     a0 = ap (λ (s : HartState). register s.hart.regs 10) same;
                     a6 = ap (λ (s : HartState). register s.hart.regs 16) same;
-                  };
+                  });
                   trap = exit.trap;
                   first = exit.traps;
                   second = sym (ap (λ (o : Outcome). o.step.trap) (both.outcomes.0 idle)) ∙ exit.traps;
@@ -245,7 +252,10 @@ steps_of_both : (moves : List Move) (one other : MonitoredMachine) → Invariant
 steps_of_both [] one other here there are = refl
 steps_of_both (First hart ∷ moves) one other here there are = absurd (both_ways _ (never_runs one here hart) are.0.before)
 steps_of_both (Second hart ∷ moves) one other here there are = absurd (both_ways _ (never_runs other there hart) are.0.before)
-steps_of_both (Both hart ∷ moves) one other here there are =
+steps_of_both (Both (LineOf hart raised) ∷ moves) one other here there are =
+    steps_of_both moves (with_timer hart one raised) (with_timer hart other raised) (line_invariant hart raised one here)
+    (line_invariant hart raised other there) are.1
+steps_of_both (Both (StepOf hart) ∷ moves) one other here there are =
     ap (λ (hs : List ℕ). hart ∷ hs)
     (steps_of_both moves (step_of hart one).state (step_of hart other).state (invariant_law hart one here) (invariant_law hart other there) are.1)
 

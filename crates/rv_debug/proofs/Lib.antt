@@ -10,7 +10,6 @@ pub mod Ended
 mod Observation
 mod ObservedAlike
 mod ObservedRuns
-mod RelatedChanges
 mod RelatedMoves
 pub mod BothAlike
 mod FastRuns
@@ -30,3 +29,4 @@ mod OtherHarts
 mod ScheduleLoop
 mod RunSchedules
 pub mod EffectsInvariant
+mod DeclassifiedRun

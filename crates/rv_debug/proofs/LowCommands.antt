@@ -7,14 +7,16 @@ use Rattle.rv_enclaves.proofs.EqualMemory.{same_write, write-none, write-some}
 use Rattle.rv_monitor.specs.Declassification.{AreMoves, AreRelated, Both, EquivToGuests, IsLowStep, Move, SameWindow}
 use Rattle.rv_monitor.specs.HartLaws.{AreLowSteps}
 use Rattle.rv_monitor.specs.declared.outcome.Outcome.{Outcome}
-use Rattle.rv_monitor.proofs.Declassification.{related_equiv}
+use Rattle.rv_monitor.specs.Events.{StepOf}
+use Rattle.rv_monitor.proofs.LowSteps.{window_read}
+use Rattle.rv_monitor.proofs.RelatedEquiv.{related_equiv}
 use Rattle.rv_monitor.proofs.GuestEquiv.{guest_step_equiv}
 use Rattle.rv_monitor.proofs.GuestView.{guest_hart_state}
 use Rattle.rv_monitor.proofs.SchedNoninterference.{entered_some, entry_law}
 use Rattle.rv_debug.specs.Prelude.{Bare, Command, HartState, Hart, Invariant, Machine, Monitored, MonitoredMachine, Poke, Ran, Run, RunsOnNone, Sched, Scheduled, Step}
 use Rattle.rv_debug.specs.Prelude.{Target, count_of, enters, harts_in, has, has_all, is_inside, ram_base, region, is_world_of, runs_on, sched, step_of, write}
 use Rattle.rv_debug.specs.Declassification.{IsLowCommand, LowCommandLaw, StepsAreMoves, TargetsAreRelated}
-use Rattle.rv_debug.specs.Declassification.{WindowsAreEqual, first_steps, second_steps}
+use Rattle.rv_debug.specs.Declassification.{WindowsAreEqual, are_steps, first_steps, second_steps}
 use Rattle.rv_debug.specs.Noninterference.{harts_named}
 use Rattle.rv_debug.proofs.Prelude.{AfterRun, AfterSteps, BenchState, Effect, Nothing, RunsOnNoneIn, Selected, Steps, TargetInvariant, and_parts, both_ways, cases_Bool}
 use Rattle.rv_debug.proofs.Prelude.{done, effect, entered_by, harts_stepped, execute, invariant_law, is_among, is_entered, leb-true, lowest_accessed, ltb-true, no_steps, run}
@@ -48,12 +50,16 @@ same_window e one other here equiv =
     }
 
 low_step : (e hart : ℕ) (one other : MonitoredMachine) → Invariant one → EquivToGuests e one other → runs_on e hart one ≡ false → IsLowStep e hart one other
-low_step e hart one other here equiv low = record { low = low; window = λ running. same_window e one other here equiv }
+low_step e hart one other here equiv low = record { low = low; window = λ running. window_read e hart one other (same_window e one other here equiv) }
 
 -- the moves of the same steps in both
 abbrev both : List ℕ → List Move
 both [] = []
-both (hart ∷ harts) = Both hart ∷ both harts
+both (hart ∷ harts) = Both (StepOf hart) ∷ both harts
+
+both_steps : (harts : List ℕ) → are_steps (both harts) ≡ true
+both_steps [] = refl
+both_steps (hart ∷ harts) = both_steps harts
 
 both_first : (harts : List ℕ) → first_steps (both harts) ≡ harts
 both_first [] = refl
@@ -77,8 +83,8 @@ one_more_move : (e hart : ℕ) (harts : List ℕ) (one other : MonitoredMachine)
 one_more_move e hart harts one other here equiv low rest =
     record { low = (low, rest.low); moves = (inl (low_step e hart one other here equiv low), rest.moves); state = rest.state }
 
-are_steps : (e : ℕ) (harts : List ℕ) (one other : MonitoredMachine) → AreLowMoves e harts one other → StepsAreMoves e one other harts harts
-are_steps e harts one other low = record { moves = both harts; first = both_first harts; second = both_second harts; are = low.moves }
+steps_alike : (e : ℕ) (harts : List ℕ) (one other : MonitoredMachine) → AreLowMoves e harts one other → StepsAreMoves e one other harts harts
+steps_alike e harts one other low = record { moves = both harts; steps = both_steps harts; first = both_first harts; second = both_second harts; are = low.moves }
 
 -- ---- schedules
 
@@ -226,7 +232,7 @@ module _ (e hart : ℕ) (one other : MonitoredMachine) (here : Invariant one) (t
   low_run_command : (at_breaks at_watches : List ℕ) (count : ℕ) → LowRuns at_breaks at_watches count → LowRunCommand at_breaks at_watches count
   low_run_command at_breaks at_watches count runs =
       let harts = replicate (runs_of one at_breaks at_watches count).steps hart in (
-        subst (λ (ran : Ran). StepsAreMoves e one other harts (replicate ran.steps hart)) runs.ran (are_steps e harts one other runs.low),
+        subst (λ (ran : Ran). StepsAreMoves e one other harts (replicate ran.steps hart)) runs.ran (steps_alike e harts one other runs.low),
         ap (λ (ran : Ran). ran.stop) runs.ran,
         subst (λ (ran : Ran). SameAfter (done (at one) (Steps harts hart)) (done (at other) (Steps (replicate ran.steps hart) hart))) runs.ran
             (after_steps harts hart runs.low),
@@ -240,13 +246,13 @@ module _ (e hart : ℕ) (one other : MonitoredMachine) (here : Invariant one) (t
       StepsAreMoves e one other (harts_stepped first) (harts_stepped second) × SameAfter (done (at one) first) (done (at other) second)
 
   no_steps_at_all : StepsAreMoves e one other [] []
-  no_steps_at_all = record { moves = []; first = refl; second = refl; are = tt }
+  no_steps_at_all = record { moves = []; steps = refl; first = refl; second = refl; are = tt }
 
   low_sched : (harts : List ℕ) (has has_too : Bool) → has ≡ has_too → RunsOnNone e harts one
       → is_entered e (entered_by (at one) (sched_of harts has)) ≡ false → LowSched (sched_of harts has) (sched_of harts has_too)
   low_sched harts true true same none passed =
       let low = low_schedule e harts (record { hart = hart; state = one }) (record { hart = hart; state = other }) _ here there equiv none passed in
-      (are_steps e harts one other low, after_steps harts hart low)
+      (steps_alike e harts one other low, after_steps harts hart low)
   low_sched harts false false same none passed = (no_steps_at_all, window_equal)
   low_sched harts true false same none passed = cc
   low_sched harts false true same none passed = cc

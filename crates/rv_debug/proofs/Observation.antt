@@ -18,7 +18,7 @@ use Rattle.rv_debug.proofs.Prelude.{steps_of, with_selected}
 use Rattle.rv_debug.proofs.ExecuteAlike.{over}
 use Rattle.rv_debug.proofs.LowCommands.{low_runs}
 use Rattle.rv_debug.proofs.NotRunning.{rest_law}
-use Rattle.rv_debug.proofs.RelatedChanges.{related_itself}
+use Rattle.rv_monitor.proofs.RelatedChanges.{related_itself}
 use Rattle.rv_debug.proofs.RunSchedules.{run_done}
 
 -- ---- an enclave that does not run

@@ -2,11 +2,12 @@
 use Rattle.std.proofs.Common.{◌≡◌, ℕ, ◌==◌, Bool, true, false, List, [], ◌∷◌, ◌⊎◌, Option, refl, sym, ◌∙◌, ap, ap₂, subst, inl, inr}
 use Rattle.std.proofs.lemmas.Bool.{eqb-true}
 use Rattle.rv_monitor.specs.Declassification.{AreMoves, AreRelated, Both, ExitsAlike, First, IsInside, IsLowStep, Move, Second}
+use Rattle.rv_monitor.specs.Events.{LineOf, StepOf}
 use Rattle.rv_monitor.specs.declared.outcome.Outcome.{Outcome}
 use Rattle.rv_monitor.proofs.Declassification.{declassification_law}
 use Rattle.rv_monitor.proofs.HartCases.{step_beside}
 use Rattle.rv_debug.specs.Prelude.{HartRan, HartState, Invariant, MonitoredMachine, Trap, is_world_of, runs_on, sched, step_of}
-use Rattle.rv_debug.specs.Declassification.{StepsAreMoves, first_steps, second_steps}
+use Rattle.rv_debug.specs.Declassification.{StepsAreMoves, are_steps, first_steps, second_steps}
 use Rattle.rv_debug.specs.Observed.{observed_steps, one_more_observed, with_observed_step}
 use Rattle.rv_debug.specs.ScheduledSteps.{nothing_ran}
 use Rattle.rv_debug.proofs.Prelude.{both_ways, cases_Bool, eq-eqb, invariant_law}
@@ -71,27 +72,28 @@ pub record Moved (e own : ℕ) (harts others : List ℕ) (one other : MonitoredM
   pub ran : Same e own (sched harts one).state (observed_steps e own harts one a) (observed_steps e own others other b)
 
 moved : (e own : ℕ) (moves : List Move) (one other : MonitoredMachine) (a b : HartRan) → Invariant one → Invariant other → AreRelated e one other
-    → AreMoves e moves one other → Same e own one a b → Moved e own (first_steps moves) (second_steps moves) one other a b
-moved e own [] one other a b here there related moves same = record { state = related; ran = same }
-moved e own (First hart ∷ more) one other a b here there related moves same =
+    → are_steps moves ≡ true → AreMoves e moves one other → Same e own one a b → Moved e own (first_steps moves) (second_steps moves) one other a b
+moved e own [] one other a b here there related only moves same = record { state = related; ran = same }
+moved e own (First hart ∷ more) one other a b here there related only moves same =
     let next = (declassification_law e (First hart ∷ []) one other here there related (moves.0, tt)).state in
-    let rest = moved e own more (step_of hart one).state other (with_observed_step e own hart one a) b (invariant_law hart one here) there next moves.1
+    let rest = moved e own more (step_of hart one).state other (with_observed_step e own hart one a) b (invariant_law hart one here) there next only moves.1
     (first_same e own hart one other a b related same moves.0) in
     record { state = rest.state; ran = rest.ran }
-moved e own (Second hart ∷ more) one other a b here there related moves same =
+moved e own (Second hart ∷ more) one other a b here there related only moves same =
     let next = (declassification_law e (Second hart ∷ []) one other here there related (moves.0, tt)).state in
-    let rest = moved e own more one (step_of hart other).state a (with_observed_step e own hart other b) here (invariant_law hart other there) next moves.1
+    let rest = moved e own more one (step_of hart other).state a (with_observed_step e own hart other b) here (invariant_law hart other there) next only moves.1
     (second_same e own hart one other a b related same moves.0) in
     record { state = rest.state; ran = rest.ran }
-moved e own (Both hart ∷ more) one other a b here there related moves same =
-    let alike = declassification_law e (Both hart ∷ []) one other here there related (moves.0, tt) in
+moved e own (Both (LineOf hart raised) ∷ more) one other a b here there related only moves same = cc
+moved e own (Both (StepOf hart) ∷ more) one other a b here there related only moves same =
+    let alike = declassification_law e (Both (StepOf hart) ∷ []) one other here there related (moves.0, tt) in
     let go : IsLowStep e hart one other ⊎ ExitsAlike e hart one other
     → Same e own (step_of hart one).state (with_observed_step e own hart one a) (with_observed_step e own hart other b) = λ is. elim is [
       | inl low ↦ low_same e own hart one other a b related same low.low (alike.outcomes.0 low.low)
       | inr exits ↦ exit_same e own hart one other a b related same exits
     ] in
     let rest = moved e own more (step_of hart one).state (step_of hart other).state (with_observed_step e own hart one a) (with_observed_step e own hart other b)
-    (invariant_law hart one here) (invariant_law hart other there) alike.state moves.1 (go moves.0) in
+    (invariant_law hart one here) (invariant_law hart other there) alike.state only moves.1 (go moves.0) in
     record { state = rest.state; ran = rest.ran }
 
 -- the same for the steps of two commands
@@ -100,4 +102,4 @@ pub moved_by : (e own : ℕ) (harts others : List ℕ) (one other : MonitoredMac
 moved_by e own harts others one other here there related steps =
     subst (λ (xs : List ℕ). Moved e own xs others one other nothing_ran nothing_ran) steps.first
     (subst (λ (ys : List ℕ). Moved e own (first_steps steps.moves) ys one other nothing_ran nothing_ran) steps.second
-    (moved e own steps.moves one other nothing_ran nothing_ran here there related steps.are (λ low. refl)))
+    (moved e own steps.moves one other nothing_ran nothing_ran here there related steps.steps steps.are (λ low. refl)))

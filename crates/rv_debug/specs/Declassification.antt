@@ -1,9 +1,10 @@
 -- Noninterference with declassification for commands: what an enclave has and does has no influence on what others observe of the replies,
 -- except for what it hands over. The commands may run it, to its exit and beyond. (Laws of this project's own debugger and monitor;
 -- declassification: Sabelfeld and Sands, JCS 2009.)
-use Rattle.std.specs.Prelude.{ℕ, ◌≡◌, ◌⊎◌, true, false, List, [], ◌∷◌, IfSome}
+use Rattle.std.specs.Prelude.{ℕ, ◌≡◌, ◌⊎◌, Bool, true, false, List, [], ◌∷◌, IfSome}
 use Rattle.rv_enclaves.specs.Table.{is_live, runs}
 use Rattle.rv_monitor.specs.Declassification.{AreMoves, AreRelated, Both, First, Move, SameWindow, Second}
+use Rattle.rv_monitor.specs.Events.{LineOf, StepOf}
 use Rattle.rv_debug.specs.Prelude.{Bare, Command, Csr, Done, Monitored, MonitoredMachine, Run, SetReg, Step, Stop, Target}
 use Rattle.rv_debug.specs.BenchState.{BenchState}
 use Rattle.rv_debug.specs.BothBenches.{BenchesEquivExcept, RunsOnNoHart, RunsOnNoneIn, is_entered}
@@ -34,22 +35,31 @@ pub record BenchesAreRelated (e : ℕ) (one other : BenchState) : Type 0 where
 
 -- ---- the steps of two commands
 
+-- no move changes a timer line
+abbrev pub are_steps : List Move → Bool
+are_steps [] = true
+are_steps (Both (LineOf hart raised) ∷ moves) = false
+are_steps (_ ∷ moves) = are_steps moves
+
 -- the harts that step in the first machine, and those that step in the second
 abbrev pub first_steps : List Move → List ℕ
 first_steps [] = []
 first_steps (First hart ∷ moves) = hart ∷ first_steps moves
 first_steps (Second hart ∷ moves) = first_steps moves
-first_steps (Both hart ∷ moves) = hart ∷ first_steps moves
+first_steps (Both (StepOf hart) ∷ moves) = hart ∷ first_steps moves
+first_steps (Both (LineOf hart raised) ∷ moves) = first_steps moves
 
 abbrev pub second_steps : List Move → List ℕ
 second_steps [] = []
 second_steps (First hart ∷ moves) = second_steps moves
 second_steps (Second hart ∷ moves) = hart ∷ second_steps moves
-second_steps (Both hart ∷ moves) = hart ∷ second_steps moves
+second_steps (Both (StepOf hart) ∷ moves) = hart ∷ second_steps moves
+second_steps (Both (LineOf hart raised) ∷ moves) = second_steps moves
 
 -- Steps of two machines are those of a list of moves: the enclave takes any number of steps in each, and hands over the same at each exit.
 pub record StepsAreMoves (e : ℕ) (one other : MonitoredMachine) (harts others : List ℕ) : Type 0 where
   pub moves : List Move
+  pub steps : are_steps moves ≡ true
   pub first : first_steps moves ≡ harts
   pub second : second_steps moves ≡ others
   pub are : AreMoves e moves one other

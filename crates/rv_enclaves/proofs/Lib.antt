@@ -16,3 +16,6 @@ pub mod AccessLemmas
 pub mod Scrambled
 pub mod ScrambledTwice
 pub mod Measurement
+pub mod CallNumbers
+pub mod CallExamples
+pub mod CreateSucceeds

@@ -15,4 +15,5 @@ pub mod SharedEquivExcept
 pub mod Measurement
 pub mod Scramble
 pub mod CallLaws
+pub mod CallNumbers
 pub mod Examples

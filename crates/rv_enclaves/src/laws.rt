@@ -1,6 +1,7 @@
 //! Laws of the table of enclaves and of its PMP entries, for the crates above to cite. Each is proved about the definitions in `specs/`.
 
 ghost use Rattle.rv_enclaves.specs.CallLaws.{CallsAlikeLaw, CallsKeepLaw, ScrambledLaw, ScrambledTwiceLaw};
+ghost use Rattle.rv_enclaves.specs.CallNumbers.{CallNumbersLaw, CreateSucceedsLaw};
 ghost use Rattle.rv_enclaves.specs.AccessibleMemory.{ApartLaw, LayoutAccessLaw};
 ghost use Rattle.rv_enclaves.specs.Measurement.{MeasurementLaw};
 
@@ -38,4 +39,14 @@ pub const fn scrambled_twice()
 /// States what the measurement covers: its input determines the region, the window, the entry and every byte of the region.
 pub const fn measurement_covers()
     ensures { MeasurementLaw }
+{}
+
+/// States the calls in numbers: the key, the numbers of the calls, the statuses in the order of the checks, and the effects.
+pub const fn call_numbers()
+    ensures { CallNumbersLaw }
+{}
+
+/// States that a create with good arguments succeeds if a slot is free, and which slot is the lowest.
+pub const fn create_succeeds()
+    ensures { CreateSucceedsLaw }
 {}

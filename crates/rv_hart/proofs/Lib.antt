@@ -7,6 +7,7 @@ pub mod FastLemmas
 pub mod DecodeCacheLemmas
 pub mod StepCases
 pub mod StepLaws
+pub mod Stored
 pub mod PermittedRangeLemmas
 pub mod BelowMSteps
 pub mod Interrupted

@@ -4,7 +4,9 @@ use Rattle.std.specs.Prelude.{◌≡◌, ◌%◌, ℕ, List, length, false, Opti
 use Rattle.rv_word.specs.Widths.{bytes_in}
 use Rattle.rv_memory.specs.Changes.{ChangesOnly}
 use Rattle.rv_memory.specs.declared.touched.Span.{Span}
+use Rattle.rv_state.specs.Bits.{aligned_to_4}
 use Rattle.rv_state.specs.MachineParts.{machine_parts}
+use Rattle.rv_state.specs.SContexts.{HasLegalVectors}
 use Rattle.rv_state.specs.Interrupts.{is_machine, pending}
 use Rattle.rv_state.specs.declared.cause.Cause.TheVariants as causes
 use Rattle.rv_state.specs.declared.cause.Interrupt.{Interrupt}
@@ -58,6 +60,16 @@ abbrev pub TakesPending : Machine → Stepped → Type 0
 TakesPending before after =
     (trap : Trap) (interrupt : Interrupt) → after.outcome.trap ≡ Some trap → trap.cause ≡ causes.Interrupt interrupt
     → pending before.hart.csrs before.hart.mode ≡ Some interrupt
+
+-- pc is a multiple of 4, and stvec and sepc have legal values
+pub record IsLegalHart (hart : Hart) : Type 0 where
+  pub pc : aligned_to_4 hart.pc ≡ hart.pc
+  pub csrs : HasLegalVectors hart.csrs
+
+-- below mode M a step that ends in no trap keeps this
+abbrev pub KeepsLegal : Machine → Stepped → Type 0
+KeepsLegal before after =
+    is_machine before.hart.mode ≡ false → IsLegalHart before.hart → IfNone after.outcome.trap (IsLegalHart after.state.hart)
 
 -- all of these properties, for the state before a step and the result of the step
 pub record ObeysHartLaws (before : Machine) (after : Stepped) : Type 0 where

@@ -13,7 +13,7 @@ use Rattle.rv_enclaves.proofs.EqualMemory.{same_read}
 use Rattle.rv_enclaves.proofs.Measurement.{measurement_law, same_digest, same_measurement, valid_inside}
 use Rattle.rv_monitor.specs.Attestation.{AttestationLaw, IsAsCreated, IsEntry, KeepsAsCreated, BothEnter, ReentryLaw}
 use Rattle.rv_monitor.specs.EnclaveSteps.{Place, SameEnclave, SameSaved, is_beyond, runs_at, step_at}
-use Rattle.rv_monitor.specs.Entering.{entered_hart, entered_machine, entered_shared}
+use Rattle.rv_monitor.specs.Entering.{HasEntered, entered_hart, entered_machine, entered_shared}
 use Rattle.rv_monitor.specs.Integrity.{enters}
 use Rattle.rv_monitor.specs.Prelude.{Context, CsrState, Destroy, EnclaveState, EnvironmentCallFromS, EqualOutside, HartState, IsValid, IsValidSlot, Running}
 use Rattle.rv_monitor.specs.Prelude.{Shared, Slots, Trap, byte_at, bytes_of_block, is_inside, context_at, create_args_of, created, destroyed, first_context, has, is_live}
@@ -52,7 +52,7 @@ handled_size hart_state shared trap = handler_cases hart_state trap shared (λ h
   forwards = refl;
 })
 
-same_size : (hart : ℕ) (machine : MonitoredMachine) → length (step_of hart machine).state.shared.memory ≡ length machine.shared.memory
+pub same_size : (hart : ℕ) (machine : MonitoredMachine) → length (step_of hart machine).state.shared.memory ≡ length machine.shared.memory
 same_size hart machine = by_hart hart machine (λ after. length after.state.shared.memory ≡ length machine.shared.memory) refl (λ has.
     let state : HartView = hart_view hart machine in
     step_cases state (λ after. length after.state.shared.memory ≡ length state.shared.memory)
@@ -61,7 +61,7 @@ same_size hart machine = by_hart hart machine (λ after. length after.state.shar
 
 -- ---- create
 
-some_identity : (o : Option SlotInfo) → is_some (option_map identity_of o) ≡ is_some o
+pub some_identity : (o : Option SlotInfo) → is_some (option_map identity_of o) ≡ is_some o
 some_identity None = refl
 some_identity (Some info) = refl
 
@@ -139,10 +139,10 @@ same_block m n block size inside same =
     }) inside (λ byte low high. in_block block byte low high))
 
 module _ (k : ℕ) (machine : MonitoredMachine) (kept : Invariant machine) (is : IsAsCreated k machine.shared) where
-  valid_slot : IsValidSlot machine.shared.memory is.info
+  pub valid_slot : IsValidSlot machine.shared.memory is.info
   valid_slot = subst (λ (o : Option SlotInfo). IfSome o (IsValidSlot machine.shared.memory)) is.is (kept.shared.valid.well_formed k)
 
-  runs_nowhere : (hart : ℕ) → runs_on k hart machine ≡ false
+  pub runs_nowhere : (hart : ℕ) → runs_on k hart machine ≡ false
   runs_nowhere hart = elim (cases_Bool (runs_on k hart machine)) [
     | inr low ↦ low
     | inl high ↦
@@ -169,14 +169,16 @@ module _ (k : ℕ) (machine : MonitoredMachine) (kept : Invariant machine) (is :
       }
 
 pub as_created_law : (hart : ℕ) (machine : MonitoredMachine) → Invariant machine → KeepsAsCreated machine (step_of hart machine)
-as_created_law hart machine kept k (inr is) passes live = stays_as_created k machine kept is hart passes live
-as_created_law hart machine kept k (inl dead) passes live =
-    by_hart hart machine (λ after. is_live after.state.shared.table k ≡ true → IsAsCreated k after.state.shared)
-    (λ live_here. absurd (both_ways _ dead live_here)) (λ has.
-    let state : HartView = hart_view hart machine in
-    step_cases state (λ after. is_live after.state.shared.table k ≡ true → IsAsCreated k after.state.shared)
-    (λ none live_here. absurd (both_ways _ dead live_here))
-    (λ trap is. handled_created k state.shared kept.shared.valid kept.shared.contexts.count dead (hart_state_after state.hart_state trap) trap)) live
+as_created_law hart machine kept = record {
+  creates = λ k dead.
+      by_hart hart machine (λ after. is_live after.state.shared.table k ≡ true → IsAsCreated k after.state.shared)
+      (λ live_here. absurd (both_ways _ dead live_here)) (λ has.
+      let state : HartView = hart_view hart machine in
+      step_cases state (λ after. is_live after.state.shared.table k ≡ true → IsAsCreated k after.state.shared)
+      (λ none live_here. absurd (both_ways _ dead live_here))
+      (λ trap is. handled_created k state.shared kept.shared.valid kept.shared.contexts.count dead (hart_state_after state.hart_state trap) trap));
+  keeps = λ k is. stays_as_created k machine kept is hart;
+}
 
 -- ---- the entry
 
@@ -201,8 +203,14 @@ plain_entry hart_state old slots k context is =
 
 module _ (p : Place) (machine : MonitoredMachine) (context : Context) (kept : Invariant machine)
     (held : context_at machine.shared.contexts p.slot ≡ Some context) (enters : IsEntry p machine) where
-  entered_is : (step_at p machine).state ≡ entered_machine p.hart machine p.slot enters.trap context
-  entered_is = (enter_law p.hart machine kept p.slot context enters.trap enters.host held enters.trapped enters.world).0
+  entry : HasEntered p.hart p.slot machine (step_at p machine)
+  entry = enter_law p.hart machine kept p.slot enters.host enters.world
+
+  entered_is : (step_at p machine).state ≡ entered_machine p.hart machine p.slot entry.trap context
+  entered_is =
+      let both : Some entry.context ≡ Some context = sym entry.held ∙ held in
+      let same : entry.context ≡ context = cc in
+      entry.state ∙ ap (entered_machine p.hart machine p.slot entry.trap) same
 
   runs_then : runs_at p (step_at p machine).state ≡ true
   runs_then = ap (is_world_of p.slot) enters.world ∙ eq-eqb p.slot p.slot refl
@@ -211,7 +219,7 @@ module _ (p : Place) (machine : MonitoredMachine) (context : Context) (kept : In
       ≡ entry_hart (plain_csrs (hart_state_of p.hart machine).hart.csrs.timer) [] 0 context
   hart_then =
       let slots = (entered_shared machine.shared p.slot).table in
-      let has = (is_trapping p.hart machine enters.trap enters.trapped).has in
+      let has = (is_trapping p.hart machine entry.trap entry.trapped).has in
       let size = length-map machine.hart_states (reprogrammed slots) in
       ap (λ (m : MonitoredMachine). below_m_hart (hart_state_of p.hart m).hart) entered_is
       ∙ ap (λ (s : HartState). below_m_hart s.hart)
@@ -255,7 +263,7 @@ reentry_law p q count one other here there saved both high =
 
 -- ---- the law
 
-same_info : (one other : SlotInfo) → args_of one ≡ args_of other → one.measurement ≡ other.measurement → one.state ≡ Fresh → other.state ≡ Fresh
+pub same_info : (one other : SlotInfo) → args_of one ≡ args_of other → one.measurement ≡ other.measurement → one.state ≡ Fresh → other.state ≡ Fresh
     → one ≡ other
 same_info one other args digest fresh fresh_too =
     let made : CreateArgs → List ℕ → SlotInfo = λ new digest.

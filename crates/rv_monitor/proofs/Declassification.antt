@@ -1,68 +1,43 @@
 -- Every move keeps two machines related, and every low step of both has equal outcomes.
 use Rattle.std.proofs.Common.{◌≡◌, ℕ, ◌+◌, Bool, true, false, [], ◌∷◌, length, Some, refl, sym, ◌∙◌, ap, subst, inl, inr}
 use Rattle.std.proofs.lemmas.Bool.{cases_Bool}
-use Rattle.std.specs.Prelude.{◌&&◌, ◌||◌, ◌⊎◌, not, slice_index}
+use Rattle.std.specs.Prelude.{◌&&◌, ◌||◌, ◌⊎◌, not}
 use Rattle.rv_enclaves.specs.Table.{runs, window}
 use Rattle.rv_monitor.specs.Declassification.{AreRelated, Both, DeclassificationLaw, EquivToGuests, ExitsAlike, First, IsInside, IsLowStep}
-use Rattle.rv_monitor.specs.Declassification.{RelationLaw, SameHandover, SameHost, SameHostOn, SameWindow, Second, may_differ}
+use Rattle.rv_monitor.specs.Declassification.{RelationLaw, SameHandoverBy, SameHost, Second, may_differ}
+use Rattle.rv_monitor.specs.Debugger.{with_timer}
+use Rattle.rv_monitor.specs.Events.{LineOf, StepOf}
 use Rattle.rv_monitor.specs.GuestView.{guest_state, guest_view}
-use Rattle.rv_monitor.specs.Prelude.{Contexts, Host, HartState, Outcome, Slots, Trap, World, context_at, has, is_live}
+use Rattle.rv_state.specs.declared.cause.Cause.TheVariants as causes
+use Rattle.rv_monitor.specs.Declassification.{SameHandover}
+use Rattle.rv_monitor.specs.Prelude.{Cause, Hart, Contexts, Host, HartState, Outcome, Slots, Trap, World, context_at, has, is_live}
 use Rattle.rv_monitor.specs.Prelude.{is_world_of, ram_base, region}
-use Rattle.rv_monitor.proofs.Prelude.{Invariant, MonitoredMachine, both_ways, cases_eq, hart_state_of, length-map, runs_on, step_of}
+use Rattle.rv_monitor.proofs.Prelude.{Invariant, MonitoredMachine, both_ways, cases_eq, hart_state_of, runs_on, step_of}
 use Rattle.rv_monitor.proofs.Beside.{running_is_live, runs_among}
 use Rattle.rv_monitor.proofs.EnclaveMemory.{world_is}
 use Rattle.rv_monitor.proofs.EnclaveStays.{index_same, one_unchanged}
 use Rattle.rv_monitor.proofs.EquivLemmas.{hart_states_equiv}
+use Rattle.rv_monitor.proofs.Events.{line_invariant, line_related}
 use Rattle.rv_monitor.proofs.GuestEquiv.{back, beside_same, chain, guest_equiv, guest_invariant, guest_step_equiv, hosts_after, rest_of, runs_before, runs_too}
 use Rattle.rv_monitor.proofs.GuestView.{guest_hart_state, guest_step_of}
 use Rattle.rv_monitor.proofs.InvariantLemmas.{invariant_law}
+use Rattle.rv_monitor.proofs.LowSteps.{low_while_running}
+use Rattle.rv_monitor.proofs.RelatedEquiv.{equiv_related, related_equiv}
 use Rattle.rv_monitor.proofs.Release.{release}
+
+-- ---- what the enclave hands over, in the guest view
+
+to_guests : (cause : Cause) (a b : HartState) → SameHandoverBy cause a.hart b.hart → SameHandoverBy cause (guest_state a).hart (guest_state b).hart
+to_guests (causes.Interrupt interrupt) a b is = tt
+to_guests (causes.Exception exception) a b is = record { a0 = is.a0; a6 = is.a6 }
+
+pub hands_over : (cause : Cause) (a b : Hart) → SameHandover a b → SameHandoverBy cause a b
+hands_over (causes.Interrupt interrupt) a b is = tt
+hands_over (causes.Exception exception) a b is = is
 
 -- ---- related machines, and machines that are equivalent in the guest view
 
-not_first : (a b : Bool) → (a || b) ≡ false → a ≡ false
-not_first true b is = cc
-not_first false b is = refl
-
 module _ (e : ℕ) (one other : MonitoredMachine) where
-  pub related_equiv : AreRelated e one other → (runs one.shared.table e ≡ true → SameWindow e one other) → EquivToGuests e one other
-  related_equiv related same = record {
-    harts = length-map one.hart_states guest_state ∙ related.harts ∙ sym (length-map other.hart_states guest_state);
-    hart_states = λ j.
-        hart_states_equiv e (hart_state_of j (guest_view one)) (guest_state (hart_state_of j one)) (hart_state_of j (guest_view other))
-        (guest_state (hart_state_of j other)) (guest_hart_state j one) (guest_hart_state j other) (related.hart_states j);
-    shared = record {
-      table = related.table;
-      memory = record { size = related.memory.size; bytes = bytes };
-      contexts = related.contexts;
-      gone = related.gone;
-    };
-  } where
-    bytes : (i : ℕ) → has (region one.shared.table e) (ram_base + i) ≡ false → slice_index one.shared.memory i ≡ slice_index other.shared.memory i
-    bytes i own = elim (cases_Bool (runs one.shared.table e)) [
-      | inr idle ↦ related.memory.bytes i (rw (own, idle) refl)
-      | inl running ↦ elim (cases_Bool (has (window one.shared.table e) (ram_base + i))) [
-        | inl within ↦ (same running).bytes i (ap not within)
-        | inr beyond ↦ related.memory.bytes i (rw (own, running, beyond) refl)
-      ]
-    ]
-
-  equiv_related : EquivToGuests e one other → ((hart : ℕ) → runs_on e hart one ≡ true → SameHostOn hart one other) → AreRelated e one other
-  equiv_related equiv hosts = record {
-    harts = sym (length-map one.hart_states guest_state) ∙ equiv.harts ∙ length-map other.hart_states guest_state;
-    hart_states = λ j.
-        hart_states_equiv e (guest_state (hart_state_of j one)) (hart_state_of j (guest_view one)) (guest_state (hart_state_of j other))
-        (hart_state_of j (guest_view other)) (sym (guest_hart_state j one)) (sym (guest_hart_state j other)) (equiv.hart_states j);
-    hosts = hosts;
-    table = equiv.shared.table;
-    memory = record {
-      size = equiv.shared.memory.size;
-      bytes = λ i shown. equiv.shared.memory.bytes i (not_first (has (region one.shared.table e) (ram_base + i)) _ shown);
-    };
-    contexts = equiv.shared.contexts;
-    gone = equiv.shared.gone;
-  }
-
   swapped : AreRelated e one other → AreRelated e other one
   swapped related = record {
     harts = sym related.harts;
@@ -153,13 +128,18 @@ module _ (e hart : ℕ) (one other : MonitoredMachine) (here : Invariant one) (t
   Related = AreRelated e (step_of hart one).state (step_of hart other).state
 
   low_step : IsLowStep e hart one other → Outcomes × Related
-  low_step is =
-      let equiv = related_equiv e one other related is.window in
-      let step = guest_step_equiv e hart one other here there equiv is.low in (
-        λ low. step.outcome,
-        equiv_related e (step_of hart one).state (step_of hart other).state step.state
-            (hosts_after e hart one other here there equiv related.hosts is.low),
-      )
+  low_step is = elim (cases_Bool (runs one.shared.table e)) [
+    | inl running ↦
+        let both = low_while_running e hart one other here there related is running in
+        (λ low. both.0, both.1)
+    | inr idle ↦
+        let equiv = related_equiv e one other related (λ running. absurd (both_ways _ idle running)) in
+        let step = guest_step_equiv e hart one other here there equiv is.low in (
+          λ low. step.outcome,
+          equiv_related e (step_of hart one).state (step_of hart other).state step.state
+              (hosts_after e hart one other here there equiv related.hosts is.low),
+        )
+  ]
 
   world_after : (machine : MonitoredMachine) → Invariant machine → (hart_state_of hart (step_of hart machine).state).world ≡ Host
       → (hart_state_of hart (step_of hart (guest_view machine)).state).world ≡ Host
@@ -181,10 +161,10 @@ module _ (e hart : ℕ) (one other : MonitoredMachine) (here : Invariant one) (t
       let host : SameHost (hart_state_of hart a) (hart_state_of hart b) =
       subst (λ (s : HartState). SameHost s (hart_state_of hart b)) (sym (guest_hart_state hart one))
       (subst (SameHost (guest_state (hart_state_of hart one))) (sym (guest_hart_state hart other)) (related.hosts hart is.runs)) in
-      let handover : SameHandover (hart_state_of hart a).hart (hart_state_of hart b).hart =
-      subst (λ (s : HartState). SameHandover s.hart (hart_state_of hart b).hart) (sym (guest_hart_state hart one))
-      (subst (λ (s : HartState). SameHandover (guest_state (hart_state_of hart one)).hart s.hart) (sym (guest_hart_state hart other))
-      (record { a0 = is.handover.a0; a6 = is.handover.a6 })) in
+      let handover : SameHandoverBy is.trap.cause (hart_state_of hart a).hart (hart_state_of hart b).hart =
+      subst (λ (s : HartState). SameHandoverBy is.trap.cause s.hart (hart_state_of hart b).hart) (sym (guest_hart_state hart one))
+      (subst (λ (s : HartState). SameHandoverBy is.trap.cause (guest_state (hart_state_of hart one)).hart s.hart) (sym (guest_hart_state hart other))
+      (to_guests is.trap.cause (hart_state_of hart one) (hart_state_of hart other) is.handover)) in
       back e hart one other here there
       (release e hart a b is.trap (guest_invariant one here) (guest_invariant other there) equiv (runs_too e hart one ∙ is.runs) host handover
       (trap_too one is.trap here is.first) (trap_too other is.trap there is.second) (world_after one here is.first_exits)
@@ -222,8 +202,12 @@ declassification_law e (Second hart ∷ more) one other here there related moves
     let rest = declassification_law e more one after here (invariant_law hart other there)
     (swapped e after one (step_inside e hart other one there (swapped e one other related) moves.0)) moves.1 in
     record { outcomes = rest.outcomes; state = rest.state }
-declassification_law e (Both hart ∷ more) one other here there related moves =
+declassification_law e (Both (StepOf hart) ∷ more) one other here there related moves =
     let step = both_step e hart one other here there related moves.0 in
     let rest = declassification_law e more (step_of hart one).state (step_of hart other).state (invariant_law hart one here) (invariant_law hart other there)
     step.1 moves.1 in
     record { outcomes = (step.0, rest.outcomes); state = rest.state }
+declassification_law e (Both (LineOf hart raised) ∷ more) one other here there related moves =
+    let rest = declassification_law e more (with_timer hart one raised) (with_timer hart other raised) (line_invariant hart raised one here)
+    (line_invariant hart raised other there) (line_related e hart raised one other related) moves.1 in
+    record { outcomes = rest.outcomes; state = rest.state }

@@ -117,7 +117,7 @@ module _ (k : ℕ) (state : HartView) (own : HartViewInvariant state) (runs : st
     | inr put ↦ shown_not byte (in_own byte 1 byte put.accessible (omega arith) (omega arith)) beyond _
   ]
 
-  own_bytes : (byte : ℕ) → is_beyond state.shared.table k byte ≡ true
+  pub own_bytes : (byte : ℕ) → is_beyond state.shared.table k byte ≡ true
       → byte_at (monitored_step state).state.shared.memory byte ≡ byte_at state.shared.memory byte
   own_bytes byte beyond = same_or byte beyond (changes state own byte)
 

@@ -359,19 +359,19 @@ abbrev with_its_state : EnclaveState → Option SlotInfo → Option SlotInfo
 with_its_state state o = option_case o None (λ info. Some (record info { state = state }))
 
 -- the host received a reason and a value; the state in the record and the saved context are those after the trap
-record HasExited (p : Place) (cause : Cause) (before after : MonitoredMachine) : Type 0 where
-  returned : (let regs = (hart_state_of p.hart before).hart.regs in HasReturned (reason cause regs) (value cause regs) p.hart after)
-  slot : slot_at after.shared.table p.slot
+pub record HasExited (p : Place) (cause : Cause) (before after : MonitoredMachine) : Type 0 where
+  pub returned : (let regs = (hart_state_of p.hart before).hart.regs in HasReturned (reason cause regs) (value cause regs) p.hart after)
+  pub slot : slot_at after.shared.table p.slot
       ≡ with_its_state (enclave_state_after cause (hart_state_of p.hart before).hart.regs) (slot_at before.shared.table p.slot)
-  context : context_at after.shared.contexts p.slot ≡ Some (saved_after cause (hart_state_of p.hart before).hart)
-  memory : after.shared.memory ≡ before.shared.memory
-  extent : KeepsExtent p.slot before.shared.table after.shared.table
+  pub context : context_at after.shared.contexts p.slot ≡ Some (saved_after cause (hart_state_of p.hart before).hart)
+  pub memory : after.shared.memory ≡ before.shared.memory
+  pub extent : KeepsExtent p.slot before.shared.table after.shared.table
 
 live_slot : (slots : Slots) (k : ℕ) (o : Option SlotInfo) → length slots ≡ 13 → slot_at slots k ≡ o → is_some o ≡ true → k < 13
 live_slot slots k None count is live = absurd (false≢true live)
 live_slot slots k (Some info) count is live = live_in_range slots k info count is
 
-exited : (p : Place) (machine : MonitoredMachine) (trap : Trap) → Invariant machine → runs_at p machine ≡ true
+pub exited : (p : Place) (machine : MonitoredMachine) (trap : Trap) → Invariant machine → runs_at p machine ≡ true
     → (step_at p machine).outcome.step.trap ≡ Some trap → (hart_state_of p.hart (step_at p machine).state).world ≡ Host
     → (o : Option Context) → (hart_state_of p.hart machine).host_context ≡ o → HasExited p trap.cause machine (step_at p machine).state
 exited p machine trap kept runs traps gone None is =

@@ -1,15 +1,18 @@
 -- A step of the host continues with the host, or leaves the machine of a step that enters an enclave.
-use Rattle.std.proofs.Common.{◌≡◌, ℕ, ◌⊎◌, true, Option, Some, IfSome, refl, sym, ◌∙◌, ap, subst, inl, inr}
+use Rattle.std.proofs.Common.{◌≡◌, ◌<◌, ℕ, ◌⊎◌, true, false, Option, Some, None, IfSome, refl, sym, ◌∙◌, ap, subst, inl, inr}
+use Rattle.std.specs.Prelude.{is_some, not}
 use Rattle.std.proofs.Math.Bool.{or-false}
-use Rattle.rv_monitor.specs.Entering.{EntersOnly, entered_hart, entered_shared}
-use Rattle.rv_monitor.specs.Prelude.{Context, Enclave, Host, Outcome, S, HartState, StepOutcome, Trap, can_go_on, context_at, is_set, step}
+use Rattle.rv_enclaves.specs.SharedInvariant.{SavedContextsInvariant, is_held}
+use Rattle.rv_enclaves.proofs.Refusals.{takes_rests}
+use Rattle.rv_monitor.specs.Entering.{EntersOnly, HasEntered, entered_hart, entered_machine, entered_shared}
+use Rattle.rv_monitor.specs.Prelude.{Call, Context, Enclave, Host, Outcome, S, HartState, StepOutcome, Trap, World, can_go_on, context_at, is_set, step}
 use Rattle.rv_monitor.specs.Refused.{past_ecall}
-use Rattle.rv_monitor.proofs.Prelude.{Handled, HartViewInvariant, Invariant, MonitoredMachine, HartView, HartViewStepped, a0, bare_machine, entered_slot, handled, left}
-use Rattle.rv_monitor.proofs.Prelude.{monitored_step, returned, saved, hart_view, step_of, with_reprogrammed_hart}
+use Rattle.rv_monitor.proofs.Prelude.{Handled, HartViewInvariant, Invariant, IsTaken, MonitoredMachine, MonitoredStepped, HartView, HartViewStepped, a0, bare_machine, cases_lt, count_of, entered_slot, handled, left}
+use Rattle.rv_monitor.proofs.Prelude.{monitored_step, returned, saved, hart_state_of, hart_view, step_of, with_reprogrammed_hart}
 use Rattle.rv_monitor.proofs.InvariantLemmas.{hart_view_invariant}
-use Rattle.rv_monitor.proofs.HartCases.{is_trapping, programmed_by, step_seen}
+use Rattle.rv_monitor.proofs.HartCases.{is_trapping, outside, programmed_by, step_seen}
 use Rattle.rv_monitor.proofs.Switched.{aligned_again}
-use Rattle.rv_monitor.proofs.TrapSteps.{hart_state_after, trapped_step}
+use Rattle.rv_monitor.proofs.TrapSteps.{hart_state_after, step_cases, trapped_step}
 use Rattle.rv_monitor.proofs.HandlerCases.{handler_cases, entering}
 
 module _ (before : HartView) (k : ℕ) (context : Context) (runs : before.hart_state.world ≡ Host)
@@ -82,11 +85,84 @@ module _ (before : HartView) (k : ℕ) (context : Context) (runs : before.hart_s
       let there = subst (λ (after : HartViewStepped). after.state.hart_state.world ≡ Enclave k) step_is gone in
       subst Entered (sym step_is) (entered_or_not (step (bare_machine before)).outcome _ all held work_goes there)
 
-pub enter_law : (hart : ℕ) (machine : MonitoredMachine) → Invariant machine → EntersOnly hart machine (step_of hart machine)
-enter_law hart machine kept k context trap runs kept_one is gone =
+-- ---- an entry is a trap, and the slot had a saved context
+
+quiet_world : (state : HartView) → (monitored_step state).outcome.step.trap ≡ None → (monitored_step state).state.hart_state.world ≡ state.hart_state.world
+quiet_world state = step_cases state (λ after. after.outcome.step.trap ≡ None → after.state.hart_state.world ≡ state.hart_state.world) (λ none is. refl)
+    (λ trap traps is. let never : None ≡ Some trap = sym is ∙ traps in cc)
+
+module _ (before : HartView) (saves : SavedContextsInvariant before.shared) (runs : before.hart_state.world ≡ Host) (trap : Trap) where
+  abbrev HadContext : Handled → Type 0
+  HadContext h = (k : ℕ) → h.hart_state.world ≡ Enclave k → is_some (context_at before.shared.contexts k) ≡ true
+
+  no_entry : (world : World) → world ≡ Host → (k : ℕ) → world ≡ Enclave k → is_some (context_at before.shared.contexts k) ≡ true
+  no_entry world host k gone = let never : Host ≡ Enclave k = sym host ∙ gone in cc
+
+  named_had : (call : Call) (j : ℕ) → IsTaken before.shared.table call j → (k : ℕ) → Enclave j ≡ Enclave k
+      → is_some (context_at before.shared.contexts k) ≡ true
+  named_had call j taken k gone =
+      let same : j ≡ k = cc in
+      subst (λ (i : ℕ). is_some (context_at before.shared.contexts i) ≡ true) same
+      (saves.kept j ∙ ap is_held taken.is ∙ ap not (takes_rests call taken.info.state taken.taken))
+
+  work_had : HadContext (handled (hart_state_after before.hart_state trap) before.shared trap)
+  unfolding left entered_slot
+  work_had = handler_cases (hart_state_after before.hart_state trap) trap before.shared HadContext (record {
+    answers = λ status result. no_entry _ runs;
+    creates = λ reads may. no_entry _ runs;
+    destroys = λ reads taken. no_entry _ runs;
+    measures = λ reads may. no_entry _ runs;
+    enters = λ call reads enters is taken. named_had call (a0 (hart_state_after before.hart_state trap)) taken;
+    leaves = no_entry Host refl;
+    forwards = no_entry _ runs;
+  })
+
+  had_context : (monitored_step before).outcome.step.trap ≡ Some trap → (k : ℕ) → (monitored_step before).state.hart_state.world ≡ Enclave k
+      → is_some (context_at before.shared.contexts k) ≡ true
+  had_context is k gone = work_had k (subst (λ (after : HartViewStepped). after.state.hart_state.world ≡ Enclave k) (trapped_step before trap is) gone)
+
+-- ---- the law
+
+enters_from : (hart : ℕ) (machine : MonitoredMachine) → Invariant machine → (k : ℕ) (context : Context) (trap : Trap)
+    → (hart_state_of hart machine).world ≡ Host → context_at machine.shared.contexts k ≡ Some context
+    → (step_of hart machine).outcome.step.trap ≡ Some trap → (hart_state_of hart (step_of hart machine).state).world ≡ Enclave k
+    → ((step_of hart machine).state ≡ entered_machine hart machine k trap context) × ((step_of hart machine).outcome.entered ≡ Some k)
+enters_from hart machine kept k context trap runs kept_one is gone =
     let trapping = is_trapping hart machine trap is in
     let there = sym (ap (λ (after : HartViewStepped). after.state.hart_state.world) (step_seen hart machine trapping.has)) ∙ gone in
     let P : Option Context → Type 0 = λ o. IfSome o (λ c. can_go_on c ≡ true) in
     let held : can_go_on context ≡ true = subst P kept_one (kept.shared.contexts.held k) in
     let one = entered_one (hart_view hart machine) k context runs kept_one trap (hart_view_invariant hart machine kept trapping.has) held trapping.trapped there in
     (trapping.state ∙ ap (programmed_by hart machine) one.0, ap (λ (outcome : Outcome). outcome.entered) trapping.outcome ∙ one.1)
+
+module _ (hart k : ℕ) (machine : MonitoredMachine) (kept : Invariant machine) (runs : (hart_state_of hart machine).world ≡ Host)
+    (gone : (hart_state_of hart (step_of hart machine).state).world ≡ Enclave k) where
+  seen_gone : hart < count_of machine → (monitored_step (hart_view hart machine)).state.hart_state.world ≡ Enclave k
+  seen_gone has = sym (ap (λ (after : HartViewStepped). after.state.hart_state.world) (step_seen hart machine has)) ∙ gone
+
+  never_quiet : (step_of hart machine).outcome.step.trap ≡ None → Host ≡ Enclave k
+  never_quiet none = elim (cases_lt hart (count_of machine)) [
+    | inr past ↦ sym (ap (λ (after : MonitoredStepped). (hart_state_of hart after.state).world) (outside hart machine past) ∙ runs) ∙ gone
+    | inl has ↦
+        let seen = step_seen hart machine has in
+        let quiet = sym (ap (λ (after : HartViewStepped). after.outcome.step.trap) seen) ∙ none in
+        sym runs ∙ sym (quiet_world (hart_view hart machine) quiet) ∙ seen_gone has
+  ]
+
+  entered_with : (trap : Trap) → (step_of hart machine).outcome.step.trap ≡ Some trap → (o : Option Context)
+      → context_at machine.shared.contexts k ≡ o → HasEntered hart k machine (step_of hart machine)
+  entered_with trap is None none =
+      let trapping = is_trapping hart machine trap is in
+      let had = had_context (hart_view hart machine) kept.shared.contexts runs trap trapping.trapped k (seen_gone trapping.has) in
+      let never : false ≡ true = ap (λ (o : Option Context). is_some o) (sym none) ∙ had in
+      cc
+  entered_with trap is (Some context) held =
+      let both = enters_from hart machine kept k context trap runs held is gone in
+      record { trap = trap; context = context; trapped = is; held = held; state = both.0; entered = both.1 }
+
+  entered_by : (o : Option Trap) → (step_of hart machine).outcome.step.trap ≡ o → HasEntered hart k machine (step_of hart machine)
+  entered_by None none = let never = never_quiet none in cc
+  entered_by (Some trap) is = entered_with trap is (context_at machine.shared.contexts k) refl
+
+pub enter_law : (hart : ℕ) (machine : MonitoredMachine) → Invariant machine → EntersOnly hart machine (step_of hart machine)
+enter_law hart machine kept k runs gone = entered_by hart k machine kept runs gone (step_of hart machine).outcome.step.trap refl

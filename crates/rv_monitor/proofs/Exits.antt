@@ -9,13 +9,14 @@ use Rattle.rv_state.specs.declared.cause.Interrupt.{Interrupt}
 use Rattle.rv_state.specs.declared.cause.Interrupt.TheVariants.{MachineExternal, MachineSoftware, MachineTimer, SupervisorExternal, SupervisorSoftware}
 use Rattle.rv_state.specs.declared.cause.Interrupt.TheVariants.{SupervisorTimer}
 use Rattle.rv_hart.proofs.Interrupted.{takes_pending}
-use Rattle.rv_monitor.specs.Exits.{ExitsOnRequest, is_exit_call, redirected_hart, is_redirected, causes_exit}
+use Rattle.rv_monitor.specs.Exits.{ExitsOnRequest, is_exit_call, redirected_hart, redirected_machine, is_redirected, causes_exit, spp_of}
 use Rattle.rv_monitor.specs.Prelude.{Call, Cause, Create, Destroy, Enclave, EnvironmentCallFromS, Exception, Exit, Measure, Outcome, Refusal, Resume}
-use Rattle.rv_monitor.specs.Prelude.{Run, HartState, Shared, StepOutcome, Stop, Trap, World, aligned_to_4, requested_call, first_refusal, is_host, is_offered}
+use Rattle.rv_monitor.specs.Prelude.{Run, HartState, M, S, U, Shared, StepOutcome, Stop, Trap, World, aligned_to_4, requested_call, first_refusal, is_host, is_offered}
 use Rattle.rv_monitor.specs.Prelude.{NotSupported, is_machine, is_set, is_world_of, mie_of, option_case, step, CsrState, Mode}
 use Rattle.rv_monitor.proofs.Prelude.{HartViewInvariant, Invariant, MonitoredMachine, HartView, HartViewStepped, bare_machine, call_handled, call_refusals, called, count_of}
 use Rattle.rv_monitor.proofs.Prelude.{eq-eqb, forwarded, forwarded_csrs, handled, handled_cause, left, monitored_step, performed, refused, returned, hart_view}
 use Rattle.rv_monitor.proofs.Prelude.{hart_state_of, step_of, timer_stopped, with_reprogrammed_hart}
+use Rattle.rv_monitor.specs.Step.{is_supervisor}
 use Rattle.rv_monitor.proofs.Beside.{runs_inside}
 use Rattle.rv_monitor.proofs.InvariantLemmas.{hart_view_invariant}
 use Rattle.rv_monitor.proofs.PmpProgramming.{all_as_are}
@@ -74,7 +75,12 @@ redirects_it hart_state shared trap (causes.Exception _) is = refl
 twice_aligned : (pc : ℕ) → aligned_to_4 (aligned_to_4 pc) ≡ aligned_to_4 pc
 twice_aligned pc = omega arith
 
-module _ (k : ℕ) (state : HartView) (kept : HartViewInvariant state) (runs : state.hart_state.world ≡ Enclave k) (trap : Trap) where
+same_spp : (mode : Mode) → is_supervisor mode ≡ spp_of mode
+same_spp U = refl
+same_spp S = refl
+same_spp M = refl
+
+module _ (state : HartView) (kept : HartViewInvariant state) (trap : Trap) where
   abbrev redirected_view : HartView
   redirected_view = record state { hart_state = record state.hart_state { hart = redirected_hart state.hart_state.hart trap } }
 
@@ -85,7 +91,7 @@ module _ (k : ℕ) (state : HartView) (kept : HartViewInvariant state) (runs : s
       let mprv = kept.hart.layout.mprv in
       let entries = kept.hart.layout.entries in
       let mie = kept.hart.layout.mie in
-      rw (twice_aligned hart.csrs.stvec, or-false (is_set hart.csrs.mcountinhibit 0), mprv, ← entries, ← mie) refl
+      rw (same_spp hart.mode, twice_aligned hart.csrs.stvec, or-false (is_set hart.csrs.mcountinhibit 0), mprv, ← entries, ← mie) refl
 
   abbrev IsRedirectedTo : HartViewStepped → Type 0
   IsRedirectedTo after = (after.state ≡ redirected_view) × (after.outcome.entered ≡ None)
@@ -99,6 +105,23 @@ module _ (k : ℕ) (state : HartView) (kept : HartViewInvariant state) (runs : s
   redirected_one : (monitored_step state).outcome.step.trap ≡ Some trap → is_redirected trap.cause ≡ true → IsRedirectedTo (monitored_step state)
   redirected_one is forwarded = subst IsRedirectedTo (sym (trapped_step state trap is)) (redirected_at (step (bare_machine state)).outcome forwarded)
 
+-- of the host and of an enclave
+pub redirects_step : (hart : ℕ) (machine : MonitoredMachine) → Invariant machine → (trap : Trap) → (step_of hart machine).outcome.step.trap ≡ Some trap
+    → is_redirected trap.cause ≡ true
+    → ((step_of hart machine).state ≡ redirected_machine hart machine trap) × ((step_of hart machine).outcome.entered ≡ None)
+redirects_step hart machine kept trap is forwarded =
+    let trapping = is_trapping hart machine trap is in
+    let state = hart_view hart machine in
+    let one = redirected_one state (hart_view_invariant hart machine kept trapping.has) trap trapping.trapped forwarded in
+    let left : HartState = record state.hart_state { hart = redirected_hart state.hart_state.hart trap } in (
+      trapping.state ∙ ap (programmed_by hart machine) one.0
+          ∙ ap (λ (hart_states : List HartState). let after : MonitoredMachine =
+          record { hart_states = slice_set hart_states hart left; shared = machine.shared } in after)
+          (all_as_are machine.shared.table machine.hart_states kept.hart_states),
+      ap (λ (outcome : Outcome). outcome.entered) trapping.outcome ∙ one.1,
+    )
+
+module _ (k : ℕ) (state : HartView) (runs : state.hart_state.world ≡ Enclave k) (trap : Trap) where
   exits_one : (monitored_step state).outcome.step.trap ≡ Some trap → is_host (monitored_step state).state.hart_state.world ≡ causes_exit state.hart_state trap.cause
   unfolding handled
   exits_one is = subst (λ (after : HartViewStepped). is_host after.state.hart_state.world ≡ causes_exit state.hart_state trap.cause)
@@ -156,7 +179,7 @@ exits_law hart machine kept k runs = record {
       let trapping = is_trapping hart machine trap is in
       let state = hart_view hart machine in
       ap is_host (seen_world hart machine trapping.has)
-      ∙ exits_one k state (hart_view_invariant hart machine kept trapping.has) runs trap trapping.trapped;
+      ∙ exits_one k state runs trap trapping.trapped;
   timer = λ trap interrupt is by.
       let trapping = is_trapping hart machine trap is in
       let state = hart_view hart machine in
@@ -166,15 +189,5 @@ exits_law hart machine kept k runs = record {
       let waited = takes_pending (bare_machine state) trap interrupt bare by in
       timer_only state.hart_state.hart.csrs.timer interrupt
       (sym (waits state.hart_state.hart.csrs state.hart_state.hart.mode own.hart.layout.mode (own.hart.layout.mie ∙ ap mie_of runs)) ∙ waited);
-  redirects = λ trap is forwarded.
-      let trapping = is_trapping hart machine trap is in
-      let state = hart_view hart machine in
-      let one = redirected_one k state (hart_view_invariant hart machine kept trapping.has) runs trap trapping.trapped forwarded in
-      let left : HartState = record state.hart_state { hart = redirected_hart state.hart_state.hart trap } in (
-        trapping.state ∙ ap (programmed_by hart machine) one.0
-            ∙ ap (λ (hart_states : List HartState). let after : MonitoredMachine =
-            record { hart_states = slice_set hart_states hart left; shared = machine.shared } in after)
-            (all_as_are machine.shared.table machine.hart_states kept.hart_states),
-        ap (λ (outcome : Outcome). outcome.entered) trapping.outcome ∙ one.1,
-      );
+  redirects = redirects_step hart machine kept;
 }

@@ -1,12 +1,12 @@
 -- Two machines that are equivalent except for an enclave are so again after it exits from both, if it hands over the same.
-use Rattle.std.proofs.Common.{◌≡◌, ◌<◌, ℕ, ◌+◌, true, false, List, length, Option, Some, None, refl, sym, ◌∙◌, ap, ap₂, subst, inl, inr, arith}
+use Rattle.std.proofs.Common.{◌≡◌, ◌<◌, ℕ, ◌+◌, true, false, length, Option, Some, None, refl, sym, ◌∙◌, ap, ap₂, subst, inl, inr, arith}
 use Rattle.std.specs.Prelude.{is_some, map, not}
 use Rattle.rv_state.specs.declared.cause.Cause.TheVariants as causes
 use Rattle.rv_platform.specs.declared.block.Block.{Block}
 use Rattle.rv_monitor.specs.Prelude.{Cause, Context, CsrState, EnclaveState, Hart, Host, HartState, Slots, Trap, has, is_host}
-use Rattle.rv_monitor.specs.Prelude.{is_live, option_case, ram_base, register, slot_at, with_return_values, with_slot, with_state}
+use Rattle.rv_monitor.specs.Prelude.{is_live, option_case, ram_base, slot_at, with_return_values, with_slot, with_state}
 use Rattle.rv_monitor.specs.Leaving.{left_csrs, left_machine}
-use Rattle.rv_monitor.specs.Declassification.{SameHandover, SameHost, unswitched}
+use Rattle.rv_monitor.specs.Declassification.{SameHandoverBy, SameHost, unswitched}
 use Rattle.rv_monitor.proofs.Prelude.{EquivExcept, Invariant, MonitoredMachine, HartStatesEquivExcept, SlotInfo, at_other, at_same, both_ways, cases_lt, count_of}
 use Rattle.rv_monitor.proofs.Prelude.{enclave_state_after, get_or-map, saved_after, left_hart, length-map, length-set, live_in_range}
 use Rattle.rv_monitor.proofs.Prelude.{reason, runs_on, hart_state_at_start, hart_state_of, reprogrammed, step_of, value}
@@ -15,17 +15,17 @@ use Rattle.rv_monitor.proofs.Leaving.{leave_law}
 use Rattle.rv_monitor.proofs.EnclaveMemory.{state_extent, world_is}
 use Rattle.rv_monitor.proofs.HartCases.{hart_cases_of_both, past_hart_state, hart_state_in}
 
-same_state : (cause : Cause) (one other : List ℕ) → register one 16 ≡ register other 16 → enclave_state_after cause one ≡ enclave_state_after cause other
+same_state : (cause : Cause) (one other : Hart) → SameHandoverBy cause one other → enclave_state_after cause one.regs ≡ enclave_state_after cause other.regs
 same_state (causes.Interrupt interrupt) one other same = refl
-same_state (causes.Exception exception) one other same = rw same refl
+same_state (causes.Exception exception) one other same = let a6 = same.a6 in rw a6 refl
 
-same_reason : (cause : Cause) (one other : List ℕ) → register one 16 ≡ register other 16 → reason cause one ≡ reason cause other
+same_reason : (cause : Cause) (one other : Hart) → SameHandoverBy cause one other → reason cause one.regs ≡ reason cause other.regs
 same_reason (causes.Interrupt interrupt) one other same = refl
-same_reason (causes.Exception exception) one other same = rw same refl
+same_reason (causes.Exception exception) one other same = let a6 = same.a6 in rw a6 refl
 
-same_value : (cause : Cause) (one other : List ℕ) → register one 10 ≡ register other 10 → value cause one ≡ value cause other
+same_value : (cause : Cause) (one other : Hart) → SameHandoverBy cause one other → value cause one.regs ≡ value cause other.regs
 same_value (causes.Interrupt interrupt) one other same = refl
-same_value (causes.Exception exception) one other same = same
+same_value (causes.Exception exception) one other same = same.a0
 
 state_live : (slots : Slots) (k : ℕ) (o : Option SlotInfo) (state : EnclaveState) → length slots ≡ 13 → slot_at slots k ≡ o
     → is_live (option_case o slots (λ info. with_slot slots k (Some (record info { state = state })))) k ≡ is_some o
@@ -36,7 +36,7 @@ state_live slots k (Some info) state count is =
 
 module _ (e hart : ℕ) (one other : MonitoredMachine) (trap : Trap) (host : Context) (count : length one.shared.table ≡ 13) (live : is_live one.shared.table e ≡ true)
     (equiv : EquivExcept e one other) (there_is : hart < count_of one)
-    (behind : SameHost (hart_state_of hart one) (hart_state_of hart other)) (handover : SameHandover (hart_state_of hart one).hart (hart_state_of hart other).hart) where
+    (behind : SameHost (hart_state_of hart one) (hart_state_of hart other)) (handover : SameHandoverBy trap.cause (hart_state_of hart one).hart (hart_state_of hart other).hart) where
   abbrev h1 : Hart
   h1 = (hart_state_of hart one).hart
 
@@ -53,7 +53,7 @@ module _ (e hart : ℕ) (one other : MonitoredMachine) (trap : Trap) (host : Con
   t2 = with_state other.shared.table e (enclave_state_after trap.cause h2.regs)
 
   tables : t1 ≡ t2
-  tables = ap₂ (λ (t : Slots) (s : EnclaveState). with_state t e s) equiv.shared.table (same_state trap.cause h1.regs h2.regs handover.a6)
+  tables = ap₂ (λ (t : Slots) (s : EnclaveState). with_state t e s) equiv.shared.table (same_state trap.cause h1 h2 handover)
 
   abbrev made : Slots → CsrState → ℕ → ℕ → Hart
   made t c r v = record { regs = with_return_values host.regs r v; csrs = left_csrs c t trap host; pc = host.pc; mode = host.mode }
@@ -64,7 +64,7 @@ module _ (e hart : ℕ) (one other : MonitoredMachine) (trap : Trap) (host : Con
       ≡ made t2 (unswitched h2.csrs) (reason trap.cause h1.regs) (value trap.cause h1.regs) =
       ap₂ (λ (t : Slots) (c : CsrState). made t c (reason trap.cause h1.regs) (value trap.cause h1.regs)) tables behind.rest in
       first
-      ∙ ap₂ (λ (r v : ℕ). made t2 (unswitched h2.csrs) r v) (same_reason trap.cause h1.regs h2.regs handover.a6) (same_value trap.cause h1.regs h2.regs handover.a0)
+      ∙ ap₂ (λ (r v : ℕ). made t2 (unswitched h2.csrs) r v) (same_reason trap.cause h1 h2 handover) (same_value trap.cause h1 h2 handover)
 
   abbrev put : Hart → HartState
   put h = record { hart = h; host_context = None; world = Host }
@@ -124,7 +124,7 @@ module _ (e hart : ℕ) (one other : MonitoredMachine) (trap : Trap) (host : Con
 
 with_host : (e hart : ℕ) (one other : MonitoredMachine) (trap : Trap) (o : Option Context) → (hart_state_of hart one).host_context ≡ o → Invariant one → Invariant other
     → EquivExcept e one other → runs_on e hart one ≡ true
-    → SameHost (hart_state_of hart one) (hart_state_of hart other) → SameHandover (hart_state_of hart one).hart (hart_state_of hart other).hart
+    → SameHost (hart_state_of hart one) (hart_state_of hart other) → SameHandoverBy trap.cause (hart_state_of hart one).hart (hart_state_of hart other).hart
     → (step_of hart one).outcome.step.trap ≡ Some trap → (step_of hart other).outcome.step.trap ≡ Some trap
     → (hart_state_of hart (step_of hart one).state).world ≡ Host → (hart_state_of hart (step_of hart other).state).world ≡ Host
     → EquivExcept e (step_of hart one).state (step_of hart other).state
@@ -144,7 +144,7 @@ with_host e hart one other trap (Some host) is here there equiv runs behind hand
 
 pub release : (e hart : ℕ) (one other : MonitoredMachine) (trap : Trap) → Invariant one → Invariant other
     → EquivExcept e one other → runs_on e hart one ≡ true
-    → SameHost (hart_state_of hart one) (hart_state_of hart other) → SameHandover (hart_state_of hart one).hart (hart_state_of hart other).hart
+    → SameHost (hart_state_of hart one) (hart_state_of hart other) → SameHandoverBy trap.cause (hart_state_of hart one).hart (hart_state_of hart other).hart
     → (step_of hart one).outcome.step.trap ≡ Some trap → (step_of hart other).outcome.step.trap ≡ Some trap
     → (hart_state_of hart (step_of hart one).state).world ≡ Host → (hart_state_of hart (step_of hart other).state).world ≡ Host
     → EquivExcept e (step_of hart one).state (step_of hart other).state

@@ -1,11 +1,11 @@
 -- Attestation: the measurement identifies what an enclave does. Two enclaves with the same measured bytes take the same steps from their first
 -- entry on, under any hosts and tables and in any slots. (Laws about the monitor's definitions; Keystone, EuroSys 2020, in this project's profile.)
-use Rattle.std.specs.Prelude.{◌≡◌, ◌⊎◌, ℕ, true, false, Some}
+use Rattle.std.specs.Prelude.{◌≡◌, ℕ, true, false, Some}
 use Rattle.rv_enclaves.specs.Create.{measured_bytes}
 use Rattle.rv_enclaves.specs.Measurement.{args_of}
 use Rattle.rv_enclaves.specs.declared.slot_info.SlotInfo.{SlotInfo}
 use Rattle.rv_enclaves.specs.declared.slot_info.EnclaveState.TheVariants.{Fresh}
-use Rattle.rv_monitor.specs.Prelude.{Enclave, Host, Shared, Trap, context_at, first_context, is_live, measurement_of, slot_at}
+use Rattle.rv_monitor.specs.Prelude.{Enclave, Host, Shared, context_at, first_context, is_live, measurement_of, slot_at}
 use Rattle.rv_monitor.specs.Declassification.{SameWindow}
 use Rattle.rv_monitor.specs.EnclaveSteps.{AreHighSteps, Place, SameEnclaveRun, SameSaved, step_at}
 use Rattle.rv_monitor.specs.Integrity.{enters}
@@ -22,19 +22,18 @@ pub record IsAsCreated (k : ℕ) (shared : Shared) : Type 0 where
   pub context : context_at shared.contexts k ≡ Some (first_context info)
   pub measurement : info.measurement ≡ measurement_of shared.memory (args_of info)
 
--- an enclave that the step creates, or that was as created before the step, is so after it, unless the step enters or ends it
-abbrev pub KeepsAsCreated : MonitoredMachine → MonitoredStepped → Type 0
-KeepsAsCreated before after =
-    (k : ℕ) → (is_live before.shared.table k ≡ false) ⊎ IsAsCreated k before.shared → enters k after.outcome.entered ≡ false
-    → is_live after.state.shared.table k ≡ true → IsAsCreated k after.state.shared
+pub record KeepsAsCreated (before : MonitoredMachine) (after : MonitoredStepped) : Type 0 where
+  -- an enclave that the step creates is as created after it
+  pub creates : (k : ℕ) → is_live before.shared.table k ≡ false → is_live after.state.shared.table k ≡ true → IsAsCreated k after.state.shared
+  -- one that was as created stays so, unless the step enters or ends it
+  pub keeps : (k : ℕ) → IsAsCreated k before.shared → enters k after.outcome.entered ≡ false → is_live after.state.shared.table k ≡ true
+      → IsAsCreated k after.state.shared
 
 -- ---- the entry
 
 -- the next step of the hart is a step of the host that enters the enclave
 pub record IsEntry (place : Place) (machine : MonitoredMachine) : Type 0 where
   pub host : (hart_state_of place.hart machine).world ≡ Host
-  pub trap : Trap
-  pub trapped : (step_at place machine).outcome.step.trap ≡ Some trap
   pub world : (hart_state_of place.hart (step_at place machine).state).world ≡ Enclave place.slot
 
 -- both machines enter an enclave next, with equal timer lines

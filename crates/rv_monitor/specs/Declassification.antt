@@ -5,10 +5,14 @@ use Rattle.std.specs.Prelude.{◌≡◌, ◌⊎◌, ℕ, Bool, true, false, not,
 use Rattle.rv_enclaves.specs.Contexts.{no_supervisor}
 use Rattle.rv_enclaves.specs.SharedEquivExcept.{SameContexts}
 use Rattle.rv_enclaves.specs.Table.{runs, window}
-use Rattle.rv_monitor.specs.Prelude.{CsrState, EqualOutside, Hart, HartState, Host, Slots, Trap, has, is_live, region, register, with_s_context}
+use Rattle.rv_state.specs.declared.cause.Cause.TheVariants as causes
+use Rattle.rv_monitor.specs.Prelude.{Cause, CsrState, EqualOutside, Hart, HartState, Host, Slots, Trap, has, is_live, region, register, with_s_context}
+use Rattle.rv_monitor.specs.Debugger.{with_timer}
 use Rattle.rv_monitor.specs.EquivExcept.{EquivExcept, HartStatesEquivExcept, runs_on}
+use Rattle.rv_monitor.specs.Events.{Event, LineOf, StepOf, event_of}
 use Rattle.rv_monitor.specs.GuestView.{guest_state, guest_view}
 use Rattle.rv_monitor.specs.MonitoredMachine.{MonitoredMachine, Invariant, count_of, hart_state_of}
+use Rattle.rv_monitor.specs.Reads.{SameWindowRead}
 use Rattle.rv_monitor.specs.Step.{step_of}
 
 -- ---- two machines that are equivalent except for an enclave
@@ -55,12 +59,17 @@ pub record SameHandover (one other : Hart) : Type 0 where
   pub a0 : register one.regs 10 ≡ register other.regs 10
   pub a6 : register one.regs 16 ≡ register other.regs 16
 
+-- an interrupt hands over neither
+abbrev pub SameHandoverBy : Cause → Hart → Hart → Type 0
+SameHandoverBy (causes.Interrupt interrupt) one other = Unit {0}
+SameHandoverBy (causes.Exception exception) one other = SameHandover one other
+
 -- it exits from both machines by the same trap, and hands over the same
 pub record ExitsAlike (e hart : ℕ) (one other : MonitoredMachine) : Type 0 where
   pub runs : runs_on e hart one ≡ true
   pub window : SameWindow e one other
-  pub handover : SameHandover (hart_state_of hart one).hart (hart_state_of hart other).hart
   pub trap : Trap
+  pub handover : SameHandoverBy trap.cause (hart_state_of hart one).hart (hart_state_of hart other).hart
   pub first : (step_of hart one).outcome.step.trap ≡ Some trap
   pub second : (step_of hart other).outcome.step.trap ≡ Some trap
   pub first_exits : (hart_state_of hart (step_of hart one).state).world ≡ Host
@@ -68,37 +77,39 @@ pub record ExitsAlike (e hart : ℕ) (one other : MonitoredMachine) : Type 0 whe
 
 -- ---- moves of two machines
 
--- a step of a hart in the first machine, in the second, or in both
+-- a step of a hart in the first machine or in the second, or an event of both: a step of a hart, or a change of its timer line
 pub data Move : Type 0 where
   First : ℕ → Move
   Second : ℕ → Move
-  Both : ℕ → Move
+  Both : Event → Move
 
 -- a step of the enclave that does not exit
 pub record IsInside (e hart : ℕ) (machine : MonitoredMachine) : Type 0 where
   pub before : runs_on e hart machine ≡ true
   pub after : runs_on e hart (step_of hart machine).state ≡ true
 
--- a low step; while the enclave runs on another hart, its window is equal
+-- a low step; while the enclave runs on another hart, the bytes of its window that the step reads are equal
 pub record IsLowStep (e hart : ℕ) (one other : MonitoredMachine) : Type 0 where
   pub low : runs_on e hart one ≡ false
-  pub window : runs one.shared.table e ≡ true → SameWindow e one other
+  pub window : runs one.shared.table e ≡ true → SameWindowRead e hart one other
 
--- In one machine only the enclave takes steps. In both there are low steps, and exits of the enclave that hand over the same.
+-- In one machine only the enclave takes steps. In both there are low steps, exits of the enclave that hand over the same, and changes of any timer
+-- line.
 abbrev pub IsMove : ℕ → Move → MonitoredMachine → MonitoredMachine → Type 0
 IsMove e (First hart) one other = IsInside e hart one
 IsMove e (Second hart) one other = IsInside e hart other
-IsMove e (Both hart) one other = IsLowStep e hart one other ⊎ ExitsAlike e hart one other
+IsMove e (Both (StepOf hart)) one other = IsLowStep e hart one other ⊎ ExitsAlike e hart one other
+IsMove e (Both (LineOf hart raised)) one other = Unit {0}
 
 abbrev pub first_after : Move → MonitoredMachine → MonitoredMachine
 first_after (First hart) machine = (step_of hart machine).state
 first_after (Second hart) machine = machine
-first_after (Both hart) machine = (step_of hart machine).state
+first_after (Both event) machine = (event_of event machine).state
 
 abbrev pub second_after : Move → MonitoredMachine → MonitoredMachine
 second_after (First hart) machine = machine
 second_after (Second hart) machine = (step_of hart machine).state
-second_after (Both hart) machine = (step_of hart machine).state
+second_after (Both event) machine = (event_of event machine).state
 
 abbrev pub AreMoves : ℕ → List Move → MonitoredMachine → MonitoredMachine → Type 0
 AreMoves e [] one other = Unit {0}
@@ -109,9 +120,11 @@ abbrev pub LowOutcomesEqual : ℕ → List Move → MonitoredMachine → Monitor
 LowOutcomesEqual e [] one other = Unit {0}
 LowOutcomesEqual e (First hart ∷ moves) one other = LowOutcomesEqual e moves (step_of hart one).state other
 LowOutcomesEqual e (Second hart ∷ moves) one other = LowOutcomesEqual e moves one (step_of hart other).state
-LowOutcomesEqual e (Both hart ∷ moves) one other =
+LowOutcomesEqual e (Both (StepOf hart) ∷ moves) one other =
     (runs_on e hart one ≡ false → (step_of hart one).outcome ≡ (step_of hart other).outcome)
     × LowOutcomesEqual e moves (step_of hart one).state (step_of hart other).state
+LowOutcomesEqual e (Both (LineOf hart raised) ∷ moves) one other =
+    LowOutcomesEqual e moves (with_timer hart one raised) (with_timer hart other raised)
 
 -- the machines after all moves
 abbrev pub first_end : List Move → MonitoredMachine → MonitoredMachine

@@ -35,9 +35,16 @@ entered_machine own before k trap context =
       shared = shared;
     }
 
--- Let the host run, slot k have a saved context, the step trap, and the enclave of slot k run after it. The step then leaves this state.
+-- the step trapped, slot k had a saved context, and the step leaves this state
+pub record HasEntered (hart k : ℕ) (before : MonitoredMachine) (after : MonitoredStepped) : Type 0 where
+  pub trap : Trap
+  pub context : Context
+  pub trapped : after.outcome.step.trap ≡ Some trap
+  pub held : context_at before.shared.contexts k ≡ Some context
+  pub state : after.state ≡ entered_machine hart before k trap context
+  pub entered : after.outcome.entered ≡ Some k
+
+-- every step before which the host runs on the hart, and after which the enclave of slot k does
 abbrev pub EntersOnly : ℕ → MonitoredMachine → MonitoredStepped → Type 0
 EntersOnly hart before after =
-    (k : ℕ) (context : Context) (trap : Trap) → (hart_state_of hart before).world ≡ Host → context_at before.shared.contexts k ≡ Some context
-    → after.outcome.step.trap ≡ Some trap → (hart_state_of hart after.state).world ≡ Enclave k
-    → (after.state ≡ entered_machine hart before k trap context) × (after.outcome.entered ≡ Some k)
+    (k : ℕ) → (hart_state_of hart before).world ≡ Host → (hart_state_of hart after.state).world ≡ Enclave k → HasEntered hart k before after

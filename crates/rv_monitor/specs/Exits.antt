@@ -6,11 +6,11 @@ use Rattle.rv_state.specs.Causes.{cause_code}
 use Rattle.rv_state.specs.declared.cause.Cause.TheVariants as causes
 use Rattle.rv_state.specs.declared.cause.Interrupt.{Interrupt}
 use Rattle.rv_state.specs.declared.cause.Interrupt.TheVariants.{MachineTimer}
-use Rattle.rv_monitor.specs.Prelude.{Call, Cause, CsrState, Enclave, EnvironmentCallFromS, Exit, Hart, HartState, S, Stop, Trap, aligned_to_4}
+use Rattle.rv_monitor.specs.Prelude.{Call, Cause, CsrState, Enclave, EnvironmentCallFromS, Exit, Hart, HartState, M, Mode, S, Stop, Trap, U, aligned_to_4}
 use Rattle.rv_monitor.specs.Prelude.{is_host, requested_call}
 use Rattle.rv_monitor.specs.Refused.{passed_csrs}
 use Rattle.rv_monitor.specs.MonitoredMachine.{MonitoredMachine, hart_state_of, with_hart_state}
-use Rattle.rv_monitor.specs.Step.{MonitoredStepped, is_supervisor}
+use Rattle.rv_monitor.specs.Step.{MonitoredStepped}
 
 -- ---- the traps by which an enclave exits
 
@@ -33,12 +33,18 @@ is_redirected (causes.Exception EnvironmentCallFromS) = false
 is_redirected (causes.Exception exception) = true
 is_redirected (causes.Interrupt interrupt) = false
 
+-- SPP for a mode
+abbrev pub spp_of : Mode → Bool
+spp_of U = false
+spp_of S = true
+spp_of M = false
+
 -- as after a trap to mode S: pc, cause and value of the exception, and the mode in which it occurred
 abbrev pub redirected_csrs : Hart → Trap → CsrState
 redirected_csrs hart trap =
     let passed = passed_csrs hart.csrs trap (aligned_to_4 hart.csrs.stvec) in
     record passed {
-      mstatus = record passed.mstatus { spie = hart.csrs.mstatus.sie; sie = false; spp = is_supervisor hart.mode };
+      mstatus = record passed.mstatus { spie = hart.csrs.mstatus.sie; sie = false; spp = spp_of hart.mode };
       sepc = aligned_to_4 hart.pc;
       scause = cause_code trap.cause;
       stval = trap.tval;

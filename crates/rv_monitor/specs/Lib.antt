@@ -3,6 +3,8 @@ pub mod CallRefusals
 pub mod Refused
 pub mod MonitoredMachine
 pub mod HartLaws
+pub mod Events
+pub mod Reads
 pub mod Step
 pub mod FastSteps
 pub mod Switches
@@ -23,7 +25,12 @@ pub mod Entering
 pub mod Records
 pub mod Exits
 pub mod Availability
+pub mod NumberedCalls
+pub mod PlainSteps
+pub mod Determined
 pub mod GuestView
 pub mod EnclaveSteps
 pub mod Declassification
 pub mod Attestation
+pub mod LegalMachine
+pub mod Life

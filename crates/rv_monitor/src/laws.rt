@@ -4,11 +4,15 @@
 ghost use Rattle.rv_monitor.specs.AccessControl.{AccessControlLaw};
 ghost use Rattle.rv_monitor.specs.Attestation.{AttestationLaw, ReentryLaw};
 ghost use Rattle.rv_monitor.specs.Declassification.{DeclassificationLaw, RelationLaw};
+ghost use Rattle.rv_monitor.specs.Determined.{DeterminedLaw};
 ghost use Rattle.rv_monitor.specs.EnclaveSteps.{EnclaveRunLaw};
+ghost use Rattle.rv_monitor.specs.Events.{EventIntegrityLaw, EventInvariantLaw, EventLaw, RunningEventLaw};
 ghost use Rattle.rv_monitor.specs.HandlerReads.{HandlerReadsLaw};
 ghost use Rattle.rv_monitor.specs.Noninterference.{BareLaw, HandlerLaw};
 ghost use Rattle.rv_monitor.specs.HartLaws.{EntryLaw, LowStepsLaw, RunningLaw, SchedChangeLaw, SchedInvariantLaw, SchedLaw, SchedIntegrityLaw};
+ghost use Rattle.rv_monitor.specs.Life.{LifeBeginsLaw, LifeLaw};
 ghost use Rattle.rv_monitor.specs.Returns.{ReturnLaw};
+ghost use Rattle.rv_monitor.specs.LegalMachine.{LegalLaw};
 ghost use Rattle.rv_monitor.specs.Scrambled.{ScrambleLaw};
 
 /// States access control: in every state, the PMP permits S and U an access to bytes in RAM if and only if it is accessible.
@@ -87,11 +91,33 @@ pub const fn any_order_changes()
     ensures { SchedChangeLaw }
 {}
 
+/// States these laws for lists of events: steps of the harts and changes of their timer lines, in any order. An attacker that chooses the schedule
+/// also chooses when interrupts become pending. Every list preserves the invariant. It preserves each enclave that it leaves undisturbed, except for
+/// the timer line of its hart. Steps of the other harts and changes of any timer line leave a running enclave undisturbed. If two machines are
+/// equivalent except for an enclave, low events have the same outcomes on both, and leave both equivalent except for that enclave.
+pub const fn any_events()
+    ensures keeps { EventInvariantLaw }
+    ensures integrity { EventIntegrityLaw }
+    ensures running { RunningEventLaw }
+    ensures noninterference { EventLaw }
+{}
+
 /// States that many steps of an enclave in a row depend only on its record, the bytes of its region and its window, its registers and its timer
 /// line. They are the same in every machine in which these are equal, whatever its slot, its hart, the host, the other enclaves and the rest of
 /// the table are.
 pub const fn enclave_run_depends_on_enclave()
     ensures { EnclaveRunLaw }
+{}
+
+/// States integrity over the whole life of an enclave. Two machines have an enclave at the same point of its life. Their hosts, tables, memories
+/// and schedules may differ. The enclave's own steps are the same in both, as long as the bytes of its window that they read are equal. Between two
+/// of its steps the others may step in any order, enter it, and interrupt it by the timer. Two enclaves with equal measured bytes begin at the same
+/// point. The measurement therefore identifies what an enclave does in its whole life. At reset pc and the S-mode registers have legal values, and
+/// every event preserves this.
+pub const fn whole_life_depends_on_enclave()
+    ensures life { LifeLaw }
+    ensures begins { LifeBeginsLaw }
+    ensures legal { LegalLaw }
 {}
 
 /// States noninterference with declassification. Let two machines be equivalent except for an enclave, and let it take any number of its own
@@ -111,4 +137,10 @@ pub const fn equivalent_machines_are_related()
 pub const fn measurement_identifies()
     ensures first_run { AttestationLaw }
     ensures later_runs { ReentryLaw }
+{}
+
+/// States that the laws of a step determine it: a machine and an outcome that obey `plain`, `answers`, `interrupts`, `exits` and `host` of
+/// [`MonitoredMachine::step`](crate::MonitoredMachine::step) are those of the step.
+pub const fn laws_determine_step()
+    ensures { DeterminedLaw }
 {}

@@ -284,6 +284,12 @@ impl MonitoredMachine {
     /// - `guest_view`: the step reads no counter, and none of mepc, mcause, mtval, MPIE and MPP.
     /// - `as_created`: a new enclave is Fresh, with its first context and the measurement of its record and region. It stays so until it is
     ///   entered or destroyed.
+    /// - `answers`: each ecall from S has the effect and the status that its numbers name, with the key in a7 and the call in a6. The statuses and
+    ///   their order, the states that each call accepts, the record of a new enclave and its measurement are written out there.
+    /// - `create`: a create of the host with good arguments succeeds if a slot is free, and returns the lowest one.
+    /// - `interrupts`: a timer interrupt stops the enclave where it is, hands over 2 and 0, and clears the line.
+    /// - `plain`: a step without a trap is that of its hart alone.
+    /// - `host`: the host takes no interrupt, even if its timer line is set. An exception of it that is no call goes to its own mode S.
     pub fn step(&mut self, hart: u8) -> Outcome
         requires { hart < count_of self.old }
         ensures meaning { step_of hart self.old ≡ record { state = self.new; outcome = result } }

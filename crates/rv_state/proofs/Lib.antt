@@ -6,3 +6,4 @@ pub mod StatusLemmas
 pub mod MachinePartsLemmas
 pub mod BelowMLemmas
 mod CsrExamples
+pub mod StoredLemmas

@@ -29,6 +29,11 @@ with_s_context c s = record c {
   mstatus = record c.mstatus { sie = s.sie; spie = s.spie; spp = s.spp; mxr = s.mxr };
 }
 
+-- stvec and sepc have legal values, those that a write would store
+pub record HasLegalVectors (c : CsrState) : Type 0 where
+  pub stvec : vector_of c.stvec ≡ c.stvec
+  pub sepc : aligned_to_4 c.sepc ≡ c.sepc
+
 -- setting the current values changes nothing
 abbrev pub KeepsOwn : CsrState → Type 0
 KeepsOwn c = with_s_context c (s_context c) ≡ c

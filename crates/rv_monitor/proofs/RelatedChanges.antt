@@ -1,15 +1,13 @@
 -- Two related machines stay related after a debugger's write to the same hart of both, or to memory.
 use Rattle.std.proofs.Common.{◌≡◌, ℕ, ◌<◌, true, false, List, refl, sym, ◌∙◌, ap, ap₂, inl, inr, arith}
-use Rattle.rv_enclaves.specs.SharedEquivExcept.{EqualOutside}
 use Rattle.rv_enclaves.specs.declared.shared.Shared.{Shared}
+use Rattle.rv_monitor.specs.Debugger.{changed, with_memory}
 use Rattle.rv_monitor.specs.Declassification.{AreRelated, SameHost, may_differ}
-use Rattle.rv_monitor.specs.EquivExcept.{HartStatesEquivExcept}
 use Rattle.rv_monitor.specs.GuestView.{guest_state}
+use Rattle.rv_monitor.specs.Prelude.{EqualOutside, HartState, is_live, is_world_of}
+use Rattle.rv_monitor.proofs.Prelude.{HartStatesEquivExcept, MonitoredMachine, cases_lt, count_of, hart_state_of, length-set}
 use Rattle.rv_monitor.proofs.HartCases.{hart_cases_of_both}
 use Rattle.rv_monitor.proofs.InvariantLemmas.{past_as_is}
-use Rattle.rv_monitor.proofs.Prelude.{length-set}
-use Rattle.rv_debug.specs.Prelude.{HartState, MonitoredMachine, changed, count_of, hart_state_of, is_live, is_world_of, with_memory}
-use Rattle.rv_debug.proofs.Prelude.{cases_lt}
 
 -- two changes of a hart keep its world, and keep what the two states have in common
 pub record ChangesAlike (e : ℕ) (one other : HartState) (change change_too : HartState → HartState) : Type 0 where

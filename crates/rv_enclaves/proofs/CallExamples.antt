@@ -1,0 +1,77 @@
+-- Examples of the calls in numbers, by computation: each call of the host succeeds in some state, and refusals have their statuses.
+use Rattle.std.proofs.Common.{◌≡◌, ℕ, List, length, Some, refl}
+use Rattle.std.specs.Prelude.{replicate}
+use Rattle.rv_state.specs.Registers.{with_register}
+use Rattle.rv_enclaves.specs.CallNumbers.{call_numbered, call_status, create_rows, state_rows}
+use Rattle.rv_enclaves.specs.Contexts.{no_contexts}
+use Rattle.rv_enclaves.specs.Table.{no_slots, with_slot}
+use Rattle.rv_enclaves.specs.declared.slot_info.EnclaveState.TheVariants.{Fresh, Exited, Stopped}
+use Rattle.rv_enclaves.proofs.Prelude.{EnclaveState, Enclave, Entries, Host, Shared}
+
+-- a call with its number in a6
+abbrev asks : ℕ → List ℕ → List ℕ
+asks number regs = with_register (with_register regs 16 number) 17 0x0A454E43
+
+abbrev arguments : ℕ → ℕ → List ℕ
+arguments region entry = with_register (with_register (with_register (with_register (with_register (replicate 32 0) 10 region) 11 0x1000) 12 0x80030000) 13 0x1000) 14 entry
+
+-- no enclave, or one in slot 0
+abbrev empty : List ℕ → Shared
+empty memory = record { memory = memory; table = no_slots; contexts = no_contexts }
+
+abbrev with_one : List ℕ → EnclaveState → Shared
+with_one memory state = record (empty memory) {
+  table = with_slot no_slots 0 (Some (record {
+    region = record { base = 0x80020000; size = 0x1000 };
+    window = record { base = 0x80030000; size = 0x1000 };
+    entry = 0x80020000;
+    measurement = replicate 32 0;
+    state = state;
+  }));
+}
+
+module _ (memory : List ℕ) (entries : Entries) (size : length memory ≡ 0x40000) where
+  creates : call_status Host (empty memory) entries (asks 1 (arguments 0x80020000 0x80020000)) ≡ 0
+  unfolding call_status call_numbered create_rows
+  creates = rw size refl
+
+  overlap : call_status Host (with_one memory Fresh) entries (asks 1 (arguments 0x80020000 0x80020000)) ≡ 0xFFFFFFFC
+  unfolding call_status call_numbered create_rows
+  overlap = rw size refl
+
+  bad_entry : call_status Host (empty memory) entries (asks 1 (arguments 0x80020000 0x80021000)) ≡ 0xFFFFFFFB
+  unfolding call_status call_numbered create_rows
+  bad_entry = rw size refl
+
+module _ (memory : List ℕ) (entries : Entries) where
+  bad_region : call_status Host (empty memory) entries (asks 1 (arguments 0x80020800 0x80020800)) ≡ 0xFFFFFFFE
+  unfolding call_status call_numbered create_rows
+  bad_region = refl
+
+  runs_fresh : call_status Host (with_one memory Fresh) entries (asks 3 (replicate 32 0)) ≡ 0
+  unfolding call_status call_numbered state_rows
+  runs_fresh = refl
+
+  runs_stopped : call_status Host (with_one memory Stopped) entries (asks 3 (replicate 32 0)) ≡ 0xFFFFFFF8
+  unfolding call_status call_numbered state_rows
+  runs_stopped = refl
+
+  resumes_stopped : call_status Host (with_one memory Stopped) entries (asks 4 (replicate 32 0)) ≡ 0
+  unfolding call_status call_numbered state_rows
+  resumes_stopped = refl
+
+  destroys_exited : call_status Host (with_one memory Exited) entries (asks 2 (replicate 32 0)) ≡ 0
+  unfolding call_status call_numbered state_rows
+  destroys_exited = refl
+
+  no_enclave : call_status Host (empty memory) entries (asks 2 (replicate 32 0)) ≡ 0xFFFFFFF9
+  unfolding call_status call_numbered state_rows
+  no_enclave = refl
+
+  stop_of_host : call_status Host (with_one memory Fresh) entries (asks 6 (replicate 32 0)) ≡ 0xFFFFFFFF
+  unfolding call_status call_numbered
+  stop_of_host = refl
+
+  stop_of_enclave : call_status (Enclave 0) (with_one memory Fresh) entries (asks 6 (replicate 32 0)) ≡ 0
+  unfolding call_status call_numbered
+  stop_of_enclave = refl

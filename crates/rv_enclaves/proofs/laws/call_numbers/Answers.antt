@@ -1,0 +1,5 @@
+use Rattle.rv_enclaves.proofs.CallNumbers.{call_numbers}
+use Rattle.rv_enclaves.proofs.laws.call_numbers.Goals as goal
+
+pub returns : goal.returns
+returns c = call_numbers

@@ -1,0 +1,254 @@
+-- The calls of the monitor in numbers: the key, the calls, the statuses in the order of the checks, and the effects. Nothing here uses the tables
+-- of the calls. The law says that the tables agree. (Keystone, EuroSys 2020, in this project's profile; the measurement is SHA-256 of FIPS 180-4.)
+use Rattle.std.specs.Prelude.{◌≡◌, ◌≢◌, ◌≤◌, ◌<◌, ◌⊎◌, ℕ, ◌+◌, ◌%◌, ◌^◌, ◌==◌, Bool, true, false, not, ◌&&◌, ◌||◌, nat_le, nat_lt, if◌then◌else◌, is_some}
+use Rattle.std.specs.Prelude.{List, [], ◌∷◌, ◌++◌, length, replicate, slice_index_or, slice_set, Option, Some, None}
+use Rattle.std.specs.List.{find, list_all, list_any, range_with_len}
+use Rattle.std.specs.Option.{is_none}
+use Rattle.sha2.specs.Sha256.{sha256}
+use Rattle.rv_word.specs.Cases.{option_case}
+use Rattle.rv_memory.specs.Memory.{bytes_of, read, write}
+use Rattle.rv_platform.specs.Blocks.{meets}
+use Rattle.rv_platform.specs.declared.block.Block.{Block}
+use Rattle.rv_pmp.specs.Entries.{Entries}
+use Rattle.rv_pmp.specs.Verdicts.{bytes_from, permits, verdict}
+use Rattle.rv_pmp.specs.declared.access.Access.TheVariants.{Write}
+use Rattle.rv_pmp.specs.declared.mode.Mode.TheVariants.{S}
+use Rattle.rv_state.specs.Registers.{register, with_register}
+use Rattle.rv_enclaves.specs.Calls.{requested_call, status_of}
+use Rattle.rv_enclaves.specs.Create.{create_args_of, create_refusals, created}
+use Rattle.rv_enclaves.specs.Destroy.{destroyed}
+use Rattle.rv_enclaves.specs.Layout.{mie_of}
+use Rattle.rv_enclaves.specs.Measure.{measure_refusals, measured, measured_slot}
+use Rattle.rv_enclaves.specs.Refusals.{state_refusals}
+use Rattle.rv_enclaves.specs.Table.{Slots}
+use Rattle.rv_enclaves.specs.declared.call.Call.{Call}
+use Rattle.rv_enclaves.specs.declared.call.Call.TheVariants.{Create, Destroy, Run, Resume, Measure, Stop, Exit}
+use Rattle.rv_enclaves.specs.declared.refusal.Refusal.{Refusal}
+use Rattle.rv_enclaves.specs.declared.shared.Shared.{Shared}
+use Rattle.rv_enclaves.specs.declared.slot_info.EnclaveState.{EnclaveState}
+use Rattle.rv_enclaves.specs.declared.slot_info.EnclaveState.TheVariants.{Fresh, Running, Stopped, Exited}
+use Rattle.rv_enclaves.specs.declared.slot_info.SlotInfo.{SlotInfo}
+use Rattle.rv_enclaves.specs.declared.world.World.{World}
+use Rattle.rv_enclaves.specs.declared.world.World.TheVariants.{Host, Enclave}
+
+-- ---- the request
+
+-- the call that a7 and a6 request of a world, if there is one
+unfoldable pub call_numbered : World → ℕ → ℕ → Option Call
+call_numbered Host a7 a6 =
+    if a7 == 0x0A454E43 then (if a6 == 1 then Some Create else (if a6 == 2 then Some Destroy else (if a6 == 3 then Some Run
+    else (if a6 == 4 then Some Resume else (if a6 == 5 then Some Measure else None))))) else None
+call_numbered (Enclave k) a7 a6 =
+    if a7 == 0x0A454E43 then (if a6 == 5 then Some Measure else (if a6 == 6 then Some Stop else (if a6 == 7 then Some Exit else None))) else None
+
+-- ---- the arguments
+
+-- the region in a0 and a1, and the window in a2 and a3; a size of 0 means none
+abbrev pub region_named : List ℕ → Block
+region_named regs = record { base = register regs 10; size = register regs 11 }
+
+abbrev pub window_named : List ℕ → Block
+window_named regs =
+    if register regs 13 == 0 then record { base = 0; size = 0 } else record { base = register regs 12; size = register regs 13 }
+
+-- the record in a slot, if it is live
+abbrev pub record_at : Slots → ℕ → Option SlotInfo
+record_at slots k = slice_index_or slots k None
+
+-- the slot that a measure is about: a0, or the enclave's own
+abbrev pub slot_named : World → List ℕ → ℕ
+slot_named Host regs = register regs 10
+slot_named (Enclave k) regs = k
+
+-- ---- the conditions
+
+-- a power of two from 4096 up, at a multiple of it, inside the memory, which begins at 80000000
+abbrev pub is_block_of : List ℕ → Block → Bool
+is_block_of memory block =
+    list_any (λ k. block.size == 2 ^ k) (range_with_len 12 20) && (block.base % block.size == 0
+    && (nat_le 0x80000000 block.base && nat_le (block.base + block.size) (0x80000000 + length memory)))
+
+-- what the monitor keeps for itself
+abbrev pub monitor_range : Block
+monitor_range = record { base = 0x80000000; size = 0x10000 }
+
+-- a region and a window overlap an enclave in bytes that the two may not share
+abbrev pub overlap_enclave : Block → Block → Option SlotInfo → Bool
+overlap_enclave region window slot =
+    option_case slot false (λ info. meets region info.region || (meets region info.window || meets window info.region))
+
+abbrev pub lowest_free : Slots → Option ℕ
+lowest_free slots = find (λ k. is_none (record_at slots k)) (range_with_len 0 13)
+
+-- the states that run, resume and destroy accept
+abbrev pub is_fresh : EnclaveState → Bool
+is_fresh Fresh = true
+is_fresh Running = false
+is_fresh Stopped = false
+is_fresh Exited = false
+
+abbrev pub is_stopped : EnclaveState → Bool
+is_stopped Fresh = false
+is_stopped Running = false
+is_stopped Stopped = true
+is_stopped Exited = false
+
+abbrev pub does_not_run : EnclaveState → Bool
+does_not_run Fresh = true
+does_not_run Running = false
+does_not_run Stopped = true
+does_not_run Exited = true
+
+-- S may store a byte
+abbrev pub is_storable : List ℕ → Entries → ℕ → Bool
+is_storable memory entries byte =
+    nat_le 0x80000000 byte && nat_le (byte + 1) (0x80000000 + length memory) && permits (verdict entries S Write (bytes_from byte 1))
+
+-- ---- the statuses of each call: the first row whose condition holds decides
+
+unfoldable pub create_rows : Shared → List ℕ → List (Bool × ℕ)
+create_rows shared regs =
+    let region = region_named regs in
+    let window = window_named regs in
+    let entry = register regs 14 in
+    (not (is_block_of shared.memory region), 0xFFFFFFFE)
+    ∷ (not (register regs 13 == 0 || is_block_of shared.memory window), 0xFFFFFFFD)
+    ∷ (meets monitor_range region || (meets monitor_range window || (meets region window || list_any (overlap_enclave region window) shared.table)), 0xFFFFFFFC)
+    ∷ (not (entry % 4 == 0 && (nat_le region.base entry && nat_lt entry (region.base + region.size))), 0xFFFFFFFB)
+    ∷ (is_none (lowest_free shared.table), 0xFFFFFFFA)
+    ∷ []
+
+unfoldable pub state_rows : (EnclaveState → Bool) → Slots → ℕ → List (Bool × ℕ)
+state_rows accepts slots k =
+    (not (is_some (record_at slots k)), 0xFFFFFFF9)
+    ∷ (not (option_case (record_at slots k) false (λ info. accepts info.state)), 0xFFFFFFF8)
+    ∷ []
+
+unfoldable pub measure_rows : Shared → Entries → ℕ → ℕ → List (Bool × ℕ)
+measure_rows shared entries k address =
+    (not (is_some (record_at shared.table k)), 0xFFFFFFF9)
+    ∷ (not (list_all (is_storable shared.memory entries) (range_with_len address 32)), 0xFFFFFFF7)
+    ∷ []
+
+abbrev pub call_rows : World → Shared → Entries → List ℕ → Call → List (Bool × ℕ)
+call_rows world shared entries regs Create = create_rows shared regs
+call_rows world shared entries regs Destroy = state_rows does_not_run shared.table (register regs 10)
+call_rows world shared entries regs Run = state_rows is_fresh shared.table (register regs 10)
+call_rows world shared entries regs Resume = state_rows is_stopped shared.table (register regs 10)
+call_rows world shared entries regs Measure = measure_rows shared entries (slot_named world regs) (register regs 11)
+call_rows world shared entries regs Stop = []
+call_rows world shared entries regs Exit = []
+
+-- 0 if no row holds: the call succeeds
+abbrev pub first_status : List (Bool × ℕ) → ℕ
+first_status [] = 0
+first_status ((true, status) ∷ rows) = status
+first_status ((false, status) ∷ rows) = first_status rows
+
+-- the status of any request
+unfoldable pub call_status : World → Shared → Entries → List ℕ → ℕ
+call_status world shared entries regs =
+    option_case (call_numbered world (register regs 17) (register regs 16)) 0xFFFFFFFF (λ call. first_status (call_rows world shared entries regs call))
+
+-- ---- the effects
+
+-- a new enclave: Fresh, measured, in the lowest free slot; its first registers are those of its region and window, and it starts at its entry
+unfoldable pub shared_with_new : Shared → List ℕ → Shared
+shared_with_new shared regs =
+    let region = region_named regs in
+    let window = window_named regs in
+    let entry = register regs 14 in
+    let k = option_case (lowest_free shared.table) 13 (λ k. k) in
+    record shared {
+      table = slice_set shared.table k (Some (record {
+        region = region;
+        window = window;
+        entry = entry;
+        measurement = sha256 ((bytes_of 4 region.base ++ bytes_of 4 region.size ++ bytes_of 4 window.base ++ bytes_of 4 window.size ++ bytes_of 4 entry)
+            ++ option_case (read shared.memory region.base region.size) [] (λ bytes. bytes));
+        state = Fresh;
+      }));
+      contexts = slice_set shared.contexts k (Some (record {
+        regs = with_register (with_register (with_register (with_register (replicate 32 0) 10 region.base) 11 region.size) 12 window.base) 13 window.size;
+        pc = entry;
+        mode = S;
+        supervisor = record { stvec = 0; sscratch = 0; sepc = 0; scause = 0; stval = 0; sie = false; spie = false; spp = false; mxr = false };
+      }));
+    }
+
+-- the region of a destroyed enclave is zeroed, and its record and saved context are gone
+unfoldable pub shared_without : Shared → ℕ → Shared
+shared_without shared k =
+    let region = option_case (record_at shared.table k) (record { base = 0; size = 0 }) (λ info. info.region) in
+    record {
+      memory = option_case (write shared.memory region.base (replicate region.size 0)) shared.memory (λ after. after);
+      table = slice_set shared.table k None;
+      contexts = slice_set shared.contexts k None;
+    }
+
+-- the 32 bytes of its measurement are stored
+unfoldable pub shared_with_measurement : Shared → ℕ → ℕ → Shared
+shared_with_measurement shared k address =
+    let measurement = option_case (record_at shared.table k) [] (λ info. info.measurement) in
+    record shared { memory = option_case (write shared.memory address measurement) shared.memory (λ after. after) }
+
+-- ---- the law: the tables and effects of the calls are these
+
+abbrev pub in_numbers : List (Bool × Refusal) → List (Bool × ℕ)
+in_numbers [] = []
+in_numbers ((holds, refusal) ∷ rows) = (holds, status_of refusal) ∷ in_numbers rows
+
+pub record AreCallNumbers (shared : Shared) (entries : Entries) (regs : List ℕ) : Type 0 where
+  pub call : (world : World) → requested_call world regs ≡ call_numbered world (register regs 17) (register regs 16)
+  pub status : (refusal : Refusal) → status_of refusal ≢ 0
+  pub create : in_numbers (create_refusals shared (create_args_of regs)) ≡ create_rows shared regs
+  pub destroy : (k : ℕ) → in_numbers (state_refusals shared.table Destroy k) ≡ state_rows does_not_run shared.table k
+  pub run : (k : ℕ) → in_numbers (state_refusals shared.table Run k) ≡ state_rows is_fresh shared.table k
+  pub resume : (k : ℕ) → in_numbers (state_refusals shared.table Resume k) ≡ state_rows is_stopped shared.table k
+  pub measure : (k address : ℕ) → in_numbers (measure_refusals shared entries k address) ≡ measure_rows shared entries k address
+  pub slot : (world : World) → measured_slot world (register regs 10) ≡ slot_named world regs
+  pub created : created shared (create_args_of regs) ≡ shared_with_new shared regs
+  pub destroyed : (k : ℕ) → destroyed shared k ≡ shared_without shared k
+  pub measured : (k address : ℕ) → measured shared k address ≡ shared_with_measurement shared k address
+  pub host_mie : mie_of Host ≡ 0
+  pub enclave_mie : (k : ℕ) → mie_of (Enclave k) ≡ 0x80
+
+abbrev pub CallNumbersLaw : Type 0
+CallNumbersLaw = (shared : Shared) (entries : Entries) (regs : List ℕ) → AreCallNumbers shared entries regs
+
+-- ---- a create that succeeds, without tests
+
+-- a block that an enclave may have
+pub record IsBlockOf (memory : List ℕ) (block : Block) : Type 0 where
+  pub exponent : ℕ
+  pub at_least : 12 ≤ exponent
+  pub below : exponent < 32
+  pub size : block.size ≡ 2 ^ exponent
+  pub multiple : block.base % block.size ≡ 0
+  pub from : 0x80000000 ≤ block.base
+  pub to : block.base + block.size ≤ 0x80000000 + length memory
+
+-- the arguments in a0 to a4 are good, and this is the lowest free slot
+pub record IsCreatable (shared : Shared) (regs : List ℕ) (slot : ℕ) : Type 0 where
+  pub region : IsBlockOf shared.memory (region_named regs)
+  pub window : (register regs 13 ≡ 0) ⊎ IsBlockOf shared.memory (window_named regs)
+  pub monitor : meets monitor_range (region_named regs) ≡ false
+  pub monitor_too : meets monitor_range (window_named regs) ≡ false
+  pub own : meets (region_named regs) (window_named regs) ≡ false
+  pub others : (k : ℕ) → overlap_enclave (region_named regs) (window_named regs) (record_at shared.table k) ≡ false
+  pub aligned : register regs 14 % 4 ≡ 0
+  pub entry_from : register regs 10 ≤ register regs 14
+  pub entry_to : register regs 14 < register regs 10 + register regs 11
+  pub in_range : slot < 13
+  pub free : record_at shared.table slot ≡ None
+  pub lowest : (j : ℕ) → j < slot → is_some (record_at shared.table j) ≡ true
+
+pub record Creates (shared : Shared) (entries : Entries) (regs : List ℕ) (slot : ℕ) : Type 0 where
+  pub call : call_numbered Host (register regs 17) (register regs 16) ≡ Some Create
+  pub status : call_status Host shared entries regs ≡ 0
+  pub lowest : lowest_free shared.table ≡ Some slot
+
+abbrev pub CreateSucceedsLaw : Type 0
+CreateSucceedsLaw =
+    (shared : Shared) (entries : Entries) (regs : List ℕ) (slot : ℕ) → register regs 17 ≡ 0x0A454E43 → register regs 16 ≡ 1
+    → IsCreatable shared regs slot → Creates shared entries regs slot

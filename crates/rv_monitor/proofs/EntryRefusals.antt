@@ -1,0 +1,32 @@
+-- No step that obeys the laws of the entry and of a new enclave is a create that enters the new enclave at once.
+use Rattle.std.proofs.Common.{◌≡◌, ℕ, true, false, Option, Some, None, sym, ◌∙◌, ap}
+use Rattle.std.specs.Prelude.{is_some}
+use Rattle.rv_enclaves.specs.SharedInvariant.{is_held}
+use Rattle.rv_enclaves.specs.declared.slot_info.EnclaveState.TheVariants.{Fresh}
+use Rattle.rv_monitor.specs.Attestation.{KeepsAsCreated}
+use Rattle.rv_monitor.specs.Entering.{EntersOnly}
+use Rattle.rv_monitor.specs.Prelude.{Context, Enclave, Host, Running, context_at, slot_at}
+use Rattle.rv_monitor.proofs.Prelude.{Invariant, MonitoredMachine, MonitoredStepped, SlotInfo, hart_state_of}
+
+-- a free slot has no saved context
+free_has_none : (k : ℕ) (machine : MonitoredMachine) → Invariant machine → slot_at machine.shared.table k ≡ None
+    → is_some (context_at machine.shared.contexts k) ≡ false
+free_has_none k machine kept free = kept.shared.contexts.kept k ∙ ap is_held free
+
+-- no step of the host obeys the law and enters a slot that was free before it
+pub never_enters_new : (hart k : ℕ) (before : MonitoredMachine) (after : MonitoredStepped) → Invariant before → EntersOnly hart before after
+    → slot_at before.shared.table k ≡ None → (hart_state_of hart before).world ≡ Host → (hart_state_of hart after.state).world ≡ Enclave k → ⊥
+never_enters_new hart k before after kept law free host gone =
+    let entry = law k host gone in
+    let never : false ≡ true = sym (free_has_none k before kept free) ∙ ap (λ (o : Option Context). is_some o) entry.held in
+    cc
+
+-- no step obeys the law and leaves a new enclave Running
+pub never_runs_new : (k : ℕ) (info : SlotInfo) (before : MonitoredMachine) (after : MonitoredStepped) → KeepsAsCreated before after
+    → slot_at before.shared.table k ≡ None → slot_at after.state.shared.table k ≡ Some info → info.state ≡ Running → ⊥
+never_runs_new k info before after law free there runs =
+    let new = law.creates k (ap (λ (o : Option SlotInfo). is_some o) free) (ap (λ (o : Option SlotInfo). is_some o) there) in
+    let both : Some new.info ≡ Some info = sym new.is ∙ there in
+    let same : new.info ≡ info = cc in
+    let never : Fresh ≡ Running = sym new.fresh ∙ ap (λ (i : SlotInfo). i.state) same ∙ runs in
+    cc

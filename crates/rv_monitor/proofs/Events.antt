@@ -1,0 +1,154 @@
+-- Lists of steps and of changes of timer lines, by the laws of one step.
+use Rattle.std.proofs.Common.{◌≡◌, ℕ, Bool, true, false, List, [], ◌∷◌, refl, sym, ◌∙◌, ap, ap₂, inl, inr, arith}
+use Rattle.rv_monitor.specs.Debugger.{timer_line_set, with_timer}
+use Rattle.rv_monitor.specs.Declassification.{AreRelated}
+use Rattle.rv_monitor.specs.Events.{AreUndisturbing, Event, EventIntegrityLaw, EventInvariantLaw, EventLaw, IsUntouchedButLine, LineOf, RunningEventLaw}
+use Rattle.rv_monitor.specs.Events.{StepOf, StepsNone, event_of, events}
+use Rattle.rv_monitor.specs.Prelude.{CsrState, HartState, Outcome, is_live, is_world_of}
+use Rattle.rv_monitor.proofs.Prelude.{EquivExcept, HartStatesEquivExcept, Invariant, IsUntouched, MonitoredMachine, cases_lt, count_of, enters, length-set}
+use Rattle.rv_monitor.proofs.Prelude.{hart_state_of, reprogrammed, runs_on, step_of}
+use Rattle.rv_monitor.proofs.Beside.{running_is_live, runs_inside}
+use Rattle.rv_monitor.proofs.HartCases.{hart_cases_of_both}
+use Rattle.rv_monitor.proofs.Integrity.{integrity}
+use Rattle.rv_monitor.proofs.InvariantLemmas.{changed_of, invariant_law, past_as_is, written_invariant}
+use Rattle.rv_monitor.proofs.MonitoredAlike.{noninterference}
+use Rattle.rv_monitor.proofs.PmpProgramming.{as_is}
+use Rattle.rv_monitor.proofs.RelatedChanges.{changed_related}
+use Rattle.rv_monitor.proofs.SchedIntegrity.{go_on_law, preserved_twice}
+use Rattle.rv_monitor.proofs.SchedNoninterference.{entry_law}
+
+-- ---- the invariant
+
+pub line_invariant : (hart : ℕ) (raised : Bool) (machine : MonitoredMachine) → Invariant machine → Invariant (with_timer hart machine raised)
+line_invariant hart raised machine = written_invariant hart (hart_state_of hart machine).hart.regs raised machine
+
+pub event_invariant : (event : Event) (machine : MonitoredMachine) → Invariant machine → Invariant (event_of event machine).state
+event_invariant (StepOf hart) machine kept = invariant_law hart machine kept
+event_invariant (LineOf hart raised) machine kept = line_invariant hart raised machine kept
+
+pub events_invariant : EventInvariantLaw
+events_invariant [] machine kept = kept
+events_invariant (event ∷ more) machine kept = events_invariant more (event_of event machine).state (event_invariant event machine kept)
+
+-- ---- noninterference
+
+module _ (e hart : ℕ) (raised : Bool) (one other : MonitoredMachine) where
+  line_equiv : EquivExcept e one other → EquivExcept e (with_timer hart one raised) (with_timer hart other raised)
+  line_equiv equiv =
+      let a = timer_line_set raised (hart_state_of hart one) in
+      let b = timer_line_set raised (hart_state_of hart other) in
+      let size = equiv.harts in
+      let own = equiv.hart_states hart in
+      elim (cases_lt hart (count_of one)) [
+        | inl has ↦ record {
+          harts = length-set one.hart_states hart a ∙ size ∙ sym (length-set other.hart_states hart b);
+          hart_states = hart_cases_of_both one.hart_states other.hart_states hart a b (λ j s t. HartStatesEquivExcept e s t) size has
+              (record { world = own.world; same = λ low. ap (timer_line_set raised) (own.same low) }) (λ j apart. equiv.hart_states j);
+          shared = equiv.shared;
+        }
+        | inr past ↦ rw (past_as_is hart a one past, past_as_is hart b other (omega (arith, size, past))) equiv
+      ]
+
+  pub line_related : AreRelated e one other → AreRelated e (with_timer hart one raised) (with_timer hart other raised)
+  line_related related = changed_related e hart (timer_line_set raised) (timer_line_set raised) one other related (record {
+    world = refl;
+    state = λ both. record { world = both.world; same = λ low. ap (timer_line_set raised) (both.same low) };
+    host = λ both. record { host = both.host; rest = ap (λ (c : CsrState). record c { timer = raised }) both.rest };
+  })
+
+pub event_law : EventLaw
+event_law e [] one other here there equiv low = record { outcomes = refl; state = equiv }
+event_law e (StepOf hart ∷ more) one other here there equiv low =
+    let first = noninterference hart one here e other there equiv low.0 in
+    let rest = event_law e more (step_of hart one).state (step_of hart other).state (invariant_law hart one here) (invariant_law hart other there)
+    first.state low.1 in
+    record { outcomes = ap₂ (λ (x : Outcome) (xs : List Outcome). x ∷ xs) first.outcome rest.outcomes; state = rest.state }
+event_law e (LineOf hart raised ∷ more) one other here there equiv low =
+    let rest = event_law e more (with_timer hart one raised) (with_timer hart other raised) (line_invariant hart raised one here)
+    (line_invariant hart raised other there) (line_equiv e hart raised one other equiv) low.1 in
+    record { outcomes = ap (λ (xs : List Outcome). (event_of (LineOf hart raised) one).outcome ∷ xs) rest.outcomes; state = rest.state }
+
+-- ---- integrity
+
+but_line_twice : (k : ℕ) (before between after : MonitoredMachine) → IsUntouchedButLine k before between → IsUntouchedButLine k between after
+    → IsUntouchedButLine k before after
+but_line_twice k before between after first last = record {
+  preserved = preserved_twice k before.shared between.shared after.shared first.preserved last.preserved;
+  hart_state = λ hart runs.
+      let one = first.hart_state hart runs in
+      last.hart_state hart (ap (λ (s : HartState). is_world_of k s.world) one ∙ runs) ∙ ap (reprogrammed after.shared.table) one;
+}
+
+-- a change of a timer line changes nothing else
+pub line_only : (k hart : ℕ) (raised : Bool) (machine : MonitoredMachine) → Invariant machine
+    → IsUntouchedButLine k machine (with_timer hart machine raised)
+line_only k hart raised machine kept = record {
+  preserved = record { slot = refl; bytes = λ byte own. refl; context = refl };
+  hart_state = λ j runs.
+      changed_of (timer_line_set false) (timer_line_set raised) (λ s. refl) hart j machine
+      ∙ ap (timer_line_set false)
+      (sym (as_is machine.shared.table (hart_state_of j machine) (kept.hart_states j (runs_inside k j machine runs))));
+}
+
+but_line : (k : ℕ) (before after : MonitoredMachine) → IsUntouched k before after → IsUntouchedButLine k before after
+but_line k before after is =
+    record { preserved = is.preserved; hart_state = λ hart runs. ap (timer_line_set false) (is.hart_state hart runs) }
+
+undisturbed_live : (k : ℕ) (list : List Event) (machine : MonitoredMachine) → AreUndisturbing k list machine → is_live machine.shared.table k ≡ true
+undisturbed_live k [] machine undisturbed = undisturbed
+undisturbed_live k (event ∷ more) machine undisturbed = undisturbed.0
+
+pub event_integrity : EventIntegrityLaw
+event_integrity k [] machine kept undisturbed = record {
+  preserved = record { slot = refl; bytes = λ byte own. refl; context = refl };
+  hart_state = λ j runs.
+      ap (timer_line_set false)
+      (sym (as_is machine.shared.table (hart_state_of j machine) (kept.hart_states j (runs_inside k j machine runs))));
+}
+event_integrity k (StepOf hart ∷ more) machine kept undisturbed =
+    let after = (step_of hart machine).state in
+    but_line_twice k machine after (events more after).state
+    (but_line k machine after (integrity hart machine kept k undisturbed.1.0 undisturbed.0 undisturbed.1.1 (undisturbed_live k more after undisturbed.2)))
+    (event_integrity k more after (invariant_law hart machine kept) undisturbed.2)
+event_integrity k (LineOf hart raised ∷ more) machine kept undisturbed =
+    let after = with_timer hart machine raised in
+    but_line_twice k machine after (events more after).state (line_only k hart raised machine kept)
+    (event_integrity k more after (line_invariant hart raised machine kept) undisturbed.2)
+
+-- ---- the other harts and every timer line leave a running enclave undisturbed
+
+pub line_worlds : (k hart j : ℕ) (raised : Bool) (machine : MonitoredMachine) → runs_on k j (with_timer hart machine raised) ≡ runs_on k j machine
+line_worlds k hart j raised machine = changed_of (λ (s : HartState). is_world_of k s.world) (timer_line_set raised) (λ s. refl) hart j machine
+
+none_after_line : (k hart : ℕ) (raised : Bool) (list : List Event) (machine : MonitoredMachine) → StepsNone k list machine
+    → StepsNone k list (with_timer hart machine raised)
+none_after_line k hart raised [] machine none = tt
+none_after_line k hart raised (StepOf own ∷ more) machine none =
+    (line_worlds k hart own raised machine ∙ none.0, none_after_line k hart raised more machine none.1)
+none_after_line k hart raised (LineOf own level ∷ more) machine none = none_after_line k hart raised more machine none
+
+none_after_step : (k hart : ℕ) (list : List Event) (machine : MonitoredMachine) → StepsNone k list machine
+    → enters k (step_of hart machine).outcome.entered ≡ false → StepsNone k list (step_of hart machine).state
+none_after_step k hart [] machine none passes = tt
+none_after_step k hart (StepOf own ∷ more) machine none passes =
+    (entry_law k hart own machine none.0 passes, none_after_step k hart more machine none.1 passes)
+none_after_step k hart (LineOf own level ∷ more) machine none passes = none_after_step k hart more machine none passes
+
+pub running_events : RunningEventLaw
+running_events k own [] machine kept runs none = running_is_live k own machine kept runs
+running_events k own (StepOf hart ∷ more) machine kept runs none =
+    let after = (step_of hart machine).state in
+    let live = running_is_live k own machine kept runs in
+    let goes = go_on_law hart machine kept k own runs none.0 in
+    let preserved = integrity hart machine kept k none.0 live goes.passes goes.live in
+    let still : runs_on k own after ≡ true = ap (λ (s : HartState). is_world_of k s.world) (preserved.hart_state own runs) ∙ runs in (
+      live,
+      (none.0, goes.passes),
+      running_events k own more after (invariant_law hart machine kept) still (none_after_step k hart more machine none.1 goes.passes),
+    )
+running_events k own (LineOf hart raised ∷ more) machine kept runs none = (
+  running_is_live k own machine kept runs,
+  tt,
+  running_events k own more (with_timer hart machine raised) (line_invariant hart raised machine kept) (line_worlds k hart own raised machine ∙ runs)
+      (none_after_line k hart raised more machine none),
+)

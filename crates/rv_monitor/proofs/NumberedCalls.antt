@@ -1,0 +1,314 @@
+-- The monitor answers each call as its numbers say.
+use Rattle.std.proofs.Common.{◌≡◌, ◌≢◌, ℕ, Bool, true, false, List, [], ◌∷◌, Option, Some, None, refl, sym, ◌∙◌, ap, subst, arith}
+use Rattle.std.proofs.Math.Bool.{or-false}
+use Rattle.std.proofs.lemmas.Bool.Decides.{nat_tests}
+use Rattle.std.specs.Prelude.{◌==◌, if◌then◌else◌, is_some}
+use Rattle.rv_state.specs.declared.cause.Cause.TheVariants as causes
+use Rattle.rv_enclaves.specs.CallNumbers.{AreCallNumbers, call_numbered, call_rows, call_status, first_status, in_numbers, lowest_free}
+use Rattle.rv_enclaves.specs.CallNumbers.{shared_with_measurement, shared_with_new, shared_without, slot_named}
+use Rattle.rv_enclaves.specs.Table.{free_slot}
+use Rattle.rv_enclaves.proofs.CallNumbers.{call_numbers, no_success}
+use Rattle.rv_enclaves.proofs.CreateSucceeds.{create_succeeds}
+use Rattle.rv_monitor.specs.NumberedCalls.{AnswersCalls, CreateSucceeds, EntersByCall, InterruptsEnclave, Returns, answered_machine, by_exit_call, by_interrupt, by_stop_call}
+use Rattle.rv_monitor.specs.NumberedCalls.{call_at, entered_by_call, handed_over_machine, status_at}
+use Rattle.rv_state.specs.declared.cause.Interrupt.{Interrupt}
+use Rattle.rv_monitor.specs.Exits.{causes_exit, is_exit_call}
+use Rattle.rv_monitor.specs.Leaving.{left_machine}
+use Rattle.rv_monitor.specs.Prelude.{Call, Cause, Context, Create, Destroy, Enclave, EnvironmentCallFromS, Exit, Hart, Host, Measure, NotSupported, Outcome}
+use Rattle.rv_monitor.specs.Prelude.{Refusal, Resume, Run, HartState, Shared, StepOutcome, Stop, Trap, World, aligned_to_4, context_at}
+use Rattle.rv_monitor.specs.Prelude.{first_refusal, is_set, measure_refusals, measured, option_case, register}
+use Rattle.rv_monitor.specs.Prelude.{call_number, requested_call, saved_context, state_refusals, step, sum_of}
+use Rattle.rv_monitor.proofs.Prelude.{Handled, HartViewInvariant, Invariant, IsTaken, MonitoredMachine, HartView, HartViewStepped, a0, a1, bare_machine}
+use Rattle.rv_monitor.proofs.Prelude.{call_handled, call_refusals, called, entered_slot, handled, handled_cause, hart_state_of, hart_view, may_take}
+use Rattle.rv_monitor.proofs.Prelude.{performed, refused, returned, returned_to_caller, step_of, takes_rests, with_reprogrammed_hart, past_call}
+use Rattle.rv_monitor.proofs.Availability.{host_is}
+use Rattle.rv_monitor.proofs.Entering.{enter_law}
+use Rattle.rv_monitor.proofs.Exits.{exits_law}
+use Rattle.rv_monitor.proofs.InvariantLemmas.{hart_view_invariant}
+use Rattle.rv_monitor.proofs.Leaving.{leave_law}
+use Rattle.rv_monitor.proofs.HartCases.{IsTrapping, is_trapping, programmed_by, step_seen}
+use Rattle.rv_monitor.proofs.TrapSteps.{hart_state_after, trapped_step}
+
+-- ---- the rows
+
+-- if the status is 0, no row holds
+no_row_holds : (rows : List (Bool × Refusal)) → first_status (in_numbers rows) ≡ 0 → first_refusal rows ≡ None
+no_row_holds [] is = refl
+no_row_holds ((true, refusal) ∷ rows) is = absurd (no_success refusal is)
+no_row_holds ((false, refusal) ∷ rows) is = no_row_holds rows is
+
+-- otherwise the caller gets it
+by_row : (hart_state : HartState) (shared : Shared) (done : Handled) (rows : List (Bool × Refusal)) → first_status (in_numbers rows) ≢ 0
+    → option_case (first_refusal rows) done (refused hart_state shared) ≡ returned_to_caller hart_state shared (first_status (in_numbers rows)) 0
+by_row hart_state shared done [] holds = absurd (holds refl)
+by_row hart_state shared done ((true, refusal) ∷ rows) holds = refl
+by_row hart_state shared done ((false, refusal) ∷ rows) holds = by_row hart_state shared done rows holds
+
+-- ---- the handler
+
+module _ (hart_state : HartState) (shared : Shared) where
+  numbers : AreCallNumbers shared hart_state.hart.csrs.pmp hart_state.hart.regs
+  numbers = call_numbers shared hart_state.hart.csrs.pmp hart_state.hart.regs
+
+  abbrev rows_of : Call → List (Bool × ℕ)
+  rows_of call = call_rows hart_state.world shared hart_state.hart.csrs.pmp hart_state.hart.regs call
+
+  rows_are : (call : Call) → in_numbers (call_refusals hart_state shared call) ≡ rows_of call
+  rows_are Create = numbers.create
+  rows_are Destroy = numbers.destroy (a0 hart_state)
+  rows_are Run = numbers.run (a0 hart_state)
+  rows_are Resume = numbers.resume (a0 hart_state)
+  rows_are Measure =
+      ap (λ (k : ℕ). in_numbers (measure_refusals shared hart_state.hart.csrs.pmp k (a1 hart_state))) (numbers.slot hart_state.world)
+      ∙ numbers.measure (slot_named hart_state.world hart_state.hart.regs) (a1 hart_state)
+  rows_are Stop = refl
+  rows_are Exit = refl
+
+  abbrev numbered : Option Call
+  numbered = call_numbered hart_state.world (register hart_state.hart.regs 17) (register hart_state.hart.regs 16)
+
+  abbrev status : ℕ
+  status = call_status hart_state.world shared hart_state.hart.csrs.pmp hart_state.hart.regs
+
+  not_refused : (call : Call) → first_status (rows_of call) ≡ 0 → first_refusal (call_refusals hart_state shared call) ≡ None
+  not_refused call is = no_row_holds (call_refusals hart_state shared call) (ap first_status (rows_are call) ∙ is)
+
+  called_refused : (call : Call) → first_status (rows_of call) ≢ 0
+      → called hart_state shared call ≡ returned_to_caller hart_state shared (first_status (rows_of call)) 0
+  unfolding called
+  called_refused call holds =
+      subst (λ (rows : List (Bool × ℕ)). first_status rows ≢ 0 → option_case (first_refusal (call_refusals hart_state shared call)) (performed hart_state shared call)
+      (refused hart_state shared) ≡ returned_to_caller hart_state shared (first_status rows) 0) (rows_are call)
+      (by_row hart_state shared (performed hart_state shared call) (call_refusals hart_state shared call)) holds
+
+  by_call : (o : Option Call) → option_case o 0xFFFFFFFF (λ call. first_status (rows_of call)) ≢ 0
+      → option_case o (refused hart_state shared NotSupported) (called hart_state shared)
+      ≡ returned_to_caller hart_state shared (option_case o 0xFFFFFFFF (λ call. first_status (rows_of call))) 0
+  by_call None holds = refl
+  by_call (Some call) holds = called_refused call holds
+
+  pub handled_refused : (trap : Trap) (cause : Cause) → cause ≡ causes.Exception EnvironmentCallFromS → status ≢ 0
+      → handled_cause hart_state shared trap cause ≡ returned_to_caller hart_state shared status 0
+  unfolding call_handled call_status
+  handled_refused trap cause by_ecall holds = let asked = numbers.call hart_state.world in rw (by_ecall, asked) (by_call numbered holds)
+
+  status_of_call : (call : Call) (o : Option Call) → o ≡ Some call → option_case o 0xFFFFFFFF (λ c. first_status (rows_of c)) ≡ 0 → first_status (rows_of call) ≡ 0
+  status_of_call call o is none = subst (λ (x : Option Call). option_case x 0xFFFFFFFF (λ c. first_status (rows_of c)) ≡ 0) is none
+
+  pub none_refused : (call : Call) → numbered ≡ Some call → status ≡ 0 → first_refusal (call_refusals hart_state shared call) ≡ None
+  unfolding call_status
+  none_refused call is none = not_refused call (status_of_call call numbered is none)
+
+  pub asks : (call : Call) → numbered ≡ Some call → requested_call hart_state.world hart_state.hart.regs ≡ Some call
+  asks call is = numbers.call hart_state.world ∙ is
+
+  pub handled_done : (trap : Trap) (cause : Cause) (call : Call) → cause ≡ causes.Exception EnvironmentCallFromS → numbered ≡ Some call → status ≡ 0
+      → handled_cause hart_state shared trap cause ≡ performed hart_state shared call
+  unfolding call_handled called
+  handled_done trap cause call by_ecall is none =
+      let asked = asks call is in
+      let passes = none_refused call is none in
+      rw (by_ecall, asked, passes) refl
+
+  -- the effects
+  pub performs_create : performed hart_state shared Create
+      ≡ returned_to_caller hart_state (shared_with_new shared hart_state.hart.regs) 0 (option_case (lowest_free shared.table) 13 (λ k. k))
+  unfolding performed free_slot
+  performs_create = ap (λ (s : Shared). returned_to_caller hart_state s 0 (option_case (lowest_free shared.table) 13 (λ k. k))) numbers.created
+
+  pub performs_destroy : performed hart_state shared Destroy ≡ returned_to_caller hart_state (shared_without shared (a0 hart_state)) 0 0
+  unfolding performed
+  performs_destroy = ap (λ (s : Shared). returned_to_caller hart_state s 0 0) (numbers.destroyed (a0 hart_state))
+
+  pub performs_measure : performed hart_state shared Measure
+      ≡ returned_to_caller hart_state (shared_with_measurement shared (slot_named hart_state.world hart_state.hart.regs) (a1 hart_state)) 0 0
+  unfolding performed
+  performs_measure =
+      ap (λ (k : ℕ). returned_to_caller hart_state (measured shared k (a1 hart_state)) 0 0) (numbers.slot hart_state.world)
+      ∙ ap (λ (s : Shared). returned_to_caller hart_state s 0 0)
+      (numbers.measured (slot_named hart_state.world hart_state.hart.regs) (a1 hart_state))
+
+  abbrev entry : Handled
+  entry = entered_slot hart_state shared (a0 hart_state) (saved_context shared.contexts (a0 hart_state)) (past_call hart_state)
+
+  pub performs_run : performed hart_state shared Run ≡ entry
+  unfolding performed
+  performs_run = refl
+
+  pub performs_resume : performed hart_state shared Resume ≡ entry
+  unfolding performed
+  performs_resume = refl
+
+-- ---- the step of a call that enters or leaves no enclave
+
+again_aligned : (pc : ℕ) → aligned_to_4 (sum_of (aligned_to_4 pc) 4) ≡ sum_of (aligned_to_4 pc) 4
+again_aligned pc = omega arith
+
+abbrev answered_view : HartView → Trap → Shared → ℕ → ℕ → HartView
+answered_view state trap shared v0 v1 =
+    let machine : MonitoredMachine = record { hart_states = state.hart_state ∷ []; shared = state.shared } in
+    record { hart_state = hart_state_of 0 (answered_machine 0 machine trap shared v0 v1); shared = shared }
+
+module _ (state : HartView) (kept : HartViewInvariant state) (trap : Trap) (shared : Shared) (v0 v1 : ℕ) where
+  returned_answered : (outcome : StepOutcome)
+      → (returned outcome (with_reprogrammed_hart (returned_to_caller (hart_state_after state.hart_state trap) shared v0 v1))).state
+      ≡ answered_view state trap shared v0 v1
+  returned_answered outcome =
+      let hart = state.hart_state.hart in
+      let mprv = kept.hart.layout.mprv in
+      rw (again_aligned hart.pc, or-false (is_set hart.csrs.mcountinhibit 0), mprv) refl
+
+  abbrev Answered : HartViewStepped → Type 0
+  Answered after = (after.state ≡ answered_view state trap shared v0 v1) × (after.outcome.entered ≡ None)
+
+  answered_at : (outcome : StepOutcome)
+      → handled_cause (hart_state_after state.hart_state trap) state.shared trap trap.cause ≡ returned_to_caller (hart_state_after state.hart_state trap) shared v0 v1
+      → Answered (returned outcome (handled (hart_state_after state.hart_state trap) state.shared trap))
+  unfolding handled
+  answered_at outcome is = rw is (returned_answered outcome, refl)
+
+module _ (hart : ℕ) (machine : MonitoredMachine) (kept : Invariant machine) (trap : Trap) (trapping : IsTrapping hart machine trap) where
+  abbrev view : HartView
+  view = hart_view hart machine
+
+  abbrev after_trap : HartState
+  after_trap = hart_state_after view.hart_state trap
+
+  returns : (shared : Shared) (v0 v1 : ℕ) → handled_cause after_trap machine.shared trap trap.cause ≡ returned_to_caller after_trap shared v0 v1
+      → Returns hart machine (step_of hart machine) trap shared v0 v1
+  returns shared v0 v1 is =
+      let one = subst (Answered view (hart_view_invariant hart machine kept trapping.has) trap shared v0 v1) (sym (trapped_step view trap trapping.trapped))
+      (answered_at view (hart_view_invariant hart machine kept trapping.has) trap shared v0 v1 (step (bare_machine view)).outcome is) in
+      (trapping.state ∙ ap (programmed_by hart machine) one.0, ap (λ (outcome : Outcome). outcome.entered) trapping.outcome ∙ one.1)
+
+  -- ---- entry
+
+  goes : handled_cause after_trap machine.shared trap trap.cause ≡ entry after_trap machine.shared
+      → (hart_state_of hart (step_of hart machine).state).world ≡ Enclave (a0 after_trap)
+  unfolding handled entered_slot
+  goes is =
+      ap (λ (after : HartViewStepped). after.state.hart_state.world) (step_seen hart machine trapping.has ∙ trapped_step view trap trapping.trapped)
+      ∙ ap (λ (h : Handled). h.hart_state.world) is
+
+  enters_by : (k : ℕ) → view.hart_state.world ≡ Host → (step_of hart machine).outcome.step.trap ≡ Some trap
+      → (hart_state_of hart (step_of hart machine).state).world ≡ Enclave k → EntersByCall hart machine (step_of hart machine) trap k
+  enters_by k host traps gone =
+      let law = enter_law hart machine kept k host gone in
+      let traps_alike : Some law.trap ≡ Some trap = sym law.trapped ∙ traps in
+      let same : law.trap ≡ trap = cc in
+      record {
+        context = law.context;
+        kept = law.held;
+        state = law.state ∙ ap (λ (it : Trap). entered_by_call hart machine k it law.context) same;
+        entered = law.entered;
+      }
+
+  enters_with : (call : Call) → performed after_trap machine.shared call ≡ entry after_trap machine.shared
+      → handled_cause after_trap machine.shared trap trap.cause ≡ performed after_trap machine.shared call → view.hart_state.world ≡ Host
+      → (step_of hart machine).outcome.step.trap ≡ Some trap → EntersByCall hart machine (step_of hart machine) trap (a0 after_trap)
+  enters_with call performs is host traps = enters_by (a0 after_trap) host traps (goes (is ∙ performs))
+
+-- ---- exit
+
+exit_numbered : (key b5 b6 b7 : Bool) → (if key then (if b5 then Some Measure else (if b6 then Some Stop else (if b7 then Some Exit else None))) else None) ≡ Some Exit
+    → b7 ≡ true
+exit_numbered true false false true is = refl
+exit_numbered true true b6 b7 is = cc
+exit_numbered true false true b7 is = cc
+exit_numbered true false false false is = cc
+exit_numbered false b5 b6 b7 is = cc
+
+stop_numbered : (key b5 b6 b7 : Bool) → (if key then (if b5 then Some Measure else (if b6 then Some Stop else (if b7 then Some Exit else None))) else None) ≡ Some Stop
+    → b6 ≡ true
+stop_numbered true false true b7 is = refl
+stop_numbered true true b6 b7 is = cc
+stop_numbered true false false true is = cc
+stop_numbered true false false false is = cc
+stop_numbered false b5 b6 b7 is = cc
+
+six_not_seven : (a6 : ℕ) → (a6 == 6) ≡ true → (a6 == 7) ≡ false
+six_not_seven a6 is = grind (arith, nat_tests)
+
+stop_test : (k a7 a6 : ℕ) → call_numbered (Enclave k) a7 a6 ≡ Some Stop → (a6 == call_number Exit) ≡ false
+unfolding call_numbered
+stop_test k a7 a6 is = six_not_seven a6 (stop_numbered (a7 == 0x0A454E43) (a6 == 5) (a6 == 6) (a6 == 7) is)
+
+exit_test : (k a7 a6 : ℕ) → call_numbered (Enclave k) a7 a6 ≡ Some Exit → (a6 == call_number Exit) ≡ true
+unfolding call_numbered
+exit_test k a7 a6 is = exit_numbered (a7 == 0x0A454E43) (a6 == 5) (a6 == 6) (a6 == 7) is
+
+leaves_by : (hart_state : HartState) (cause : Cause) (call : Call) → cause ≡ causes.Exception EnvironmentCallFromS
+    → requested_call hart_state.world hart_state.hart.regs ≡ Some call → is_exit_call (Some call) ≡ true → causes_exit hart_state cause ≡ true
+leaves_by hart_state cause call by_ecall asked exits = rw (by_ecall, asked) exits
+
+module _ (hart : ℕ) (machine : MonitoredMachine) (k : ℕ) (trap : Trap) (host : Context) where
+  abbrev own : Hart
+  own = (hart_state_of hart machine).hart
+
+  stopped_is : trap.cause ≡ causes.Exception EnvironmentCallFromS → (register own.regs 16 == call_number Exit) ≡ false
+      → left_machine hart machine k trap host ≡ handed_over_machine hart machine k trap host (by_stop_call own)
+  stopped_is by_ecall test = rw (by_ecall, test) refl
+
+  exited_is : trap.cause ≡ causes.Exception EnvironmentCallFromS → (register own.regs 16 == call_number Exit) ≡ true
+      → left_machine hart machine k trap host ≡ handed_over_machine hart machine k trap host (by_exit_call own)
+  exited_is by_ecall test = rw (by_ecall, test) refl
+
+  interrupted_is : (interrupt : Interrupt) → trap.cause ≡ causes.Interrupt interrupt
+      → left_machine hart machine k trap host ≡ handed_over_machine hart machine k trap host (by_interrupt own)
+  interrupted_is interrupt by = rw by refl
+
+-- ---- the law
+
+pub interrupts_enclave : (hart : ℕ) (machine : MonitoredMachine) → Invariant machine → InterruptsEnclave hart machine (step_of hart machine)
+interrupts_enclave hart machine kept k host trap interrupt runs waiting traps by =
+    let left = leave_law hart machine kept k host trap runs waiting traps
+    (host_is _ ((exits_law hart machine kept k runs).exits trap traps ∙ ap (causes_exit (hart_state_of hart machine)) by)) in
+    (left.0 ∙ interrupted_is hart machine k trap host interrupt by, left.1)
+
+pub answers_calls : (hart : ℕ) (machine : MonitoredMachine) → Invariant machine → AnswersCalls hart machine (step_of hart machine)
+answers_calls hart machine kept trap traps by_ecall =
+    let trapping = is_trapping hart machine trap traps in
+    let shared = machine.shared in
+    let here = hart_state_of hart machine in
+    let hart_state = hart_state_after here trap in
+    let done : (call : Call) → call_at hart machine ≡ Some call → status_at hart machine ≡ 0
+    → handled_cause hart_state shared trap trap.cause ≡ performed hart_state shared call =
+    λ call is none. handled_done hart_state shared trap trap.cause call by_ecall is none in
+    let leaves : (k : ℕ) (host : Context) (call : Call) → here.world ≡ Enclave k → here.host_context ≡ Some host → call_at hart machine ≡ Some call
+    → is_exit_call (Some call) ≡ true
+    → ((step_of hart machine).state ≡ left_machine hart machine k trap host) × ((step_of hart machine).outcome.entered ≡ None) =
+    λ k host call runs waiting is exits.
+    leave_law hart machine kept k host trap runs waiting traps
+    (host_is _ ((exits_law hart machine kept k runs).exits trap traps ∙ leaves_by here trap.cause call by_ecall (asks here shared call is) exits)) in
+    let asked : (k : ℕ) (call : Call) → here.world ≡ Enclave k → call_at hart machine ≡ Some call
+    → call_numbered (Enclave k) (register here.hart.regs 17) (register here.hart.regs 16) ≡ Some call =
+    λ k call runs is. subst (λ (world : World). call_numbered world (register here.hart.regs 17) (register here.hart.regs 16) ≡ Some call) runs is in
+    record {
+      refuses = λ holds.
+          returns hart machine kept trap trapping shared (status_at hart machine) 0 (handled_refused hart_state shared trap trap.cause by_ecall holds);
+      creates = λ is none. returns hart machine kept trap trapping _ 0 _ (done Create is none ∙ performs_create hart_state shared);
+      destroys = λ is none. returns hart machine kept trap trapping _ 0 0 (done Destroy is none ∙ performs_destroy hart_state shared);
+      measures = λ is none. returns hart machine kept trap trapping _ 0 0 (done Measure is none ∙ performs_measure hart_state shared);
+      runs = λ host is none.
+          enters_with hart machine kept trap trapping Run (performs_run hart_state shared) (done Run is none) host traps;
+      resumes = λ host is none.
+          enters_with hart machine kept trap trapping Resume (performs_resume hart_state shared) (done Resume is none) host traps;
+      stops = λ k host runs waiting is.
+          let left = leaves k host Stop runs waiting is refl in
+          let test = stop_test k (register here.hart.regs 17) (register here.hart.regs 16) (asked k Stop runs is) in
+          (left.0 ∙ stopped_is hart machine k trap host by_ecall test, left.1);
+      exits = λ k host runs waiting is.
+          let left = leaves k host Exit runs waiting is refl in
+          let test = exit_test k (register here.hart.regs 17) (register here.hart.regs 16) (asked k Exit runs is) in
+          (left.0 ∙ exited_is hart machine k trap host by_ecall test, left.1);
+    }
+
+pub create_law : (hart : ℕ) (machine : MonitoredMachine) → Invariant machine → CreateSucceeds hart machine (step_of hart machine)
+create_law hart machine kept trap slot host traps by_ecall key number is =
+    let here = hart_state_of hart machine in
+    let made = create_succeeds machine.shared here.hart.csrs.pmp here.hart.regs slot key number is in
+    let call : call_at hart machine ≡ Some Create =
+    ap (λ (world : World). call_numbered world (register here.hart.regs 17) (register here.hart.regs 16)) host ∙ made.call in
+    let status : status_at hart machine ≡ 0 = ap (λ (world : World). call_status world machine.shared here.hart.csrs.pmp here.hart.regs) host ∙ made.status in
+    subst (λ (o : Option ℕ). Returns hart machine (step_of hart machine) trap (shared_with_new machine.shared here.hart.regs) 0 (option_case o 13 (λ k. k)))
+    made.lowest ((answers_calls hart machine kept trap traps by_ecall).creates call status)

@@ -1,0 +1,69 @@
+-- A step without a trap is that of its hart alone, and the host takes no interrupt.
+use Rattle.std.proofs.Common.{◌≡◌, ℕ, Bool, false, slice_set, Option, Some, None, refl, sym, ◌∙◌, ap}
+use Rattle.std.proofs.Math.Bool.{and-false}
+use Rattle.std.specs.Prelude.{◌&&◌, if◌then◌else◌}
+use Rattle.rv_state.specs.Interrupts.{mip_word, pending}
+use Rattle.rv_state.specs.declared.cause.Interrupt.TheVariants.{MachineExternal, MachineSoftware, MachineTimer, SupervisorExternal, SupervisorSoftware}
+use Rattle.rv_state.specs.declared.cause.Interrupt.TheVariants.{SupervisorTimer}
+use Rattle.rv_hart.proofs.Interrupted.{takes_pending}
+use Rattle.rv_monitor.specs.PlainSteps.{HostContinues, StepsPlainly}
+use Rattle.rv_monitor.specs.Prelude.{CsrState, Mode, StepOutcome, Trap, is_machine, is_set, mie_of, step}
+use Rattle.rv_monitor.proofs.Prelude.{HartViewStepped, HartView, Invariant, MonitoredMachine, MonitoredStepped, bare_machine, hart_states_reprogrammed, hart_view}
+use Rattle.rv_monitor.proofs.Prelude.{monitored_step, step_of, stepped_by}
+use Rattle.rv_monitor.proofs.Exits.{redirects_step}
+use Rattle.rv_monitor.proofs.InvariantLemmas.{hart_view_invariant}
+use Rattle.rv_monitor.proofs.HartCases.{inside, is_trapping, step_seen}
+use Rattle.rv_monitor.proofs.TrapSteps.{same_outcome, step_cases, untrapped}
+
+-- ---- without a trap
+
+quiet_step : (state : HartView) → (monitored_step state).outcome.step.trap ≡ None → monitored_step state ≡ untrapped state
+quiet_step state = step_cases state (λ after. after.outcome.step.trap ≡ None → after ≡ untrapped state) (λ none is. refl)
+    (λ trap traps is. let never : None ≡ Some trap = sym is ∙ traps in cc)
+
+-- ---- no interrupt
+
+find_none : (a b t x y z : Bool)
+    → (if a && false then Some MachineExternal else (if b && false then Some MachineSoftware else (if t && false then Some MachineTimer
+    else (if x && false then Some SupervisorExternal else (if y && false then Some SupervisorSoftware else (if z && false then Some SupervisorTimer else None))))))
+    ≡ None
+find_none a b t x y z = rw (and-false a, and-false b, and-false t, and-false x, and-false y, and-false z) refl
+
+nothing_waits : (c : CsrState) (mode : Mode) → is_machine mode ≡ false → c.mie ≡ 0 → pending c mode ≡ None
+nothing_waits c mode below disabled =
+    let mip = mip_word c in
+    rw (below, disabled) (find_none (is_set mip 11) (is_set mip 3) (is_set mip 7) (is_set mip 9) (is_set mip 1) (is_set mip 5))
+
+-- ---- the laws
+
+pub steps_plainly : (hart : ℕ) (machine : MonitoredMachine) → StepsPlainly hart machine (step_of hart machine)
+steps_plainly hart machine has =
+    let state = hart_view hart machine in
+    let outcome : (step_of hart machine).outcome.step ≡ (step (bare_machine state)).outcome =
+    ap (λ (after : HartViewStepped). after.outcome.step) (step_seen hart machine has) ∙ same_outcome state in
+    record {
+      outcome = outcome;
+      quiet = λ none.
+          let bare : (step (bare_machine state)).outcome.trap ≡ None = sym (ap (λ (o : StepOutcome). o.trap) outcome) ∙ none in
+          let one = quiet_step state (ap (λ (o : StepOutcome). o.trap) (same_outcome state) ∙ bare) in
+          let all : step_of hart machine ≡ stepped_by hart machine (untrapped state) = inside hart machine has ∙ ap (stepped_by hart machine) one in
+          let put : Option Trap → MonitoredMachine = λ o. record {
+            hart_states = slice_set (hart_states_reprogrammed o machine.shared.table machine.hart_states) hart (untrapped state).state.hart_state;
+            shared = (untrapped state).state.shared;
+          } in
+          (ap (λ (after : MonitoredStepped). after.state) all ∙ ap put bare, ap (λ (after : MonitoredStepped). after.outcome.entered) all);
+    }
+
+pub host_continues : (hart : ℕ) (machine : MonitoredMachine) → Invariant machine → HostContinues hart machine (step_of hart machine)
+host_continues hart machine kept host = record {
+  uninterrupted = λ trap interrupt is by.
+      let trapping = is_trapping hart machine trap is in
+      let state = hart_view hart machine in
+      let own = hart_view_invariant hart machine kept trapping.has in
+      let bare : (step (bare_machine state)).outcome.trap ≡ Some trap = sym (ap (λ (o : StepOutcome). o.trap) (same_outcome state)) ∙ trapping.trapped in
+      let disabled : state.hart_state.hart.csrs.mie ≡ 0 = own.hart.layout.mie ∙ ap mie_of host in
+      let never : None ≡ Some interrupt =
+      sym (nothing_waits state.hart_state.hart.csrs state.hart_state.hart.mode own.hart.layout.mode disabled) ∙ takes_pending (bare_machine state) trap interrupt bare by in
+      cc;
+  redirects = redirects_step hart machine kept;
+}

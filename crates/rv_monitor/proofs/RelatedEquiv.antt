@@ -1,0 +1,54 @@
+-- Related machines, and machines that are equivalent except for an enclave in the guest view.
+use Rattle.std.proofs.Common.{◌≡◌, ℕ, ◌+◌, Bool, true, false, refl, sym, ◌∙◌, ap, inl, inr}
+use Rattle.std.proofs.lemmas.Bool.{cases_Bool}
+use Rattle.std.specs.Prelude.{◌||◌, not, slice_index}
+use Rattle.rv_enclaves.specs.Table.{runs, window}
+use Rattle.rv_monitor.specs.Declassification.{AreRelated, EquivToGuests, SameHostOn, SameWindow}
+use Rattle.rv_monitor.specs.GuestView.{guest_state, guest_view}
+use Rattle.rv_monitor.specs.Prelude.{has, ram_base, region}
+use Rattle.rv_monitor.proofs.Prelude.{MonitoredMachine, hart_state_of, length-map, runs_on}
+use Rattle.rv_monitor.proofs.EquivLemmas.{hart_states_equiv}
+use Rattle.rv_monitor.proofs.GuestView.{guest_hart_state}
+
+not_first : (a b : Bool) → (a || b) ≡ false → a ≡ false
+not_first true b is = cc
+not_first false b is = refl
+
+module _ (e : ℕ) (one other : MonitoredMachine) where
+  pub related_equiv : AreRelated e one other → (runs one.shared.table e ≡ true → SameWindow e one other) → EquivToGuests e one other
+  related_equiv related same = record {
+    harts = length-map one.hart_states guest_state ∙ related.harts ∙ sym (length-map other.hart_states guest_state);
+    hart_states = λ j.
+        hart_states_equiv e (hart_state_of j (guest_view one)) (guest_state (hart_state_of j one)) (hart_state_of j (guest_view other))
+        (guest_state (hart_state_of j other)) (guest_hart_state j one) (guest_hart_state j other) (related.hart_states j);
+    shared = record {
+      table = related.table;
+      memory = record { size = related.memory.size; bytes = bytes };
+      contexts = related.contexts;
+      gone = related.gone;
+    };
+  } where
+    bytes : (i : ℕ) → has (region one.shared.table e) (ram_base + i) ≡ false → slice_index one.shared.memory i ≡ slice_index other.shared.memory i
+    bytes i own = elim (cases_Bool (runs one.shared.table e)) [
+      | inr idle ↦ related.memory.bytes i (rw (own, idle) refl)
+      | inl running ↦ elim (cases_Bool (has (window one.shared.table e) (ram_base + i))) [
+        | inl within ↦ (same running).bytes i (ap not within)
+        | inr beyond ↦ related.memory.bytes i (rw (own, running, beyond) refl)
+      ]
+    ]
+
+  pub equiv_related : EquivToGuests e one other → ((hart : ℕ) → runs_on e hart one ≡ true → SameHostOn hart one other) → AreRelated e one other
+  equiv_related equiv hosts = record {
+    harts = sym (length-map one.hart_states guest_state) ∙ equiv.harts ∙ length-map other.hart_states guest_state;
+    hart_states = λ j.
+        hart_states_equiv e (guest_state (hart_state_of j one)) (hart_state_of j (guest_view one)) (guest_state (hart_state_of j other))
+        (hart_state_of j (guest_view other)) (sym (guest_hart_state j one)) (sym (guest_hart_state j other)) (equiv.hart_states j);
+    hosts = hosts;
+    table = equiv.shared.table;
+    memory = record {
+      size = equiv.shared.memory.size;
+      bytes = λ i shown. equiv.shared.memory.bytes i (not_first (has (region one.shared.table e) (ram_base + i)) _ shown);
+    };
+    contexts = equiv.shared.contexts;
+    gone = equiv.shared.gone;
+  }

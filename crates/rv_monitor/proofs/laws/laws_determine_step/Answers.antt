@@ -1,0 +1,5 @@
+use Rattle.rv_monitor.proofs.Determined.{determined_law}
+use Rattle.rv_monitor.proofs.laws.laws_determine_step.Goals as goal
+
+pub returns : goal.returns
+returns c = determined_law

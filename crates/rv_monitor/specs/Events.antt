@@ -1,0 +1,87 @@
+-- Laws for lists of events: steps of the harts and changes of their timer lines, in any order. They hold against an attacker that chooses which
+-- hart steps next, and when its timer interrupt becomes pending. (Laws about the monitor's definitions, not rules of a standard.)
+use Rattle.std.specs.Prelude.{◌≡◌, ℕ, Bool, false, true, List, [], ◌∷◌}
+use Rattle.rv_monitor.specs.Prelude.{is_live}
+use Rattle.rv_monitor.specs.Debugger.{timer_line_set, with_timer}
+use Rattle.rv_monitor.specs.EquivExcept.{EquivExcept, runs_on}
+use Rattle.rv_monitor.specs.HartLaws.{Scheduled, first_then}
+use Rattle.rv_monitor.specs.Integrity.{IsPreserved, enters}
+use Rattle.rv_monitor.specs.MonitoredMachine.{MonitoredMachine, Invariant, hart_state_of, reprogrammed}
+use Rattle.rv_monitor.specs.Step.{MonitoredStepped, not_stepped, step_of}
+
+-- a step of a hart, or the timer line of a hart is set or cleared
+pub data Event : Type 0 where
+  StepOf : ℕ → Event
+  LineOf : ℕ → Bool → Event
+
+abbrev pub event_of : Event → MonitoredMachine → MonitoredStepped
+event_of (StepOf hart) machine = step_of hart machine
+event_of (LineOf hart raised) machine = record (not_stepped machine) { state = with_timer hart machine raised }
+
+-- the state after each event in the list, in turn, and the outcome of each
+abbrev pub events : List Event → MonitoredMachine → Scheduled
+events [] machine = record { state = machine; outcomes = [] }
+events (event ∷ more) machine = first_then (event_of event machine).outcome (events more (event_of event machine).state)
+
+-- every list of events preserves the invariant
+abbrev pub EventInvariantLaw : Type 0
+EventInvariantLaw = (list : List Event) (machine : MonitoredMachine) → Invariant machine → Invariant (events list machine).state
+
+-- ---- noninterference
+
+-- a low step, or a change of any timer line, also that of the hart on which the enclave runs
+abbrev pub IsLowEvent : ℕ → Event → MonitoredMachine → Type 0
+IsLowEvent e (StepOf hart) machine = runs_on e hart machine ≡ false
+IsLowEvent e (LineOf hart raised) machine = Unit {0}
+
+abbrev pub AreLowEvents : ℕ → List Event → MonitoredMachine → Type 0
+AreLowEvents e [] machine = Unit {0}
+AreLowEvents e (event ∷ more) machine = IsLowEvent e event machine × AreLowEvents e more (event_of event machine).state
+
+-- the outcomes are the same, and the final states are equivalent except for e
+pub record EventsAlike (e : ℕ) (list : List Event) (one other : MonitoredMachine) : Type 0 where
+  pub outcomes : (events list one).outcomes ≡ (events list other).outcomes
+  pub state : EquivExcept e (events list one).state (events list other).state
+
+-- if two machines are equivalent except for slot e, low events have the same outcomes on both and leave them equivalent except for e
+abbrev pub EventLaw : Type 0
+EventLaw =
+    (e : ℕ) (list : List Event) (one other : MonitoredMachine) → Invariant one → Invariant other → EquivExcept e one other → AreLowEvents e list one
+    → EventsAlike e list one other
+
+-- ---- integrity
+
+-- a low step that does not enter the enclave, or a change of any timer line
+abbrev pub IsUndisturbing : ℕ → Event → MonitoredMachine → Type 0
+IsUndisturbing k (StepOf hart) machine = (runs_on k hart machine ≡ false) × (enters k (step_of hart machine).outcome.entered ≡ false)
+IsUndisturbing k (LineOf hart raised) machine = Unit {0}
+
+-- the enclave is live before, between and after the events, and no event disturbs it
+abbrev pub AreUndisturbing : ℕ → List Event → MonitoredMachine → Type 0
+AreUndisturbing k [] machine = is_live machine.shared.table k ≡ true
+AreUndisturbing k (event ∷ more) machine =
+    (is_live machine.shared.table k ≡ true) × IsUndisturbing k event machine × AreUndisturbing k more (event_of event machine).state
+
+-- as IsUntouched, except for the timer line of the hart on which it runs
+pub record IsUntouchedButLine (k : ℕ) (before after : MonitoredMachine) : Type 0 where
+  pub preserved : IsPreserved k before.shared after.shared
+  pub hart_state : (hart : ℕ) → runs_on k hart before ≡ true
+      → timer_line_set false (hart_state_of hart after) ≡ timer_line_set false (reprogrammed after.shared.table (hart_state_of hart before))
+
+-- every list of events preserves each enclave that it leaves undisturbed
+abbrev pub EventIntegrityLaw : Type 0
+EventIntegrityLaw =
+    (k : ℕ) (list : List Event) (machine : MonitoredMachine) → Invariant machine → AreUndisturbing k list machine
+    → IsUntouchedButLine k machine (events list machine).state
+
+-- no event is a step of a hart on which the enclave runs
+abbrev pub StepsNone : ℕ → List Event → MonitoredMachine → Type 0
+StepsNone k [] machine = Unit {0}
+StepsNone k (StepOf hart ∷ more) machine = (runs_on k hart machine ≡ false) × StepsNone k more machine
+StepsNone k (LineOf hart raised ∷ more) machine = StepsNone k more machine
+
+-- an enclave that runs on a hart is left undisturbed by every list of steps of the other harts and of changes of any timer line
+abbrev pub RunningEventLaw : Type 0
+RunningEventLaw =
+    (k own : ℕ) (list : List Event) (machine : MonitoredMachine) → Invariant machine → runs_on k own machine ≡ true → StepsNone k list machine
+    → AreUndisturbing k list machine

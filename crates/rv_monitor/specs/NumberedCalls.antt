@@ -1,0 +1,239 @@
+-- The answers of the monitor in numbers. The key is in a7, and the number of the call in a6. The statuses, their order, and the machine after
+-- each call and after a timer interrupt are written out. (A law about the monitor's definitions; Keystone, EuroSys 2020, in this project's
+-- profile.)
+use Rattle.std.specs.Prelude.{◌≡◌, ◌≢◌, ℕ, Bool, false, List, map, replicate, slice_index_or, slice_set, Option, Some, None}
+use Rattle.rv_state.specs.declared.cause.Cause.TheVariants as causes
+use Rattle.rv_state.specs.declared.cause.Interrupt.{Interrupt}
+use Rattle.rv_enclaves.specs.CallNumbers.{IsCreatable, call_numbered, call_status, lowest_free, shared_with_measurement, shared_with_new, shared_without, slot_named}
+use Rattle.rv_monitor.specs.Prelude.{Call, Context, Create, Destroy, CsrState, Enclave, EnclaveState, EnvironmentCallFromS, Exit, Exited, Hart, Host}
+use Rattle.rv_monitor.specs.Prelude.{Measure, Resume, Run, Running, S, Shared, Slots, Stop, Stopped, Trap, U, World, aligned_to_4, layout, mie_of}
+use Rattle.rv_monitor.specs.Prelude.{option_case, register, with_register}
+use Rattle.rv_state.specs.CsrTable.{vector_of}
+use Rattle.rv_state.specs.declared.s_context.SContext.{SContext}
+use Rattle.rv_monitor.specs.Refused.{passed_csrs, past_ecall}
+use Rattle.rv_monitor.specs.MonitoredMachine.{MonitoredMachine, hart_state_of, reprogrammed}
+use Rattle.rv_monitor.specs.Step.{MonitoredStepped}
+
+-- ---- the request
+
+abbrev pub regs_at : ℕ → MonitoredMachine → List ℕ
+regs_at hart machine = (hart_state_of hart machine).hart.regs
+
+abbrev pub call_at : ℕ → MonitoredMachine → Option Call
+call_at hart machine =
+    let regs = regs_at hart machine in call_numbered (hart_state_of hart machine).world (register regs 17) (register regs 16)
+
+-- 0 if the call succeeds
+abbrev pub status_at : ℕ → MonitoredMachine → ℕ
+status_at hart machine =
+    let hart_state = hart_state_of hart machine in
+    call_status hart_state.world machine.shared hart_state.hart.csrs.pmp hart_state.hart.regs
+
+-- ---- a call that enters or leaves no enclave
+
+-- The caller continues in S after its ecall, with two values in a0 and a1. Its other registers, its S-mode CSRs and its world are as they were.
+-- On every other hart only the PMP entries and mie change.
+abbrev pub answered_machine : ℕ → MonitoredMachine → Trap → Shared → ℕ → ℕ → MonitoredMachine
+answered_machine own before trap shared a0 a1 =
+    let hart_state = hart_state_of own before in
+    let hart = hart_state.hart in
+    record {
+      hart_states = slice_set (map (reprogrammed shared.table) before.hart_states) own (record hart_state {
+        hart = record {
+          regs = with_register (with_register hart.regs 10 a0) 11 a1;
+          csrs = record (passed_csrs hart.csrs trap (past_ecall hart)) {
+            pmp = layout shared.table hart_state.world;
+            mie = mie_of hart_state.world;
+          };
+          pc = past_ecall hart;
+          mode = S;
+        };
+      });
+      shared = shared;
+    }
+
+abbrev pub Returns : ℕ → MonitoredMachine → MonitoredStepped → Trap → Shared → ℕ → ℕ → Type 0
+Returns hart before after trap shared a0 a1 =
+    (after.state ≡ answered_machine hart before trap shared a0 a1) × (after.outcome.entered ≡ None)
+
+-- ---- a switch between worlds
+
+-- the S-mode CSRs that a switch saves
+abbrev pub supervisor_at : CsrState → SContext
+supervisor_at csrs = record {
+  stvec = csrs.stvec;
+  sscratch = csrs.sscratch;
+  sepc = csrs.sepc;
+  scause = csrs.scause;
+  stval = csrs.stval;
+  sie = csrs.mstatus.sie;
+  spie = csrs.mstatus.spie;
+  spp = csrs.mstatus.spp;
+  mxr = csrs.mstatus.mxr;
+}
+
+-- the hart continues with a saved context: each S-mode CSR is as a write would store it, and the PMP entries and mie are those of the world
+abbrev pub switched_hart : Hart → Trap → Context → Slots → World → Hart
+switched_hart hart trap context slots world =
+    let passed = passed_csrs hart.csrs trap context.pc in
+    record {
+      regs = context.regs;
+      csrs = record passed {
+        mstatus = record passed.mstatus {
+          sie = context.supervisor.sie;
+          spie = context.supervisor.spie;
+          spp = context.supervisor.spp;
+          mxr = context.supervisor.mxr;
+        };
+        stvec = vector_of context.supervisor.stvec;
+        sscratch = context.supervisor.sscratch;
+        sepc = aligned_to_4 context.supervisor.sepc;
+        scause = context.supervisor.scause;
+        stval = context.supervisor.stval;
+        pmp = layout slots world;
+        mie = mie_of world;
+      };
+      pc = context.pc;
+      mode = context.mode;
+    }
+
+-- the table with another state in the record of a slot
+abbrev pub slots_with_state : Slots → ℕ → EnclaveState → Slots
+slots_with_state slots k state =
+    option_case (slice_index_or slots k None) slots (λ info. slice_set slots k (Some (record info { state = state })))
+
+-- ---- a call that enters an enclave
+
+-- The enclave is Running and continues with its saved context. The host is saved with its own registers, to continue in S after its ecall.
+abbrev pub entered_by_call : ℕ → MonitoredMachine → ℕ → Trap → Context → MonitoredMachine
+entered_by_call own before k trap context =
+    let hart = (hart_state_of own before).hart in
+    let slots = slots_with_state before.shared.table k Running in
+    record {
+      hart_states = slice_set (map (reprogrammed slots) before.hart_states) own (record {
+        hart = switched_hart hart trap context slots (Enclave k);
+        host_context = Some (record { regs = hart.regs; pc = past_ecall hart; mode = S; supervisor = supervisor_at hart.csrs });
+        world = Enclave k;
+      });
+      shared = record before.shared { table = slots; contexts = slice_set before.shared.contexts k None };
+    }
+
+pub record EntersByCall (hart : ℕ) (before : MonitoredMachine) (after : MonitoredStepped) (trap : Trap) (k : ℕ) : Type 0 where
+  pub context : Context
+  pub kept : slice_index_or before.shared.contexts k None ≡ Some context
+  pub state : after.state ≡ entered_by_call hart before k trap context
+  pub entered : after.outcome.entered ≡ Some k
+
+-- ---- a step that leaves an enclave
+
+-- the state in which it leaves, its saved context, and what the host receives in a0 and a1
+pub record Handover : Type 0 where
+  pub state : EnclaveState
+  pub kept : Context
+  pub reason : ℕ
+  pub value : ℕ
+  -- the timer line of the hart after it
+  pub line : Bool
+
+-- The host continues with its saved context, except for a0 and a1. On every other hart only the PMP entries and mie change.
+abbrev pub handed_over_machine : ℕ → MonitoredMachine → ℕ → Trap → Context → Handover → MonitoredMachine
+handed_over_machine own before k trap host over =
+    let slots = slots_with_state before.shared.table k over.state in
+    let back = switched_hart (hart_state_of own before).hart trap host slots Host in
+    record {
+      hart_states = slice_set (map (reprogrammed slots) before.hart_states) own (record {
+        hart = record back {
+          regs = with_register (with_register back.regs 10 over.reason) 11 over.value;
+          csrs = record back.csrs { timer = over.line };
+        };
+        host_context = None;
+        world = Host;
+      });
+      shared = record before.shared { table = slots; contexts = slice_set before.shared.contexts k (Some over.kept) };
+    }
+
+-- stop: the enclave continues after its ecall, with 0 in a0 and a1; the host receives 1 and the enclave's a0
+abbrev pub by_stop_call : Hart → Handover
+by_stop_call hart = record {
+  state = Stopped;
+  kept = record {
+    regs = with_register (with_register hart.regs 10 0) 11 0;
+    pc = past_ecall hart;
+    mode = S;
+    supervisor = supervisor_at hart.csrs;
+  };
+  reason = 1;
+  value = register hart.regs 10;
+  line = hart.csrs.timer;
+}
+
+-- exit: the saved context of the enclave is zeroed; the host receives 0 and the enclave's a0
+abbrev pub by_exit_call : Hart → Handover
+by_exit_call hart = record {
+  state = Exited;
+  kept = record {
+    regs = replicate 32 0;
+    pc = 0;
+    mode = U;
+    supervisor = record { stvec = 0; sscratch = 0; sepc = 0; scause = 0; stval = 0; sie = false; spie = false; spp = false; mxr = false };
+  };
+  reason = 0;
+  value = register hart.regs 10;
+  line = hart.csrs.timer;
+}
+
+-- the timer interrupt: the enclave continues where it was; the host receives 2 and 0, and the line is cleared
+abbrev pub by_interrupt : Hart → Handover
+by_interrupt hart = record {
+  state = Stopped;
+  kept = record { regs = hart.regs; pc = aligned_to_4 hart.pc; mode = hart.mode; supervisor = supervisor_at hart.csrs };
+  reason = 2;
+  value = 0;
+  line = false;
+}
+
+abbrev pub HandsOver : ℕ → MonitoredMachine → MonitoredStepped → ℕ → Trap → Context → Handover → Type 0
+HandsOver hart before after k trap host over =
+    (after.state ≡ handed_over_machine hart before k trap host over) × (after.outcome.entered ≡ None)
+
+-- ---- the law
+
+pub record AnswersInNumbers (hart : ℕ) (before : MonitoredMachine) (after : MonitoredStepped) (trap : Trap) : Type 0 where
+  -- any other status than 0 refuses: nothing that the harts share changes
+  pub refuses : status_at hart before ≢ 0 → Returns hart before after trap before.shared (status_at hart before) 0
+  pub creates : call_at hart before ≡ Some Create → status_at hart before ≡ 0
+      → Returns hart before after trap (shared_with_new before.shared (regs_at hart before)) 0 (option_case (lowest_free before.shared.table) 13 (λ k. k))
+  pub destroys : call_at hart before ≡ Some Destroy → status_at hart before ≡ 0
+      → Returns hart before after trap (shared_without before.shared (register (regs_at hart before) 10)) 0 0
+  pub measures : call_at hart before ≡ Some Measure → status_at hart before ≡ 0
+      → (let regs = regs_at hart before in
+      Returns hart before after trap (shared_with_measurement before.shared (slot_named (hart_state_of hart before).world regs) (register regs 11)) 0 0)
+  pub runs : (hart_state_of hart before).world ≡ Host → call_at hart before ≡ Some Run → status_at hart before ≡ 0
+      → EntersByCall hart before after trap (register (regs_at hart before) 10)
+  pub resumes : (hart_state_of hart before).world ≡ Host → call_at hart before ≡ Some Resume → status_at hart before ≡ 0
+      → EntersByCall hart before after trap (register (regs_at hart before) 10)
+  pub stops : (k : ℕ) (host : Context) → (hart_state_of hart before).world ≡ Enclave k → (hart_state_of hart before).host_context ≡ Some host
+      → call_at hart before ≡ Some Stop → HandsOver hart before after k trap host (by_stop_call (hart_state_of hart before).hart)
+  pub exits : (k : ℕ) (host : Context) → (hart_state_of hart before).world ≡ Enclave k → (hart_state_of hart before).host_context ≡ Some host
+      → call_at hart before ≡ Some Exit → HandsOver hart before after k trap host (by_exit_call (hart_state_of hart before).hart)
+
+-- of every ecall from S
+abbrev pub AnswersCalls : ℕ → MonitoredMachine → MonitoredStepped → Type 0
+AnswersCalls hart before after =
+    (trap : Trap) → after.outcome.step.trap ≡ Some trap → trap.cause ≡ causes.Exception EnvironmentCallFromS
+    → AnswersInNumbers hart before after trap
+
+-- of every interrupt while an enclave runs
+abbrev pub InterruptsEnclave : ℕ → MonitoredMachine → MonitoredStepped → Type 0
+InterruptsEnclave hart before after =
+    (k : ℕ) (host : Context) (trap : Trap) (interrupt : Interrupt) → (hart_state_of hart before).world ≡ Enclave k
+    → (hart_state_of hart before).host_context ≡ Some host → after.outcome.step.trap ≡ Some trap → trap.cause ≡ causes.Interrupt interrupt
+    → HandsOver hart before after k trap host (by_interrupt (hart_state_of hart before).hart)
+
+-- of a create of the host with good arguments, if this is the lowest free slot
+abbrev pub CreateSucceeds : ℕ → MonitoredMachine → MonitoredStepped → Type 0
+CreateSucceeds hart before after =
+    let regs = regs_at hart before in
+    (trap : Trap) (slot : ℕ) → (hart_state_of hart before).world ≡ Host → after.outcome.step.trap ≡ Some trap
+    → trap.cause ≡ causes.Exception EnvironmentCallFromS → register regs 17 ≡ 0x0A454E43 → register regs 16 ≡ 1
+    → IsCreatable before.shared regs slot → Returns hart before after trap (shared_with_new before.shared regs) 0 slot

@@ -1,0 +1,45 @@
+-- Steps that are no call of the monitor. An instruction that does not trap is that of its hart alone. For the host no interrupt is taken, whether
+-- or not the timer line is set, and every exception goes to its own mode S. (A law about the monitor's definitions; Keystone, EuroSys 2020, in this
+-- project's profile; trap entry to mode S: RISC-V Privileged Architecture 20211203, sections 3.1.6.1 and 4.1.7 to 4.1.9.)
+use Rattle.std.specs.Prelude.{◌≡◌, ◌≢◌, ◌<◌, ℕ, true, slice_set, Some, None}
+use Rattle.rv_state.specs.declared.cause.Cause.TheVariants as causes
+use Rattle.rv_state.specs.declared.cause.Interrupt.{Interrupt}
+use Rattle.rv_monitor.specs.Prelude.{Host, Stepped, Trap, step}
+use Rattle.rv_monitor.specs.Exits.{is_redirected, redirected_machine}
+use Rattle.rv_monitor.specs.MonitoredMachine.{MonitoredMachine, count_of, hart_state_of}
+use Rattle.rv_monitor.specs.Step.{MonitoredStepped}
+
+-- ---- any world
+
+-- the step of the hart without a monitor
+abbrev pub plain_step : ℕ → MonitoredMachine → Stepped
+plain_step hart machine = step (record { hart = (hart_state_of hart machine).hart; memory = machine.shared.memory })
+
+-- only the hart and the memory are those after it
+abbrev pub plainly_stepped : ℕ → MonitoredMachine → MonitoredMachine
+plainly_stepped own before =
+    let after = plain_step own before in
+    record {
+      hart_states = slice_set before.hart_states own (record (hart_state_of own before) { hart = after.state.hart });
+      shared = record before.shared { memory = after.state.memory };
+    }
+
+-- the trap and the accesses are those of the plain step; without a trap, so is the rest
+pub record IsPlain (hart : ℕ) (before : MonitoredMachine) (after : MonitoredStepped) : Type 0 where
+  pub outcome : after.outcome.step ≡ (plain_step hart before).outcome
+  pub quiet : after.outcome.step.trap ≡ None → (after.state ≡ plainly_stepped hart before) × (after.outcome.entered ≡ None)
+
+abbrev pub StepsPlainly : ℕ → MonitoredMachine → MonitoredStepped → Type 0
+StepsPlainly hart before after = hart < count_of before → IsPlain hart before after
+
+-- ---- the host
+
+pub record ContinuesHost (hart : ℕ) (before : MonitoredMachine) (after : MonitoredStepped) : Type 0 where
+  pub uninterrupted : (trap : Trap) (interrupt : Interrupt) → after.outcome.step.trap ≡ Some trap → trap.cause ≢ causes.Interrupt interrupt
+  -- an exception that is not an ecall from S
+  pub redirects : (trap : Trap) → after.outcome.step.trap ≡ Some trap → is_redirected trap.cause ≡ true
+      → (after.state ≡ redirected_machine hart before trap) × (after.outcome.entered ≡ None)
+
+-- for the host on the hart that steps
+abbrev pub HostContinues : ℕ → MonitoredMachine → MonitoredStepped → Type 0
+HostContinues hart before after = (hart_state_of hart before).world ≡ Host → ContinuesHost hart before after
