@@ -1,6 +1,7 @@
 """`mutants.lock`: the texts over which the prover last rejected the mutants.
 
-It has a line for each crate: its name, the number of its mutants, and a digest. The digest covers the sources, definitions and proofs of the
+It has a line for each crate: its name, the number of its mutants, and a digest. A line below it names each mutant that was rejected by its shape, which
+shows nothing about its meaning (trial.py). The digest covers the sources, definitions and proofs of the
 crate and of the crates below it, and their lines in crates.txt. It also covers the mutants, the scripts that judge them, and the kit. If the
 digest is equal, these mutants were rejected over exactly these texts.
 """
@@ -8,6 +9,7 @@ import hashlib
 import os
 import re
 import subprocess
+from typing import NamedTuple
 
 from mutants import read as read_mutants
 
@@ -17,11 +19,18 @@ FILE = f"{HERE}/mutants.lock"
 JUDGES = ("copies.py", "mutants.py", "prover.py", "trial.py")
 # The gate tries one in PARTS mutants of the crates that did not change.
 PARTS = 12
-TITLE = "# crate, mutants, digest of all that the result depends on; written by tests/mutants/run --all\n"
+TITLE = "# crate, mutants, digest of all that the result depends on; mutants rejected by their shape. Written by tests/mutants/run --all\n"
+BY_SHAPE = "  by shape: "
 
 
 class Unreadable(Exception):
     """Why `mutants.lock` cannot be read."""
+
+
+class Tried(NamedTuple):
+    """The entry of a crate: the digest, and the names of the mutants that were rejected by their shape."""
+    digest: str
+    by_shape: tuple = ()
 
 
 def kit_line():
@@ -59,24 +68,31 @@ def add_file(of, folder, name):
 
 
 def read():
-    """Returns the digest of each crate that the lock file has."""
-    found = {}
+    """Returns the entry of each crate that the lock file has."""
+    found, crate = {}, None
     if not os.path.exists(FILE):
         return found
     with open(FILE, encoding="utf-8") as it:
         lines = [line for line in it.read().split("\n") if line and not line.startswith("#")]
     for line in lines:
         match = re.fullmatch(r"(\w+) (\d+) ([0-9a-f]{64})", line)
-        if not match or match[1] in found:
-            raise Unreadable(f"the line '{line}' is no crate with its count and digest, or a second one of a crate")
-        found[match[1]] = match[3]
+        if crate and re.fullmatch(rf"{BY_SHAPE}[\w-]+", line):
+            found[crate] = Tried(found[crate].digest, (*found[crate].by_shape, line[len(BY_SHAPE):]))
+        elif not match or match[1] in found:
+            raise Unreadable(f"the line '{line}' is no crate with its count and digest, no mutant of one, or a second line of a crate")
+        else:
+            crate = match[1]
+            found[crate] = Tried(match[3])
     return found
 
 
 def write(found):
-    """Writes the digest of each crate."""
+    """Writes the entry of each crate."""
     with open(FILE, "w", encoding="utf-8") as it:
-        it.write(TITLE + "".join(f"{crate} {len(read_mutants(crate)[0])} {of}\n" for crate, of in sorted(found.items())))
+        it.write(TITLE)
+        for crate, tried in sorted(found.items()):
+            it.write(f"{crate} {len(read_mutants(crate)[0])} {tried.digest}\n")
+            it.writelines(f"{BY_SHAPE}{name}\n" for name in tried.by_shape)
 
 
 def sample(mutants, commit):

@@ -42,6 +42,11 @@ class Mutant:
     def __str__(self):
         return f"{self.crate}/{self.name}"
 
+    @property
+    def place(self):
+        """Returns the file and the name of the function whose body changes."""
+        return self.pairs[0][0], self.function
+
 
 def crates_with_mutants():
     """Returns the names of the crates that have a file of mutants."""

@@ -11,6 +11,7 @@ import shutil
 import subprocess
 import sys
 import tempfile
+from enum import Enum
 
 # How the prover reports that a function is proved, and that it is rejected.
 PROVED = re.compile(r"proved( where its callers give what it asks)?(, .*)?")
@@ -19,6 +20,14 @@ REFUSED = re.compile(r"not proved(; .*)?|no proof: expected answers in \S+; `sea
 OTHER = re.compile(r"could not tell.*|no proof.*|not stated.*|assumed.*|not assumed.*")
 # An error in a proof file that names something which a mutant removed.
 OF_NAMES = re.compile(r"is not in scope|has no field|has no `|was not admitted|is no name")
+
+
+class Reason(Enum):
+    """Why a function is rejected."""
+    GOAL = "a goal"  # its proof files are in order, and a goal without an answer is not proved
+    ANSWER = "an answer"  # a written answer does not fit its goal: this may be so for the meaning of the mutant, or only for its shape
+    NAME = "a name"  # a proof file names something which the mutant removed
+    NONE = "nothing of its own"
 
 
 class Unknown(Exception):
@@ -83,9 +92,13 @@ class Answer:
         folder = rf"(?:\./)?{re.escape(place.proofs())}/" if place else ""
         return [it for it in self.errors() if re.match(folder, it)]
 
-    def shows_why(self, place):
-        """Returns whether a goal of the function itself is unproved, or an answer in its own proof files is rejected."""
-        return bool(self.goals(place) or self.proof_errors(place) or "`search` did not prove" in self.functions[place.name])
+    def reason(self, place):
+        """Returns why a function is rejected. An unproved goal counts only if no answer is in error, since an error takes all answers away."""
+        errors = self.proof_errors(place)
+        if errors:
+            return Reason.NAME if any(OF_NAMES.search(it) for it in errors) else Reason.ANSWER
+        is_unproved = self.goals(place) or "`search` did not prove" in self.functions[place.name]
+        return Reason.GOAL if is_unproved else Reason.NONE
 
     def of_names_alone(self, place):
         """Returns whether a function (or the crate, if no place is given) is rejected only because a proof file names what a mutant removed."""

@@ -5,19 +5,24 @@ each equivalent mutant proved, and so must every function that they call. Method
 each such method, in place. A mutant that these checks did not reject is tried alone, in place, and so is every other that cannot be copied. A
 mutant has also failed if it does not fit its file, does not compile, or is rejected only because a proof file names what it removed. A check
 with a line of unknown form fails every mutant in it.
+
+A written answer may reject a mutant for the shape of its goals, whatever it means. If the function has an equivalent mutant, which the same answers
+accept, the rejection is one for the meaning. Without one, or if a proof file names what the mutant removed, it is reported as a rejection by shape,
+which shows nothing about the contract.
 """
 import time
 
 from copies import Copy, can_be_copied, with_copies
 from mutants import is_of_trait, mutated, place_of
-from prover import Unknown
+from prover import Reason, Unknown
 
 
 class Trial:
     """Mutants of one crate, all of them or some, tried by a prover; the result of each goes to the report."""
 
-    def __init__(self, prover, mutants, report):
-        self.prover, self.folder, self.report = prover, prover.sources, report
+    def __init__(self, prover, mutants, report, with_equivalents):
+        """`with_equivalents` has the file and the name of each function that has an equivalent mutant."""
+        self.prover, self.folder, self.report, self.with_equivalents = prover, prover.sources, report, with_equivalents
         self.copied = [it for it in mutants if can_be_copied(self.folder, it)]
         self.in_place = [it for it in mutants if it not in self.copied]
         self.begun = self.started = time.time()
@@ -86,10 +91,18 @@ class Trial:
             else:
                 self.report.fails(mutant, f"equivalent, and not proved: {answer.functions[place.name][:200]}")
             return True
-        is_refused = answer.refuses(place.name) and answer.shows_why(place) and not answer.of_names_alone(place)
-        if is_refused:
-            self.report.passes(mutant, "rejected", seconds)
-        return is_refused
+        reason = answer.reason(place)
+        if not answer.refuses(place.name) or reason is Reason.NONE or answer.of_names_alone(place):
+            return False
+        self.judge(mutant, reason, seconds)
+        return True
+
+    def judge(self, mutant, reason, seconds):
+        """Reports a rejected mutant by the reason of its rejection."""
+        is_by_shape = reason is Reason.NAME or reason is Reason.ANSWER and mutant.place not in self.with_equivalents
+        self.report.passes(mutant, f"rejected by {'its shape' if is_by_shape else reason.value}", seconds)
+        if is_by_shape:
+            self.report.by_shape.append(str(mutant))
 
     def alone(self, mutant):
         """Tries one mutant in place."""
@@ -100,11 +113,15 @@ class Trial:
             why = None if answer.is_proved else f"equivalent, and rejected: {answer.first()}"
         else:
             why = flaw(answer, place, name)
+        seconds = self.seconds()
         if why:
-            self.seconds()
             self.report.fails(mutant, why)
+        elif mutant.is_equivalent:
+            self.report.passes(mutant, "equivalent, and proved", seconds)
+        elif place:
+            self.judge(mutant, answer.reason(place), seconds)
         else:
-            self.report.passes(mutant, "equivalent, and proved" if mutant.is_equivalent else "rejected alone", self.seconds())
+            self.report.passes(mutant, "rejected in a proof", seconds)
 
 
 def flaw(answer, place, name):
