@@ -1,0 +1,96 @@
+"""Compiles sources to objects, and reads which symbols these define and use."""
+from __future__ import annotations
+
+import os
+import re
+from dataclasses import dataclass, field
+from typing import Iterable, NamedTuple, Sequence, Tuple
+
+from rvlook.build.toolchain import BuildError, Toolchain, output_of, printable, report, run
+from rvlook.escapes import visible
+
+OF_C = ("-ffreestanding", "-fno-builtin", "-Wall", "-Wextra", "-Os", "-I")
+APART = ("-ffunction-sections", "-fdata-sections")  # so that the linker can drop a function that is not used
+NM_LINE = re.compile(r"([0-9a-f]{8,16}|-{8,16}|)\s+(\S) (.*)\Z")  # an address, dashes in bitcode, or nothing if it is undefined
+STRING_FUNCTIONS = {"memcpy", "memmove", "memset", "memcmp"}  # which a compiler may call
+
+
+class NamedSymbol(NamedTuple):
+    """A line of nm: the address in hexadecimal (empty if the symbol is undefined), the letter of its kind, and its name."""
+    address: str
+    kind: str
+    name: str
+
+
+def symbols_in(toolchain: Toolchain, path: str, *options: str) -> list[NamedSymbol]:
+    """Returns the symbols of an object or of an ELF file, as nm lists them with these options."""
+    matches = (NM_LINE.match(it) for it in output_of([*toolchain.list_symbols, *options, path]).split("\n"))
+    return [NamedSymbol(it[1], it[2], it[3]) for it in matches if it]
+
+
+@dataclass(frozen=True)
+class Names:
+    """The global names that objects define, and those that they use and none of them defines."""
+    defined: frozenset[str]
+    lacking: frozenset[str]
+
+
+@dataclass
+class Workshop:
+    """The folder of the sources, the shared folder, a temporary folder of the objects, and the compiler with the options of CFLAGS."""
+    toolchain: Toolchain
+    folder: str
+    shared: str
+    made: str
+    cflags: Tuple[str, ...]
+    listed: dict[str, Sequence[NamedSymbol]] = field(default_factory=dict)
+
+    def compile(self, source: str, name: str, *options: str) -> str:
+        """Compiles a source to the object of this name; returns its path. Prints the warnings of the compiler. Raises BuildError.
+
+        The source is passed as a path, so that it is no option and no response file (@FILE). C is compiled in the folder DIR, to which relative
+        paths in CFLAGS are relative; assembly in the folder of the source, to which .incbin is relative."""
+        path = source if os.path.isabs(source) else "./" + source
+        if not os.path.isfile(os.path.join(self.folder, source)):
+            raise BuildError("error: '%s' is not a regular file" % visible(source))
+        target = os.path.join(self.made, name)
+        words = [*self.toolchain.compile, "-gdwarf-4"]
+        if source.endswith(".c"):
+            words += [*OF_C, self.shared, *options, *self.cflags]
+        done = run([*words, "-c", "-o", target, path], self.folder if source.endswith(".c") else os.path.dirname(os.path.join(self.folder, source)))
+        if done.returncode:
+            raise BuildError(printable(done.stderr) or "error: '%s' cannot be compiled" % visible(source))
+        report(done.stderr)
+        return target
+
+    def string_functions(self, objects: Sequence[str], name: str) -> list[str]:
+        """Returns the object of the string functions, of this name, if the objects use one that none of them defines; else nothing."""
+        if STRING_FUNCTIONS.isdisjoint(self.names(objects).lacking):
+            return []
+        options = ("-O1", "-fno-lto", *APART, *self.toolchain.of_string_functions)
+        return [self.compile(os.path.join(self.shared, "string.c"), name, *options)]
+
+    def names(self, objects: Iterable[str]) -> Names:
+        """Returns the global names of objects."""
+        symbols = [symbol for path in objects for symbol in self.symbols(path)]
+        defined = frozenset(it.name for it in symbols if it.address)
+        return Names(defined, frozenset(it.name for it in symbols if not it.address) - defined)
+
+    def symbols(self, path: str) -> Sequence[NamedSymbol]:
+        """Returns the global symbols of an object that does not change any more."""
+        if path not in self.listed:
+            self.listed[path] = symbols_in(self.toolchain, path, "-g")
+        return self.listed[path]
+
+    def copy_object(self, path: str, target: str, *options: str) -> None:
+        """Writes an object with changed sections or symbols to `target`, which may be `path`."""
+        output_of([*self.toolchain.object_copy, *options, path, target])
+        self.listed.pop(target, None)
+
+    def merge(self, objects: Sequence[str], name: str) -> str:
+        """Joins objects to one of this name, and removes them; returns its path."""
+        target = os.path.join(self.made, name)
+        output_of([*self.toolchain.merge, "-o", target, *objects])
+        for path in objects:
+            os.unlink(path)
+        return target

@@ -1,0 +1,106 @@
+"""Which sources of a folder belong to the host, the enclave and the monitor, and the objects of each."""
+from __future__ import annotations
+
+import os
+from dataclasses import dataclass, field
+from typing import List
+
+from rvlook.build.objects import APART, Workshop
+from rvlook.build.toolchain import BuildError
+from rvlook.escapes import visible
+
+KINDS = (".c", ".s", ".S")  # the order in which sources are compiled and linked
+FIRST = ("start.s", "host.s", "enclave.s", "runtime.s")  # which are compiled before all others
+OF_HOST, OF_ENCLAVE = ("host", "start"), ("runtime", "application", "enclave")  # how the names of the sources of one side begin
+IN_ENCLAVE = "-DIN_ENCLAVE"
+DROP_UNUSED = ("-Wl,--gc-sections", "-Wl,-u,enclave_entry")
+
+
+@dataclass
+class Programs:
+    """The objects of the host and of the enclave, and whether functions that no one uses are dropped."""
+    host: List[str] = field(default_factory=list)
+    enclave: List[str] = field(default_factory=list)
+    drops_unused: bool = False
+
+
+def sources_in(folder: str) -> list[str]:
+    """Returns the names of the sources of a folder, in the order in which they are compiled."""
+    names = sorted(it for it in os.listdir(folder) if not it.startswith("."))
+    return [it for kind in KINDS for it in names if it.endswith(kind)]
+
+
+def has(folder: str, name: str) -> bool:
+    """Returns whether the folder has a regular file of this name."""
+    return os.path.isfile(os.path.join(folder, name))
+
+
+def compile_monitor(workshop: Workshop, folder: str) -> None:
+    """Compiles a monitor to one object whose sections begin with .monitor and whose only global name is monitor_entry."""
+    own = folder == workshop.folder
+    objects = [workshop.compile(it if own else os.path.join(folder, it), "monitor.%s.o" % it, "-O1") for it in sources_in(folder)]
+    objects += workshop.string_functions(objects, "monitor.string.o")
+    merged = workshop.merge(objects, "merged")
+    target = os.path.join(workshop.made, "monitor.o")
+    workshop.copy_object(merged, target, "--prefix-alloc-sections=.monitor", "--keep-global-symbol=monitor_entry")
+
+
+def compile_programs(workshop: Workshop) -> Programs:
+    """Compiles the host and the enclave of the folder. Raises BuildError."""
+    programs = Programs([compile_start(workshop)], compile_entry(workshop))
+    for source in sources_in(workshop.folder):
+        if source not in FIRST:
+            compile_source(workshop, source, programs)
+    strings = workshop.string_functions(programs.host, "string.host.o")
+    programs.host += strings
+    if programs.enclave:
+        of_enclave = workshop.string_functions(programs.enclave, "string.enclave.o")
+        programs.enclave += of_enclave
+        strings += of_enclave
+        separate(workshop, programs)
+    programs.drops_unused |= bool(strings)
+    return programs
+
+
+def compile_start(workshop: Workshop) -> str:
+    """Compiles the code at which the host begins; returns its object."""
+    own = next((it for it in ("start.s", "host.s") if has(workshop.folder, it)), None)
+    return workshop.compile(own or os.path.join(workshop.shared, "host.s"), "start.o")
+
+
+def compile_entry(workshop: Workshop) -> list[str]:
+    """Compiles the code at which the enclave begins; returns its object, or nothing if the folder has no enclave."""
+    if has(workshop.folder, "enclave.s"):
+        return [workshop.compile("enclave.s", "runtime_start.o")]
+    if not has(workshop.folder, "runtime.c"):
+        return []
+    own = "runtime.s" if has(workshop.folder, "runtime.s") else os.path.join(workshop.shared, "runtime.s")
+    return [workshop.compile(own, "runtime_start.o")]
+
+
+def compile_source(workshop: Workshop, source: str, programs: Programs) -> None:
+    """Compiles a source for its side. One whose name belongs to neither is compiled for both; the linker drops unused functions of it."""
+    if source.startswith(OF_HOST):
+        programs.host.append(workshop.compile(source, source + ".o"))
+    elif source.startswith(OF_ENCLAVE):
+        programs.enclave.append(workshop.compile(source, source + ".o", IN_ENCLAVE))
+    else:
+        programs.host.append(workshop.compile(source, source + ".host.o", *APART))
+        programs.enclave.append(workshop.compile(source, source + ".enclave.o", *APART, IN_ENCLAVE))
+        programs.drops_unused = True
+
+
+def separate(workshop: Workshop, programs: Programs) -> None:
+    """Moves the enclave to sections that begin with .enclave. A name that both sides define, such as memcpy, becomes local to the enclave.
+
+    An enclave cannot access memory of the host: raises BuildError if it uses a function that only the host has."""
+    of_host, of_enclave = workshop.names(programs.host), workshop.names(programs.enclave)
+    for path in programs.enclave:
+        workshop.copy_object(path, path, "--prefix-alloc-sections=.enclave")
+    missing = sorted(of_enclave.lacking & of_host.defined)
+    if missing:
+        raise BuildError("error: the enclave uses functions that only the host has: %s" % ", ".join(map(visible, missing)))
+    both = sorted(of_enclave.defined & of_host.defined)
+    if both:
+        merged = workshop.merge(programs.enclave, "enclave.o")
+        workshop.copy_object(merged, merged, *("--localize-symbol=" + it for it in both))
