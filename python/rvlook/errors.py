@@ -1,9 +1,14 @@
 """The exceptions of rvlook, each with a message of one line and an exit status, and the lines that it prints to standard error."""
 from __future__ import annotations
 
+import os
 import sys
 
+from rvlook.escapes import visible
+
 FOUND, REFUSED, UNFINISHED = 1, 2, 3  # exit statuses (docs/LOOK.md, Exit statuses); argparse and rvbench use 2 for the same purpose
+
+LONGEST_REASON = 200  # characters of an error that no one foresaw
 
 
 class RvlookError(Exception):
@@ -28,9 +33,25 @@ class BenchEnded(Unfinished):
     """rvbench exited before it had replied."""
 
 
+def reason_of(error: BaseException) -> str:
+    """Returns the text of an error, of at most LONGEST_REASON characters; its class if it has no text, or one with a number that is too long."""
+    try:
+        return visible(str(error)[:LONGEST_REASON]) or type(error).__name__
+    except ValueError:
+        return type(error).__name__
+
+
+def print_plain(line: str) -> None:
+    """Prints a line to standard error. If that cannot be written, it loses this line and the later ones, and the exit status stays what it is."""
+    try:
+        print(line, file=sys.stderr, flush=True)
+    except OSError:
+        sys.stderr = open(os.devnull, "w", encoding="utf-8")
+
+
 def print_line(severity: str, line: str) -> None:
-    """Prints a message to standard error: the program, a severity and the text."""
-    print("rvlook: %s: %s" % (severity, line), file=sys.stderr, flush=True)
+    """Prints a message to standard error: the program, a severity and the text, whose control characters are made visible."""
+    print_plain("rvlook: %s: %s" % (severity, visible(line)))
 
 
 def error(line: str) -> None:

@@ -3,7 +3,7 @@ from __future__ import annotations
 
 from typing import Sequence, TYPE_CHECKING
 
-from rvlook.output.escapes import visible
+from rvlook.escapes import visible
 from rvlook.errors import RvlookError
 from rvlook.image.source_paths import files_of
 from rvlook.access.touch import Touches, covered_functions, covered_lines

@@ -9,6 +9,7 @@ from dataclasses import dataclass
 from typing import Iterator, Optional, Sequence, TYPE_CHECKING
 
 from rvlook.protocol import names
+from rvlook.access.failures import Failure, refused_call
 from rvlook.access.ranges import Range, derived_rights, meaning, table_boundaries, verdicts_of
 from rvlook.protocol.replies import Location, enclave_of, register_values, step_of
 from rvlook.protocol.run import End, Stretch
@@ -82,6 +83,11 @@ class Cause:
 
 def events(run: Run) -> Iterator[Event | End]:
     """Yields an Event for the state at reset and for each change of access rights, and then the End."""
+    return (it for it in events_and_refusals(run) if not isinstance(it, Failure))
+
+
+def events_and_refusals(run: Run) -> Iterator[Event | Failure | End]:
+    """Yields the same as `events`, and each call that the monitor refuses."""
     finder = Finder(run)
     end = None
     with run.replay() as replay:
@@ -147,8 +153,8 @@ class Finder:
         self.state = self.state_of(replay, [self.run.world] * self.setup.harts)
         return self.event(0, 0, Cause("reset"), Location(self.run.pc, self.run.mode, self.run.world))
 
-    def at_step(self, replay: Replay, step: int, hart: int) -> Event | None:
-        """Returns the event after a step, or None if nothing has changed."""
+    def at_step(self, replay: Replay, step: int, hart: int) -> Event | Failure | None:
+        """Returns the event after a step, or a refused call; None if nothing has changed."""
         bench = replay.bench
         before = bench.ask(*replay.lines_to(step - 1), *replay.lines_up_to_next(), "regs")[-1]
         pc = before[32][3:]
@@ -157,7 +163,8 @@ class Finder:
         ran = step_of(ran_line[0])
         state = self.state_of(replay, [*self.state.worlds[:hart], ran.world, *self.state.worlds[hart + 1:]])
         if state == self.state:
-            return None
+            world = state.worlds[hart]
+            return refused_call(step, hart, Location(pc, ran.mode, world), register_values(after)) if world != "bare" else None
         old, self.state = self.state, state
         cause = cause_of(ran, old, hart, register_values(before), register_values(after), text)
         return self.event(step, hart, cause, Location(pc, ran.mode, ran.world))

@@ -5,7 +5,8 @@ from bisect import bisect_right
 from typing import Iterable, Iterator, Sequence, TYPE_CHECKING
 
 from rvlook.protocol import names
-from rvlook.access.map import events
+from rvlook.access.failures import Failure, failure_object
+from rvlook.access.map import events_and_refusals
 from rvlook.access.ranges import NOTHING, Range
 from rvlook.protocol.run import End
 from rvlook.output.printer import Style, enclave_object, end_object, end_text, hex8, place_text, run_object
@@ -25,9 +26,11 @@ def show_map(run: Run, symbols: Symbols, printer: Printer, is_brief: bool = Fals
     if printer.as_json:
         run_object(printer, run, symbols)
     before = None
-    for item in events(run):
+    for item in events_and_refusals(run):
         if isinstance(item, End):
             (end_object(printer, item) if printer.as_json else end_text(printer, item, symbols))
+        elif isinstance(item, Failure):
+            show_refused(printer, item, run, symbols)
         elif printer.as_json:
             write_event(printer, item, symbols)
         elif is_brief:
@@ -37,6 +40,16 @@ def show_map(run: Run, symbols: Symbols, printer: Printer, is_brief: bool = Fals
             print_event(printer, item, symbols)
     if not printer.as_json and not is_brief and run.setup.monitor:
         printer.line("(in brackets: worlds that are not running; their rights are derived from the enclave table)")
+
+
+def show_refused(printer: Printer, it: Failure, run: Run, symbols: Symbols) -> None:
+    """Writes a call that the monitor refused, as a line or as an object."""
+    if printer.as_json:
+        printer.object("failure", **failure_object(it, symbols), expected=None)
+        return
+    hart = "hart %d  " % it.hart if run.setup.harts > 1 else ""
+    heading = "%sstep %d  %s refused: %s" % (hart, it.step, it.call, it.name)
+    printer.line(printer.styled(heading, Style.bad) + "  at " + place_text(it.at.pc, symbols))
 
 
 def write_event(printer: Writer, event: Event, symbols: Symbols) -> None:

@@ -11,6 +11,7 @@ from rvlook.protocol.inputs import Image, ScriptLine
 DIGITS_A_LINE = 120
 MOST_BYTES = 33554432  # of an image, as the bench has it
 MOST_READ = 3 * MOST_BYTES  # bytes of a file; two digits for each byte of an image, line ends and a script
+CHUNK = 1 << 20  # bytes that are read at once
 MOST_LINES = 1000000  # of a script
 SEPARATOR = re.compile(rb"(?m)^([ \t]*--[ \t]*)(\r?\n|\Z)")
 MARKS = {b"\xef\xbb\xbf": "utf-8", b"\xff\xfe": "utf-16-le", b"\xfe\xff": "utf-16-be"}  # byte order marks
@@ -31,10 +32,15 @@ def read_file(path: str) -> bytes:
 
 def bounded(file: BinaryIO, path: str) -> bytes:
     """Returns all bytes of an open file; a RvlookError if there are more than MOST_READ. A device without end is such a file."""
-    data = file.read(MOST_READ + 1)
-    if len(data) > MOST_READ:
-        raise RvlookError("'%s' is too large: it has more than %d bytes" % (path, MOST_READ))
-    return data
+    parts: list[bytes] = []
+    size = 0
+    while size <= MOST_READ:
+        part = file.read(CHUNK)
+        if not part:
+            return b"".join(parts)
+        parts.append(part)
+        size += len(part)
+    raise RvlookError("'%s' is too large: it has more than %d bytes" % (path, MOST_READ))
 
 
 def digits_of(data: bytes) -> bytes:

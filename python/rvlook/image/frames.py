@@ -6,9 +6,10 @@ from bisect import bisect_left
 from dataclasses import dataclass
 from typing import Any, Iterable, Iterator, Optional, Sequence, Tuple, TYPE_CHECKING
 
+from rvlook.image.budget import budget_of, spend
 from rvlook.image.files import read_file
-from rvlook.image.symbols import checked, knows_all_forms, ranges_of, readable
-from rvlook.image.variables import AGGREGATES, DEEPEST, FRAME_SP, RELATIVE, Unit, signed
+from rvlook.image.symbols import checked, compilation_units, knows_all_forms, ranges_of, readable
+from rvlook.image.variables import ADDRESSES, AGGREGATES, FRAME_SP, RELATIVE, Unit, signed
 from rvlook.protocol.inputs import ELF_MAGIC
 
 if TYPE_CHECKING:
@@ -17,8 +18,6 @@ if TYPE_CHECKING:
 FIRST_REGISTER, LAST_REGISTER = 0x50, 0x6F  # DW_OP_reg0 to DW_OP_reg31
 FIRST_NUMBER, LAST_NUMBER, SIGNED = 0x30, 0x4F, 0x11  # DW_OP_lit0 to DW_OP_lit31, and DW_OP_consts
 WORD = 4  # bytes of a register
-VARIABLES = ("DW_TAG_variable", "DW_TAG_formal_parameter")
-SCOPES = ("DW_TAG_lexical_block", "DW_TAG_inlined_subroutine")
 Where = Tuple[str, int]  # `register`, `sp`, `entry` (the sp at the function's entry) or `value`, with a number or an offset
 
 
@@ -44,7 +43,7 @@ def frames_of(path: str | None, image: Image, executed: Sequence[int]) -> Sequen
         return ()
     knows_all_forms()
     content = data
-    return readable(name, "no variables", lambda: read_frames(checked(ELFFile(io.BytesIO(content)), content), executed)) or ()
+    return readable(name, "no variables", lambda: read_frames(checked(ELFFile(io.BytesIO(content)), content), executed), budget_of(content)) or ()
 
 
 def read_frames(file: Any, executed: Sequence[int]) -> list[Variable]:
@@ -52,7 +51,7 @@ def read_frames(file: Any, executed: Sequence[int]) -> list[Variable]:
     if not file.has_dwarf_info():
         return []
     dwarf = file.get_dwarf_info()
-    units = (it for it in dwarf.iter_CUs() if has_any(ranges_of(dwarf, it, it.get_top_DIE()), executed))
+    units = (it for it in compilation_units(dwarf) if has_any(ranges_of(dwarf, it, it.get_top_DIE()), executed))
     return [it for unit in units for it in Frames(dwarf, unit).variables()]
 
 
@@ -75,14 +74,6 @@ class Frames(Unit):
             for entry, scope in self.scoped(function, ranges):
                 yield from self.located(entry, scope, base.value[0] in FRAME_SP)
 
-    def scoped(self, scope: Any, ranges: Sequence[tuple[int, int]], depth: int = 0) -> Iterator[tuple[Any, Sequence[tuple[int, int]]]]:
-        """Yields the variables of a scope and of the scopes in it, each with the address ranges of its scope."""
-        for it in self.children.get(scope.offset, ()) if depth < DEEPEST else ():
-            if it.tag in VARIABLES:
-                yield it, ranges
-            elif it.tag in SCOPES:
-                yield from self.scoped(it, list(ranges_of(self.dwarf, self.unit, it)) or ranges, depth + 1)
-
     def located(self, entry: Any, ranges: Sequence[tuple[int, int]], is_sp: bool) -> Iterator[Variable]:
         """Yields a variable with each of its locations; none for a structure."""
         kind = self.plain(self.type_of(entry))
@@ -92,8 +83,9 @@ class Frames(Unit):
         constant, it = entry.attributes.get("DW_AT_const_value"), entry.attributes.get("DW_AT_location")
         places = [(*each, self.location(entry)) for each in ranges] if it is None or isinstance(it.value, list) else self.listed(it.value, entry)
         for first, end, expression in places:
+            spend()
             where = ("value", int(constant.value)) if constant and isinstance(constant.value, int) else where_of(expression, is_sp)
-            if where and first < end:
+            if where and where[1] in ADDRESSES and first < end:
                 yield Variable(first, end, self.name(entry), where, size)
 
     def listed(self, offset: int, entry: Any) -> Iterator[tuple[int, int, bytes]]:
@@ -102,6 +94,7 @@ class Frames(Unit):
         base = self.unit.get_top_DIE().attributes.get("DW_AT_low_pc")
         at = base.value if base else 0
         for it in lists.get_location_list_at_offset(offset, entry) if lists else ():
+            spend()
             if hasattr(it, "base_address"):
                 at = it.base_address
             elif hasattr(it, "begin_offset"):

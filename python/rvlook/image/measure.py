@@ -7,7 +7,8 @@ import struct
 from typing import Sequence, TYPE_CHECKING
 
 from rvlook.protocol import names
-from rvlook.errors import RvlookError, Unfinished, package_missing
+from rvlook.errors import RvlookError, Unfinished, package_missing, reason_of
+from rvlook.image.budget import budget_of
 from rvlook.image.files import read_file
 from rvlook.protocol.inputs import ELF_MAGIC
 from rvlook.protocol.memory_map import MONITOR_END
@@ -38,15 +39,15 @@ def region_bytes(path: str, data: bytes, base: int, size: int) -> bytes:
 def segments(path: str, data: bytes) -> list[tuple[int, bytes]]:
     """Returns the load address and the bytes of each segment of an ELF file; raises RvlookError or Unfinished."""
     try:
-        from elftools.common.exceptions import ELFError
         from elftools.elf.elffile import ELFFile
     except ImportError:
         raise Unfinished(package_missing("pyelftools", "python3-pyelftools", "measure cannot read an ELF file")) from None
     try:
-        file = ELFFile(io.BytesIO(data))
-        return [(it["p_paddr"], it.data()) for it in file.iter_segments() if it["p_type"] == "PT_LOAD"]
-    except ELFError as error:
-        raise RvlookError("cannot read '%s': %s" % (path, error)) from None
+        with budget_of(data).limits():
+            file = ELFFile(io.BytesIO(data))
+            return [(it["p_paddr"], it.data()) for it in file.iter_segments() if it["p_type"] == "PT_LOAD"]
+    except Exception as error:  # pyelftools has no common class for what it cannot read
+        raise RvlookError("cannot read '%s': %s" % (path, reason_of(error))) from None
 
 
 def measurement(record: Sequence[int], region: bytes) -> str:

@@ -6,10 +6,11 @@ import os
 from collections import Counter, defaultdict
 from typing import Any, Iterator
 
+from rvlook.image.budget import budget_of, spend
 from rvlook.image.files import read_file
 from rvlook.protocol.inputs import ELF_MAGIC
-from rvlook.image.symbols import checked, knows_all_forms, line_programs, readable
-from rvlook.output.escapes import name_of
+from rvlook.image.symbols import checked, knows_all_forms, line_programs, line_states, readable
+from rvlook.escapes import name_of
 
 
 def files_of(path: str) -> dict[str, str]:
@@ -23,7 +24,7 @@ def files_of(path: str) -> dict[str, str]:
     except ImportError:
         return {}
     knows_all_forms()
-    return readable(path, "no source files", lambda: files_of_tables(checked(ELFFile(io.BytesIO(data)), data))) or {}
+    return readable(path, "no source files", lambda: files_of_tables(checked(ELFFile(io.BytesIO(data)), data)), budget_of(data)) or {}
 
 
 def files_of_tables(file: Any) -> dict[str, str]:
@@ -49,9 +50,7 @@ def folder_of(unit: Any) -> bytes:
 
 def rows_of(program: Any, paths: dict[int, bytes]) -> Iterator[bytes]:
     """Yields the path of the file of each row of a line table."""
-    for entry in program.get_entries():
-        if entry.state and not entry.state.end_sequence and entry.state.file in paths:
-            yield paths[entry.state.file]
+    yield from (paths[it.file] for it in line_states(program) if not it.end_sequence and it.file in paths)
 
 
 def paths_in(program: Any, built_in: bytes) -> dict[int, bytes]:
@@ -59,6 +58,7 @@ def paths_in(program: Any, built_in: bytes) -> dict[int, bytes]:
     first = 0 if program["version"] >= 5 else 1
     folders = [b""] * first + list(program["include_directory"])
     found = {}
+    spend(len(program["file_entry"]))
     for number, entry in enumerate(program["file_entry"], first):
         folder = folders[entry.dir_index] if entry.dir_index < len(folders) else b""
         found[number] = os.path.normpath(os.path.join(built_in, folder, entry.name))

@@ -5,13 +5,14 @@ import io
 import re
 import zlib
 from collections import Counter
-from functools import lru_cache
+from functools import lru_cache, partial
 from struct import Struct
 from typing import Any, Callable, Iterable, Iterator, NamedTuple, TYPE_CHECKING, TypeVar
 
 from rvlook.protocol.bench_line import lines_of
-from rvlook.output.escapes import name_of, visible
-from rvlook.errors import RvlookError, package_missing, warn
+from rvlook.escapes import name_of, visible
+from rvlook.errors import RvlookError, package_missing, reason_of, warn
+from rvlook.image.budget import UNIT, UNIT_RANGE, Budget, BudgetExceeded, budget_of, spend
 from rvlook.image.files import read_file
 from rvlook.protocol.inputs import ELF_MAGIC
 from rvlook.protocol.symbols import Symbol, Symbols
@@ -27,9 +28,8 @@ PREFERRED = (FUNCTION, OBJECT)
 GLOBAL, ABSOLUTE = 1, 0xFFF1  # a binding, and the section of a symbol that is in none
 LEAST_HEADER = 40  # bytes of a section header
 MOST_SECTIONS = 65536
-LONGEST_REASON = 200  # characters of an error of pyelftools that are shown
 MOST_NAMED = 1 << 24  # characters of all names of symbols, which may share the bytes of one string
-MOST_INFLATED = 1 << 26  # bytes of all compressed sections
+MOST_INFLATED = 1 << 24  # bytes of all compressed sections after decompression
 
 
 T = TypeVar("T")
@@ -90,21 +90,25 @@ def elf_symbols(path: str, data: bytes) -> Symbols:
     except ImportError:
         warn_once(package_missing("pyelftools", "python3-pyelftools", "symbols are not available"))
         return Symbols()
-    file = readable(path, "no symbols", lambda: checked(ELFFile(io.BytesIO(data)), data))
+    budget = budget_of(data)
+    file = readable(path, "no symbols", lambda: checked(ELFFile(io.BytesIO(data)), data), budget)
     if file is None:
         return Symbols()
     knows_all_forms()
-    return Symbols(readable(path, "no symbols", lambda: list(named(file))) or (),
-                   readable(path, "no source lines", lambda: list(units_of(path, file))) or ())
+    return Symbols(readable(path, "no symbols", lambda: list(named(file)), budget) or (),
+                   readable(path, "no source lines", lambda: list(units_of(path, file, budget)), budget) or ())
 
 
-def readable(path: str, without: str, read: Callable[[], T]) -> T | None:
-    """Calls `read`; returns None, and reports the error, if the file is damaged."""
+def readable(path: str, without: str, read: Callable[[], T], budget: Budget) -> T | None:
+    """Calls `read` within a budget; returns None, and reports why, if the file is damaged or takes too much."""
     try:
-        return read()
+        with budget.limits():
+            return read()
+    except BudgetExceeded as error:
+        warn_once("%s from '%s': %s" % (without, path, error))
+        return None
     except Exception as error:  # pyelftools has no common class for what it cannot read, and lets errors of Python through
-        reason = visible(str(error)[:LONGEST_REASON]) or type(error).__name__
-        warn_once("%s from '%s': pyelftools cannot read it (%s)" % (without, path, reason))
+        warn_once("%s from '%s': pyelftools cannot read it (%s)" % (without, path, reason_of(error)))
         return None
 
 
@@ -118,7 +122,7 @@ def checked(file: Any, data: bytes) -> Any:
         if section.compressed or section.name.startswith(".zdebug"):
             inflated += inflated_size(data[section["sh_offset"]:section["sh_offset"] + section["sh_size"]])
         if inflated > MOST_INFLATED:
-            raise ValueError("the compressed sections exceed %d bytes" % MOST_INFLATED)
+            raise BudgetExceeded
     return file
 
 
@@ -156,9 +160,10 @@ def named(file: Any) -> Iterator[Symbol]:
     sections = {number for number, section in enumerate(file.iter_sections()) if section["sh_flags"] & 2}
     length = 0
     for name, it in symbol_entries(file):
+        spend()
         length += len(name)
         if length > MOST_NAMED:
-            raise ValueError("the symbol names exceed %d characters" % MOST_NAMED)
+            raise BudgetExceeded
         kind, is_global = it.info % 16, it.info // 16 == GLOBAL
         if not name.startswith(("$", ".L")) and it.section in sections and kind in (*PREFERRED, LABEL):
             yield Symbol(it.value, it.size, visible(name), kind == FUNCTION, 0 if kind in PREFERRED else 1 if is_global else 2)
@@ -184,18 +189,31 @@ def symbol_entries(file: Any) -> Iterator[tuple[str, Entry32 | Entry64]]:
             yield name.decode("utf-8", "replace"), it
 
 
-def units_of(path: str, file: Any) -> Iterator[Unit]:
+def units_of(path: str, file: Any, budget: Budget) -> Iterator[Unit]:
     """Yields the compilation units. A line table that several units share belongs to the first of them, whose ranges are then unknown."""
     dwarf = file.get_dwarf_info() if file.has_dwarf_info() else None
-    entries = [(unit, unit.get_top_DIE()) for unit in dwarf.iter_CUs()] if dwarf else []
+    entries = [(unit, unit.get_top_DIE()) for unit in compilation_units(dwarf)] if dwarf else []
     tables = Counter(table_of(top) for _, top in entries)
     seen: set[int | None] = {None}
     for unit, top in entries:
         table = table_of(top)
         ranges = list(ranges_of(dwarf, unit, top)) if tables[table] == 1 else []
-        yield Unit(ranges or ALL, reader(path, "no source lines", source_lines, dwarf, unit) if table not in seen else lambda: (),
-                   reader(path, "no inlined calls", inlined_calls, dwarf, unit))
+        spend(UNIT_RANGE * len(ranges))
+        yield Unit(ranges or ALL, reader(path, "no source lines", partial(source_lines, dwarf, unit), budget) if table not in seen else no_rows,
+                   reader(path, "no inlined calls", partial(inlined_calls, dwarf, unit), budget))
         seen.add(table)
+
+
+def no_rows() -> Iterable[Row]:
+    """Returns the rows of a line table that belongs to another unit."""
+    return ()
+
+
+def compilation_units(dwarf: Any) -> Iterator[Any]:
+    """Yields the compilation units."""
+    for unit in dwarf.iter_CUs():
+        spend(UNIT)
+        yield unit
 
 
 def table_of(top: Any) -> int | None:
@@ -204,23 +222,31 @@ def table_of(top: Any) -> int | None:
     return table.value if table else None
 
 
-def reader(path: str, without: str, read: Callable[[Any, Any], Iterable[T]], dwarf: Any, unit: Any) -> Callable[[], Iterable[T]]:
-    """Returns a function that reads a table of a unit; it returns nothing, and reports the error, if the table is damaged."""
-    return lambda: readable(path, without, lambda: list(read(dwarf, unit))) or ()
+def reader(path: str, without: str, read: Callable[[], Iterable[T]], budget: Budget) -> Callable[[], Iterable[T]]:
+    """Returns a function that reads a table of a unit; it returns nothing, and reports why, if the table is damaged or takes too much."""
+    return lambda: readable(path, without, lambda: list(read()), budget) or ()
 
 
 def source_lines(dwarf: Any, unit: Any) -> Iterator[Row]:
     """Yields the rows of the line table of a unit: an address with its file and line, or with None at the end of a sequence."""
     program = dwarf.line_program_for_CU(unit)
     names = file_names(program)
-    states = [entry.state for entry in program.get_entries() if entry.state]
+    states = line_states(program)
     yield from ((it.address, None if it.end_sequence or not it.line else "%s:%d" % (names.get(it.file, "?"), it.line)) for it in states)
+
+
+def line_states(program: Any) -> list[Any]:
+    """Returns the rows of a line table. pyelftools decodes the whole program at once, at most a row for each byte, and keeps it; it is dropped."""
+    spend(max(0, program.program_end_offset - program.program_start_offset))
+    states = [entry.state for entry in program.get_entries() if entry.state]
+    program._decoded_entries = None
+    return states
 
 
 def line_programs(dwarf: Any) -> Iterator[tuple[Any, Any]]:
     """Yields each unit with its line table. A shared table comes once."""
     seen = set()
-    for unit in dwarf.iter_CUs():
+    for unit in compilation_units(dwarf):
         program = dwarf.line_program_for_CU(unit)
         if program and program.program_start_offset not in seen:
             seen.add(program.program_start_offset)
@@ -230,6 +256,7 @@ def line_programs(dwarf: Any) -> Iterator[tuple[Any, Any]]:
 def file_names(program: Any) -> dict[int, str]:
     """Returns the file names of a line table by number: from 1 up to DWARF 4, from 0 in DWARF 5."""
     first = 0 if program["version"] >= 5 else 1
+    spend(len(program["file_entry"]))
     return {first + number: name_of(entry.name.split(b"/")[-1])
             for number, entry in enumerate(program["file_entry"])}
 
@@ -268,8 +295,15 @@ def entries_of(dwarf: Any, unit: Any) -> Iterator[Any]:
     offset, end = unit.cu_die_offset, unit.cu_offset + unit.size
     while offset < end:
         entry = DIE(unit, dwarf.debug_info_sec.stream, offset)
+        spend(cost_of(entry))
         offset += entry.size
         yield entry
+
+
+def cost_of(entry: Any) -> int:
+    """Returns what an entry costs: one, and more if it has many attributes, or attributes of many bytes."""
+    sizes = (len(it.value) for it in entry.attributes.values() if isinstance(it.value, (bytes, list)))
+    return 1 + (len(entry.attributes) >> 4) + (sum(sizes) >> 8)
 
 
 def ranges_of(dwarf: Any, unit: Any, entry: Any) -> Iterator[tuple[int, int]]:
@@ -282,6 +316,7 @@ def ranges_of(dwarf: Any, unit: Any, entry: Any) -> Iterator[tuple[int, int]]:
         base = unit.get_top_DIE().attributes.get("DW_AT_low_pc")
         base = base.value if base else 0
         for it in dwarf.range_lists().get_range_list_at_offset(attributes["DW_AT_ranges"].value, unit):
+            spend()
             if hasattr(it, "base_address"):
                 base = it.base_address
             else:

@@ -7,9 +7,10 @@ import io
 from dataclasses import dataclass
 from typing import Any, Iterator, Sequence, Tuple, TYPE_CHECKING
 
+from rvlook.image.budget import budget_of, spend
 from rvlook.image.files import read_file
-from rvlook.image.symbols import checked, entries_of, knows_all_forms, ranges_of, readable
-from rvlook.output.escapes import visible
+from rvlook.image.symbols import checked, compilation_units, entries_of, knows_all_forms, ranges_of, readable
+from rvlook.escapes import visible
 from rvlook.protocol.inputs import ELF_MAGIC
 
 if TYPE_CHECKING:
@@ -19,7 +20,11 @@ FIXED, RELATIVE = 0x03, 0x91  # DW_OP_addr and DW_OP_fbreg
 FRAME_SP = (0x52, 0x72)  # DW_OP_reg2 and DW_OP_breg2: sp
 QUALIFIERS = ("DW_TAG_typedef", "DW_TAG_volatile_type", "DW_TAG_const_type", "DW_TAG_restrict_type")
 AGGREGATES = ("DW_TAG_structure_type", "DW_TAG_union_type", "DW_TAG_class_type")
+VARIABLES = ("DW_TAG_variable", "DW_TAG_formal_parameter")
+SCOPES = ("DW_TAG_inlined_subroutine", "DW_TAG_lexical_block")  # entries with address ranges of their own
 DEEPEST = 12  # nested types
+ADDRESSES = range(-1 << 31, 1 << 32)  # which an address or an offset may have; a damaged number has thousands of digits
+Ranges = Sequence[Tuple[int, int]]  # first addresses and ends
 MOST_ELEMENTS = 256  # of an array of structures
 
 
@@ -69,7 +74,7 @@ def variables_of(path: str | None, image: Image) -> Variables:
         return Variables()
     knows_all_forms()
     content = data
-    return readable(name, "no variables", lambda: read_variables(checked(ELFFile(io.BytesIO(content)), content))) or Variables()
+    return readable(name, "no variables", lambda: read_variables(checked(ELFFile(io.BytesIO(content)), content)), budget_of(content)) or Variables()
 
 
 def read_variables(file: Any) -> Variables:
@@ -79,7 +84,7 @@ def read_variables(file: Any) -> Variables:
     parameters: list[Parameter] = []
     if file.has_dwarf_info():
         dwarf = file.get_dwarf_info()
-        for unit in dwarf.iter_CUs():
+        for unit in compilation_units(dwarf):
             reader = Unit(dwarf, unit)
             fixed += reader.fixed()
             frames += reader.locals()
@@ -97,7 +102,7 @@ class Unit:
         opened: list[list[Any]] = [[]]
         for entry in entries_of(dwarf, unit):
             if entry.is_null():
-                opened = opened[:-1] or [[]]
+                del opened[max(1, len(opened) - 1):]
                 continue
             self.entries[entry.offset] = entry
             opened[-1].append(entry)
@@ -112,16 +117,25 @@ class Unit:
                 yield from self.members(int.from_bytes(where[1:], "little"), self.name(entry), self.type_of(entry))
 
     def locals(self) -> Iterator[Local]:
-        """Yields the members of the variables in stack frames."""
+        """Yields the members of the variables in stack frames, each for the instructions of its scope."""
         for function in self.entries.values():
             base = function.attributes.get("DW_AT_frame_base") if function.tag == "DW_TAG_subprogram" else None
             if base is not None and isinstance(base.value, list):
-                for first, end in ranges_of(self.dwarf, self.unit, function):
-                    for entry in self.below(function):
-                        where = self.location(entry)
-                        if entry.tag in ("DW_TAG_variable", "DW_TAG_formal_parameter") and where[:1] == bytes([RELATIVE]):
-                            for it in self.members(signed(where[1:]), self.name(entry), self.type_of(entry)):
-                                yield Local(first, end, base.value[0] in FRAME_SP, it)
+                for entry, ranges in self.scoped(function, list(ranges_of(self.dwarf, self.unit, function))):
+                    where = self.location(entry)
+                    if where[:1] == bytes([RELATIVE]):
+                        for it in self.members(signed(where[1:]), self.name(entry), self.type_of(entry)):
+                            yield from (Local(first, end, base.value[0] in FRAME_SP, it) for first, end in ranges)
+
+    def scoped(self, scope: Any, ranges: Ranges, depth: int = 0) -> Iterator[tuple[Any, Ranges]]:
+        """Yields the variables of a scope and of the scopes in it, each with the address ranges of its scope. Variables whose scopes are apart may
+        share a stack slot."""
+        for it in self.children.get(scope.offset, ()) if depth < DEEPEST else ():
+            spend()
+            if it.tag in VARIABLES:
+                yield it, ranges
+            elif it.tag in SCOPES:
+                yield from self.scoped(it, list(ranges_of(self.dwarf, self.unit, it)) or ranges, depth + 1)
 
     def parameters(self) -> Iterator[Parameter]:
         """Yields the parameters of functions that point to memory."""
@@ -142,16 +156,11 @@ class Unit:
         elif kind is not None and self.size(kind):
             yield Member(0, 0, name, self.size(kind))
 
-    def below(self, entry: Any, depth: int = 0) -> Iterator[Any]:
-        """Yields all entries below an entry."""
-        for it in self.children.get(entry.offset, ()) if depth < DEEPEST else ():
-            yield it
-            yield from self.below(it, depth + 1)
-
     def members(self, at: int, name: str, kind: Any, depth: int = 0) -> Iterator[Member]:
         """Yields a variable of a type, or the members of a structure; elements of an array of structures have the same names."""
+        spend()
         kind = self.plain(kind)
-        if kind is None or depth > DEEPEST:
+        if kind is None or depth > DEEPEST or not ADDRESSES.start <= at < ADDRESSES.stop:
             return
         if kind.tag == "DW_TAG_structure_type" or kind.tag == "DW_TAG_class_type":
             for it in self.children.get(kind.offset, ()):
@@ -164,7 +173,7 @@ class Unit:
         if element is not None and element.tag in AGGREGATES and part:
             for n in range(min(size // part, MOST_ELEMENTS)):
                 yield from self.members(at + n * part, name + "[]", element, depth + 1)
-        elif size:
+        elif 0 < size < ADDRESSES.stop:
             yield Member(at, size, name, part)
 
     def size(self, kind: Any, depth: int = 0) -> int:

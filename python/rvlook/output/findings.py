@@ -1,17 +1,22 @@
 """The findings of a subcommand, as its exit status and as a JUnit report with a test case for each check."""
 from __future__ import annotations
 
+import os
+import time
 from dataclasses import dataclass
 from typing import Any
 
 from rvlook.errors import FOUND, REFUSED, UNFINISHED, Unfinished, error as report_error, package_missing, warn
+from rvlook.escapes import visible
+from rvlook.output.files import replace_by
 
 
 @dataclass(frozen=True)
 class Case:
-    """A check of a subcommand, and its finding; empty if there is none."""
+    """A check of a subcommand, its finding (empty if there is none), and the seconds that it took."""
     name: str
     finding: str = ""
+    seconds: float = 0
 
 
 class Findings:
@@ -22,10 +27,16 @@ class Findings:
         self.refused: list[str] = []
         self.cut = ""
         self.program_status = 0  # the exit status of a program that was run
+        self.since = time.monotonic()  # when the last case was added
 
     def add(self, name: str, finding: str = "") -> None:
-        """Adds a case."""
-        self.cases.append(Case(name, finding))
+        """Adds a case. Its time is that since the last one."""
+        self.cases.append(Case(name, finding, self.seconds()))
+
+    def seconds(self) -> float:
+        """Returns the seconds since the last call, or since the start."""
+        before, self.since = self.since, time.monotonic()
+        return self.since - before
 
     def refuse(self, line: str) -> None:
         """Notes a line of the script that the bench refused."""
@@ -43,12 +54,15 @@ class Findings:
         return any(it.finding for it in self.cases)
 
     def status(self, is_report: bool) -> int:
-        """Returns the exit status. A report (--exit-zero) does not count what was found."""
+        """Returns the exit status. A report (--exit-zero) does not count what was found. The status of a program that was run counts more than what
+        was found in its run."""
         if self.refused:
             return REFUSED
+        if self.program_status:
+            return self.program_status
         if self.has_found and not is_report:
             return FOUND
-        return UNFINISHED if self.cut else self.program_status
+        return UNFINISHED if self.cut else 0
 
 
 def check_junit(path: str | None) -> None:
@@ -61,26 +75,36 @@ def check_junit(path: str | None) -> None:
 
 
 def write_junit(path: str, name: str, findings: Findings, error: str = "") -> None:
-    """Writes one test suite. A finding is a failure; a refused line, why the work was cut short, and `error` are errors."""
+    """Writes one test suite, with at least one case. A finding is a failure; a refused line, why the work was cut short, and `error` are errors."""
     from junitparser import Error, Failure, JUnitXml, TestCase, TestSuite
     suite = TestSuite("rvlook " + name)
     for it in findings.cases:
-        suite.add_testcase(case_of(TestCase(it.name, classname="rvlook." + name), Failure, it.finding))
-    for text in dict.fromkeys(it for it in (*findings.refused, findings.cut, error) if it):
-        suite.add_testcase(case_of(TestCase("the run", classname="rvlook." + name), Error, text))
+        suite.add_testcase(case_of(TestCase(visible(it.name), classname="rvlook." + name, time=it.seconds), Failure, it.finding))
+    errors = dict.fromkeys(it for it in (*findings.refused, findings.cut, error) if it)
+    for text in errors or ([] if findings.cases else [""]):
+        suite.add_testcase(case_of(TestCase("the run", classname="rvlook." + name, time=findings.seconds()), Error, text))
     report = JUnitXml()
     report.add_testsuite(suite)
     report.update_statistics()
     try:
-        report.write(path, pretty=True)
+        write_report(report, path)
     except OSError as fault:
         raise Unfinished("cannot write '%s': %s" % (path, fault.strerror)) from None
 
 
+def write_report(report: Any, path: str) -> None:
+    """Writes a report to a file, which is replaced, or to a device or pipe. Raises OSError."""
+    if os.path.exists(path) and not os.path.isfile(path):
+        report.write(path, pretty=True)
+    else:
+        replace_by(path, lambda it: report.write(it, pretty=True))
+
+
 def case_of(case: Any, kind: Any, text: str) -> Any:
-    """Returns the test case with its result, if it has one: the first line is the message."""
+    """Returns the test case with its result, if it has one: the first line is the message. XML holds no control characters."""
     if text:
-        result = kind(text.split("\n")[0])
-        result.text = text
+        lines = [visible(it) for it in text.split("\n")]
+        result = kind(lines[0])
+        result.text = "\n".join(lines)
         case.result = [result]
     return case

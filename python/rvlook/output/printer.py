@@ -3,9 +3,12 @@ from __future__ import annotations
 
 import json
 import os
+import re
 import sys
 from enum import Enum
 from typing import Any, Mapping, Optional, Protocol, Sequence, TYPE_CHECKING, TextIO, Union, overload
+
+from rvlook.escapes import visible_line
 
 if TYPE_CHECKING:
     from rvlook.protocol.replies import Enclave
@@ -31,6 +34,10 @@ class Style(Enum):
     aside = "2"
 
 
+OWN_ESCAPES = re.compile("(\033\\[(?:0|%s)m)" % "|".join(it.value for it in Style))
+NO_ESCAPES = re.compile(r"(\Z\A.)")  # matches nowhere
+
+
 def has_colours(stream: TextIO) -> bool:
     """Returns whether the stream is a terminal with colours."""
     return stream.isatty() and os.environ.get("TERM", "dumb") != "dumb" and "NO_COLOR" not in os.environ
@@ -44,8 +51,14 @@ class Printer:
         self.colours = not as_json and has_colours(self.stream)
 
     def line(self, text: str = "") -> None:
-        """Prints a line."""
-        self.stream.write(text.rstrip() + "\n")
+        """Prints a line, or lines. Makes control characters visible, except those of `styled`."""
+        text = text.rstrip()
+        self.stream.write((text if text.isprintable() else self.clean(text)) + "\n")
+
+    def clean(self, text: str) -> str:
+        """Returns lines of text without control characters, except those of `styled` if there are colours."""
+        own = OWN_ESCAPES if self.colours else NO_ESCAPES
+        return "\n".join("".join(it if own.fullmatch(it) else visible_line(it) for it in own.split(line)) for line in text.split("\n"))
 
     def document(self, text: str) -> None:
         """Writes a text in UTF-8, whatever the locale has."""

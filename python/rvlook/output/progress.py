@@ -5,6 +5,8 @@ import sys
 import time
 from typing import TextIO
 
+from rvlook.escapes import visible
+
 EVERY = 0.2  # seconds
 
 
@@ -25,7 +27,7 @@ class Progress:
         """Shows a line, from a format and its values."""
         if not self.is_shown or time.monotonic() - self.last < EVERY:
             return
-        self.last, line = time.monotonic(), text % values
+        self.last, line = time.monotonic(), visible(text % values)
         self.stream.write("\r" + line.ljust(self.width))
         self.stream.flush()
         self.width = len(line)

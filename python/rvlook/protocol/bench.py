@@ -21,6 +21,8 @@ from rvlook.errors import BenchEnded, RvlookError, Unfinished
 
 # The script that finds or builds the program, if this package is in a clone of the repository.
 FINDER = os.path.join(os.path.dirname(os.path.abspath(__file__)), "..", "..", "..", "tools", "program")
+# The program of an installation by ./install, which has this package in lib/rvbench/python.
+BESIDE = os.path.join(os.path.dirname(os.path.abspath(__file__)), "..", "..", "..", "rvbench")
 PIPE = 1 << 20
 SET_PIPE_SIZE = 1031  # F_SETPIPE_SZ of Linux
 MANY = 500  # lines of reply that are worth a pause, so that they are read together
@@ -40,8 +42,11 @@ def program_path() -> str:
 
 
 def installed_program() -> str | None:
-    """Returns the path of `rvbench` on the PATH, if this package is not in a clone of the repository."""
-    return None if os.path.exists(FINDER) else shutil.which("rvbench")
+    """Returns the path of the program that is installed with this package, or of `rvbench` on the PATH. None if this package is in a clone of the
+    repository, or if there is no program."""
+    if os.path.exists(FINDER):
+        return None
+    return BESIDE if os.path.isfile(BESIDE) and os.access(BESIDE, os.X_OK) else shutil.which("rvbench")
 
 
 def built_program() -> str:

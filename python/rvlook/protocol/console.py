@@ -5,7 +5,7 @@ from __future__ import annotations
 from dataclasses import dataclass, field
 from typing import Callable, Iterator, Sequence, TYPE_CHECKING
 
-from rvlook.output.escapes import visible_line
+from rvlook.escapes import visible_line
 from rvlook.protocol.replies import bytes_of
 
 if TYPE_CHECKING:

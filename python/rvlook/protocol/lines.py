@@ -5,7 +5,7 @@ from typing import Iterable, Sequence, TYPE_CHECKING
 
 from rvlook.protocol.bench_line import is_malformed, tokens_of
 from rvlook.protocol.commands import COMMANDS, Form, is_form, written
-from rvlook.output.escapes import visible_line
+from rvlook.escapes import visible_line
 from rvlook.protocol.messages import line_error
 from rvlook.errors import SymbolError
 from rvlook.protocol.inputs import ScriptLine

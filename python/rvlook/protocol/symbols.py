@@ -92,7 +92,7 @@ class Symbols:
         name, at, start = named.partition("@")
         try:
             if name in self.addresses_by_name:
-                return self.address_of(name, self.address(start) if at else None) + (int(offset, 16) if plus else 0)
+                return self.address_of(name, self.address(start) if at else None) + (int(offset, 16) & 0xFFFFFFFF if plus else 0)
             return int(text, 16) & 0xFFFFFFFF
         except ValueError:
             return None

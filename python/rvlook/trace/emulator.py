@@ -12,9 +12,11 @@ from rvlook.protocol.console import ENDED, WRITTEN, consoles_of
 from rvlook.protocol.replies import Location, Ran, step_of
 from rvlook.protocol.run import EQUAL, MOST_STEPS
 from rvlook.protocol.schedule import turns_of
+from rvlook.access.expectations import Report, expectation_of
+from rvlook.access.failures import failures_of
 
 if TYPE_CHECKING:
-    from rvlook.output.findings import Findings
+    from argparse import Namespace
     from rvlook.output.printer import Printer
     from rvlook.protocol.console import Console
     from rvlook.protocol.run import Run
@@ -23,6 +25,7 @@ FIRST_PART, MORE = 1000, 4  # steps of the first `run`, and the factor for the n
 BATCH, SINGLY = 1024, 128  # steps of two harts in one exchange, and those at its end that are done one by one
 LONG_BATCH = 16384  # the same without a console
 AT_ZERO = "break 0"  # a trap goes there if its vector was never set
+HOSTS = ("host", "bare")  # the worlds that may halt
 NONE = "00000000"  # cause and pc of a trap before the first one
 
 
@@ -30,6 +33,7 @@ class Why(Enum):
     """Why a program ended."""
     end = "ended"
     loop = "endless loop"
+    hang = "endless loop that is no end"
     fault = "fault"
     limit = "limit"
 
@@ -49,7 +53,13 @@ class Emulator:
     def __init__(self, run: Run, schedule: str, printer: Printer) -> None:
         self.run, self.schedule, self.printer, self.left = run, schedule, printer, run.setup.limit
         self.symbols = run.setup.symbols
+        self.probed = 0  # steps that do not count for the limit
         self.consoles = consoles_of(self.symbols)
+
+    @property
+    def steps(self) -> int:
+        """Returns the number of steps up to the end, with those of the script."""
+        return self.run.length + self.run.setup.limit - self.left + self.probed
 
     def ending(self) -> Ending:
         """Runs the program to its end."""
@@ -105,6 +115,7 @@ class Emulator:
 
     def halted_step(self) -> Ran | None:
         """Returns the next step if the steps after it change nothing that a reply shows, else None. These steps do not count for the limit."""
+        self.probed += EQUAL
         replies = self.bench.ask(*["step 1"] * EQUAL)
         return step_of(replies[0][0]) if all(it == replies[0] for it in replies) else None
 
@@ -122,7 +133,7 @@ class Emulator:
             if self.status() is not None:
                 return self.finished(ran)
             if len(last) > 1 and all(len(it) == EQUAL and len(set(it)) == 1 for it in last.values()):
-                return self.halted(next((it for it in map(step_of, (it[0] for it in last.values())) if it.trap), ran))
+                return self.halted_harts([step_of(it[0]) for it in last.values()], ran)
         return self.cut(ran)
 
     def batch(self, turns: Sequence[tuple[int, int]]) -> dict[int, list[str]]:
@@ -155,12 +166,31 @@ class Emulator:
         status = self.status() or 0
         return self.ended(Why.end, ran, status, "the program ended with status %d at %s" % (status, self.place(ran)))
 
+    def halted_harts(self, harts: Sequence[Ran], last: Ran) -> Ending:
+        """Returns the end of a program both of whose harts do nothing more: that of a hart which traps or hangs, if there is one."""
+        return self.halted(next((it for it in harts if it.trap), next((it for it in harts if self.hangs(it)), last)))
+
     def halted(self, ran: Ran) -> Ending:
         """Returns the end of a program whose harts do nothing more: an instruction that jumps to itself, or one that traps again and again."""
         if ran.trap:
             cause = names.CAUSES.get(ran.trap.cause, ran.trap.cause)
             return self.ended(Why.fault, ran, UNFINISHED, "fault: %s again at each step, at %s" % (cause, self.place(ran)))
+        if self.hangs(ran) and ran.world not in HOSTS:
+            return self.ended(Why.hang, ran, UNFINISHED, "the enclave hangs in an endless loop at %s" % self.place(ran))
+        if self.hangs(ran):
+            return self.ended(Why.hang, ran, UNFINISHED, "the program hangs in an endless loop at %s; end it with finish(), or at a symbol such as "
+                              "halt" % self.place(ran))
         return self.ended(Why.loop, ran, 0, "the program is in an endless loop at %s" % self.place(ran))
+
+    def hangs(self, ran: Ran) -> bool:
+        """Returns whether a loop of one instruction is no end of the program: in an enclave, or in the middle of a function. A symbol at the
+        instruction, or the function of the entry point, says that the host means to halt."""
+        pc = int(ran.pc, 16)
+        if ran.world not in HOSTS:
+            return True
+        entry = self.symbols.function(int(self.run.pc, 16))
+        name = self.symbols.name(pc)
+        return name is not None and "+" in name and (entry is None or self.symbols.function(pc) != entry)
 
     def fault(self, ran: Ran) -> Ending:
         """Returns the end of a program that reached address 0: it trapped without a trap vector, or jumped there."""
@@ -185,11 +215,19 @@ def batch_of(turns: Iterator[tuple[int, int]], most: int) -> Iterator[tuple[int,
             return
 
 
-def show_run(run: Run, schedule: str, printer: Printer, findings: Findings) -> None:
-    """Runs a program to its end; `schedule` orders the steps of two harts after the script."""
+def show_run(run: Run, schedule: str, printer: Printer, options: Namespace) -> None:
+    """Runs a program to its end, and reports its failures; `schedule` orders the steps of two harts after the script."""
+    symbols, findings = run.setup.symbols, options.findings
+    report = Report([expectation_of(it, symbols) for it in options.expect or ()], symbols, printer, findings)
     if printer.as_json:
-        run_object(printer, run, run.setup.symbols)
-    ending = Emulator(run, schedule, printer).ending()
+        run_object(printer, run, symbols)
+    emulator = Emulator(run, schedule, printer)
+    ending = emulator.ending()
+    failures = failures_of(run, schedule, emulator.steps)
+    findings.add("the program", ending.text if ending.why is Why.end and ending.status else "")
+    findings.cut = ending.text if ending.why in (Why.hang, Why.fault, Why.limit) else ""
+    report.show(failures)
+    report.show_missing(failures)
     if printer.as_json:
         printer.object("ended", why=ending.why.name, status=ending.status, pc=ending.at.pc, mode=ending.at.mode, world=ending.at.world)
     printer.stream.flush()

@@ -6,7 +6,7 @@ from typing import Iterable, Optional, Sequence, TYPE_CHECKING
 
 from rvlook.protocol import names
 from rvlook.protocol.console import consoles_of, followed
-from rvlook.output.escapes import visible_line
+from rvlook.escapes import visible_line
 from rvlook.protocol.instructions import short_form
 from rvlook.protocol.run import End
 from rvlook.output.printer import Style, end_object, end_text, hex8, run_object

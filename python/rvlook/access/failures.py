@@ -1,0 +1,290 @@
+"""The failures of a run: each trap that is neither a call nor an interrupt, and each call that the monitor refuses.
+
+A long run is not examined step by step. mcycle counts every step and minstret only retired instructions, so their difference counts traps. One
+bench does parts of the run at full speed, and reads both counters after each part. A second bench does the parts with traps in single steps. A
+third one reads the registers of calls."""
+from __future__ import annotations
+
+import itertools
+import re
+from bisect import bisect_right
+from dataclasses import dataclass, replace
+from typing import Iterable, Iterator, NamedTuple, Sequence, TYPE_CHECKING
+
+from rvlook.output.printer import Json, place_text
+from rvlook.protocol import names
+from rvlook.protocol.replies import Location, step_of
+from rvlook.protocol.run import Steps
+from rvlook.protocol.schedule import turns_of
+
+if TYPE_CHECKING:
+    from rvlook.protocol.bench import Bench
+    from rvlook.protocol.replies import Ran
+    from rvlook.protocol.run import Run
+    from rvlook.protocol.symbols import Symbols
+
+PART = 1 << 16  # steps between two looks at the counters
+PARTS = 16  # parts in one exchange
+MOST = 100000  # failures after which the scan ends: a handler that fails itself traps at each step
+COUNTERS = ("csr b00", "csr b02", "csr 320")  # mcycle, minstret and mcountinhibit
+TRAPPED = re.compile(rb"trap=[0-9a-f]")
+ECALLS = ("00000008", "00000009", "0000000b")
+A0, READ, REGISTERS = 10, (10, 16, 17), 32  # the status of a call; that, its number and its key; all registers
+MASK = 0xFFFFFFFF
+
+
+class Turn(NamedTuple):
+    """Commands that change the state, and then `steps` steps of a hart."""
+    commands: tuple[str, ...]
+    hart: int
+    steps: int
+
+
+class Trapped(NamedTuple):
+    """A step that trapped: its number, its hart, where the hart was before it, and the reply to it."""
+    step: int
+    hart: int
+    at: Location
+    ran: Ran
+
+
+@dataclass(frozen=True)
+class Failure:
+    """A trap, or a refused call, of an instruction. `name` is that of the cause or of the status, `value` that of the first trap, and `call` the
+    refused call; it is empty for a trap. `step` is the first step, `count` the number of times."""
+    name: str
+    step: int
+    hart: int
+    at: Location
+    value: str = ""
+    call: str = ""
+    count: int = 1
+
+    @property
+    def key(self) -> tuple[object, ...]:
+        """Returns what is the same for all times."""
+        return self.name, self.at, self.call
+
+
+def failures_of(run: Run, schedule: str, steps: int) -> list[Failure]:
+    """Returns the failures in the first steps of a run, by step; `schedule` orders the steps of two harts after the script. Failures of one
+    instruction with the same name are one. The scan ends after MOST of them."""
+    found: dict[tuple[object, ...], Failure] = {}
+    with run.setup.bench() as leader, run.setup.bench() as follower, run.setup.bench() as reader:
+        scan = Scan(run, Lagging(leader), Lagging(follower), Lagging(reader))
+        for it in itertools.islice(scan.failures(parts_of(turns(run, schedule, steps))), MOST):
+            old = found.get(it.key)
+            found[it.key] = it if old is None else replace(old, count=old.count + 1)
+    return sorted(found.values(), key=lambda it: it.step)
+
+
+def turns(run: Run, schedule: str, left: int) -> Iterator[Turn]:
+    """Yields the first `left` steps of a run: those of the script, and then those of the schedule or of the selected hart."""
+    pending: list[str] = []
+    for item in run.plan:
+        if isinstance(item, Steps):
+            count = min(item.count, left)
+            yield Turn(tuple(pending), hart_of(pending, run), count)
+            pending, left = pending_hart(pending), left - count
+        elif item.changes_state:
+            pending.append(item.text)
+    tail = turns_of(schedule) if schedule else iter(lambda: (run.hart, PART), None)
+    while left > 0:
+        hart, count = next(tail)
+        yield Turn((*pending, *(["hart %d" % hart] if run.setup.harts > 1 else ())), hart, min(count, left))
+        pending, left = [], left - count
+
+
+def hart_of(commands: Sequence[str], run: Run) -> int:
+    """Returns the hart that is selected after these commands, which begin with the last selection."""
+    chosen = [int(it.split()[1]) for it in commands if it.split()[0] == "hart"]
+    return chosen[-1] if chosen and run.setup.harts > 1 else 0
+
+
+def pending_hart(commands: Sequence[str]) -> list[str]:
+    """Returns the last command that selects a hart, if there is one."""
+    return [it for it in commands if it.split()[0] == "hart"][-1:]
+
+
+def parts_of(every: Iterable[Turn]) -> Iterator[list[Turn]]:
+    """Yields turns in parts of at most PART steps; splits turns that are longer."""
+    part: list[Turn] = []
+    room = PART
+    for turn in every:
+        while turn.steps > room:
+            part.append(turn._replace(steps=room))
+            turn = Turn((), turn.hart, turn.steps - room)
+            yield part
+            part, room = [], PART
+        part.append(turn)
+        room -= turn.steps
+    if part:
+        yield part
+
+
+class Lagging:
+    """A bench that does the parts of a run. Parts that it skips are done before the next one that it examines."""
+
+    def __init__(self, bench: Bench) -> None:
+        self.bench = bench
+        self.skipped: list[str] = []
+
+    def skip(self, part: Sequence[Turn]) -> None:
+        """Skips a part."""
+        self.skipped += whole(part)
+
+    def ask(self, commands: Sequence[str]) -> list[bytes]:
+        """Does what was skipped and then these commands, and returns the replies to the latter. Each command has a reply of one line."""
+        return self.block("".join(it + "\n" for it in commands).encode(), len(commands)).split(b"\n")[:-1]
+
+    def block(self, text: bytes, count: int) -> bytes:
+        """Does what was skipped, and then commands whose replies have `count` lines; returns these replies."""
+        if self.skipped:
+            skipped, self.skipped = "".join(it + "\n" for it in self.skipped).encode(), []
+            self.bench.block(skipped, skipped.count(b"\n"))
+        return self.bench.block(text, count) if count else b""
+
+
+def whole(part: Sequence[Turn]) -> list[str]:
+    """Returns the commands of a part at full speed."""
+    return [line for it in part for line in (*it.commands, *(["step %d" % it.steps] if it.steps else []))]
+
+
+class Scan:
+    """A scan of a run with three benches. `locations` has where each hart is, and `traps` how many it had by its counters."""
+
+    def __init__(self, run: Run, leader: Lagging, follower: Lagging, reader: Lagging) -> None:
+        self.leader, self.follower, self.reader = leader, follower, reader
+        self.harts = range(run.setup.harts)
+        self.locations = [Location(run.pc, run.mode, run.world) for _ in self.harts]
+        self.traps = [0 for _ in self.harts]
+        self.position = 0
+
+    def failures(self, parts: Iterator[list[Turn]]) -> Iterator[Failure]:
+        """Yields each failure in the order of steps."""
+        while several := list(itertools.islice(parts, PARTS)):
+            replies = iter(self.leader.ask([line for part in several for line in [*whole(part), *self.queries(part)]]))
+            for part in several:
+                ran = [next(replies) for _ in whole(part)]
+                if self.is_quiet([next(replies) for _ in self.queries(part)]):
+                    self.follower.skip(part)
+                    self.reader.skip(part)
+                    self.take(part, ran)
+                else:
+                    position, starts = self.position, self.take(part, ran)
+                    yield from self.examine(part, position, starts)
+
+    def queries(self, part: Sequence[Turn]) -> list[str]:
+        """Returns the commands that read the counters of each hart after a part."""
+        if len(self.harts) == 1:
+            return list(COUNTERS)
+        return [line for hart in self.harts for line in ("hart %d" % hart, *COUNTERS)] + ["hart %d" % part[-1].hart]
+
+    def is_quiet(self, replies: Sequence[bytes]) -> bool:
+        """Returns whether no step of a part trapped, by the replies to the queries after it."""
+        values = [int(it[8:], 16) for it in replies if it.startswith(b"csr ")]
+        before, self.traps = self.traps, [cycles - retired & MASK for cycles, retired in zip(values[::3], values[1::3])]
+        return before == self.traps and not any(values[2::3])
+
+    def take(self, part: Sequence[Turn], replies: Sequence[bytes]) -> list[Location]:
+        """Notes where the harts are after a part, by the replies to its commands. Returns where the hart of each turn was before it."""
+        ran, starts = iter([it for it in replies if it.startswith(b"ran ")]), []
+        for turn in part:
+            starts.append(self.locations[turn.hart])
+            if turn.steps:
+                self.locations[turn.hart] = location_of(next(ran))
+                self.position += turn.steps
+        return starts
+
+    def examine(self, part: Sequence[Turn], position: int, starts: Sequence[Location]) -> Iterator[Failure]:
+        """Yields the failures of a part after a position, which it does in single steps. `starts` has where the hart of each turn is before it."""
+        text = b"".join("".join(line + "\n" for line in it.commands).encode() + b"step 1\n" * it.steps for it in part)
+        trapped = list(trapped_in(part, self.follower.block(text, text.count(b"\n")), position, starts))
+        calls = [it for it in trapped if it.ran.trap and it.ran.trap.cause == names.ECALL_FROM_S and it.ran.world == it.at.world != "bare"]
+        refused = dict(zip(calls, self.refused(part, position, calls)))
+        for it in trapped:
+            found = refused[it] if it in refused else trap_of(it)
+            if found:
+                yield found
+
+    def refused(self, part: Sequence[Turn], position: int, calls: Sequence[Trapped]) -> list[Failure | None]:
+        """Returns for each call of a part the failure, or None if the monitor accepted it. Reads its registers right after its step."""
+        if not calls:
+            self.reader.skip(part)
+            return []
+        commands, wanted = [], [it.step for it in calls]
+        for turn in part:
+            commands += [*turn.commands, *reading(turn, position, wanted)]
+            position += turn.steps
+        values = [int(it.split(b"=")[1], 16) for it in self.reader.ask(commands) if it.startswith(b"x")]
+        registers = [dict(zip(READ, values[at:])) for at in range(0, len(values), len(READ))]
+        return [refused_call(it.step, it.hart, it.at, [values.get(n, 0) for n in range(REGISTERS)]) for it, values in zip(calls, registers)]
+
+
+def trapped_in(part: Sequence[Turn], block: bytes, position: int, starts: Sequence[Location]) -> Iterator[Trapped]:
+    """Yields the steps that trapped, from the replies to the commands and single steps of a part. `starts` has where the hart of each turn is before
+    it."""
+    ends = list(itertools.accumulate(len(it.commands) + it.steps for it in part))  # line numbers
+    firsts = list(itertools.accumulate((it.steps for it in part), initial=position))  # steps before each turn
+    for number, before, line in trapping_lines(block):
+        at = bisect_right(ends, number)
+        offset = number - ends[at] + part[at].steps
+        yield Trapped(firsts[at] + offset + 1, part[at].hart, location_of(before) if offset else starts[at], step_of(line.decode()))
+
+
+def trapping_lines(block: bytes) -> Iterator[tuple[int, bytes, bytes]]:
+    """Yields each reply to a step that trapped: its line number from 0, the line before it, and the line."""
+    number = at = 0
+    for match in TRAPPED.finditer(block):
+        number += block.count(b"\n", at, match.start())
+        at = match.start()
+        start = block.rfind(b"\n", 0, at) + 1
+        before = block[block.rfind(b"\n", 0, start - 1) + 1:start - 1] if start else b""
+        yield number, before, block[start:block.find(b"\n", at)]
+
+
+def reading(turn: Turn, position: int, wanted: Sequence[int]) -> list[str]:
+    """Returns the commands that do a turn from a position, and read the registers after the wanted steps, which are in order."""
+    commands, done = [], 0
+    for step in wanted[bisect_right(wanted, position):bisect_right(wanted, position + turn.steps)]:
+        count = step - position
+        commands += ["step %d" % (count - done), *("reg %d" % number for number in READ)]
+        done = count
+    return commands + (["step %d" % (turn.steps - done)] if done < turn.steps else [])
+
+
+def location_of(line: bytes) -> Location:
+    """Returns where a hart is after a step."""
+    ran = step_of(line.decode())
+    return Location(ran.pc, ran.mode, ran.world)
+
+
+def trap_of(it: Trapped) -> Failure | None:
+    """Returns the failure of a step that trapped, or None for a call or an interrupt."""
+    assert it.ran.trap is not None
+    cause, value = it.ran.trap.cause, it.ran.trap.value
+    return None if cause in ECALLS or cause.startswith("8") else Failure(names.cause_name(cause), it.step, it.hart, it.at, value)
+
+
+def refused_call(step: int, hart: int, at: Location, registers: Sequence[int]) -> Failure | None:
+    """Returns the failure of a call that stays in its world, with the registers after it, or None if the monitor accepted it."""
+    if registers[A0] not in names.STATUSES:
+        return None
+    call = names.call_of(registers)
+    return Failure(names.STATUSES[registers[A0]], step, hart, at, call=call.name if call else "ecall")
+
+
+def failure_text(it: Failure, symbols: Symbols) -> str:
+    """Returns a failure as a line: what failed, where, and how often."""
+    times = ", %d times" % it.count if it.count > 1 else ""
+    where = (it.at.mode, it.at.world, it.step, place_text(it.at.pc, symbols) + times)
+    if it.call:
+        return "%s refused with %s in %s of %s at step %d, %s" % (it.call, it.name, *where)
+    return "%s (value %s) in %s of %s at step %d, %s" % (it.name, it.value, *where)
+
+
+def failure_object(it: Failure, symbols: Symbols) -> dict[str, Json]:
+    """Returns a failure as the members of an object."""
+    pc = int(it.at.pc, 16)
+    return {"name": it.name, "call": it.call or None, "value": it.value or None, "step": it.step, "hart": it.hart, "pc": it.at.pc, "mode": it.at.mode,
+            "world": it.at.world, "symbol": symbols.name(pc), "source": symbols.source(pc), "count": it.count}

@@ -1,0 +1,112 @@
+"""Pointers that come from a stack pointer, and how instructions pass them on.
+
+Each register has a coefficient: how often the stack pointer is a summand of its value. It is 1 for a pointer into the stack, and 0 for a number, for
+any other pointer, and for the difference of two pointers into the stack."""
+from __future__ import annotations
+
+import re
+from dataclasses import dataclass, field
+from enum import Enum
+from typing import NamedTuple, Optional, TYPE_CHECKING
+
+from rvlook.protocol.instructions import instruction_of
+
+if TYPE_CHECKING:
+    from rvlook.protocol.instructions import Instruction, Memory
+
+SP, A0, A1 = 2, 10, 11
+WORD = 4  # bytes of a pointer
+BINARY = re.compile(r"(\w+) x(\d+), x(\d+), x(\d+)\Z")
+IMMEDIATE = re.compile(r"(\w+) x(\d+), x(\d+), (-?\d+)\Z")
+REGISTERS = 32
+
+
+class Kind(Enum):
+    """The effect of an instruction on pointers."""
+    ADD = "add"
+    SUBTRACT = "subtract"
+    COPY = "copy"  # a pointer moves by a constant, or is aligned
+    NUMBER = "number"  # the result is no pointer into the stack
+    BUILD = "build"  # the upper part of a constant
+    LOAD = "load"
+    STORE = "store"
+
+
+SUMS = {"add": Kind.ADD, "or": Kind.ADD, "sub": Kind.SUBTRACT}
+
+
+class Operation(NamedTuple):
+    """An instruction that writes a register or accesses memory: the register that it writes, and its operands."""
+    kind: Kind
+    writes: int = 0
+    sources: tuple[int, int] = (0, 0)
+    memory: Optional[Memory] = None
+
+    @property
+    def register(self) -> int | None:
+        """Returns the register that must be read: the base of an access, or sp after a write of it; None if none is needed."""
+        return self.memory.base if self.memory else SP if self.writes == SP else None
+
+
+def operation_of(line: bytes) -> Operation | None:
+    """Decodes a reply of `dis`; returns None for an instruction that neither writes a register nor accesses memory."""
+    it = instruction_of(line)
+    if it is None:
+        return None
+    if it.memory:
+        kind = Kind.LOAD if it.memory.kind == "r" else Kind.STORE
+        return Operation(kind, it.writes, (it.memory.base, it.memory.register), it.memory)
+    return computation_of(it) if it.writes else None
+
+
+def computation_of(it: Instruction) -> Operation:
+    """Decodes an instruction that writes a register and accesses no memory."""
+    binary, immediate = BINARY.match(it.text), IMMEDIATE.match(it.text)
+    if binary:
+        return Operation(SUMS.get(binary[1], Kind.NUMBER), it.writes, (int(binary[3]), int(binary[4])))
+    if immediate:
+        is_aligned = immediate[1] == "andi" and int(immediate[4]) < 0
+        kind = Kind.COPY if immediate[1] in ("addi", "ori") or is_aligned else Kind.NUMBER
+        return Operation(kind, it.writes, (int(immediate[3]), 0))
+    return Operation(Kind.BUILD if it.text.startswith(("lui", "auipc")) else Kind.NUMBER, it.writes)
+
+
+@dataclass
+class Pointers:
+    """The coefficients of the registers of a world, and those of the words that it stored, by address."""
+    registers: list[int] = field(default_factory=lambda: [0, 0, 1, *[0] * (REGISTERS - 3)])
+    words: dict[int, int] = field(default_factory=dict)
+
+    def is_pointer(self, register: int) -> bool:
+        """Returns whether a register has a pointer into the stack."""
+        return self.registers[register] == 1
+
+    def has_source(self, it: Operation) -> bool:
+        """Returns whether an operand of a computation is a pointer into the stack."""
+        return it.kind in (Kind.ADD, Kind.SUBTRACT, Kind.COPY) and 1 in (self.registers[it.sources[0]], self.registers[it.sources[1]])
+
+    def execute(self, it: Operation, address: int) -> None:
+        """Takes the effect of an instruction; `address` is that of its access."""
+        registers, (one, two) = self.registers, it.sources
+        result = 0
+        if it.kind is Kind.STORE:
+            self.store(address, registers[two] if it.memory and it.memory.width == WORD else 0)
+        elif it.kind is Kind.LOAD:
+            result = self.words.get(address, 0) if it.memory and it.memory.width == WORD else 0
+        elif it.kind is Kind.COPY:
+            result = registers[one]
+        elif it.kind in (Kind.ADD, Kind.SUBTRACT):
+            result = registers[one] + (registers[two] if it.kind is Kind.ADD else -registers[two])
+        if it.writes:
+            registers[it.writes] = int(it.kind is not Kind.BUILD) if it.writes == SP else result
+
+    def store(self, address: int, coefficient: int) -> None:
+        """Takes the store of a word with a coefficient."""
+        if coefficient:
+            self.words[address] = coefficient
+        else:
+            self.words.pop(address, None)
+
+    def answer(self) -> None:
+        """Takes the answer of the monitor to a call, which is in a0 and a1."""
+        self.registers[A0] = self.registers[A1] = 0

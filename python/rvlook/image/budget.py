@@ -1,0 +1,114 @@
+"""Bounds what reading an ELF file may cost: entries, processor time and memory. A small file can describe millions of lines or members."""
+from __future__ import annotations
+
+import resource
+import signal
+import threading
+import time
+from contextlib import contextmanager
+from functools import lru_cache
+from typing import Any, Iterator, List, NoReturn
+
+MOST_ENTRIES = 500000  # entries of symbol tables and of debugging information; some count more than once
+MOST_SECONDS = 5.0  # of processor time
+MOST_MEMORY = 1 << 28  # bytes more than before
+AGAIN = 1.0  # seconds after which the timer interrupts again, if Python dropped the exception in a finalizer
+PAGE = resource.getpagesize()
+LIMIT = "its symbols and debugging information take more than %d entries, %d seconds or %d MiB" % (MOST_ENTRIES, MOST_SECONDS, MOST_MEMORY >> 20)
+
+UNIT, UNIT_RANGE = 100, 10  # what a compilation unit and a range of it cost; each lookup of an address passes over them
+
+
+class BudgetExceeded(Exception):
+    """The reading of an ELF file took too much."""
+
+    def __init__(self) -> None:
+        super().__init__(LIMIT)
+
+
+class Budget:
+    """The entries and the processor time that are left for one ELF file."""
+
+    def __init__(self) -> None:
+        self.entries, self.seconds = MOST_ENTRIES, MOST_SECONDS
+
+    def spend(self, count: int) -> None:
+        """Takes entries from the budget; raises BudgetExceeded if it does not have them."""
+        self.entries -= count
+        if self.entries < 0:
+            raise BudgetExceeded
+
+    @contextmanager
+    def limits(self) -> Iterator[None]:
+        """Bounds the body, which may call `spend`. Raises BudgetExceeded if it takes too much. A body inside a body has the limits of the outer."""
+        if ACTIVE:
+            yield
+            return
+        self.spend(0)
+        ACTIVE.append(self)
+        began = time.process_time()
+        try:
+            with limited_time(self.seconds), limited_memory():
+                yield
+        except MemoryError:
+            self.entries = -1
+            raise BudgetExceeded from None
+        finally:
+            ACTIVE.pop()
+            self.seconds -= time.process_time() - began
+            if self.seconds <= 0:
+                self.entries = -1
+
+
+ACTIVE: List[Budget] = []  # the budget of the reading that is under way, if there is one
+
+
+def spend(count: int = 1) -> None:
+    """Takes entries from the budget of the reading that is under way; raises BudgetExceeded if it does not have them."""
+    if ACTIVE:
+        ACTIVE[-1].spend(count)
+
+
+@lru_cache(maxsize=4)
+def budget_of(data: bytes) -> Budget:
+    """Returns the budget of an ELF file with these bytes, which all readers of the file share."""
+    return Budget()
+
+
+@contextmanager
+def limited_time(seconds: float) -> Iterator[None]:
+    """Raises BudgetExceeded in a body that takes more processor time, in seconds. Only the main thread has a timer."""
+    def stop(*_: Any) -> NoReturn:
+        raise BudgetExceeded
+
+    if threading.current_thread() is not threading.main_thread():
+        yield
+        return
+    before = signal.signal(signal.SIGVTALRM, stop)
+    try:
+        signal.setitimer(signal.ITIMER_VIRTUAL, max(seconds, 0.001), AGAIN)
+        yield
+    finally:
+        signal.setitimer(signal.ITIMER_VIRTUAL, 0)
+        signal.signal(signal.SIGVTALRM, before)
+
+
+@contextmanager
+def limited_memory() -> Iterator[None]:
+    """Causes a MemoryError in a body that takes more than MOST_MEMORY."""
+    soft, hard = resource.getrlimit(resource.RLIMIT_AS)
+    most = address_space() + MOST_MEMORY
+    if soft != resource.RLIM_INFINITY and soft <= most:
+        yield
+        return
+    resource.setrlimit(resource.RLIMIT_AS, (most, hard))
+    try:
+        yield
+    finally:
+        resource.setrlimit(resource.RLIMIT_AS, (soft, hard))
+
+
+def address_space() -> int:
+    """Returns the size of the address space of this process in bytes."""
+    with open("/proc/self/statm", encoding="ascii") as file:
+        return int(file.read().split()[0]) * PAGE

@@ -1,0 +1,140 @@
+"""Reads from the DWARF entries of an ELF file what a C program names: structures, typed variables, enumeration constants and inlined functions."""
+from __future__ import annotations
+
+import io
+from dataclasses import dataclass, field
+from typing import Any, Iterator, Mapping, Optional, TYPE_CHECKING
+
+from rvlook.errors import SymbolError
+from rvlook.image.budget import budget_of
+from rvlook.image.symbols import checked, compilation_units, knows_all_forms, ranges_of, readable
+from rvlook.image.variables import AGGREGATES, FIXED, Unit
+from rvlook.protocol.nearest import nearest
+
+if TYPE_CHECKING:
+    from rvlook.protocol.inputs import Image
+
+SIGNED = (5, 6)  # DW_ATE_signed and DW_ATE_signed_char
+DEEPEST = 8  # nested types
+NUMBERS = (1, 2, 4)  # sizes in bytes of a type that is read as a number
+
+
+@dataclass(frozen=True)
+class Type:
+    """A type of C with its size in bytes, 0 if it is not known. A structure or union has `members`, each with its offset in bytes. An array has
+    an `element`."""
+    name: str
+    size: int
+    is_signed: bool = False
+    element: Optional[Type] = None
+    members: Mapping[str, tuple[int, Type]] = field(default_factory=dict)
+
+    @property
+    def is_number(self) -> bool:
+        """Returns whether a value is read as a number."""
+        return self.size in NUMBERS and not self.members and self.element is None
+
+    @property
+    def is_bytes(self) -> bool:
+        """Returns whether a value is read as bytes: an array of characters, or a type of another size."""
+        if self.members or self.is_number:
+            return False
+        return self.element is None or self.element.size <= 1 and not self.element.members
+
+    def member(self, name: str) -> tuple[int, Type]:
+        """Returns the offset in bytes and the type of a member. Raises SymbolError."""
+        if name not in self.members:
+            near = nearest(name, self.members)
+            raise SymbolError("no member '%s' in '%s'%s" % (name, self.name, "; did you mean '%s'?" % near if near else ""))
+        return self.members[name]
+
+
+@dataclass
+class Types:
+    """Structures and enumeration constants by name; variables by name, each with its address; and of each inlined function the addresses at
+    which its code begins."""
+    structures: dict[str, Type] = field(default_factory=dict)
+    variables: dict[str, tuple[int, Type]] = field(default_factory=dict)
+    constants: dict[str, int] = field(default_factory=dict)
+    inlined: dict[str, set[int]] = field(default_factory=dict)
+    ambiguous: set[str] = field(default_factory=set)  # names of several variables, which `variables` leaves out
+
+    def add_variable(self, name: str, address: int, kind: Type) -> None:
+        """Adds a variable, unless its name has another address too."""
+        if self.variables.setdefault(name, (address, kind))[0] != address:
+            self.ambiguous.add(name)
+
+
+def types_of(image: Image) -> Types:
+    """Returns what the DWARF entries of an image name; nothing without DWARF. Warns if they cannot be read."""
+    data = image.data
+    if not image.is_elf or data is None:
+        return Types()
+    try:
+        from elftools.elf.elffile import ELFFile
+    except ImportError:
+        return Types()
+    knows_all_forms()
+    content = data
+    return readable(image.name, "no types", lambda: read_types(checked(ELFFile(io.BytesIO(content)), content)), budget_of(content)) or Types()
+
+
+def read_types(file: Any) -> Types:
+    """Reads the types of an ELF file."""
+    found = Types()
+    dwarf = file.get_dwarf_info() if file.has_dwarf_info() else None
+    for unit in compilation_units(dwarf) if dwarf else ():
+        reader = Reader(dwarf, unit)
+        for entry in reader.entries.values():
+            reader.take(entry, found)
+    for name in found.ambiguous:
+        del found.variables[name]
+    return found
+
+
+class Reader(Unit):
+    """Reads the types of a compilation unit."""
+
+    def take(self, entry: Any, found: Types) -> None:
+        """Adds what an entry names."""
+        if entry.tag == "DW_TAG_inlined_subroutine":
+            begin = min((first for first, end in ranges_of(self.dwarf, self.unit, entry) if first < end), default=None)
+            if begin is not None:
+                found.inlined.setdefault(self.name(entry), set()).add(begin)
+        elif entry.tag == "DW_TAG_variable":
+            where = self.location(entry)
+            if len(where) == 5 and where[0] == FIXED:
+                found.add_variable(self.name(entry), int.from_bytes(where[1:], "little"), self.type(self.type_of(entry)))
+        elif "DW_AT_name" not in entry.attributes:
+            return
+        elif entry.tag == "DW_TAG_enumerator" and isinstance(entry.attributes["DW_AT_const_value"].value, int):
+            found.constants.setdefault(self.name(entry), entry.attributes["DW_AT_const_value"].value)
+        elif entry.tag in AGGREGATES or entry.tag == "DW_TAG_typedef" and self.is_aggregate(self.plain(entry)):
+            found.structures.setdefault(self.name(entry), self.type(entry))
+
+    @staticmethod
+    def is_aggregate(kind: Any) -> bool:
+        """Returns whether a type is a structure or a union."""
+        return kind is not None and kind.tag in AGGREGATES
+
+    def type(self, entry: Any, depth: int = 0) -> Type:
+        """Returns the type that an entry describes."""
+        kind = self.plain(entry)
+        if kind is None or depth > DEEPEST:
+            return Type("unknown", 0)
+        name = self.name(kind) if "DW_AT_name" in kind.attributes else kind.tag[len("DW_TAG_"):].replace("_type", "")
+        size = self.size(kind)
+        if kind.tag in AGGREGATES:
+            return Type(name, size, members=dict(self.typed_members(kind, depth)))
+        if kind.tag == "DW_TAG_array_type":
+            return Type(name, size, element=self.type(self.type_of(kind), depth + 1))
+        encoding = kind.attributes.get("DW_AT_encoding")
+        return Type(name, size, encoding is not None and encoding.value in SIGNED)
+
+    def typed_members(self, kind: Any, depth: int) -> Iterator[tuple[str, tuple[int, Type]]]:
+        """Yields the members of a structure, each with its offset in bytes and its type. Leaves out bit fields."""
+        for it in self.children.get(kind.offset, ()):
+            where = it.attributes.get("DW_AT_data_member_location")
+            is_plain = "DW_AT_name" in it.attributes and "DW_AT_bit_size" not in it.attributes
+            if it.tag == "DW_TAG_member" and is_plain and (where is None or isinstance(where.value, int)):
+                yield self.name(it), (where.value if where else 0, self.type(self.type_of(it), depth + 1))
