@@ -3,7 +3,7 @@ from __future__ import annotations
 
 import time
 from dataclasses import dataclass
-from typing import Mapping, Sequence, TYPE_CHECKING
+from typing import Mapping, Optional, Sequence, TYPE_CHECKING
 
 from rvlook.errors import RvlookError, UsageError
 from rvlook.finders.leak import CHANNELS, Comparison, check_values, observe, public_of
@@ -88,8 +88,8 @@ def show_tries(leak: Leak) -> None:
     own = first.with_bytes(first.bytes_in(leak.run))
     if printer.as_json:
         run_object(printer, leak.run, leak.symbols)
-    differing: dict[int, Compared] = {}
-    done, cut = 0, False
+    tried: list[Compared] = []
+    cut = False
     until = None if options.seconds is None else time.monotonic() + options.seconds
     try:
         with Progress() as progress:
@@ -97,27 +97,39 @@ def show_tries(leak: Leak) -> None:
             last = min(options.tries, options.last or options.tries)
             pairs = drawn_pairs(own.bytes, guesses_of(base, len(own.bytes)), options.seed, options.first, last)
             for pair in pairs:
-                compared = try_pair(leak, own, base, pair)
-                done += 1
-                if compared.found.channels():
-                    differing[pair.number] = compared
-                progress.bar(done, len(pairs), "%d differ" % len(differing))
-                if until is not None and time.monotonic() > until and done < len(pairs):
-                    leak.findings.cut_short("--seconds ended leak after %d of %s" % (done, pairs_text(len(pairs))))
+                tried.append(try_pair(leak, own, base, pair))
+                progress.bar(len(tried), len(pairs), "%d differ" % sum(bool(it.channels) for it in tried))
+                if until is not None and time.monotonic() > until and len(tried) < len(pairs):
+                    leak.findings.cut_short("--seconds ended leak after %d of %s" % (len(tried), pairs_text(len(pairs))))
                     break
     except KeyboardInterrupt:
         cut = True
-    finish(leak, differing, done)
+    finish(leak, tried)
     if cut:
         raise KeyboardInterrupt
 
 
 @dataclass(frozen=True)
 class Compared:
-    """A pair of secrets, their observations, and the comparison of these."""
+    """A pair of secrets by number, whether the first one is that of the program, the answers with both, and the channels in which they differ.
+    `found` and `both` are the comparison and the observations; there are none without a difference."""
+    number: int
     secrets: Sequence[Secret]
+    is_own: bool
+    answers: Sequence[object]
+    channels: Sequence[str]
+    found: Optional[Comparison]
     both: Sequence[Observation]
-    found: Comparison
+
+
+def verdicts_of(tried: Sequence[Compared]) -> set[int]:
+    """Returns the numbers of the pairs that differ with a verdict: the program answers its own secret in one way, and each other secret in another.
+    Other differences of such a pair may follow from the answer. If the answer has a part of the secret, other secrets have several answers."""
+    own = {it.answers[0] for it in tried if it.is_own}
+    others = {answer for it in tried for answer in it.answers[it.is_own:]}
+    secrets = {secret.bytes for it in tried for secret in it.secrets[it.is_own:]}
+    is_verdict = len(own) == len(others) == 1 and own != others and len(secrets) > 1
+    return {it.number for it in tried if it.is_own} if is_verdict else set()
 
 
 def guesses_of(base: Observation, size: int) -> list[bytes]:
@@ -138,32 +150,54 @@ def try_pair(leak: Leak, own: Secret, base: Observation, pair: Pair) -> Compared
     both = (base if pair.one is None else leak.observe(one)), leak.observe(two)
     found = leak.compared(*both, own)
     channels, shown = found.channels(), [one.bytes.hex(), two.bytes.hex()]
-    leak.findings.add("pair %d" % pair.number, "%s and %s differ in %s" % (*shown, ", ".join(channels)) if channels else "")
     if leak.printer.as_json:
         leak.printer.object("pair", number=pair.number, slot=own.slot, at=own.text(), bytes=shown, channels=channels)
-    return Compared((one, two), both, found)
+    answers = [tuple((it.ended_by, it.answer) for it in observation.activations) for observation in both]
+    kept = (found, both) if channels else (None, ())
+    return Compared(pair.number, (one, two), pair.one is None, answers, channels, *kept)
 
 
-def finish(leak: Leak, differing: Mapping[int, Compared], done: int) -> None:
-    """Prints the result of all pairs, and the first pair that differs."""
-    printer = leak.printer
-    if printer.as_json:
-        printer.object("leak", channels=sorted({channel for it in differing.values() for channel in it.found.channels()}, key=CHANNELS.index),
-                       pairs=done, differing=sorted(differing), compared=leak.channels)
-        return
+def finish(leak: Leak, tried: Sequence[Compared]) -> None:
+    """Prints the result of all pairs, and the first pair that differs. Notes what was found."""
+    verdicts = verdicts_of(tried)
+    differing = {it.number: it for it in tried if it.channels and it.number not in verdicts}
+    for it in tried:
+        shown = "%s and %s differ in %s" % (*(secret.bytes.hex() for secret in it.secrets), ", ".join(it.channels))
+        leak.findings.add("pair %d" % it.number, shown if it.number in differing else "")
+    channels = sorted({channel for it in differing.values() for channel in it.channels}, key=CHANNELS.index)
+    if leak.printer.as_json:
+        leak.printer.object("leak", channels=channels, pairs=len(tried), differing=sorted(differing), with_answer=sorted(verdicts),
+                            compared=leak.channels)
+    else:
+        print_result(leak, tried, differing, verdicts)
+    if verdicts and len(verdicts) == len(tried):
+        leak.findings.cut_short("no two secrets with the same answer were compared; use --tries 3 or more")
+
+
+def print_result(leak: Leak, tried: Sequence[Compared], differing: Mapping[int, Compared], verdicts: set[int]) -> None:
+    """Prints the result of all pairs in words."""
+    line = leak.printer.line
+    verdict = "%s differ with the answer: the program answers its own secret in one way, and each other secret in another" % pairs_text(len(verdicts))
     if not differing:
-        printer.line("no difference in %s: %s" % (pairs_text(done), ", ".join(leak.channels)))
+        others = len(tried) - len(verdicts)
+        lines = [verdict] if verdicts else []
+        lines += ["no difference in %s%s: %s" % ("the other " if verdicts else "", pairs_text(others), ", ".join(leak.channels))] if others else []
+        line("\n".join(lines))
         return
-    same = [number for number, it in differing.items() if "answer" not in it.found.channels()]
+    same = [number for number, it in differing.items() if "answer" not in it.channels]
     number = min(same or differing)
     it = differing[number]
-    printer.line("pair %d of %d, the first that differs%s" % (number, done, " with the same answer" if same and min(differing) != number else ""))
+    is_picked = bool(same) and (min(differing) != number or bool(verdicts))
+    line("pair %d of %d, the first that differs%s" % (number, len(tried), " with the same answer" if is_picked else ""))
+    assert it.found is not None
     pair_text(leak, it.secrets, it.both, it.found)
     numbers = ", ".join(map(str, sorted(differing)[:MOST_NUMBERS])) + (", ..." if len(differing) > MOST_NUMBERS else "")
-    channels = sorted({channel for it in differing.values() for channel in it.found.channels()}, key=CHANNELS.index)
-    printer.line("%d of %s differ, in %s: %s" % (len(differing), pairs_text(done), ", ".join(channels), numbers))
+    channels = sorted({channel for it in differing.values() for channel in it.channels}, key=CHANNELS.index)
+    line("%d of %s differ, in %s: %s" % (len(differing), pairs_text(len(tried)), ", ".join(channels), numbers))
     if same and len(same) < len(differing):
-        printer.line("%d of them differ in the answer too, and may show no more than that" % (len(differing) - len(same)))
+        line("%d of them differ in the answer too, and may show no more than that" % (len(differing) - len(same)))
+    if verdicts:
+        line(verdict)
 
 
 def pairs_text(count: int) -> str:
@@ -190,8 +224,13 @@ def values_of(leak: Leak, it: Difference, both: Sequence[Observation]) -> list[s
     if it.what == "window":
         return ["%08x is %s  %s" % (at, value.hex(), leak.symbols.name(at) or "") for at, value in it.values]
     if it.what == "answer" and isinstance(it.values[0], tuple):
-        return ["%s a0=%08x a1=%08x" % value for value in it.values]
+        return [answer_text(*value) for value in it.values]
     return list(it.values)
+
+
+def answer_text(ended_by: str, *registers: int) -> str:
+    """Returns how an activation ended, with a0 and a1, which one that the end of the run cut off does not have."""
+    return " ".join([ended_by, *("a%d=%08x" % it for it in enumerate(registers))])
 
 
 def pair_text(leak: Leak, secrets: Sequence[Secret], both: Sequence[Observation], comparison: Comparison) -> None:

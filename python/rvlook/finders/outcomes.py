@@ -150,8 +150,8 @@ def outcome_of(text: str, symbols: Symbols, harts: int, members: Sequence[Member
         near = nearest(text, [it.name for it in members if it.name.startswith(hart + ".")]) if dot else None
         raise RvlookError("invalid --outcome: %s (expected PLACE[:BYTES], VARIABLE.MEMBER, HART.REGISTER, enclaves, or e0 to e12)"
                           % ("no member '%s'; did you mean '%s'?" % (text, near) if near else no_symbol(name, symbols)))
-    if count and not count.isdigit():
-        raise RvlookError("invalid --outcome: the number of bytes must be decimal, not '%s'" % count)
+    if count and not re.fullmatch("[0-9]{1,8}", count):
+        raise RvlookError("invalid --outcome: the number of bytes must have 1 to 8 decimal digits, not '%s'" % count)
     return Bytes(text, at, int(count or (symbol and symbol.size) or WORD_BYTES))
 
 

@@ -23,6 +23,7 @@ if TYPE_CHECKING:
 
 ROW = 64
 REGISTER_AT = re.compile(r"(\w+)@(.+)\Z")
+COUNT = re.compile(r"[0-9]{1,8}\Z")  # a number of bytes
 CORNERS = (b"\0", b"\xff", b"\x7f", b"\x80", b"\x01", b"\x55", b"\xaa")  # of each byte
 WORD = 4
 NEAR = 3  # every so many pairs one has values that agree in a prefix
@@ -76,7 +77,7 @@ def place_and_size(text: str, symbols: Symbols) -> tuple[int, int | None]:
     """Parses PLACE or PLACE:BYTES into an address and a number of bytes, None if it is not known. Raises RvlookError."""
     name, _, count = text.partition(":")
     at = symbols.address(name)
-    if at is None or count and not count.isdigit():
+    if at is None or count and not COUNT.match(count):
         raise RvlookError("'%s' is neither a hexadecimal address nor a symbol" % text)
     symbol = symbols.by_name.get(name)
     return at, int(count) if count else symbol.size if symbol and symbol.size else None

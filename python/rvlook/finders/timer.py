@@ -189,10 +189,8 @@ def after_script(run: Run) -> Replay:
     return replay
 
 
-def show_timer(run: Run, symbols: Symbols, printer: Printer, options: Namespace) -> None:
-    """Runs an enclave with and without timer interrupts, and reports whether the results are equal. Raises Unfinished if the host does not
-    resume the enclave."""
-    slot, every, findings = options.slot, options.every, options.findings
+def find_timer(run: Run, slot: int = 0, every: int = 1) -> tuple[Outcome, Last]:
+    """Runs an enclave with and without timer interrupts; returns the result, and its last step. Raises Unfinished if it executes no step."""
     last = last_of(run, slot)
     with run.replay() as quiet, run.replay() as reader, after_script(run) as replay:
         quiet.bench.ask(*(quiet.lines_to(last.step) or ["reg 0"]))
@@ -202,6 +200,14 @@ def show_timer(run: Run, symbols: Symbols, printer: Printer, options: Namespace)
         if not (outcome.difference or outcome.not_resumed):
             pairs = zip(finish_of(quiet.bench, last.enclave), finish_of(replay.bench, last.enclave))
             outcome.difference = next((Difference(outcome.steps, None, a, b) for a, b in pairs if a != b), None)
+    return outcome, last
+
+
+def show_timer(run: Run, symbols: Symbols, printer: Printer, options: Namespace) -> None:
+    """Runs an enclave with and without timer interrupts, and reports whether the results are equal. Raises Unfinished if the host does not
+    resume the enclave."""
+    slot, every, findings = options.slot, options.every, options.findings
+    outcome, last = find_timer(run, slot, every)
     (timer_object if printer.as_json else timer_text)(run, symbols, printer, slot, every, outcome)
     if outcome.not_resumed:
         raise Unfinished("the host does not resume the enclave in slot %d after the timer interrupt at its step %d; timer requires a "

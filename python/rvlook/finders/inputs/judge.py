@@ -119,7 +119,7 @@ class Judge:
                     unsure.append((other.context, pc))
                 if other.place is FAULT or other.what in (What.CALL, What.RETURN):
                     return False
-        if found:
+        if found or trace.end == "waits":
             return False
         if trace.end == "stuck":
             pc = trace.pcs[-1]

@@ -1,31 +1,33 @@
 """The report of `inputs`: the findings, each with its input and its script, and what the search covered."""
 from __future__ import annotations
 
-import time
 from dataclasses import dataclass
 from typing import Sequence, TYPE_CHECKING
 
+from rvlook.access.expectations import Report, expectation_of
+from rvlook.access.failures import failures_of
 from rvlook.finders.inputs import scripts
 from rvlook.finders.inputs.code import Kind
 from rvlook.finders.inputs.judge import FAULT, What
-from rvlook.finders.inputs.search import Search
-from rvlook.finders.inputs.secret_rules import SecretRules, replayed_states
-from rvlook.finders.leak import public_of
-from rvlook.finders.secrets import secret_of
+from rvlook.finders.inputs.session import GRACE, INTERRUPT, Session
+from rvlook.finders.races.time_limit import OutOfTime, TimeLimit
 from rvlook.output.printer import Style, hex8, run_object
-from rvlook.output.progress import Progress
+from rvlook.protocol.replies import bytes_of
+from rvlook.protocol.run import End
 
 if TYPE_CHECKING:
     from argparse import Namespace
     from rvlook.finders.inputs.judge import Finding
-    from rvlook.finders.inputs.trace import Change
+    from rvlook.finders.inputs.search import Search
+    from rvlook.finders.inputs.trace import Change, Changes
     from rvlook.image.variables import Variables
     from rvlook.output.printer import Json, Printer
-    from rvlook.protocol.run import Run
+    from rvlook.protocol.run import Replay, Run
     from rvlook.protocol.symbols import Symbols
 
 MOST_SHOWN = 4  # objects of one access; bytes of a value
 LONGEST = 16
+ROW = 64  # bytes that `mem` shows at once
 
 
 @dataclass(frozen=True)
@@ -51,19 +53,27 @@ class Coverage:
 
 
 def show_inputs(run: Run, symbols: Symbols, variables: Variables, printer: Printer, options: Namespace) -> None:
-    """Searches the inputs of an enclave, and prints the findings and the coverage."""
-    until = None if options.seconds is None else time.monotonic() + options.seconds
-    search = Search(run, symbols, variables, options.slot, options.seed)
-    if options.at:
-        secret = secret_of(options.at, symbols, run, options.slot)
-        search.rules = SecretRules(search, secret.with_bytes(secret.bytes_in(run)), public_of(options.public, symbols))
-    with Progress() as progress:
-        search.start(search.rules.secret.at if search.rules else None, options.entry)
-        found = list(replayed_states(search, search.base_details.loaded))
-        search.go(options.runs, until, progress)
-    groups = groups_of(search, [*search.judge.sure(), *found, *secret_findings(search)])
-    for it in groups:
-        scripts.check(search, it.first)
+    """Searches the inputs of an enclave, and prints the findings and the coverage. After Ctrl-C it prints what it has found, and raises
+    KeyboardInterrupt."""
+    session = Session(options, TimeLimit(options.seconds))
+    if printer.as_json:
+        run_object(printer, run, symbols)
+    show_failures(run, symbols, printer, options)
+    session.work(run, symbols, variables)
+    if session.search:
+        show_findings(session, session.search, printer)
+    if session.cut:
+        printer.stream.flush()
+        options.findings.cut_short(session.cut_text)
+    if session.cut == INTERRUPT:
+        raise KeyboardInterrupt
+
+
+def show_findings(session: Session, search: Search, printer: Printer) -> None:
+    """Replays and prints the findings of a search, and its coverage."""
+    options = session.options
+    groups = groups_of(search, session.findings())
+    replay_all(session, search, groups)
     headings = [heading_of(search, it) for it in groups]
     if options.scripts:
         scripts.write(options.scripts, search, [it.first for it in groups], headings)
@@ -72,13 +82,25 @@ def show_inputs(run: Run, symbols: Symbols, variables: Variables, printer: Print
         options.findings.add("finding %d" % number, "\n".join([heading, *details_of(search, group)]))
     if not groups:
         options.findings.add("e%d: inputs of the host" % options.slot)
-    if search.is_late:
-        options.findings.cut_short("--seconds ended inputs after %d of %d runs" % (search.tracer.runs, options.runs))
 
 
-def secret_findings(search: Search) -> list[Finding]:
-    """Returns the findings about the secret."""
-    return [*search.rules.found, *search.rules.unchecked()] if search.rules else []
+def replay_all(session: Session, search: Search, groups: Sequence[Group]) -> None:
+    """Replays each finding, and reads the values that its changes replace. Notes if the time ended before that."""
+    done = 0
+    try:
+        with session.limit.until(1.0, 2 * GRACE):
+            for done, it in enumerate(groups, 1):
+                it.first.trace.changes = with_old_values(search.run, it.first.trace.changes)
+                scripts.check(search, it.first)
+    except OutOfTime:
+        session.options.findings.cut_short("--seconds ended inputs before finding %d of %d was replayed" % (done, len(groups)))
+
+
+def show_failures(run: Run, symbols: Symbols, printer: Printer, options: Namespace) -> None:
+    """Reports the traps and the refused calls of the enclave in the run itself, before any input is changed."""
+    report = Report([expectation_of(it, symbols) for it in options.expect or ()], symbols, printer, options.findings)
+    last = next(it.steps for it in run.stretches() if isinstance(it, End))
+    report.show([it for it in failures_of(run, "", last) if it.at.world == "e%d" % options.slot])
 
 
 def groups_of(search: Search, findings: Sequence[Finding]) -> list[Group]:
@@ -141,11 +163,29 @@ def details_of(search: Search, group: Group) -> list[str]:
 def change_text(it: Change) -> str:
     """Returns a change in words."""
     value = it.value.hex() if len(it.value) <= LONGEST else "%s... (%d bytes)" % (it.value[:LONGEST].hex(), len(it.value))
-    number = ""
     if len(it.value) in (1, 2, 4) and len(it.old) == 2 * len(it.value):
         old = int.from_bytes(bytes.fromhex(it.old), "little")
-        return "%s = %x instead of %x, after step %d%s" % (it.name, int.from_bytes(it.value, "little"), old, it.step, place_of(it))
-    return "%s = bytes %s%s, after step %d%s" % (it.name, value, number, it.step, place_of(it))
+        return "%s = 0x%x instead of 0x%x, after step %d%s" % (it.name, int.from_bytes(it.value, "little"), old, it.step, place_of(it))
+    return "%s = bytes %s, after step %d%s" % (it.name, value, it.step, place_of(it))
+
+
+def with_old_values(run: Run, changes: Changes) -> Changes:
+    """Returns changes with the values that each of them replaces: those that a run with the earlier changes alone has at that step."""
+    found: list[Change] = []
+    for it in changes:
+        with run.replay() as replay:
+            replay.go(it.step)
+            found.append(it._replace(old=value_in(replay, it).hex()))
+        run = run.with_lines(it.step, it.lines())
+    return tuple(found)
+
+
+def value_in(replay: Replay, it: Change) -> bytes:
+    """Reads the bytes or the register of a change."""
+    if it.register:
+        return int(replay.bench.one("reg %d" % it.register).split("=")[1], 16).to_bytes(len(it.value), "little")
+    rows = range(0, len(it.value), ROW)
+    return b"".join(bytes_of(replay.bench.one("mem %x %d" % (it.at + at, min(ROW, len(it.value) - at)))) for at in rows)
 
 
 def place_of(it: Change) -> str:
@@ -170,7 +210,8 @@ def coverage_text(search: Search) -> str:
     it = coverage_of(search)
     lines = ", %d of %d lines" % (it.lines, it.all_lines) if it.all_lines else ", %d instructions" % len(search.judge.seen.pcs)
     cut = "; %d runs were cut after %d steps" % (search.tracer.cut, search.tracer.limit) if search.tracer.cut else ""
-    rest = "; each value was tried" if search.is_exhausted else ""
+    waits = "; %d runs wait for the host to change the window" % search.tracer.waiting if search.tracer.waiting else ""
+    rest = waits + ("; each value was tried" if search.is_exhausted else "")
     return "Covered: %d inputs, %d runs with other values, %d of %d branches both ways%s%s%s" % (
         it.inputs, it.values, it.both, it.branches, lines, cut, rest)
 
@@ -205,7 +246,6 @@ def inputs_text(search: Search) -> list[str]:
 
 def write_objects(search: Search, groups: Sequence[Group], printer: Printer, options: Namespace) -> None:
     """Writes the findings and the coverage as objects."""
-    run_object(printer, search.run, search.symbols)
     for number, group in enumerate(groups, 1):
         it = group.first
         printer.object("finding", number=number, what=it.what.value, text=heading_of(search, group), step=it.trace.steps[it.index], pc=hex8(it.pc),

@@ -8,6 +8,7 @@ from rvlook.errors import RvlookError, Unfinished
 from rvlook.finders.inputs.judge import What
 from rvlook.finders.inputs.tracer import access_of
 from rvlook.finders.races.replay import comment
+from rvlook.output.files import replace_file
 from rvlook.protocol.bench_line import ended
 
 if TYPE_CHECKING:
@@ -67,7 +68,7 @@ def write(folder: str, search: Search, findings: Sequence[Finding], headings: Se
                 after = lines_after(search, replay, finding)
             head = [comment(heading), comment("./rvbench %s < this file" % " ".join(setup.arguments()))]
             for name, lines in (("finding_%d", head + before + after), ("finding_%d.input", head[:1] + before)):
-                with open(os.path.join(folder, name % number), "wb") as file:
-                    file.write(setup.image.text + b"--\n" + "".join(map(ended, lines)).encode("latin-1", "replace"))
+                text = setup.image.text + b"--\n" + "".join(map(ended, lines)).encode("latin-1", "replace")
+                replace_file(os.path.join(folder, name % number), text)
     except OSError as error:
         raise RvlookError("cannot write to '%s': %s" % (folder, error.strerror)) from None

@@ -1,14 +1,13 @@
 """The search of `inputs`: tries values, goes on from each trace that reaches something new, and combines changes."""
 from __future__ import annotations
 
-import time
 from collections import deque
 from dataclasses import dataclass
 from typing import Iterator, Optional, TYPE_CHECKING
 
 from rvlook.access.fields import Fields
 from rvlook.finders.inputs.details import Reader
-from rvlook.finders.inputs.judge import Finding, Judge
+from rvlook.finders.inputs.judge import Judge
 from rvlook.finders.inputs.objects import Objects
 from rvlook.finders.inputs.tracer import Tracer
 from rvlook.finders.inputs.values import Child, Input, Values
@@ -57,8 +56,7 @@ class Search:
         self.tried: set[tuple[object, ...]] = set()
         self.inputs: dict[tuple[object, ...], Input] = {}
         self.kept = 0
-        self.is_exhausted = self.is_late = False
-        self.more: list[Finding] = []
+        self.is_exhausted = False
 
     def start(self, secret_at: int | None, has_entry: bool) -> None:
         """Prepares the search: the objects that values point to, the secret first, and the runs from the run itself."""
@@ -81,13 +79,21 @@ class Search:
             self.parents.appendleft(parent)
         self.kept += 1
 
-    def go(self, runs: int, until: float | None, progress: Progress) -> None:
-        """Tries values up to a number of runs or a time."""
+    def go(self, runs: int, progress: Progress) -> None:
+        """Tries values up to a number of runs. Ends the runs that were started if an exception stops it."""
+        started: deque[Started] = deque()
+        try:
+            self.try_values(runs, progress, started)
+        finally:
+            for it in started:
+                it.replay.bench.close()
+
+    def try_values(self, runs: int, progress: Progress, started: deque[Started]) -> None:
+        """Tries values up to a number of runs. `started` has the runs that are started and not complete."""
         parent: Parent | None = None
         while self.root or self.parents:
             parent = self.next_parent(parent)
             several = self.share(parent, runs)
-            started: deque[Started] = deque()
             for child in [*several, *[None] * AHEAD]:
                 if child is not None:
                     started.append(self.tracer.start(parent.trace, child.index, child.changes))
@@ -98,8 +104,7 @@ class Search:
                 self.root = parent if len(several) == SHARE else None
             elif len(several) == SHARE:
                 self.parents.append(parent)
-            self.is_late = until is not None and time.monotonic() > until
-            if self.is_late or self.tracer.runs >= runs:
+            if self.tracer.runs >= runs:
                 return
         self.is_exhausted = True
 

@@ -138,13 +138,18 @@ class SecretRules:
         every = [branches for *_, branches in self.segments([(base, self.usual)])]
         for trace, output, branches in self.segments(self.open):
             for pc, target in sorted(self.checks.items()):
-                is_skipped = pc not in branches and all(pc in it for it in every)
+                is_skipped = pc not in branches and all(pc in it for it in every) and not self.has_passed(trace, pc, target, output)
                 is_failed = branches.get(pc) == {target} and target not in usual.get(pc, ())
                 if (is_skipped or is_failed) and pc not in reported:
                     reported.add(pc)
                     where = self.search.symbols.line(pc) or self.search.symbols.name(pc) or "%08x" % pc
                     note = "the secret comes out %s %s" % ("without the check at" if is_skipped else "although the check fails at", where)
                     yield Finding(What.CHECK, trace, output.index, trace.pcs[output.index], Place(where), output.at or 0, note=note)
+
+    def has_passed(self, trace: Trace, pc: int, target: int, output: Output) -> bool:
+        """Returns whether a check passed in an activation before that of an output: it may count for the later ones, as a session does."""
+        first = trace.visits[trace.visit_at(output.end)].first
+        return bool(branches_of(self.search, trace, range(first)).get(pc, set()) - {target})
 
     def segments(self, traces: Sequence[tuple[Trace, list[Output]]]) -> Iterator[tuple[Trace, Output, dict[int, set[int]]]]:
         """Yields each output of some traces with the branches since the activation of the output before it. Leaves out those whose steps up to then
@@ -202,17 +207,19 @@ class Older:
 
 def older_states(search: Search, loaded: dict[int, bytes]) -> Iterator[Older]:
     """Yields older states for each activation of the run itself. `loaded` has the bytes of each load from the window. A state is a range of bytes
-    that the enclave stored in an earlier activation and loads now, at any address: the host may have kept it."""
+    that the enclave stored in an earlier activation and loads now, at any address: the host may have kept it. An older one is one from which the
+    enclave made the present one. Values that exist side by side, such as handles, are none."""
     base = search.base
     stores = [dict(window_bytes(search, base, it, Kind.STORE, loaded)) for it in base.visits]
     loads = [dict(window_bytes(search, base, it, Kind.LOAD, loaded)) for it in base.visits]
     for number, visit in enumerate(base.visits):
         for at, data in runs_of(loads[number]):
             for place, size in known_states(at, data, stores[:number]):
+                present = data[place.offset:place.offset + size]
                 for value, origin in versions(stores[:number], loads[:number], place, at, size):
-                    if value != data[place.offset:place.offset + size]:
+                    if value != present and present in successors(stores[:number], loads[:number], place.at, value):
                         change = Change(base.steps[visit.first] - 1, at + place.offset, value, 0, search.values.name(at + place.offset),
-                                        data[place.offset:place.offset + size].hex())
+                                        present.hex())
                         yield Older(change, number, origin)
 
 
@@ -241,6 +248,17 @@ def versions(stores: list[dict[int, int]], loads: list[dict[int, int]], known: K
     for content in loads:
         if all(at + known.offset + n in content for n in range(size)):
             yield bytes(content[at + known.offset + n] for n in range(size)), None
+
+
+def successors(stores: list[dict[int, int]], loads: list[dict[int, int]], at: int, value: bytes) -> set[bytes]:
+    """Returns the states that the enclave made from a value: those that an activation stored at an address after it had loaded the value, or a state
+    made from it."""
+    found, made = {value}, set()
+    for stored, loaded in zip(stores, loads):
+        if all(at + n in stored for n in range(len(value))) and any(old in data for _, data in runs_of(loaded) for old in found):
+            made.add(bytes(stored[at + n] for n in range(len(value))))
+            found |= made
+    return made
 
 
 def window_bytes(search: Search, trace: Trace, visit: Visit, kind: Kind, loaded: dict[int, bytes]) -> Iterator[tuple[int, int]]:

@@ -48,7 +48,8 @@ class Trace:
 
     `steps` are their numbers in the run. `addresses` has the address of a load, a store or a call of the monitor (its a1), and `values` the
     value that is stored to the window, or a6. `contexts` has the number of the call context. `traps` has cause and value of each trap, by index.
-    `end` is `halted` if the host halts, `limit` if the trace was cut, and `stuck` if the enclave does not return. `changed` are the indices whose
+    `end` is `halted` if the host halts, and `limit` if the trace was cut. It is `waits` if the enclave waits for the host to change the window, and
+    `stuck` if it does not return for another reason. `changed` are the indices whose
     access differs from the parent's, and `new` are ranges of steps that the parent does not have. `next_pc` is the pc after the last step, and
     `total` the number of all steps of the run."""
     changes: Changes = ()

@@ -23,6 +23,7 @@ if TYPE_CHECKING:
 
 FIRST_CHUNK, LAST_CHUNK = 256, 8192  # single steps in one exchange
 MORE = 8000  # steps of a run beyond twice those up to the last one of the enclave in the run itself
+ROUND, REGISTERS = 256, 33  # the most steps of a loop that waits for the host; lines of `regs`
 PATIENCE, PART = 1000000, 50000  # steps in which an enclave must return, and after how many of them that is checked
 SAME, FAR, OCCURRENCES = 16, 4096, 4  # equal steps after which a path has joined another, how far that is searched, and how often a pc is considered
 MOST_FOLLOWED = 24  # times that a run follows its parent
@@ -57,7 +58,8 @@ class Started:
 
 
 class Tracer:
-    """Traces the enclave of a slot. `limit` is the number of steps after which a run is cut; `runs` and `cut` count the runs."""
+    """Traces the enclave of a slot. `limit` is the number of steps after which a run is cut. `runs`, `cut` and `waiting` count the runs, those
+    that are cut, and those that wait for the host."""
 
     def __init__(self, run: Run, slot: int) -> None:
         self.run, self.slot, self.own = run, slot, b"e%d " % slot
@@ -65,7 +67,7 @@ class Tracer:
         self.contexts = Contexts()
         self.enclave: Enclave | None = None
         self.limit = run.length + run.setup.limit
-        self.runs = self.cut = 0
+        self.runs = self.cut = self.waiting = 0
 
     def base(self) -> Trace:
         """Returns the trace of the run itself. Raises Unfinished if the enclave is never entered, or does not return."""
@@ -101,6 +103,7 @@ class Tracer:
                 break
             started = self.started(run, parent, joined, started.changes)
         self.cut += trace.end == "limit"
+        self.waiting += trace.end == "waits"
         return trace
 
     def child(self, parent: Trace, index: int, changes: Changes) -> Trace:
@@ -245,8 +248,23 @@ class Tracer:
         if is_own:
             replies = leader.bench.block(b"step %d\n" % PART * (PATIENCE // PART), PATIENCE // PART).splitlines()
             if all(b" world=" + self.own in it for it in replies):
-                return "stuck"
+                return "waits" if self.is_waiting(leader) else "stuck"
         return "limit"
+
+    def is_waiting(self, leader: Replay) -> bool:
+        """Returns whether the enclave waits for the host, as in a spin lock: it repeats steps without any change of a register, and each round loads
+        from its window."""
+        assert self.enclave is not None
+        lines = leader.bench.block(b"regs\nstep 1\n" * ROUND, (REGISTERS + 1) * ROUND).splitlines()
+        states = [lines[at:at + REGISTERS] for at in range(0, len(lines), REGISTERS + 1)]
+        length = next((n for n in range(1, len(states)) if states[n] == states[0]), 0)
+        for state in states[:length]:
+            values = [int(it.split(b"=")[1], 16) for it in state]
+            code = self.code.get(values[-1])
+            address = (values[code.probes[0]] + code.offset) & MASK if code and code.kind is Kind.LOAD else 0
+            if 0 <= address - self.enclave.window < self.enclave.window_size:
+                return True
+        return False
 
     def add(self, trace: Trace, part: Part, reader: Replay) -> None:
         """Adds the steps of the enclave in a part to a trace."""

@@ -6,7 +6,8 @@ import os
 from typing import Callable, Sequence, TYPE_CHECKING
 
 from rvlook.protocol.bench_line import ended
-from rvlook.output.escapes import visible
+from rvlook.escapes import visible
+from rvlook.output.files import replace_file
 from rvlook.errors import RvlookError
 from rvlook.finders.outcomes import Bytes, Register
 from rvlook.finders.races.machine import ROW, commands_of
@@ -111,7 +112,6 @@ def write_scripts(folder: str, machine: Machine, ends: Sequence[FinalState], out
     try:
         os.makedirs(folder, exist_ok=True)
         for end in ends:
-            with open(os.path.join(folder, "final_state_%d" % end.number), "wb") as file:
-                file.write(script_of(machine, end, outcome, heading_of(end)))
+            replace_file(os.path.join(folder, "final_state_%d" % end.number), script_of(machine, end, outcome, heading_of(end)))
     except OSError as error:
         raise RvlookError("cannot write to '%s': %s" % (folder, error.strerror)) from None

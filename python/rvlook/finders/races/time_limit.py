@@ -7,6 +7,7 @@ import time
 from typing import Any, NoReturn
 
 AGAIN = 0.2  # seconds between two alarms; an exception that is raised in a destructor is dropped
+LONGEST = 1e9  # seconds; a longer alarm does not fit into a timer of the system
 
 
 class OutOfTime(Exception):
@@ -35,7 +36,7 @@ class Alarm:
     def __enter__(self) -> Alarm:
         if self.end is not None:
             self.old = signal.signal(signal.SIGALRM, self.stop)
-            signal.setitimer(signal.ITIMER_REAL, max(self.end - time.monotonic(), 0.001), AGAIN)
+            signal.setitimer(signal.ITIMER_REAL, min(max(self.end - time.monotonic(), 0.001), LONGEST), AGAIN)
         return self
 
     def __exit__(self, *_: object) -> None:
