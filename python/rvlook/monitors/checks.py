@@ -183,6 +183,17 @@ def changed_row(ownership: Ownership, world: str, memory: Memory, offset: int) -
     return ""
 
 
+def zeroed_range(parts: list[OwnedRange], memory: Memory) -> str:
+    """M zeroes bytes of an enclave only at the end of its range. `parts` were live before the trap and still are."""
+    for part in parts:
+        first, end = part.first - MONITOR_END, part.end - MONITOR_END
+        before, after = memory.before[first:end], memory.after[first:end]
+        at = next((n for n in range(len(before)) if before[n] != after[n]), None) if before != after else None
+        if at is not None and "w" not in may_at(memory.rights, part.first + at):
+            return "M changes %08x of %s from %02x to %02x, and %s stays closed" % (part.first + at, part.owner, before[at], after[at], part)
+    return ""
+
+
 def marks_in_memory(ownership: Ownership, was: str, left: Left, memory: bytes) -> str:
     """No mark of the world that was left is in memory that is not its own or the monitor's."""
     values = {struct.pack("<I", value): abi_name(number) for number, value in left.registers.items()}

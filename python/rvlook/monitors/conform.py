@@ -1,62 +1,81 @@
 """Compares an author's monitor with the monitor of rvbench over directed and random scripts, in one or more processes."""
 from __future__ import annotations
 
-import multiprocessing
 import os
-import signal
 import time
 from dataclasses import dataclass, field
-from functools import partial
 from typing import Iterator, Sequence
 
 from rvlook.monitors.coverage import Coverage
 from rvlook.monitors.directed import directed_scripts
+from rvlook.monitors.directed_large import corner_scripts, large_scripts, long_scripts
 from rvlook.monitors.directed_refusals import refusal_scripts
 from rvlook.monitors.items import Item
+from rvlook.monitors.jobs import results_of
 from rvlook.monitors.pair import Pair, Played, play
 from rvlook.monitors.random_scripts import RandomScript
 from rvlook.monitors.sides import MonitorSetup
-from rvlook.protocol.bench import program_path
+from rvlook.output.progress import Progress
+
+
+DEEP_RAM = 0x400000  # bytes for the scripts with large blocks
 
 
 @dataclass(frozen=True)
 class Task:
-    """One script: its items, or the seed and the number of items of a random script."""
+    """One script: its items, or the seed and the number of items of a random script. `ram` is the size of the RAM, 0 for that of the setup. The
+    memory of a long script is compared at its end, and of any other script after each trap."""
     name: str
     items: tuple[Item, ...] = ()
     seed: str = ""
     count: int = 0
+    ram: int = 0
+    is_long: bool = False
+
+    def setup(self, setup: MonitorSetup) -> MonitorSetup:
+        """Returns the configuration with the RAM of the script."""
+        return setup.with_ram(self.ram) if self.ram else setup
 
 
 @dataclass(frozen=True)
 class Plan:
-    """The scripts to run: those of the table whose names contain `only`, then `tries` random ones of `count` items. `seconds` limits the time."""
+    """The scripts to run: those of the table whose names contain `only`, then `tries` random ones of `count` items. `seconds` limits the time.
+    `is_deep` adds scripts with many calls, and with large blocks in a larger RAM. With `has_ram` the RAM stays as it is."""
     tries: int
     count: int
     seed: str
     only: str = ""
     seconds: float | None = None
     jobs: int = 1
+    is_deep: bool = False
+    has_ram: bool = False
 
 
 @dataclass
 class Outcome:
-    """The scripts that were run: what they covered, the first one with a difference, and the number of scripts that the time limit left out."""
+    """The scripts that were run: what they covered, and the first one with a difference with its task. `left` scripts were not run, because of the
+    time limit or Ctrl-C."""
     coverage: Coverage = field(default_factory=Coverage)
     different: Played | None = None
+    task: Task | None = None
     left: int = 0
+    is_interrupted: bool = False
 
 
 def tasks_of(plan: Plan, ram: int) -> list[Task]:
-    """Returns the scripts of a plan in their order."""
+    """Returns the scripts of a plan in their order, for a RAM of this many bytes."""
     table = [Task(name, tuple(items)) for scripts in (directed_scripts, refusal_scripts) for name, items in scripts(ram)]
+    table += [Task(name, tuple(items)) for name, items in corner_scripts()]
+    large = DEEP_RAM if plan.is_deep and not plan.has_ram else ram
+    table += [Task(name, tuple(items), ram=large if large != ram else 0, is_long=True) for name, items in large_scripts(large)]
+    table += [Task(name, tuple(items), is_long=True) for name, items in long_scripts()] if plan.is_deep else []
     drawn = [Task("random script %s-%d" % (plan.seed, n), (), "%s-%d" % (plan.seed, n), plan.count) for n in range(plan.tries)]
     return [it for it in table + drawn if plan.only in it.name]
 
 
 def perform(setup: MonitorSetup, task: Task) -> Played:
     """Runs one script on both monitors."""
-    return play_random(setup, task) if task.seed else play(setup, task.name, list(task.items))
+    return play_random(setup, task) if task.seed else play(task.setup(setup), task.name, list(task.items), not task.is_long)
 
 
 def play_random(setup: MonitorSetup, task: Task) -> Played:
@@ -72,33 +91,28 @@ def play_random(setup: MonitorSetup, task: Task) -> Played:
 
 
 def compare(setup: MonitorSetup, plan: Plan) -> Outcome:
-    """Runs the scripts of a plan up to the first difference or the time limit."""
+    """Runs the scripts of a plan up to the first difference, the time limit or Ctrl-C."""
     tasks, outcome, began = tasks_of(plan, setup.ram), Outcome(), time.monotonic()
     outcome.left = len(tasks)
-    for played in all_played(setup, tasks, plan.jobs):
-        outcome.left -= 1
-        outcome.coverage.add(played.coverage)
-        if played.differences:
-            outcome.different = played
-            break
-        if plan.seconds is not None and time.monotonic() - began > plan.seconds:
-            break
+    try:
+        with Progress() as progress:
+            for played in all_played(setup, tasks, plan.jobs):
+                outcome.left -= 1
+                progress.bar(len(tasks) - outcome.left, len(tasks), played.name)
+                outcome.coverage.add(played.coverage)
+                if played.differences:
+                    outcome.different, outcome.task = played, tasks[len(tasks) - outcome.left - 1]
+                    break
+                if plan.seconds is not None and time.monotonic() - began > plan.seconds:
+                    break
+    except KeyboardInterrupt:
+        outcome.is_interrupted = True
     return outcome
 
 
 def all_played(setup: MonitorSetup, tasks: Sequence[Task], jobs: int) -> Iterator[Played]:
     """Yields the results of scripts in their order. Other processes run them if there is more than one job."""
-    if jobs == 1:
-        yield from (perform(setup, task) for task in tasks)
-        return
-    program_path()  # builds the program once, if it has to be built
-    with multiprocessing.get_context("fork").Pool(min(jobs, max(1, len(tasks))), ignore_interrupts) as pool:
-        yield from pool.imap(partial(perform, setup), tasks)
-
-
-def ignore_interrupts() -> None:
-    """Leaves Ctrl-C to the process that waits for the results."""
-    signal.signal(signal.SIGINT, signal.SIG_IGN)
+    return results_of(lambda number: perform(setup, tasks[number]), len(tasks), jobs)
 
 
 def processors() -> int:

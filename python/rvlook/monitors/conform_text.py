@@ -10,20 +10,26 @@ from rvlook.image.files import image_of, read_file, script_lines
 from rvlook.image.symbols import symbols_from
 from rvlook.monitors.comparison import Difference, Kind
 from rvlook.monitors.conform import Outcome, Plan, compare
+from rvlook.monitors.divergence import Divergence, divergence_of
+from rvlook.monitors.joined import both, joined
 from rvlook.monitors.shrink import Shrinker, Shrunk
-from rvlook.monitors.sides import MonitorSetup, return_addresses
+from rvlook.monitors.sides import MonitorSetup, return_addresses, size_line
 from rvlook.monitors.writers import Writer, writers_of
+from rvlook.output.files import replace_file
 from rvlook.output.printer import Printer, hex8, place_text
 from rvlook.protocol.lines import no_symbol, resolved_script
 from rvlook.protocol.memory_map import MONITOR_END
 
 if TYPE_CHECKING:
     from argparse import Namespace
+    from rvlook.monitors.pair import Played
     from rvlook.protocol.symbols import Symbols
 
 MOST_SHOWN = 6  # differences
+MOST_ITEMS = 40  # of a script that are shown
 MOST_LINES = 4  # source lines before a writer
 MOST_TRACED = 2  # differences whose writers are searched
+CAUSED_BY_A_BRANCH = (Kind.register, Kind.pc, Kind.mode, Kind.rights)
 LEAST_RAM = 0x30000  # bytes; the directed scripts use them
 
 
@@ -31,7 +37,10 @@ def monitor_setup(arguments: Namespace) -> tuple[MonitorSetup, Symbols]:
     """Returns the author's monitor as the arguments describe it, and its symbols. Raises RvlookError."""
     image = image_of(arguments.image)
     symbols = symbols_from(arguments.symbols, image)
-    boot: tuple[str, ...] = ("setreg 10 %x" % MONITOR_END, "setreg 11 %x" % arguments.ram)
+    if arguments.host:
+        image, symbols_of_host = joined(image, arguments.host)
+        symbols = both(symbols, symbols_of_host)
+    boot: tuple[str, ...] = ("setreg 10 %x" % MONITOR_END, size_line(arguments.ram))
     if arguments.boot:
         lines = resolved_script(script_lines(read_file(arguments.boot), arguments.boot), symbols)
         boot = tuple(it.text for it in lines if not it.text.lstrip().startswith("#"))
@@ -49,18 +58,22 @@ def address_of(name: str, symbols: Symbols) -> int:
 
 def show_conform(arguments: Namespace) -> None:
     """Compares the monitors, and shows the first difference and the coverage table. A difference is a finding; an empty cell and a time limit
-    make the result incomplete."""
+    make the result incomplete. After Ctrl-C shows what was found, and raises KeyboardInterrupt."""
+    has_ram = arguments.ram is not None or arguments.boot is not None
+    arguments.ram = LEAST_RAM if arguments.ram is None else arguments.ram
     if arguments.ram < LEAST_RAM:
         raise UsageError("--ram %d is less than %d" % (arguments.ram, LEAST_RAM))
     setup, symbols = monitor_setup(arguments)
-    plan = Plan(arguments.tries, arguments.items, str(arguments.seed), arguments.only, arguments.seconds, arguments.jobs)
+    plan = Plan(arguments.tries, arguments.items, str(arguments.seed), arguments.only, arguments.seconds, arguments.jobs, arguments.deep, has_ram)
     printer, findings = Printer(arguments.json), arguments.findings
     outcome = compare(setup, plan)
-    if not outcome.coverage.scripts:
+    if not outcome.coverage.scripts and not outcome.is_interrupted:
         raise RvlookError("no script has '%s' in its name" % plan.only)
     show_counts(outcome, printer)
-    if outcome.different:
+    if outcome.different and outcome.task:
+        setup = outcome.task.setup(setup)
         shrunk = Shrinker(setup, outcome.different).shrink()
+        outcome.is_interrupted = shrunk.is_interrupted
         Report(setup, symbols, printer, outcome).show(shrunk)
         first = shrunk.played.differences[0]
         findings.add("conform", "%s: %s, not %s" % (first.name, first.own, first.reference))
@@ -68,7 +81,10 @@ def show_conform(arguments: Namespace) -> None:
             write_scripts(arguments.scripts, setup, shrunk, printer)
     else:
         findings.add("conform")
-    show_coverage(outcome, printer)
+    if not outcome.different or arguments.table or arguments.json:
+        show_coverage(outcome, printer)
+    if outcome.is_interrupted:
+        raise KeyboardInterrupt
     report_rest(outcome, plan, findings.cut_short)
 
 
@@ -91,8 +107,8 @@ def show_counts(outcome: Outcome, printer: Printer) -> None:
         printer.object("conform", scripts=it.scripts, steps=it.steps, returns=it.returns, steps_in_m=it.spent, most_steps_in_m=it.most[0],
                        alike=outcome.different is None)
         return
-    printer.line("%s: %d scripts, %d steps below M, %d returns from M, %d steps in M" % (
-        "different" if outcome.different else "alike", it.scripts, it.steps, it.returns, it.spent))
+    result = "different" if outcome.different else "alike until Ctrl-C" if outcome.is_interrupted else "alike"
+    printer.line("%s: %d scripts, %d steps below M, %d returns from M, %d steps in M" % (result, it.scripts, it.steps, it.returns, it.spent))
 
 
 class Report:
@@ -108,11 +124,7 @@ class Report:
         if not self.printer.as_json:
             self.printer.line("script '%s': different after %d items; shrunk to %d items in %d runs" % (
                 found.name, len(found.items), len(played.items), shrunk.runs))
-        for step in played.steps:
-            if self.printer.as_json:
-                self.printer.object("item", world=step.world, text=step.item.text, result=step.result)
-            else:
-                self.printer.line("  %-5s %-50s %s" % (step.world, step.item.text, step.result))
+        self.show_items(played)
         for number, it in enumerate(played.differences[:MOST_SHOWN]):
             writers = writers_of(self.setup, played, it) if number < MOST_TRACED else []
             if self.printer.as_json:
@@ -121,6 +133,19 @@ class Report:
                 self.difference_text(it, writers, number < MOST_TRACED)
         if len(played.differences) > MOST_SHOWN and not self.printer.as_json:
             self.printer.line("  and %d more differences" % (len(played.differences) - MOST_SHOWN))
+        if played.differences[0].kind in CAUSED_BY_A_BRANCH:
+            self.show_divergence(divergence_of(self.setup, played))
+
+    def show_items(self, played: Played) -> None:
+        """Shows the items of a script; as text only the first and the last ones of a long script."""
+        left_out = len(played.steps) - MOST_ITEMS
+        for number, step in enumerate(played.steps):
+            if self.printer.as_json:
+                self.printer.object("item", world=step.world, text=step.item.text, result=step.result)
+            elif left_out <= 0 or number < MOST_ITEMS // 2 or number >= MOST_ITEMS // 2 + left_out:
+                self.printer.line("  %-5s %-50s %s" % (step.world, step.item.text, step.result))
+            elif number == MOST_ITEMS // 2:
+                self.printer.line("  ... %d items" % left_out)
 
     def difference_object(self, script: str, it: Difference, writers: list[Writer]) -> None:
         """Writes a difference as an object."""
@@ -140,6 +165,17 @@ class Report:
             self.printer.line("      executed before it: %s" % (", ".join(lines_before(writers[-1], self.symbols)) or "no source lines are known"))
         if is_traced and not writers and it.kind not in (Kind.fault, Kind.trap):
             self.printer.line("    not written in M")
+
+    def show_divergence(self, it: Divergence | None) -> None:
+        """Shows the branch at which the call leaves the path of a similar one."""
+        if it and self.printer.as_json:
+            self.printer.object("divergence", call=it.call, result=it.result, **{
+                name: {"pc": hex8(pc), "symbol": self.symbols.name(pc), "line": self.symbols.line(pc)}
+                for name, pc in (("after", it.pc), ("own_next", it.own_next), ("other_next", it.other_next))})
+        elif it:
+            self.printer.line("  the result of '%s' is %s in both monitors; the last call leaves its path" % (it.call, it.result))
+            for name, pc in (("after", it.pc), ("to", it.own_next), ("not to", it.other_next)):
+                self.printer.line("    %-7s %s" % (name, place_text("%08x" % pc, self.symbols)))
 
     @staticmethod
     def what_happened(difference: Difference) -> str:
@@ -196,8 +232,7 @@ def write_scripts(folder: str, setup: MonitorSetup, shrunk: Shrunk, printer: Pri
     try:
         os.makedirs(folder, exist_ok=True)
         for path, before, lines in ((own, "", shrunk.played.own_log), (reference, "--\n", shrunk.played.reference_log)):
-            with open(path, "w", encoding="ascii") as file:
-                file.write(before + "".join(line + "\n" for line in lines))
+            replace_file(path, (before + "".join(line + "\n" for line in lines)).encode("ascii"))
     except OSError as error:
         raise Unfinished("cannot write '%s': %s" % (error.filename or folder, error.strerror)) from None
     if not printer.as_json:

@@ -7,6 +7,7 @@ ECALL, EBREAK, MRET, SRET, NOP = 0x73, 0x100073, 0x30200073, 0x10200073, 0x13
 BACK = 0xFFDFF06F  # jal zero, -4
 WORD = 2  # the width of a load or store of four bytes, as funct3
 BRANCH, STORE, SYSTEM = 0x63, 0x23, 0x73
+JAL, JALR, AUIPC = 0x6F, 0x67, 0x17
 READ_SET = (2, 3, 6, 7)  # funct3 of csrrs and csrrc, which write nothing if rs1 is x0
 
 
@@ -32,7 +33,7 @@ def store(value: int, base: int, width: int = WORD) -> int:
 
 def jump(base: int, offset: int = 0) -> int:
     """Returns `jalr x0, offset(base)`."""
-    return 0x67 | base << 15 | offset << 20
+    return JALR | base << 15 | offset << 20
 
 
 def written_register(word: int) -> int:
@@ -60,3 +61,15 @@ def loaded_offset(word: int) -> tuple[int, int] | None:
         return None
     offset = word >> 20
     return word >> 15 & 31, offset - 0x1000 if offset & 0x800 else offset
+
+
+def branch_offset(word: int) -> int:
+    """Returns the signed offset in bytes of a conditional branch."""
+    offset = (word >> 31) << 12 | (word >> 7 & 1) << 11 | (word >> 25 & 63) << 5 | (word >> 8 & 15) << 1
+    return offset - 0x2000 if offset & 0x1000 else offset
+
+
+def jump_offset(word: int) -> int:
+    """Returns the signed offset in bytes of a jal."""
+    offset = (word >> 31) << 20 | (word >> 12 & 255) << 12 | (word >> 20 & 1) << 11 | (word >> 21 & 1023) << 1
+    return offset - 0x200000 if offset & 0x100000 else offset

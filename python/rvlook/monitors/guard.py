@@ -2,15 +2,16 @@
 from __future__ import annotations
 
 import random
-from collections import Counter
+from collections import Counter, defaultdict
 from dataclasses import dataclass, field
 
 from rvlook.monitors import checks
 from rvlook.monitors.guarded import SWITCHED, Guarded, Return, State
 from rvlook.monitors.checks import A0, A7, Left, Memory
 from rvlook.monitors.ownership import HOST, MONITOR, OwnedRange, Ownership
-from rvlook.monitors.rights import rights_of
-from rvlook.monitors.sides import MonitorSetup
+from rvlook.monitors.rights import Right, rights_of
+from rvlook.monitors.sides import MonitorSetup, word_at
+from rvlook.monitors.traps import NewVector
 from rvlook.protocol.names import CSRS, ECALL_FROM_S, TIMER
 
 MOST_INTERVAL = 24  # steps of an enclave before the timer is raised
@@ -19,43 +20,83 @@ FILL = 0x40000001  # bits that every mark has, so that it is not a small number
 
 @dataclass(frozen=True)
 class Violation:
-    """A check that failed: its name, the text, the step below M after which it was found, and pc of the world that had trapped."""
+    """A check that failed: its name, the text, and the step below M after which it was found. `pc` is that of the world that had trapped, or of the
+    host before the first trap. `inside` is pc of M if M itself fails, else 0."""
     check: str
     text: str
     step: int
     pc: int
+    inside: int = 0
+
+
+@dataclass
+class Activity:
+    """How often an owner was entered, was left, continued after it was left, and gave its range back; and whether its ranges ever existed."""
+    entered: int = 0
+    left: int = 0
+    continued: int = 0
+    given_back: int = 0
+    exists: bool = False
+
+    def add(self, other: Activity) -> None:
+        """Adds the counts of another run."""
+        self.entered, self.left = self.entered + other.entered, self.left + other.left
+        self.continued, self.given_back = self.continued + other.continued, self.given_back + other.given_back
 
 
 @dataclass
 class Guard:
-    """One run. `timers` is the seed of the steps before which the timer is raised; without it there are none."""
+    """One run. `timers` is the seed of the steps before which the timer is raised; without it there are none. `activity` has the counts of each
+    owner, and `log` the lines that repeat the run. `vectors` has the addresses to which traps go, `handled` pc of each trap in M from which M
+    returned. `loop` is pc of a trap that comes again and again, which ends the run."""
     setup: MonitorSetup
     ownership: Ownership
     limit: int
     timers: str = ""
     violation: Violation | None = None
     counts: Counter[str] = field(default_factory=Counter)
+    activity: dict[str, Activity] = field(default_factory=lambda: defaultdict(Activity))
+    log: list[str] = field(default_factory=list)
+    vectors: set[int] = field(default_factory=set)
+    handled: Counter[int] = field(default_factory=Counter)
+    loop: int | None = None
 
     def __post_init__(self) -> None:
         self.draw = random.Random("guard %s" % self.timers)
-        self.world = HOST
+        self.world, self.calls = HOST, 0
+        self.declared = getattr(self, "declared", self.ownership)
         self.live: set[OwnedRange] = set()
         self.left: dict[str, Left] = {}
+        self.loaded: dict[OwnedRange, int] = {}  # ranges that are not live and that M loaded, and pc of the trap
+        self.exposed: dict[OwnedRange, int] = {}  # of these the ranges to which the host may store after it, and pc of the host
         self.last = Left(State((), {}, 0, "S", b"", 0), {}, {}, False)
 
     def run(self) -> Violation | None:
-        """Runs up to the first violation, the limit, or the end of the host; returns the violation."""
-        with Guarded(self.setup) as machine:
+        """Runs up to the first violation, the limit, or the end of the host; returns the violation. Starts again if M uses a new trap vector."""
+        while True:
+            try:
+                self.run_once()
+                return self.violation
+            except NewVector as found:
+                self.vectors.add(found.address)
+                self.ownership, self.violation = self.declared, None
+                self.counts, self.activity, self.handled = Counter(), defaultdict(Activity), Counter()
+                self.__post_init__()
+
+    def run_once(self) -> None:
+        """Runs up to the first violation, the limit, or the end of the host. Raises NewVector."""
+        with Guarded(self.setup, self.vectors, self.ownership.is_monitor) as machine:
+            self.log, self.vectors = machine.log, machine.vectors
             stay = machine.begin()
+            self.last = Left(stay.exit, {}, {}, False)
             self.arrive(machine, stay, b"", 0)
-            while not self.violation:
+            while not self.violation and self.loop is None:
                 machine.leave()
                 cause = self.next_trap(machine)
                 if cause is None:
                     break
                 self.trap(machine, cause)
             self.counts["steps below M"] = machine.steps
-        return self.violation
 
     def next_trap(self, machine: Guarded) -> str | None:
         """Runs to the next trap. Raises the timer before a random step of an enclave, and sometimes of the host."""
@@ -71,19 +112,25 @@ class Guard:
     def trap(self, machine: Guarded, cause: str) -> None:
         """Marks the world that trapped, runs M, and checks the checks."""
         entry = machine.state()
+        if machine.loop.is_closed(cause, entry, machine.steps):
+            self.loop = entry.pc
+            return
+        self.calls += cause == ECALL_FROM_S and self.world == HOST
         tval = int(machine.do("csr %x" % CSRS["mtval"])[0].split(b"=")[1], 16)
         left = self.marks(entry, cause)
         before, rights = machine.memory(), rights_of(entry.entries, self.setup.ram)
         machine.set_state(left.registers, left.csrs)
-        stay = machine.to_return(cause, entry)
+        stay = machine.to_return(cause, entry, [it.first for it in self.ownership.private() if it not in self.live])
         self.last = left
         self.counts["returns from M"] += 1
         if stay.fault:
-            self.fail("trap in M", stay.fault, machine)
+            self.fail("trap in M", stay.fault, machine, stay.inside)
             return
         memory = Memory(before, machine.memory(), rights)
         self.check(checks.changed_bytes(self.ownership, self.world, memory), "integrity", machine)
+        live = set(self.live)
         self.arrive(machine, stay, memory.after, tval)
+        self.check(checks.zeroed_range(sorted(live & self.live, key=lambda it: it.first), memory), "integrity", machine)
 
     def marks(self, entry: State, cause: str) -> Left:
         """Returns the state of the world that trapped, and its marks. The arguments of a call are not marked."""
@@ -104,15 +151,17 @@ class Guard:
         if text and not self.violation:
             self.fail(name, text, machine)
 
-    def fail(self, name: str, text: str, machine: Guarded) -> None:
+    def fail(self, name: str, text: str, machine: Guarded, inside: int = 0) -> None:
         """Notes a violation."""
-        self.violation = self.violation or Violation(name, text, machine.steps, self.last.state.pc)
+        self.violation = self.violation or Violation(name, text, machine.steps, self.last.state.pc, inside)
 
     def arrive(self, machine: Guarded, stay: Return, memory: bytes, tval: int) -> None:
         """Makes the checks of a return from M, and gives the world that continues its values in place of the marks."""
+        self.ownership = self.declared.now(lambda at: word_at(machine.bench, at), self.calls)
         was, owner = self.world, self.ownership.owner_of(stay.exit.pc)
+        self.handled.update(stay.handled)
         if stay.fault:
-            self.fail("trap in M", stay.fault, machine)
+            self.fail("trap in M", stay.fault, machine, stay.inside)
             return
         self.world = was if owner is None or owner == MONITOR else owner
         if stay.cause and self.world == was:
@@ -121,7 +170,7 @@ class Guard:
             self.counts["switches"] += 1
             self.other_world(machine, was, stay.exit)
             self.check(checks.marks_in_memory(self.ownership, was, self.last, memory), "memory", machine)
-        self.check_access(machine, stay.exit, memory)
+        self.check_access(machine, stay, memory)
 
     def same_world(self, machine: Guarded, stay: Return, tval: int) -> None:
         """Checks a trap after which the same world continues."""
@@ -151,6 +200,9 @@ class Guard:
         """Checks a switch to another world, which continues or is entered for the first time."""
         left, back = self.last, self.left.pop(self.world, None)
         self.left[was] = left
+        self.activity[was].left += 1
+        self.activity[self.world].entered += 1
+        self.activity[self.world].continued += back is not None
         self.check(checks.visible_mark(self.ownership, was, left, self.world, state), "registers", machine)
         if back is None:
             self.check(checks.leftover(was, left, self.world, state), "registers", machine)
@@ -159,17 +211,47 @@ class Guard:
         self.check(checks.changed_context(self.ownership, self.world, back, state), "context", machine)
         machine.set_state(self.restored(back, state, back.is_call), {name: back.state.csrs[name] for name in back.csrs})
 
-    def check_access(self, machine: Guarded, state: State, memory: bytes) -> None:
+    def check_access(self, machine: Guarded, stay: Return, memory: bytes) -> None:
         """Checks the access rights of the world that continues, and which ranges are live from now on."""
+        state = stay.exit
         rights = rights_of(state.entries, self.setup.ram)
-        for part in self.ownership.private():
+        private = self.ownership.private()
+        for part in [it for it in self.live if it.is_timed and it not in private]:
+            self.give_back(machine, part, memory, ())
+        for part in private:
+            self.activity[part.owner].exists = True
             is_open = any(it.may != "---" and part.overlaps(it) for it in rights)
-            if self.world == part.owner or self.world == HOST and not is_open:
+            if part.is_timed:
+                self.live.add(part)
+            elif self.world == part.owner or self.world == HOST and not is_open:
+                self.check(self.exposed_text(part, stay), "access", machine)
                 self.live.add(part)
             elif part in self.live and self.world == HOST:
-                self.check(checks.not_zeroed(part, HOST, memory, rights), "zeros", machine)
-                self.live.discard(part)
-                self.left.pop(part.owner, None)
-                self.counts["ranges given back"] += 1
+                self.give_back(machine, part, memory, rights)
+            elif self.world == HOST:
+                self.note_load(part, stay, rights)
         self.check(checks.forbidden_access(self.ownership, self.world, state.pc, rights, self.live), "access", machine)
         self.check(checks.missing_access(self.ownership, self.world, state.pc, rights, self.live), "access", machine)
+
+    def give_back(self, machine: Guarded, part: OwnedRange, memory: bytes, rights: tuple[Right, ...]) -> None:
+        """Checks a range that the host gets back, or that ends."""
+        self.check(checks.not_zeroed(part, HOST, memory, rights), "zeros", machine)
+        self.live.discard(part)
+        self.left.pop(part.owner, None)
+        self.activity[part.owner].given_back += 1
+        self.counts["ranges given back"] += 1
+
+    def note_load(self, part: OwnedRange, stay: Return, rights: tuple[Right, ...]) -> None:
+        """Notes that M loaded a range that is not live, as for a measurement, and that the host may store to it after that."""
+        if part.first in stay.loaded:
+            self.loaded[part] = stay.entry.pc
+        if part in self.loaded and "w" in checks.may_at(rights, part.first):
+            self.exposed.setdefault(part, stay.exit.pc)
+
+    def exposed_text(self, part: OwnedRange, stay: Return) -> str:
+        """Returns that the host could store to a range after M had loaded it and before it became live. Returns an empty text if it could not, or if
+        M loads it again."""
+        at, pc = self.exposed.pop(part, None), self.loaded.pop(part, 0)
+        if at is None or part in self.live or part.first in stay.loaded:
+            return ""
+        return "host at %08x could store to %s of %s, which M had loaded at the trap at %08x" % (at, part, part.owner, pc)

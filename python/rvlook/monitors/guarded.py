@@ -4,14 +4,19 @@ from __future__ import annotations
 
 import struct
 from dataclasses import dataclass
+from typing import Callable, Iterable, Sequence, TYPE_CHECKING
 
-from rvlook.errors import BenchEnded, RvlookError
+from rvlook.errors import BenchEnded, RvlookError, Unfinished
 from rvlook.monitors.encodings import BACK, csrw, is_store
-from rvlook.monitors.sides import ENTRIES, MOST_STEPS, REGISTERS, ROW, MonitorSetup, memory_lines, poke_lines, trap_text, word_at
+from rvlook.monitors.sides import ENTRIES, MOST_RETURNS, MOST_STEPS, REGISTERS, ROW, MonitorSetup, memory_lines, poke_lines, word_at
+from rvlook.monitors.traps import NewVector, TrapLoop, TrapsInM, vector_of_first_trap
 from rvlook.protocol.memory_map import MONITOR_END, RAM_BASE
 from rvlook.protocol.names import CSRS, TIMER
 from rvlook.protocol.replies import Ran, step_of
 from rvlook.protocol.run import error_of
+
+if TYPE_CHECKING:
+    from rvlook.monitors.ownership import OwnedRange
 
 SUPERVISOR = ("sscratch", "sepc", "scause", "stval", "stvec", "sstatus")
 STATE_CSRS = (*SUPERVISOR, "mepc", "mstatus", "mtvec")
@@ -21,7 +26,11 @@ MPP_SHIFT, MPP_M = 11, 3
 MODES = "US?M"
 SWITCHED = 0x80122  # SIE, SPIE, SPP and MXR
 T0 = 5
+CHUNK = 1000000  # steps of one `run` in M
+MOST_WATCHED = 32  # watchpoints of the bench
+MOST_STOPS = 10000  # of the bench in M before M returns: at traps, at each mret, and at watchpoints
 TIMER_VECTOR = 28  # bytes from the base of mtvec, if it is vectored
+WITHOUT_EFFECT = ("break ", "clear ", "watch ", "unwatch ", "csr ")  # commands that do not change the state of the hart
 
 
 @dataclass(frozen=True)
@@ -38,20 +47,33 @@ class State:
 
 @dataclass(frozen=True)
 class Return:
-    """A stay in M: the cause of the trap, the state at its entry and at its return, its steps, and why it did not return, if so."""
+    """A stay in M: the cause of the trap, the state at its entry and at its return, and its steps. If M did not return as it should, `fault` says
+    why, and `inside` is pc of M. `handled` has pc of each trap in M from which M returned, `loaded` the watched bytes that M loaded."""
     cause: str
     entry: State
     exit: State
     spent: int
     fault: str = ""
+    inside: int = 0
+    handled: tuple[int, ...] = ()
+    loaded: frozenset[int] = frozenset()
+
+
+def entries_of(mtvec: int) -> list[int]:
+    """Returns the addresses at which traps enter M, for a value of mtvec."""
+    return [mtvec & ~3] + ([(mtvec & ~3) + TIMER_VECTOR] if mtvec & 1 else [])
 
 
 class Guarded:
-    """A bench with a monitor, its host and its enclaves. `steps` counts the steps below M."""
+    """A bench with a monitor, its host and its enclaves. `steps` counts the steps below M. `log` has the lines that change the state; in it
+    `run N` has the number of steps that were done. `vectors` has the addresses to which traps go, at which the bench stops. `is_code` says whether an
+    address is in memory of the monitor."""
 
-    def __init__(self, setup: MonitorSetup) -> None:
-        self.setup, self.bench, self.steps = setup, setup.own.bench(), 0
-        self.vectors: set[int] = set()
+    def __init__(self, setup: MonitorSetup, vectors: Iterable[int] = (), is_code: Callable[[int], bool] = lambda _: True) -> None:
+        self.setup, self.bench, self.steps, self.is_code = setup, setup.own.bench(), 0, is_code
+        self.vectors = set(vectors)
+        self.loop = TrapLoop()
+        self.log: list[str] = []
 
     def __enter__(self) -> Guarded:
         return self
@@ -61,7 +83,13 @@ class Guarded:
 
     def do(self, *lines: str) -> list[bytes]:
         """Does lines with one line of reply each; returns the replies."""
-        return self.bench.block(("\n".join(lines) + "\n").encode(), len(lines)).splitlines() if lines else []
+        replies = self.bench.block(("\n".join(lines) + "\n").encode(), len(lines)).splitlines() if lines else []
+        for line, reply in zip(lines, replies):
+            if line.startswith("run "):
+                self.log.append("run %d" % step_of(reply.decode()).steps)
+            elif not line.startswith(WITHOUT_EFFECT):
+                self.log.append(line)
+        return replies
 
     def begin(self) -> Return:
         """Starts the monitor; returns its first return from M. Raises RvlookError if the bench refuses the image or a line of the boot."""
@@ -70,6 +98,7 @@ class Guarded:
         except BenchEnded as error:
             raise error_of(self.setup.own, error) from None
         self.do(*("break %x" % it for it in self.setup.returns), *("watch %x" % it for it in self.setup.lowered))
+        self.stop_at({*self.vectors, *entries_of(self.mtvec())})
         for line in self.setup.boot:
             reply = self.do(line)[0]
             if reply.startswith(b"error"):
@@ -86,35 +115,68 @@ class Guarded:
         return State(tuple(values[:32]), csrs, csrs["mepc"], MODES[csrs["mstatus"] >> MPP_SHIFT & 3], b"\n".join(replies[-ENTRIES:]),
                      values[REGISTERS - 1])
 
-    def to_return(self, cause: str, entry: State) -> Return:
-        """Runs M up to its mret to S or U, which is the next instruction then."""
-        spent, fault = 0, ""
-        while not fault:
-            ran = step_of(self.do("run 1000000")[0].decode())
-            spent += ran.steps
-            fault = self.fault_of(ran, spent)
-            if ran.why.startswith("watch") and is_store(word_at(self.bench, int(ran.pc, 16) - 4)):
-                self.do("timer off")
-            state = self.state()
-            if state.here in self.setup.returns and state.csrs["mstatus"] >> MPP_SHIFT & 3 != MPP_M:
-                break
-        return Return(cause, entry, state, spent, fault)
+    def to_return(self, cause: str, entry: State, watched: Sequence[int] = ()) -> Return:
+        """Runs M up to its mret to S or U, which is the next instruction then. Traps in M may come before, from which M must return. Notes which of
+        the watched bytes M loads. Raises NewVector."""
+        watched = watched[:MOST_WATCHED - len(self.setup.lowered)]
+        self.do(*("watch %x" % it for it in watched))
+        found = self.to_mret(cause, entry)
+        self.do(*("unwatch %x" % it for it in watched))
+        return found
 
-    @staticmethod
-    def fault_of(ran: Ran, spent: int) -> str:
-        """Returns why M does not return as it should; empty if it does."""
+    def to_mret(self, cause: str, entry: State) -> Return:
+        """Does the same with the watchpoints that are set."""
+        spent, stops, fault, traps = 0, 0, "", TrapsInM(self.is_code)
+        loaded: set[int] = set()
+        while True:
+            stops += 1
+            ran = step_of(self.do("run %d" % CHUNK)[0].decode())
+            spent += ran.steps
+            if ran.why.startswith("watch:"):
+                self.note_access(int(ran.why[len("watch:"):], 16), word_at(self.bench, int(ran.pc, 16) - 4), loaded)
+            state = self.state()
+            fault, is_end = self.after_part(ran, state, traps)
+            if not fault and (spent > MOST_STEPS or stops > MOST_STOPS):
+                fault = "%sM does not return within %d steps" % (traps.text and traps.text + "; ", spent)
+            if fault or is_end:
+                inside = traps.pending[-1][0] if traps.pending else state.here
+                return Return(cause, entry, state, spent, fault, inside if fault else 0, tuple(traps.handled), frozenset(loaded))
+
+    def note_access(self, address: int, word: int, loaded: set[int]) -> None:
+        """Clears the timer line at a store to its register, and notes a load of another watched byte."""
+        if address not in self.setup.lowered:
+            loaded.update([] if is_store(word) else [address])
+        elif is_store(word):
+            self.do("timer off")
+
+    def after_part(self, ran: Ran, state: State, traps: TrapsInM) -> tuple[str, bool]:
+        """Handles a stop of the bench in M; returns why it is a violation, or an empty text, and whether M returns to S or U. Raises NewVector."""
         if ran.mode != "M":
-            return "M is left by another instruction than mret"
+            return "M is left by another instruction than mret", False
+        if ran.trap and state.here not in self.vectors:
+            raise NewVector(vector_of_first_trap(self.setup, self.log[:-1], ran.steps))
         if ran.trap:
-            return "trap in M, %s" % trap_text(ran.trap)
-        return "M does not return within %d steps" % spent if spent > MOST_STEPS else ""
+            return traps.enter(state, ran.trap), False
+        if state.here not in self.setup.returns:
+            return "", False
+        is_end = state.csrs["mstatus"] >> MPP_SHIFT & 3 != MPP_M
+        return traps.end(state) if is_end else traps.leave(state), is_end
 
     def leave(self) -> None:
-        """Does the mret, and sets breakpoints where the next trap enters M."""
-        mtvec = int(self.do("step 1", "csr %x" % CSRS["mtvec"])[1].split(b"=")[1], 16)
-        vectors = {mtvec & ~3} | ({(mtvec & ~3) + TIMER_VECTOR} if mtvec & 1 else set())
-        self.do(*("clear %x" % it for it in self.vectors - vectors - set(self.setup.returns)), *("break %x" % it for it in vectors))
-        self.vectors = vectors
+        """Does the mret, and stops the bench where the next trap enters M."""
+        self.do("step 1")
+        self.stop_at(entries_of(self.mtvec()))
+
+    def mtvec(self) -> int:
+        """Returns the value of mtvec."""
+        return int(self.do("csr %x" % CSRS["mtvec"])[0].split(b"=")[1], 16)
+
+    def stop_at(self, vectors: Iterable[int]) -> None:
+        """Stops the bench at addresses to which traps go. Raises Unfinished if there are too many."""
+        self.vectors.update(vectors)
+        if any(it.startswith(b"error") for it in self.do(*("break %x" % it for it in vectors))):
+            raise Unfinished("the monitor has %d mret instructions and %d trap vectors, which are more than %d" % (
+                len(self.setup.returns), len(self.vectors), MOST_RETURNS + 1))
 
     def to_trap(self, limit: int) -> str | None:
         """Runs S and U until a trap; returns its cause, or None after `limit` steps without one."""
@@ -143,6 +205,21 @@ class Guarded:
 
     def memory(self) -> bytes:
         """Returns all bytes after the range of the monitor."""
-        end = RAM_BASE + self.setup.ram
-        replies = self.bench.block(memory_lines(MONITOR_END, end), (end - MONITOR_END) // ROW)
-        return bytes.fromhex(b"".join(line[9:] for line in replies.splitlines()).decode())
+        return self.bytes_of(MONITOR_END, RAM_BASE + self.setup.ram)
+
+    def bytes_of(self, first: int, end: int) -> bytes:
+        """Returns the bytes of a range in RAM."""
+        lower, upper = first & -ROW, min(-(-end // ROW) * ROW, RAM_BASE + self.setup.ram)
+        replies = self.bench.block(memory_lines(lower, upper), (upper - lower) // ROW) if upper > lower else b""
+        return bytes.fromhex(b"".join(line[9:] for line in replies.splitlines()).decode())[first - lower:end - lower]
+
+    def rows_outside(self, hidden: Sequence[OwnedRange]) -> bytes:
+        """Returns the replies of `mem` for the rows of 64 bytes after the range of the monitor that are not whole rows of some ranges."""
+        found, at, end = [], MONITOR_END, RAM_BASE + self.setup.ram
+        for it in sorted(hidden, key=lambda it: it.first):
+            first, after = max(at, -(-it.first // ROW) * ROW), min(it.end & -ROW, end)
+            if first < after:
+                found.append((at, first))
+                at = after
+        found.append((at, end))
+        return b"".join(self.bench.block(memory_lines(*it), (it[1] - it[0]) // ROW) for it in found if it[0] < it[1])

@@ -125,6 +125,11 @@ def set_registers(name: str) -> Item:
     return Item("set x1 to x31 (%s)" % name, None, tuple((n, draw.getrandbits(32) | 1) for n in range(1, 32)), steps=0)
 
 
+def set_all(value: int) -> Item:
+    """Returns an item that gives x1 to x31 one value."""
+    return Item("set x1 to x31 to %x" % value, None, tuple((n, value) for n in range(1, 32)), steps=0)
+
+
 def set_supervisor(name: str, stvec: int) -> list[Item]:
     """Returns items that give the S-mode registers random values, which the name determines."""
     draw = random.Random("supervisor %s" % name)

@@ -1,30 +1,71 @@
-"""Reads a file of ranges, which declares who owns which memory of a monitor with its host and enclaves."""
+"""Declares who owns which memory of a monitor with its host and enclaves. Some ranges begin and end in a run."""
 from __future__ import annotations
 
-import re
 from dataclasses import dataclass, field
+from typing import Callable, Iterator
 
-from rvlook.errors import RvlookError
-from rvlook.image.files import read_file
+from rvlook.monitors.items import MASK
 from rvlook.monitors.rights import Right
-from rvlook.protocol.names import NUMBER_OF
 
 MONITOR, HOST = "monitor", "host"
-SHARED, HANDS = "shared", "hands"
-RANGE = re.compile(r"([0-9a-fA-F]{1,8})-([0-9a-fA-F]{1,8})\Z")
-LETTERS = re.compile(r"[r-][w-][x-]\Z")
-FORMS = "expected 'OWNER [rwx] FIRST-LAST', 'shared WORLD... rwx FIRST-LAST' or 'hands REGISTER...'"
-ALL = "rwx"
+SHARED, HANDS, ONCE, SECRET = "shared", "hands", "once", "secret"
+ALL, DATA = "rwx", "rw-"
+Words = Callable[[int], int]  # the word of memory at an address
+
+
+@dataclass(frozen=True)
+class Condition:
+    """A comparison with a value: of the word at an address, or of the number of calls of the host if there is no address."""
+    at: int | None
+    compare: Callable[[int, int], bool]
+    value: int
+
+    def holds(self, words: Words, calls: int, base: int = 0) -> bool:
+        """Returns whether it holds; `base` is added to the address."""
+        return self.compare(calls if self.at is None else words(base + self.at & MASK), self.value)
+
+
+@dataclass(frozen=True)
+class Table:
+    """A table in memory of the monitor that has the ranges of its enclaves. Each element has words with the base and the size of the region, and of
+    the window, at these offsets. It counts while the conditions hold, whose addresses are offsets, too."""
+    name: str
+    count: int
+    first: int
+    stride: int
+    region: tuple[int, int]
+    window: tuple[int, int] | None
+    when: tuple[Condition, ...]
+
+    def ranges(self, words: Words, calls: int) -> Iterator[OwnedRange]:
+        """Yields the ranges of the elements that count."""
+        for number in range(self.count):
+            at = self.first + number * self.stride
+            if all(it.holds(words, calls, at) for it in self.when):
+                yield from self.ranges_at(words, at, "%s%d" % (self.name, number))
+
+    def ranges_at(self, words: Words, at: int, owner: str) -> Iterator[OwnedRange]:
+        """Yields the ranges of an element at an address."""
+        base, size = (words(at + it & MASK) for it in self.region)
+        if size:
+            yield OwnedRange(base, base + size, owner, is_timed=True)
+        if size and self.window:
+            base, size = (words(at + it & MASK) for it in self.window)
+            if size:
+                yield OwnedRange(base, base + size, SHARED, DATA, (owner,), True)
 
 
 @dataclass(frozen=True)
 class OwnedRange:
-    """Bytes from `first` up to, and not with, `end`, and what the owner may do with them, or the worlds that share them."""
+    """Bytes from `first` up to, and not with, `end`, and what the owner may do with them, or the worlds that share them. A timed range exists
+    while its conditions hold, or while a table has it."""
     first: int
     end: int
     owner: str
     may: str = ALL
     sharers: tuple[str, ...] = ()
+    is_timed: bool = False
+    when: tuple[Condition, ...] = ()
 
     def has(self, at: int) -> bool:
         """Returns whether an address is in the range."""
@@ -40,14 +81,37 @@ class OwnedRange:
 
 @dataclass
 class Ownership:
-    """All ranges, and the registers that hand values over at a call."""
+    """All ranges, the registers that hand values over at a call, the owners that run once, and secret ranges of the monitor."""
     ranges: list[OwnedRange] = field(default_factory=list)
     hands: set[int] = field(default_factory=lambda: {10, 11})
+    once: set[str] = field(default_factory=set)
+    tables: list[Table] = field(default_factory=list)
+    secrets: list[OwnedRange] = field(default_factory=list)
+
+    def now(self, words: Words, calls: int) -> Ownership:
+        """Returns the ranges that exist with these words of memory after a number of calls. If all exist always, it is the same object."""
+        if not self.tables and not any(it.when for it in self.ranges):
+            return self
+        ranges = [it for it in self.ranges if all(one.holds(words, calls) for one in it.when)]
+        ranges += [it for table in self.tables for it in table.ranges(words, calls)]
+        return Ownership(ranges, self.hands, self.once, [], self.secrets)
+
+    def enclaves(self) -> list[str]:
+        """Returns the names of the enclaves, and the names of tables."""
+        return [*dict.fromkeys(it.owner for it in self.private()), *(it.name for it in self.tables)]
+
+    def runs_once(self, owner: str) -> bool:
+        """Returns whether an enclave, or all of its table, need not continue."""
+        return owner in self.once or any(it.name in self.once and owner.rstrip("0123456789") == it.name for it in self.tables)
 
     def owner_of(self, at: int) -> str | None:
         """Returns who owns a byte, or None. The smallest range that has the byte decides."""
         own = [it for it in self.ranges if it.owner != SHARED and it.has(at)]
         return min(own, key=lambda it: it.end - it.first).owner if own else None
+
+    def is_monitor(self, at: int) -> bool:
+        """Returns whether the monitor owns a byte."""
+        return self.owner_of(at) == MONITOR
 
     def private(self) -> list[OwnedRange]:
         """Returns the ranges of enclaves."""
@@ -56,35 +120,3 @@ class Ownership:
     def open_to(self, world: str) -> list[OwnedRange]:
         """Returns the ranges that a world owns or shares."""
         return [it for it in self.ranges if world == it.owner or world in it.sharers]
-
-
-def ownership_of(path: str) -> Ownership:
-    """Reads a file of ranges. Raises RvlookError."""
-    found = Ownership()
-    for number, text in enumerate(read_file(path).decode("latin-1").splitlines(), 1):
-        words = text.split("#")[0].split()
-        if words and not (add_hands(found, words) if words[0] == HANDS else add_range(found, words)):
-            raise RvlookError("%s:%d: %s" % (path, number, FORMS))
-    owners = {it.owner for it in found.ranges} - {SHARED}
-    if not {MONITOR, HOST} < owners:
-        raise RvlookError("'%s' has no range of %s" % (path, next((it for it in (MONITOR, HOST) if it not in owners), "an enclave")))
-    return found
-
-
-def add_hands(found: Ownership, words: list[str]) -> bool:
-    """Adds a line of registers; returns whether it is valid."""
-    if any(it not in NUMBER_OF for it in words[1:]):
-        return False
-    found.hands = {NUMBER_OF[it] for it in words[1:]}
-    return True
-
-
-def add_range(found: Ownership, words: list[str]) -> bool:
-    """Adds a line of a range; returns whether it is valid."""
-    match = RANGE.match(words[-1])
-    owner, *others = words[:-1] or [""]
-    may = others.pop() if others and LETTERS.match(others[-1]) else ALL
-    if not match or not owner or bool(others) != (owner == SHARED) or int(match[1], 16) > int(match[2], 16):
-        return False
-    found.ranges.append(OwnedRange(int(match[1], 16), int(match[2], 16) + 1, owner, may, tuple(others)))
-    return True

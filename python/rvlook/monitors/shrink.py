@@ -1,6 +1,7 @@
 """Shrinks a script after which two monitors differ, by delta debugging (Zeller, 1999): leaves out halves, quarters, and then single items."""
 from __future__ import annotations
 
+import time
 from dataclasses import dataclass
 from typing import TYPE_CHECKING
 
@@ -12,14 +13,16 @@ if TYPE_CHECKING:
     from rvlook.monitors.sides import MonitorSetup
 
 MOST_RUNS = 300
+MOST_SECONDS = 60  # after which a script is not shrunk further
 NAMED = (Kind.register, Kind.csr, Kind.entry)  # kinds whose name is a part of what differs; the others have addresses or causes in it
 
 
 @dataclass
 class Shrunk:
-    """A script from which no item can be left out, as it was run, and the number of runs."""
+    """A script from which no item can be left out, as it was run, and the number of runs. After Ctrl-C it is the shortest one so far."""
     played: Played
     runs: int
+    is_interrupted: bool = False
 
 
 def signature(difference: Difference) -> tuple[Kind, str]:
@@ -32,7 +35,12 @@ class Shrinker:
 
     def __init__(self, setup: MonitorSetup, played: Played) -> None:
         self.setup, self.best, self.runs = setup, played, 0
-        self.wanted = signature(played.differences[0])
+        self.wanted, self.end = signature(played.differences[0]), float("inf")
+
+    @property
+    def is_over(self) -> bool:
+        """Returns whether a limit is reached."""
+        return self.runs >= MOST_RUNS or time.monotonic() > self.end
 
     def is_shorter(self, items: list[Item]) -> bool:
         """Runs a part of the script; keeps it, without what follows the difference, if it shows the same."""
@@ -46,7 +54,7 @@ class Shrinker:
     def leave_out(self, size: int) -> bool:
         """Leaves out each part of `size` items that is not needed; returns whether there was one."""
         at, found = 0, False
-        while at < len(self.best.items) and self.runs < MOST_RUNS:
+        while at < len(self.best.items) and not self.is_over:
             items = self.best.items
             if self.is_shorter(items[:at] + items[at + size:]):
                 found = True
@@ -56,10 +64,18 @@ class Shrinker:
 
     def shrink(self) -> Shrunk:
         """Returns the shortest script that was found."""
+        try:
+            self.leave_out_all()
+        except KeyboardInterrupt:
+            return Shrunk(self.best, self.runs, True)
+        return Shrunk(self.best, self.runs)
+
+    def leave_out_all(self) -> None:
+        """Leaves out halves, quarters, and then single items, until none can be left out."""
         size = max(1, len(self.best.items) // 2)
-        while self.runs < MOST_RUNS:
+        self.end = time.monotonic() + MOST_SECONDS
+        while not self.is_over:
             found = self.leave_out(size)
             if size == 1 and not found:
                 break
             size = max(1, size // 2)
-        return Shrunk(self.best, self.runs)

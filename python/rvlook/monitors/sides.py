@@ -5,7 +5,7 @@ reference."""
 from __future__ import annotations
 
 import struct
-from dataclasses import dataclass
+from dataclasses import dataclass, replace
 from functools import lru_cache
 
 from rvlook.errors import BenchEnded, RvlookError
@@ -19,7 +19,8 @@ from rvlook.protocol.replies import Enclave, Trap, bytes_of, enclave_of, step_of
 from rvlook.protocol.run import Setup, error_of
 
 MOST_RETURNS = 31  # breakpoints for `mret` instructions; the bench has 32
-MOST_STEPS = 60000000  # in M, in one trap
+MOST_STEPS = 60000000  # in M, in one trap, with a small RAM
+MOST_PER_BYTE = 100  # more of them for each byte of RAM: a measurement and its checks
 STAY = "run 1000000"  # to the next `mret`
 ROW = 64  # bytes of one `mem`
 REGISTERS = 33  # lines of `regs`
@@ -33,6 +34,11 @@ STATE = "".join(["regs\n", *("csr %x\n" % CSRS[name] for name in CSR_LIST), "pmp
 STATE_LINES = REGISTERS + len(CSR_LIST) + ENTRIES
 
 
+def size_line(ram: int) -> str:
+    """Returns the line of the default boot that passes the size of the RAM."""
+    return "setreg 11 %x" % ram
+
+
 @dataclass(frozen=True)
 class MonitorSetup:
     """The author's monitor and how it is run: `boot` has the lines before the first step, `returns` the addresses of its `mret` instructions. A
@@ -43,6 +49,11 @@ class MonitorSetup:
     returns: tuple[int, ...]
     lowered: tuple[int, ...] = ()
     exact: bool = False
+
+    def with_ram(self, ram: int) -> MonitorSetup:
+        """Returns the configuration with another size of the RAM. The default boot passes the size to the monitor."""
+        old, new = size_line(self.ram), size_line(ram)
+        return replace(self, ram=ram, boot=tuple(new if it == old else it for it in self.boot))
 
     @property
     def own(self) -> Setup:
@@ -183,7 +194,7 @@ class Side:
         while self.mode == "M" and not fault:
             ran, last = (step_of(it.decode()) for it in self.do([STAY, "step 1"]))
             spent += ran.steps + 1
-            fault = self.fault_of(ran.mode, ran.trap or last.trap, spent)
+            fault = self.fault_of(ran.mode, ran.trap or last.trap, spent, MOST_STEPS + MOST_PER_BYTE * self.setup.ram)
             if ran.why.startswith("watch") and is_store(word_at(self.bench, int(ran.pc, 16) - 4)):
                 self.do(["timer off"])
             self.pc, self.mode = int(last.pc, 16), last.mode
@@ -191,13 +202,13 @@ class Side:
         return self.observation(trap, world, spent, fault)
 
     @staticmethod
-    def fault_of(mode: str, trap: Trap | None, spent: int) -> str:
+    def fault_of(mode: str, trap: Trap | None, spent: int, most: int) -> str:
         """Returns why M does not return as it should; empty if it does."""
         if mode != "M":
             return "M is left by another instruction than mret"
         if trap:
             return "trap in M, %s" % trap_text(trap)
-        return "M does not return within %d steps" % spent if spent > MOST_STEPS else ""
+        return "M does not return within %d steps" % spent if spent > most else ""
 
     def observation(self, trap: str, world: str, spent: int = 0, fault: str = "") -> Observation:
         """Returns the state now."""

@@ -1,32 +1,50 @@
-"""Runs a monitor twice, with other bytes in the closed ranges of enclaves in the second run. Compares what the host observes (noninterference): its
-registers, memory and access rights, and the number of steps in M."""
+"""Runs a monitor twice, and gives the private state of one enclave other values in the second run. Compares what all other worlds observe
+(noninterference): their registers, memory and access rights, and the number of steps in M.
+
+The private state of an enclave is the bytes of its ranges and its registers, from its trap on and while the ranges are closed. Before the enclave
+continues, it gets the values of the first run. One pair of runs therefore covers the whole run. There is a pair for each enclave that runs, one for
+the ranges of all other enclaves, and one for the unused memory of the monitor."""
 from __future__ import annotations
 
 from dataclasses import dataclass, field
 from typing import Iterator
 
-from rvlook.monitors.guarded import STATE_CSRS, Guarded, Return
-from rvlook.monitors.checks import closed_ranges
+from rvlook.monitors.checks import A0, A7, MARKED_CSRS, closed_ranges, is_context_switch
+from rvlook.monitors.guarded import STATE_CSRS, SUPERVISOR, Guarded, Return, State
+from rvlook.monitors.items import MASK
 from rvlook.monitors.ownership import HOST, MONITOR, OwnedRange, Ownership
 from rvlook.monitors.rights import rights_of
-from rvlook.monitors.sides import MonitorSetup, poke_lines
-from rvlook.protocol.memory_map import MONITOR_END
-from rvlook.protocol.names import abi_name
+from rvlook.monitors.sides import MonitorSetup, poke_lines, word_at
+from rvlook.protocol.memory_map import MONITOR_END, RAM_BASE
+from rvlook.protocol.names import ECALL_FROM_S, abi_name
 
-MOST_POINTS = 6  # returns to the host at which a second run begins to differ
+OTHERS = "the ranges of enclaves that do not run"
+UNUSED, SECRETS = "unused memory of the monitor", "secret memory of the monitor"
+PAGE = 0x1000
 
 
 @dataclass
 class Track:
-    """One run up to a return from M: the machine, and the world that continues."""
+    """One run up to a return from M: the machine, the world that continues, and the live ranges that are closed to it. A range is live from the
+    return at which it is closed to the host, or its owner runs, until the host gets it back. `inverted` has the ranges that were inverted at the
+    last trap."""
     machine: Guarded
-    ownership: Ownership
+    declared: Ownership
     limit: int
     world: str = HOST
     returns: int = 0
+    calls: int = 0
+    live: set[OwnedRange] = field(default_factory=set)
+    closed: list[OwnedRange] = field(default_factory=list)
+    inverted: list[OwnedRange] = field(default_factory=list)
 
-    def next(self) -> Return | None:
-        """Goes to the next return from M; returns None at the limit, the end of the host, and a fault in M."""
+    def __post_init__(self) -> None:
+        self.ownership = self.declared
+
+    def next(self, secret: str = "") -> Return | None:
+        """Goes to the next return from M; returns None at the limit, the end of the host, a loop of traps, and a fault in M. If the world `secret`
+        traps, its registers are inverted before M runs."""
+        self.inverted = []
         if not self.returns:
             stay = self.machine.begin()
         else:
@@ -34,80 +52,188 @@ class Track:
             cause = self.machine.to_trap(self.limit - self.machine.steps)
             if cause is None:
                 return None
-            stay = self.machine.to_return(cause, self.machine.state())
+            entry = self.machine.state()
+            if self.machine.loop.is_closed(cause, entry, self.machine.steps):
+                return None
+            self.calls += cause == ECALL_FROM_S and self.world == HOST
+            if secret and self.world == secret and is_context_switch(cause):
+                self.invert_state(cause, entry)
+            stay = self.machine.to_return(cause, entry)
         self.returns += 1
+        self.ownership = self.declared.now(lambda at: word_at(self.machine.bench, at), self.calls)
         owner = self.ownership.owner_of(stay.exit.pc)
         self.world = self.world if owner is None or owner == MONITOR else owner
+        self.note_closed(stay)
         return None if stay.fault else stay
+
+    def invert_state(self, cause: str, entry: State) -> None:
+        """Inverts the private state of the world that trapped: its registers without the arguments of a call, and its ranges. A range to which an
+        argument points stays as it is, since M may read it for the call."""
+        arguments = entry.registers[A0:A7 + 1] if cause == ECALL_FROM_S else ()
+        registers = {n: entry.registers[n] ^ MASK for n in range(1, 32) if not (arguments and A0 <= n <= A7)}
+        self.machine.set_state(registers, {name: entry.csrs[name] ^ MASK for name in MARKED_CSRS})
+        self.inverted = [it for it in self.ownership.private() if it.owner == self.world and not any(map(it.has, arguments))]
+        for it in self.inverted:
+            self.machine.do(*poke_lines(it.first, bytes(byte ^ 0xFF for byte in self.machine.bytes_of(it.first, it.end))))
+
+    def note_closed(self, stay: Return) -> None:
+        """Notes which ranges are live and closed to the world that continues."""
+        shut = closed_ranges(self.ownership, rights_of(stay.exit.entries, self.machine.setup.ram))
+        self.live = {it for it in self.ownership.private()
+                     if it.is_timed or self.world == it.owner or (it in shut if self.world == HOST else it in self.live)}
+        self.closed = [it for it in shut if it in self.live and it.owner != self.world]
 
 
 @dataclass(frozen=True)
-class Point:
-    """A return to the host: its number, and whether an enclave ran before it."""
-    returns: int
-    has_run: bool
+class Secret:
+    """The difference of the second run of a pair: the ranges of these owners, the registers of one of them, and ranges of the monitor."""
+    name: str
+    owners: frozenset[str] = frozenset()
+    world: str = ""
+    ranges: tuple[OwnedRange, ...] = ()
+
+    @property
+    def text(self) -> str:
+        """Returns what it is, in words."""
+        return "private state of %s" % self.name if self.world else self.name
 
 
-@dataclass
-class Twins:
-    """All pairs of runs. `compared` counts the returns that were compared."""
-    setup: MonitorSetup
-    ownership: Ownership
-    limit: int
-    compared: int = 0
-    points: list[int] = field(default_factory=list)
+@dataclass(frozen=True)
+class Compared:
+    """The result of a pair of runs: what differs, with the step below M and pc of the trap before it, the changes, and the returns that were
+    compared. `why_cut` says why the comparison ended early, if it did."""
+    secret: Secret
+    difference: str = ""
+    step: int = 0
+    pc: int = 0
+    changes: int = 0
+    returns: int = 0
+    why_cut: str = ""
 
-    def first_difference(self) -> tuple[str, int] | None:
-        """Returns what the host observes of closed ranges, and the step below M, or None."""
-        points = sorted(self.candidates(), key=lambda it: not it.has_run)
-        self.points = [it.returns for it in points[:MOST_POINTS]]
-        return next((it for it in map(self.difference_after, self.points) if it), None)
 
-    def candidates(self) -> Iterator[Point]:
-        """Yields the returns to the host after which other ranges are closed than before, or after an enclave ran."""
-        with Guarded(self.setup) as machine:
-            track = Track(machine, self.ownership, self.limit)
-            before: list[OwnedRange] = []
-            was, stay = track.world, track.next()
-            while stay:
-                closed = closed_ranges(self.ownership, rights_of(stay.exit.entries, self.setup.ram))
-                if track.world == HOST and closed and (closed != before or was != HOST):
-                    yield Point(track.returns, was != HOST)
-                before, was, stay = closed, track.world, track.next()
+def secrets_of(setup: MonitorSetup, ownership: Ownership, limit: int, vectors: set[int]) -> list[Secret]:
+    """Returns what differs in each pair of runs. Unused pages of the monitor are in no segment, and all zeros after the boot and at the end."""
+    entered: dict[str, None] = {}
+    closed: dict[str, None] = {}
+    with Guarded(setup, vectors, ownership.is_monitor) as machine:
+        track = Track(machine, ownership, limit)
+        stay = track.next()
+        unused = list(zero_pages(machine, unloaded_pages(setup, ownership)))
+        while stay:
+            entered[track.world] = None
+            closed.update({it.owner: None for it in track.closed})
+            stay = track.next()
+        unused = list(zero_pages(machine, unused))
+    found = [Secret(it, frozenset({it}), it) for it in entered if it in closed]
+    others = frozenset(closed.keys() - entered.keys())
+    found += [Secret(OTHERS, others)] if others else []
+    return found + [Secret(name, ranges=tuple(ranges)) for name, ranges in ((UNUSED, unused), (SECRETS, ownership.secrets)) if ranges]
 
-    def difference_after(self, point: int) -> tuple[str, int] | None:
-        """Returns what differs after a return at which the closed ranges get other bytes, until one of their owners is entered."""
-        with Guarded(self.setup) as one, Guarded(self.setup) as other:
-            tracks = [Track(it, self.ownership, self.limit) for it in (one, other)]
-            stays = [[track.next() for _ in range(point)][-1] for track in tracks]
-            closed = closed_ranges(self.ownership, rights_of(stays[0].exit.entries, self.setup.ram)) if stays[0] else []
-            turn_bytes(other, closed)
-            owners = {it.owner for it in closed}
-            while stays[0] and tracks[0].world not in owners:
-                stays = [it.next() for it in tracks]
-                self.compared += 1
-                found = self.difference(tracks, stays, closed)
+
+def unloaded_pages(setup: MonitorSetup, ownership: Ownership) -> Iterator[OwnedRange]:
+    """Yields the pages of the monitor that are in no segment of the image."""
+    segments = list(setup.image.segments())
+    for part in [it for it in ownership.ranges if it.owner == MONITOR]:
+        for first in range(-(-part.first // PAGE) * PAGE, min(part.end, RAM_BASE + setup.ram) - PAGE + 1, PAGE):
+            if not any(at < first + PAGE and first < at + size for at, size in segments):
+                yield OwnedRange(first, first + PAGE, MONITOR)
+
+
+def zero_pages(machine: Guarded, pages: Iterator[OwnedRange] | list[OwnedRange]) -> Iterator[OwnedRange]:
+    """Yields the pages whose bytes are all 0."""
+    return (it for it in pages if not any(machine.bytes_of(it.first, it.end)))
+
+
+class Pair:
+    """Two runs. The second one has other values in the private state of an enclave, or in unused memory of the monitor."""
+
+    def __init__(self, setup: MonitorSetup, ownership: Ownership, limit: int, vectors: set[int], secret: Secret) -> None:
+        self.setup, self.ownership, self.limit, self.vectors, self.secret = setup, ownership, limit, vectors, secret
+        self.inverted: list[OwnedRange] = []
+        self.changes, self.returns = 0, 0
+
+    def machine(self) -> Guarded:
+        """Returns the machine of a run."""
+        return Guarded(self.setup, self.vectors, self.ownership.is_monitor)
+
+    def compare(self) -> Compared:
+        """Does both runs up to the first difference."""
+        with self.machine() as one, self.machine() as other:
+            tracks = Track(one, self.ownership, self.limit), Track(other, self.ownership, self.limit)
+            stays = tracks[0].next(), tracks[1].next()
+            if stays[0]:
+                self.invert(tracks, self.secret.ranges)
+            while stays[0] and stays[1]:
+                found = self.at_return(tracks, stays[0], stays[1])
                 if found:
-                    return found, one.steps
-        return None
+                    return found
+                stays = tracks[0].next(), tracks[1].next(self.secret.world)
+            is_different = stays[0] is not stays[1] and tracks[0].world not in self.secret.owners
+            return self.result("only one of two runs has another return from M" if is_different else "", one.steps)
 
-    def difference(self, tracks: list[Track], stays: list[Return | None], closed: list[OwnedRange]) -> str:
-        """Returns the first difference of two returns as text, or an empty text."""
-        one, other = stays
-        if one is None or other is None:
-            return "" if one is other else "only one of two runs has another return from M"
-        if one.spent != other.spent:
-            return "M takes %d or %d steps for a trap at %08x" % (one.spent, other.spent, one.entry.pc)
-        return state_difference(one, other) or self.memory_difference(tracks, closed)
+    def at_return(self, tracks: tuple[Track, Track], one: Return, other: Return) -> Compared | None:
+        """Compares the runs at a return from M to a world that must not know the secret; returns the difference. An owner of the secret gets the
+        state of the first run instead."""
+        steps = tracks[0].machine.steps
+        self.inverted += [it for it in tracks[1].inverted if it not in self.inverted]
+        self.changes += bool(tracks[1].inverted)
+        if tracks[0].world in self.secret.owners and tracks[1].world == tracks[0].world:
+            if (one.exit.pc, one.exit.mode) != (other.exit.pc, other.exit.mode):
+                return self.result("", steps, why_cut="%s continues at %08x or %08x" % (tracks[0].world, one.exit.pc, other.exit.pc))
+            self.restore(tracks, one, other)
+            return None
+        self.inverted = [it for it in self.inverted if it in tracks[0].closed or it in self.secret.ranges]
+        self.returns += 1
+        text = state_difference(one, other) or memory_difference(tracks, self.inverted)
+        self.invert(tracks, [it for it in tracks[0].closed if it.owner in self.secret.owners and it not in self.inverted])
+        return self.result(text, steps, one.entry.pc) if text else None
 
-    def memory_difference(self, tracks: list[Track], closed: list[OwnedRange]) -> str:
-        """Returns the first byte of memory that differs, outside the ranges of the monitor and the closed ranges, or an empty text."""
-        hidden = closed + [it for it in self.ownership.ranges if it.owner == MONITOR]
-        one, other = (without(it.machine.memory(), hidden) for it in tracks)
-        if one == other:
-            return ""
-        at = next(n for n in range(len(one)) if one[n] != other[n])
-        return "memory at %08x is %02x or %02x" % (MONITOR_END + at, one[at], other[at])
+    def invert(self, tracks: tuple[Track, Track], ranges: list[OwnedRange] | tuple[OwnedRange, ...]) -> None:
+        """Inverts all bytes of ranges in the second run."""
+        for it in ranges:
+            data = tracks[0].machine.bytes_of(it.first, it.end)
+            tracks[1].machine.do(*poke_lines(it.first, bytes(byte ^ 0xFF for byte in data)))
+            self.inverted.append(it)
+        self.changes += bool(ranges)
+
+    def restore(self, tracks: tuple[Track, Track], one: Return, other: Return) -> None:
+        """Gives the owner that continues in the second run the bytes and registers of the first run."""
+        for it in [it for it in self.inverted if it not in self.secret.ranges]:
+            data, old = (track.machine.bytes_of(it.first, it.end) for track in tracks)
+            tracks[1].machine.do(*(line for n, byte in enumerate(data) if byte != old[n] for line in poke_lines(it.first + n, bytes([byte]))))
+        self.inverted = list(self.secret.ranges)
+        registers = {n: value for n, value in enumerate(one.exit.registers) if value != other.exit.registers[n]}
+        csrs = {name: one.exit.csrs[name] for name in SUPERVISOR if one.exit.csrs[name] != other.exit.csrs[name]}
+        tracks[1].machine.set_state(registers, csrs)
+
+    def result(self, difference: str, step: int, pc: int = 0, why_cut: str = "") -> Compared:
+        """Returns the result of the pair."""
+        return Compared(self.secret, difference, step, pc, self.changes, self.returns, why_cut)
+
+
+def state_difference(one: Return, other: Return) -> str:
+    """Returns the first difference of two returns as text, or an empty text: the steps in M, the registers, and the access rights."""
+    if one.spent != other.spent:
+        return "M takes %d or %d steps for a trap at %08x" % (one.spent, other.spent, one.entry.pc)
+    mine, its = one.exit, other.exit
+    for number in range(32):
+        if mine.registers[number] != its.registers[number]:
+            return "%s at %08x is %08x or %08x" % (abi_name(number), mine.pc, mine.registers[number], its.registers[number])
+    for name in STATE_CSRS:
+        if mine.csrs[name] != its.csrs[name]:
+            return "%s at %08x is %08x or %08x" % (name, mine.pc, mine.csrs[name], its.csrs[name])
+    return "the PMP entries at %08x differ" % mine.pc if mine.entries != its.entries else ""
+
+
+def memory_difference(tracks: tuple[Track, Track], inverted: list[OwnedRange]) -> str:
+    """Returns the first byte of memory that differs, outside the ranges of the monitor and the inverted ranges, or an empty text."""
+    hidden = inverted + [it for it in tracks[0].ownership.ranges if it.owner == MONITOR]
+    left, right = (it.machine.rows_outside(hidden) for it in tracks)
+    if left == right:
+        return ""
+    one, other = (without(it.machine.memory(), hidden) for it in tracks)
+    at = next((n for n in range(len(one)) if one[n] != other[n]), None)
+    return "" if at is None else "memory at %08x is %02x or %02x" % (MONITOR_END + at, one[at], other[at])
 
 
 def without(memory: bytes, hidden: list[OwnedRange]) -> bytes:
@@ -117,25 +243,3 @@ def without(memory: bytes, hidden: list[OwnedRange]) -> bytes:
         first, end = max(0, it.first - MONITOR_END), max(0, it.end - MONITOR_END)
         shown[first:end] = bytes(len(shown[first:end]))
     return bytes(shown)
-
-
-def turn_bytes(machine: Guarded, closed: list[OwnedRange]) -> None:
-    """Inverts all bytes of ranges."""
-    memory = machine.memory()
-    for it in closed:
-        data = bytes(byte ^ 0xFF for byte in memory[it.first - MONITOR_END:it.end - MONITOR_END])
-        machine.do(*poke_lines(it.first, data))
-
-
-def state_difference(one: Return, other: Return) -> str:
-    """Returns the first difference of the states at the entry or the return, or an empty text."""
-    for mine, its in ((one.entry, other.entry), (one.exit, other.exit)):
-        for number in range(32):
-            if mine.registers[number] != its.registers[number] and mine is one.exit:
-                return "%s at %08x is %08x or %08x" % (abi_name(number), mine.pc, mine.registers[number], its.registers[number])
-        for name in STATE_CSRS:
-            if mine.csrs[name] != its.csrs[name]:
-                return "%s at %08x is %08x or %08x" % (name, mine.pc, mine.csrs[name], its.csrs[name])
-        if mine.entries != its.entries:
-            return "the PMP entries at %08x differ" % mine.pc
-    return ""

@@ -22,6 +22,7 @@ CHUNK = 16384  # single steps in one exchange
 PATH = 64  # instructions before a writer that are kept
 MOST_STAYS = 20  # that are searched, from the last one back
 ALSO_WRITTEN_BY = {"sstatus": ("sstatus", "mstatus"), "mstatus": ("mstatus", "sstatus"), "sie": ("sie", "mie"), "sip": ("sip", "mip")}
+MOST_SEARCHED = 1 << 18  # steps of a stay, its last ones, that are searched for a writer
 MOST_FAULTY = 1000000  # steps of a stay that is searched for a trap in M
 Test = Callable[[int], bool]
 
@@ -50,19 +51,20 @@ class Replay:
     def __exit__(self, *_: object) -> None:
         self.bench.close()
 
-    def addresses(self) -> list[int]:
-        """Returns the address of each instruction of the stay."""
-        found = [int(self.bench.ask("regs")[0][32][3:], 16)]
-        for done in range(0, self.stay.steps, CHUNK):
+    def addresses(self, first: int = 0) -> list[int]:
+        """Returns the address of each instruction of the stay, from the one with a number on."""
+        found = [self.go(first)]
+        for done in range(first, self.stay.steps, CHUNK):
             count = min(CHUNK, self.stay.steps - done)
             found += [int(step_of(it.decode()).pc, 16) for it in self.bench.block(b"step 1\n" * count, count).splitlines()]
         return found[:-1]
 
     def last_match(self, test: Test) -> int | None:
-        """Returns the number of the last instruction of the stay that a test accepts, or None."""
-        addresses = self.addresses()
+        """Returns the number of the last instruction of the stay that a test accepts, or None. Searches only the last steps of a long stay."""
+        first = max(0, self.stay.steps - MOST_SEARCHED)
+        addresses = self.addresses(first)
         accepted = {at for at in set(addresses) if test(word_at(self.bench, at))}
-        return next((n for n in range(len(addresses) - 1, -1, -1) if addresses[n] in accepted), None)
+        return next((first + n for n in range(len(addresses) - 1, -1, -1) if addresses[n] in accepted), None)
 
     def first_trap(self) -> int | None:
         """Returns the number of the first instruction of the stay that traps, or None."""

@@ -1,0 +1,62 @@
+"""Joins the ELF file of a monitor with the ELF file of its host and enclaves."""
+from __future__ import annotations
+
+import struct
+from typing import Tuple
+
+from rvlook.errors import RvlookError
+from rvlook.image.files import digits_of, image_of
+from rvlook.image.symbols import symbols_of
+from rvlook.protocol.inputs import AT_SEGMENTS, AT_SIZES, HEADER, LOAD, SEGMENT, Image
+from rvlook.protocol.symbols import Symbols
+
+Segment = Tuple[int, ...]  # the fields of a program header (ELF, Program Header)
+AT_SECTIONS, AT_SECTION_SIZES = 32, 46  # in the header
+
+
+def segments_of(image: Image) -> list[Segment]:
+    """Returns the program headers of the segments that are loaded. Raises RvlookError if the file is not a 32-bit ELF file."""
+    data = image.data or b""
+    if not image.is_elf_32:
+        raise RvlookError("'%s' is not a 32-bit ELF file" % image.name)
+    offset, (size, count) = struct.unpack_from("<I", data, AT_SEGMENTS)[0], struct.unpack_from("<HH", data, AT_SIZES)
+    found = [SEGMENT.unpack_from(data, offset + n * size) for n in range(count) if offset + n * size + SEGMENT.size <= len(data)]
+    return [it for it in found if it[0] == LOAD and it[5]]
+
+
+def joined(monitor: Image, path: str) -> tuple[Image, Symbols]:
+    """Returns an image with the segments of both files, which begins where the monitor does, and the symbols of the second file. Raises
+    RvlookError."""
+    host = image_of(path)
+    parts = [(it, monitor) for it in segments_of(monitor)] + [(it, host) for it in segments_of(host)]
+    refuse_overlap([(it[3], it[3] + it[5], image.name) for it, image in parts])
+    table, body, start = b"", b"", HEADER + SEGMENT.size * len(parts)
+    for (kind, offset, virtual, address, in_file, in_memory, flags, _), image in parts:
+        table += SEGMENT.pack(kind, start + len(body), virtual, address, in_file, in_memory, flags, 1)
+        body += (image.data or b"")[offset:offset + in_file]
+    data = header_of(monitor, len(parts)) + table + body
+    return Image(monitor.name, digits_of(data), data), symbols_of(host.name, host.data)
+
+
+def refuse_overlap(spans: list[tuple[int, int, str]]) -> None:
+    """Raises RvlookError if two segments have a byte in common."""
+    ordered = sorted(spans)
+    for (_, end, one), (first, _, other) in zip(ordered, ordered[1:]):
+        if first < end:
+            raise RvlookError("a segment of '%s' and one of '%s' overlap at %08x; link the host elsewhere" % (one, other, first))
+
+
+def header_of(image: Image, count: int) -> bytes:
+    """Returns the header of an ELF file with a number of segments after it, and without sections."""
+    header = bytearray((image.data or b"")[:HEADER])
+    struct.pack_into("<I", header, AT_SEGMENTS, HEADER)
+    struct.pack_into("<HH", header, AT_SIZES, SEGMENT.size, count)
+    struct.pack_into("<I", header, AT_SECTIONS, 0)
+    struct.pack_into("<HHH", header, AT_SECTION_SIZES, 0, 0, 0)
+    return bytes(header)
+
+
+def both(one: Symbols, other: Symbols) -> Symbols:
+    """Returns the symbols of two files."""
+    symbols = dict.fromkeys(it for part in (one, other) for it in (*part.ordered, *part.by_name.values()))
+    return Symbols(list(symbols), [*one.units.units, *other.units.units])

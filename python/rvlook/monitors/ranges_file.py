@@ -1,0 +1,122 @@
+"""Reads a file of ranges, which declares who owns which memory of a monitor with its host and enclaves."""
+from __future__ import annotations
+
+import re
+from operator import eq, ge, lt, ne
+from typing import Callable
+
+from rvlook.errors import RvlookError
+from rvlook.image.files import read_file
+from rvlook.monitors.ownership import ALL, HANDS, HOST, MONITOR, ONCE, SECRET, SHARED, Condition, OwnedRange, Ownership, Table
+from rvlook.protocol.names import NUMBER_OF
+from rvlook.protocol.symbols import Symbols
+
+GRAMMAR = "\n".join((
+    "lines of RANGES, in which # begins a comment:",
+    "  OWNER [RIGHTS] FIRST-LAST [while CONDITION...]",
+    "  shared OWNER... [RIGHTS] FIRST-LAST [while CONDITION...]",
+    "  table NAME COUNT PLACE STRIDE region BASE SIZE [window BASE SIZE] [while CONDITION...]",
+    "  hands REGISTER...",
+    "  once OWNER...",
+    "  secret PLACE SIZE",
+    "",
+    "  OWNER       monitor, host, or a name for an enclave; NAME0, NAME1, ... for the elements of a table",
+    "  RIGHTS      three letters, such as rw- (default: rwx)",
+    "  FIRST, LAST hexadecimal numbers; also STRIDE, BASE and SIZE; the last two are offsets in an element",
+    "  COUNT       a decimal number of elements",
+    "  PLACE       SYMBOL, SYMBOL+OFFSET or an address",
+    "  CONDITION   PLACE=VALUE, PLACE!=VALUE, PLACE<VALUE or PLACE>=VALUE, of the word there",
+    "  or          calls=N, calls!=N, calls<N or calls>=N, of the number of ecalls of the host from S, in decimal",
+    "  In a table, PLACE of a condition is an offset in the element."))
+FORMS = "expected 'OWNER [RIGHTS] FIRST-LAST', 'shared', 'table', 'hands', 'once' or 'secret', as 'rvlook guard --help' says"
+WHILE, TABLE, CALLS, REGION, WINDOW = "while", "table", "calls", "region", "window"
+RANGE = re.compile(r"([0-9a-fA-F]{1,8})-([0-9a-fA-F]{1,8})\Z")
+LETTERS = re.compile(r"[r-][w-][x-]\Z")
+CONDITION = re.compile(r"([^=!<>]+)(=|!=|<|>=)([0-9a-fA-F]{1,8})\Z")
+COMPARISONS: dict[str, Callable[[int, int], bool]] = {"=": eq, "!=": ne, "<": lt, ">=": ge}
+MOST_ELEMENTS = 1024
+MALFORMED = (ValueError, KeyError, IndexError)
+
+
+def ownership_of(path: str, symbols: Symbols) -> Ownership:
+    """Reads a file of ranges. Raises RvlookError."""
+    found = Ownership()
+    for number, text in enumerate(read_file(path).decode("latin-1").splitlines(), 1):
+        words = text.split("#")[0].split()
+        try:
+            if words:
+                add_line(found, words, symbols)
+        except MALFORMED:
+            raise RvlookError("%s:%d: %s" % (path, number, FORMS)) from None
+    owners = {it.owner for it in found.ranges} - {SHARED} | {it.name for it in found.tables}
+    missing = sorted({MONITOR, HOST} - owners, reverse=True) or ([] if found.enclaves() else ["an enclave"]) or [
+        it for it in sorted(found.once) if not any(it == owner or re.fullmatch(re.escape(owner) + r"\d+", it) for owner in owners)]
+    if missing:
+        raise RvlookError("'%s' has no range of %s" % (path, missing[0]))
+    return found
+
+
+def add_line(found: Ownership, words: list[str], symbols: Symbols) -> None:
+    """Adds a line. Raises one of MALFORMED."""
+    cut = words.index(WHILE) if WHILE in words else len(words)
+    is_timed, words, conditions = WHILE in words, words[:cut], words[cut + 1:]
+    if is_timed != bool(conditions) or not words:
+        raise ValueError
+    if words[0] == TABLE:
+        found.tables.append(table_of(words, conditions, symbols))
+    elif words[0] in (HANDS, ONCE, SECRET) and (conditions or words[0] == ONCE and len(words) == 1):
+        raise ValueError
+    elif words[0] == HANDS:
+        found.hands = {NUMBER_OF[it] for it in words[1:]}
+    elif words[0] == ONCE:
+        found.once.update(words[1:])
+    elif words[0] == SECRET:
+        found.secrets.append(secret_of(words, symbols))
+    else:
+        found.ranges.append(range_of(words, tuple(condition_of(it, symbols) for it in conditions)))
+
+
+def condition_of(text: str, symbols: Symbols | None) -> Condition:
+    """Returns a condition; without symbols its place is an offset. Raises ValueError."""
+    match = CONDITION.match(text)
+    if not match:
+        raise ValueError
+    if match[1] == CALLS:
+        return Condition(None, COMPARISONS[match[2]], int(match[3]))
+    return Condition(int(match[1], 16) if symbols is None else address_of(match[1], symbols), COMPARISONS[match[2]], int(match[3], 16))
+
+
+def address_of(text: str, symbols: Symbols) -> int:
+    """Returns the address of a place. Raises ValueError."""
+    address = symbols.address(text)
+    if address is None:
+        raise ValueError
+    return address
+
+
+def range_of(words: list[str], when: tuple[Condition, ...]) -> OwnedRange:
+    """Returns the range of a line. Raises ValueError."""
+    match = RANGE.match(words[-1])
+    owner, *others = words[:-1] or [""]
+    may = others.pop() if others and LETTERS.match(others[-1]) else ALL
+    if not match or not owner or bool(others) != (owner == SHARED) or int(match[1], 16) > int(match[2], 16):
+        raise ValueError
+    return OwnedRange(int(match[1], 16), int(match[2], 16) + 1, owner, may, tuple(others), bool(when), when)
+
+
+def secret_of(words: list[str], symbols: Symbols) -> OwnedRange:
+    """Returns the bytes of the monitor that a line names. Raises ValueError."""
+    _, place, size = words
+    first = address_of(place, symbols)
+    if int(size, 16) <= 0:
+        raise ValueError
+    return OwnedRange(first, first + int(size, 16), MONITOR)
+
+
+def table_of(words: list[str], conditions: list[str], symbols: Symbols) -> Table:
+    """Returns the table of a line. Raises ValueError or IndexError."""
+    _, name, count, place, stride, region, base, size, *window = words
+    if region != REGION or window and (len(window) != 3 or window[0] != WINDOW) or not 0 < int(count) <= MOST_ELEMENTS:
+        raise ValueError
+    return Table(name, int(count), address_of(place, symbols), int(stride, 16), (int(base, 16), int(size, 16)),
+                 (int(window[1], 16), int(window[2], 16)) if window else None, tuple(condition_of(it, None) for it in conditions))

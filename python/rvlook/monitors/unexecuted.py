@@ -1,0 +1,225 @@
+"""Finds the code of a monitor that no run executed. The code is divided into basic blocks. Each run is repeated with breakpoints at blocks that were
+not executed so far."""
+from __future__ import annotations
+
+import struct
+from bisect import bisect_right
+from dataclasses import dataclass
+from typing import Iterable, Iterator, Sequence, TYPE_CHECKING
+
+from rvlook.errors import BenchEnded
+from rvlook.monitors.encodings import AUIPC, BRANCH, JAL, JALR, MRET, SRET, branch_offset, jump_offset
+from rvlook.monitors.items import MASK
+from rvlook.monitors.ownership import MONITOR
+from rvlook.protocol.inputs import AT_SEGMENTS, AT_SIZES, LOAD, SEGMENT
+from rvlook.protocol.replies import step_of
+
+if TYPE_CHECKING:
+    from rvlook.monitors.ownership import Ownership
+    from rvlook.monitors.sides import MonitorSetup
+    from rvlook.output.progress import Progress
+    from rvlook.protocol.symbols import Symbols
+
+BREAKPOINTS = 32
+EXECUTABLE = 1  # a flag of a segment
+AT_ENTRY = 24  # the offset of the first instruction's address in the header of an ELF file
+MOST_STEPS = 1000000  # of one `run`
+
+
+@dataclass(frozen=True)
+class Block:
+    """A basic block: the addresses of its first instruction and of the end."""
+    first: int
+    end: int
+
+
+@dataclass
+class Code:
+    """The basic blocks of a monitor by their first addresses. `functions` has the end of each function by its first address; it is empty if the
+    symbols have no functions."""
+    blocks: dict[int, Block]
+    functions: dict[int, int]
+
+    def __post_init__(self) -> None:
+        self.ordered = sorted(self.functions)
+
+    @property
+    def instructions(self) -> int:
+        """Returns the number of instructions."""
+        return sum(it.end - it.first for it in self.blocks.values()) // 4
+
+    def entry_of(self, at: int) -> int | None:
+        """Returns the first address of the function that has an address, or None."""
+        index = bisect_right(self.ordered, at) - 1
+        first = self.ordered[index] if index >= 0 else at
+        return first if at < self.functions.get(first, at) else None
+
+    def count_in(self, entry: int) -> int:
+        """Returns the number of blocks of a function."""
+        return sum(entry <= it < self.functions[entry] for it in self.blocks)
+
+
+def code_of(setup: MonitorSetup, ownership: Ownership, symbols: Symbols, vectors: Iterable[int]) -> Code:
+    """Returns the code of the monitor: its functions, and what branches, jumps and calls reach from them, from the entry and from the trap
+    vectors. Data in an executable segment is therefore left out."""
+    words = {address: word for first, data in segments_of(setup, ownership) for address, word in words_of(first, data)}
+    functions = {it.address: it.address + it.size for it in symbols.ordered if it.is_function and it.size and it.address in words}
+    start = struct.unpack_from("<I", setup.image.data or b"", AT_ENTRY)[0]
+    roots = {start, *vectors, *functions}
+    reached = reachable(words, roots) | {at for first, end in functions.items() for at in range(first, end, 4) if at in words}
+    return Code(blocks_of(sorted(reached), leaders_of(words, reached) | roots), functions)
+
+
+def segments_of(setup: MonitorSetup, ownership: Ownership) -> Iterator[tuple[int, bytes]]:
+    """Yields the address and the bytes of the part of each executable segment that is in a range of the monitor."""
+    data = setup.image.data or b""
+    offset, (size, count) = struct.unpack_from("<I", data, AT_SEGMENTS)[0], struct.unpack_from("<HH", data, AT_SIZES)
+    for number in range(count):
+        if offset + number * size + SEGMENT.size <= len(data):
+            kind, start, _, address, length, _, flags, _ = SEGMENT.unpack_from(data, offset + number * size)
+            for part in [it for it in ownership.ranges if it.owner == MONITOR and kind == LOAD and flags & EXECUTABLE]:
+                first, end = max(address, part.first), min(address + length, part.end)
+                if first < end:
+                    yield first, data[start + first - address:start + end - address]
+
+
+def words_of(first: int, data: bytes) -> Iterator[tuple[int, int]]:
+    """Yields the address and the value of each word of a segment."""
+    return ((first + 4 * number, word) for number, (word,) in enumerate(struct.iter_unpack("<I", data[:len(data) // 4 * 4])))
+
+
+def targets_of(words: dict[int, int], at: int) -> list[int]:
+    """Returns the addresses to which a branch, a jump or a call at an address goes, and the address after it if execution may come there."""
+    word = words[at]
+    kind, target = word & 0x7F, word >> 7 & 31
+    found = [at + branch_offset(word)] if kind == BRANCH else [at + jump_offset(word)] if kind == JAL else far_target(words, at)
+    is_end = kind in (JAL, JALR) and target == 0 or word in (MRET, SRET)
+    return found if is_end else [*found, at + 4]
+
+
+def far_target(words: dict[int, int], at: int) -> list[int]:
+    """Returns the address to which an auipc and the jalr after it go; none for other instructions."""
+    first, word = words.get(at - 4, 0), words[at]
+    if word & 0x7F != JALR or first & 0x7F != AUIPC or first >> 7 & 31 != word >> 15 & 31:
+        return []
+    offset = word >> 20
+    return [at - 4 + (first & 0xFFFFF000) + (offset - 0x1000 if offset & 0x800 else offset) & MASK]
+
+
+def reachable(words: dict[int, int], roots: Iterable[int]) -> set[int]:
+    """Returns the addresses of the instructions that are reached from some addresses without an indirect jump."""
+    found: set[int] = set()
+    rest = list(roots)
+    while rest:
+        at = rest.pop()
+        if at in words and at not in found:
+            found.add(at)
+            rest += targets_of(words, at)
+    return found
+
+
+def leaders_of(words: dict[int, int], reached: set[int]) -> set[int]:
+    """Returns the addresses at which a basic block begins: the targets of branches and jumps, and what follows them."""
+    found: set[int] = set()
+    for at in reached:
+        word = words[at]
+        if word & 0x7F in (BRANCH, JAL, JALR) or word in (MRET, SRET):
+            found.update(targets_of(words, at))
+            found.add(at + 4)
+    return found
+
+
+def blocks_of(addresses: Sequence[int], leaders: set[int]) -> dict[int, Block]:
+    """Returns the basic blocks of instructions whose addresses are sorted."""
+    found: dict[int, Block] = {}
+    first = end = -1
+    for at in addresses:
+        if at != end or at in leaders:
+            first = at
+        end = at + 4
+        found[first] = Block(first, end)
+    return found
+
+
+class Replay:
+    """A run that is repeated. It has breakpoints at the first of some blocks. A block that is executed makes room for the next one."""
+
+    def __init__(self, setup: MonitorSetup, blocks: Sequence[Block]) -> None:
+        self.bench = setup.own.bench()
+        self.waiting = [it.first for it in blocks]
+        self.decided = set(self.waiting[:BREAKPOINTS])  # a breakpoint is set there during the whole run
+        self.missing = set(self.waiting)
+        self.executed: set[int] = set()
+        self.pc = 0
+
+    def run(self, log: Sequence[str]) -> None:
+        """Repeats a run up to its end."""
+        with self.bench:
+            self.do([self.break_next() for _ in range(min(BREAKPOINTS, len(self.waiting)))])
+            self.pc = int(self.bench.ask("regs")[0][32][3:], 16)
+            lines: list[str] = []
+            try:
+                for line in log:
+                    if line.startswith("run "):
+                        self.do(lines)
+                        self.go(int(line[4:]))
+                        lines = []
+                    else:
+                        lines.append(line)
+            except BenchEnded:
+                pass  # the run ended here, too
+
+    def break_next(self) -> str:
+        """Returns the command that sets a breakpoint at the next block."""
+        return "break %x" % self.waiting.pop(0)
+
+    def do(self, lines: Sequence[str]) -> None:
+        """Does lines with one line of reply each, and notes pc."""
+        if lines:
+            replies = self.bench.block(("\n".join(lines) + "\n").encode(), len(lines)).splitlines()
+            ran = next((it for it in reversed(replies) if it.startswith(b"ran ")), None)
+            self.pc = int(step_of(ran.decode()).pc, 16) if ran else self.pc
+
+    def go(self, steps: int) -> None:
+        """Does the steps of a `run`. The instruction at pc is executed first, whether there is a breakpoint or not."""
+        while steps > 0:
+            self.note(self.pc)
+            ran = step_of(self.bench.one("run %d" % min(steps, MOST_STEPS)))
+            steps -= ran.steps
+            self.pc = int(ran.pc, 16)
+            if not ran.steps:
+                break
+
+    def note(self, at: int) -> None:
+        """Notes that an instruction is executed."""
+        if at in self.missing:
+            self.missing.discard(at)
+            self.executed.add(at)
+            if at in self.waiting:
+                self.waiting.remove(at)
+            else:
+                self.do(["clear %x" % at] + ([self.break_next()] if self.waiting else []))
+
+
+def unexecuted_in(setup: MonitorSetup, logs: Sequence[Sequence[str]], blocks: Sequence[Block], progress: Progress) -> list[Block]:
+    """Returns the blocks that none of the runs with these logs executed."""
+    missing = list(blocks)
+    for number, log in enumerate(logs, 1):
+        rest, missed = missing, []
+        while rest:
+            replay = Replay(setup, rest)
+            replay.run(log)
+            missed += [it for it in rest if it.first in replay.decided and it.first not in replay.executed]
+            rest = [it for it in rest if it.first not in replay.decided and it.first not in replay.executed]
+            progress.show("code that was not executed: run %d of %d, %d blocks left", number, len(logs), len(rest))
+        missing = missed
+    return missing
+
+
+def unexecuted(setup: MonitorSetup, code: Code, logs: Sequence[Sequence[str]], progress: Progress) -> list[Block]:
+    """Returns the blocks of the monitor's code that none of the runs executed. The entries of functions are searched first: if the entry of a
+    function was not executed, none of its blocks was."""
+    never = {it.first for it in unexecuted_in(setup, logs, [code.blocks[it] for it in code.ordered], progress)}
+    found = [it for it in code.blocks.values() if code.entry_of(it.first) in never]
+    rest = [it for it in code.blocks.values() if it.first not in code.functions and code.entry_of(it.first) not in never]
+    return sorted(found + unexecuted_in(setup, logs, rest, progress), key=lambda it: it.first)
