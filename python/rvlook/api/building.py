@@ -1,0 +1,41 @@
+"""Builds a folder of sources for a test, and leaves the folder as it is."""
+from __future__ import annotations
+
+import os
+import shutil
+import subprocess
+import tempfile
+from typing import Union
+
+from rvlook.cli.new import examples
+from rvlook.errors import RvlookError
+
+PathLike = Union[str, "os.PathLike[str]"]
+LEFT_OUT = shutil.ignore_patterns(".*", "__pycache__", "tests", "*.elf")
+
+
+def build(folder: PathLike, target: PathLike, monitor: Union[PathLike, None] = None) -> str:
+    """Builds a folder with examples/build (docs/AUTHORS.md, Build), and returns the path of the ELF file, `target`. `monitor` is the folder of a
+    monitor of your own to build in. Sources may include files of sibling folders. Raises RvlookError with the messages of the compiler."""
+    source = os.path.realpath(folder)
+    with tempfile.TemporaryDirectory() as copies:
+        options = ["--with-monitor", os.path.realpath(monitor)] if monitor is not None else []
+        try:
+            command = [os.path.join(examples(), "build"), *options, copy_of(source, copies), os.fspath(target)]
+            done = subprocess.run(command, capture_output=True, text=True, errors="replace", check=False)
+        except OSError as fault:
+            raise RvlookError("cannot build '%s': %s" % (folder, fault)) from None
+    if done.returncode:
+        raise RvlookError("cannot build '%s': %s" % (folder, done.stderr.strip()))
+    return os.fspath(target)
+
+
+def copy_of(source: str, copies: str) -> str:
+    """Copies a folder into another one, with a link to each of its siblings; returns the path of the copy. Raises OSError."""
+    parent, name = os.path.split(source)
+    for it in os.listdir(parent):
+        if it != name:
+            os.symlink(os.path.join(parent, it), os.path.join(copies, it))
+    copy = os.path.join(copies, name)
+    shutil.copytree(source, copy, ignore=LEFT_OUT)
+    return copy

@@ -1,0 +1,293 @@
+"""Moves a machine forward: to a breakpoint, a watched byte, an endless loop or a limit, by one hart or by a schedule of two."""
+from __future__ import annotations
+
+from itertools import chain, islice
+from typing import Dict, Iterable, Iterator, List, NamedTuple, Optional, Sequence, Tuple, TYPE_CHECKING
+
+from rvlook.api.values import NotReached, Trap
+from rvlook.errors import RvlookError
+from rvlook.output.printer import place_text
+from rvlook.protocol.console import ENDED, WRITTEN, Console, consoles_of
+from rvlook.protocol.messages import line_error
+from rvlook.protocol.replies import Ran, step_of
+from rvlook.protocol.run import EQUAL
+from rvlook.protocol.schedule import turns_of
+from rvlook.protocol.timeline import Action, Timeline
+
+if TYPE_CHECKING:
+    from rvlook.protocol.run import Setup
+
+LIMIT = 10000000  # steps of one call, unless the caller gives another limit
+LIMIT_BY_SCHEDULE = 200000  # the same with a schedule, whose steps take longer
+LONG_BATCH = 1024  # turns of a schedule in one exchange
+TURNS = 64  # of a schedule, after which the harts are checked for an endless loop, and many turns are done at once
+PART, MORE = 1000, 4  # steps before a hart is checked for an endless loop, and the factor for the next part
+LOOP = "jal x0, 0"  # the text of an instruction that jumps to itself
+UNTIL_THE_END = 0  # a breakpoint at an address without RAM, where a trap without a handler leads
+
+
+class Call(NamedTuple):
+    """A call that the test has made as the host. `kept` has the registers that it used, with their values before. `left_at` is the address after its
+    `ecall`, and `slot` is a0."""
+    kept: Dict[int, int]
+    left_at: int
+    slot: int
+    has_entered: bool = False
+
+
+class Snapshot(NamedTuple):
+    """A point of a run, to which `restore` returns."""
+    past: Tuple[Action, ...]
+    hart: int
+    scheduled: int = 0  # steps that the schedule has done
+    consoles: Tuple[Tuple[int, str, Optional[int]], ...] = ()  # of each: the characters written, the line that has not ended, and the status
+    lines: Tuple[str, ...] = ()  # complete lines of the consoles
+    trap: Optional[Trap] = None
+    calls: Tuple[Tuple[int, Call], ...] = ()  # of each hart, the call under way
+
+
+class Stepper:
+    """A machine that can be moved forward. `timeline` has the simulator and all that was done since reset."""
+
+    def __init__(self, setup: Setup, schedule: str, at: Optional[Snapshot]) -> None:
+        self.setup, self.schedule = setup, schedule
+        self.consoles: List[Console] = consoles_of(setup.symbols)
+        self.lines: List[str] = []
+        self.calls: Dict[int, Call] = {}
+        self.trap: Optional[Trap] = None
+        self.scheduled = 0
+        self.turns: Iterator[Tuple[int, int]] = turns_of(schedule) if schedule else iter(())
+        self.timeline = Timeline.of_script(setup) if at is None else Timeline(setup, at.past, at.hart)
+        if at is not None:
+            self.take(at)
+
+    def close(self) -> None:
+        """Ends the simulator."""
+        self.timeline.close()
+
+    def ask(self, *commands: str) -> List[List[str]]:
+        """Sends commands of docs/COMMANDS.md that change nothing; returns the lines of each reply. Raises RvlookError for an error."""
+        if self.timeline.bench.stdin.closed:
+            raise RvlookError("the machine is closed; read it inside its 'with' block, and copy a structure by values()")
+        return checked(commands, self.timeline.ask(*commands))
+
+    def do(self, *commands: str) -> List[List[str]]:
+        """Sends commands of docs/COMMANDS.md; returns the lines of each reply. Raises RvlookError for an error."""
+        self.ask()
+        return checked(commands, self.timeline.do_all(commands))
+
+    # ---- the state
+
+    @property
+    def pc(self) -> int:
+        """The address of the next instruction of the selected hart."""
+        return int(self.ask("regs")[0][32][3:], 16)
+
+    @property
+    def where(self) -> str:
+        """The address of the next instruction with its symbol and source line, as text."""
+        return place_text("%08x" % self.pc, self.setup.symbols)
+
+    @property
+    def world(self) -> str:
+        """The world of the selected hart: `host`, `e0` to `e12`, or `bare`."""
+        self.ask()
+        return self.timeline.worlds[self.timeline.hart]
+
+    @property
+    def mode(self) -> str:
+        """The mode of the selected hart: `M`, `S` or `U`."""
+        self.ask()
+        return self.timeline.modes[self.timeline.hart]
+
+    @property
+    def steps(self) -> int:
+        """The number of steps of all harts since reset."""
+        return self.timeline.position
+
+    @property
+    def hart(self) -> int:
+        """The selected hart, 0 or 1. It can be set."""
+        return self.timeline.hart
+
+    @hart.setter
+    def hart(self, number: int) -> None:
+        """Selects a hart. Raises RvlookError if there is none."""
+        self.do("hart %d" % number)
+
+    @property
+    def console(self) -> str:
+        """The text that host and enclave have printed, without the last line end."""
+        self.read_consoles()
+        return "\n".join(self.lines + [it.pending for it in self.consoles if it.pending])
+
+    @property
+    def status(self) -> Optional[int]:
+        """The exit status of the program, once it has called finish(status); else None."""
+        return next((it.status for it in self.consoles if it.status is not None), None)
+
+    def read_consoles(self) -> None:
+        """Reads what is new on the consoles."""
+        for console in self.consoles:
+            self.lines += console.read(self.ask)
+
+    # ---- forward
+
+    def advance(self, breaks: Iterable[int], watched: Sequence[int] = (), limit: Optional[int] = None) -> Ran:
+        """Runs up to one of the breakpoints, after an access to a watched byte, or up to the end of the program. `why` of the result is `break`,
+        `watch:ADDRESS`, `halted` for an endless loop, or `done` at the limit in steps."""
+        places = set(breaks)
+        self.ask()
+        self.set_stops(places, watched)
+        left, part, turns, pause = self.most(limit), PART, 0, TURNS
+        ran = Ran(0, "", "", "", "done", None)
+        self.trap = None
+        while left > 0:
+            is_long = bool(self.schedule) and turns == pause
+            if is_long:
+                done = self.leap(places, left)
+                left, turns, pause = max(1, left - done), 0, TURNS if done > LONG_BATCH else 2 * pause
+            ran = self.turn(min(left, part))
+            left -= max(1, ran.steps)
+            if ran.why.startswith("watch:"):
+                if int(ran.why[6:], 16) in watched or self.has_finished():
+                    break
+                continue
+            if ran.why == "break" or int(ran.pc, 16) in places:  # a `run` whose last step leads to a breakpoint replies `done`
+                ran = ran_with(ran, "break")
+                break
+            turns, part = turns + 1, part * MORE
+            if self.is_halted(ran, is_long or turns % TURNS == 0):
+                ran = ran_with(ran, "halted")
+                break
+        self.read_consoles()
+        return ran
+
+    def set_stops(self, places: Iterable[int], watched: Iterable[int]) -> None:
+        """Sets these breakpoints and watchpoints, and those that show that a console is written to."""
+        own = {it.address + offset for it in self.consoles for offset in (WRITTEN, ENDED)}
+        self.timeline.set_stops(["break %x" % it for it in sorted(places)] + ["watch %x" % it for it in sorted({*watched, *own})])
+
+    def has_finished(self) -> bool:
+        """Reads the consoles; returns whether the program has called finish(status)."""
+        self.read_consoles()
+        return self.status is not None
+
+    def most(self, limit: Optional[int]) -> int:
+        """Returns the most steps of one call: the limit of the caller, or the default."""
+        return limit if limit is not None else LIMIT_BY_SCHEDULE if self.schedule else LIMIT
+
+    def turn(self, most: int) -> Ran:
+        """Does at most this many steps of the selected hart. With a schedule, the steps are of its next turn, which may end before."""
+        if not self.schedule:
+            return self.took(self.timeline.run(self.hart, most))
+        hart, count = next(self.turns)
+        ran = self.timeline.run(hart, min(count, most))
+        self.scheduled += ran.steps
+        if ran.steps < count:  # the turn goes on later
+            self.turns = chain([(hart, count - ran.steps)], self.turns)
+        return self.took(ran)
+
+    def leap(self, places: Iterable[int], most: int) -> int:
+        """Does turns of the schedule in long exchanges, up to the turn that leads to a stop; another machine finds it. Returns the number of
+        steps, which is at most `most`."""
+        done = 0
+        ahead = self.copied()
+        try:
+            ahead.set_stops(list(self.timeline.stops))
+            while True:
+                batch = list(islice(self.turns, LONG_BATCH))
+                lines = [line for hart, steps in batch for line in ("hart %d" % hart, "run %d" % steps)]
+                rans = [step_of(it[0]) for it in ahead.bench.ask(*lines)[1::2]]
+                stop = next((n for n, it in enumerate(rans) if it.why != "done" or int(it.pc, 16) in places), len(batch))
+                stop = stop if done + sum(it.steps for it in rans) <= most else 0
+                self.turns = chain(batch[stop:], self.turns)
+                self.do(*lines[:2 * stop])
+                count = sum(it.steps for it in rans[:stop])
+                done, self.scheduled = done + count, self.scheduled + count
+                if stop < len(batch) or self.are_all_in_loops():
+                    return done
+        finally:
+            ahead.close()
+
+    def copied(self) -> Timeline:
+        """Returns another simulator at this point, without breakpoints and watchpoints."""
+        return Timeline(self.setup, self.timeline.past, self.hart)
+
+    def took(self, ran: Ran) -> Ran:
+        """Keeps the trap of steps that were done."""
+        if ran.trap:
+            self.trap = Trap(int(ran.trap.cause, 16), int(ran.trap.value, 16))
+        return ran
+
+    def is_halted(self, ran: Ran, is_due: bool) -> bool:
+        """Returns whether no hart will do anything else. With a schedule this is examined only if it is due."""
+        if self.schedule:
+            return is_due and self.are_all_in_loops()
+        return LOOP in self.ask("dis %s" % ran.pc)[0][0] or bool(ran.trap) and self.traps_forever()
+
+    def are_all_in_loops(self) -> bool:
+        """Returns whether each hart is at an instruction that jumps to itself."""
+        harts, selected = range(self.setup.harts), self.hart
+        pcs = [self.ask("hart %d" % it, "regs")[1][32][3:] for it in harts]
+        return all(LOOP in it[0] for it in self.ask(*["dis %s" % it for it in pcs], "hart %d" % selected)[:-1])
+
+    def traps_forever(self) -> bool:
+        """Returns whether the selected hart traps in the same way at each step. Another machine finds out, since a step here would count."""
+        ahead = self.copied()
+        try:
+            replies = ahead.do_all(["step 1"] * EQUAL)
+        finally:
+            ahead.close()
+        return "trap=-" not in replies[0][0] and all(it == replies[0] for it in replies)
+
+    def fail(self, what: str, ran: Ran) -> None:
+        """Raises NotReached: the machine never does what was wanted."""
+        why = "it is in an endless loop at" if ran.why == "halted" else "it has finished at" if self.status is not None else "it is still running at"
+        raise NotReached("the machine never %s: %s %s, in %s, after step %d%s" % (
+            what, why, self.where, self.world, self.steps, "; last trap: %s" % self.trap if self.trap else ""))
+
+    # ---- other times
+
+    def snapshot(self) -> Snapshot:
+        """Returns this point of the run, to which `restore` returns."""
+        consoles = tuple((it.written, it.pending, it.status) for it in self.consoles)
+        return Snapshot(tuple(self.timeline.past), self.timeline.hart, self.scheduled, consoles, tuple(self.lines), self.trap,
+                        tuple(self.calls.items()))
+
+    def take(self, snapshot: Snapshot) -> None:
+        """Takes the parts of a snapshot that are not in the timeline."""
+        self.lines, self.trap, self.calls, self.scheduled = list(snapshot.lines), snapshot.trap, dict(snapshot.calls), snapshot.scheduled
+        for console, state in zip(self.consoles, snapshot.consoles):
+            console.written, console.pending, console.status = state
+        if self.schedule:
+            self.turns = turns_after(self.schedule, self.scheduled)
+
+
+def checked(commands: Iterable[str], replies: List[List[str]]) -> List[List[str]]:
+    """Returns the replies to commands. Raises RvlookError if one is an error."""
+    for command, reply in zip(commands, replies):
+        if reply and reply[0].startswith("error "):
+            raise RvlookError("%s: %s" % (command, line_error(reply[0], command.split())[0]))
+    return replies
+
+
+def ran_with(ran: Ran, why: str) -> Ran:
+    """Returns the result of a run with another reason."""
+    return Ran(ran.steps, ran.pc, ran.mode, ran.world, why, ran.trap)
+
+
+def turns_after(schedule: str, count: int) -> Iterator[Tuple[int, int]]:
+    """Yields the turns of a schedule that follow its first `count` steps, each as a hart and its number of steps."""
+    turns, hart, left = turns_of(schedule), 0, -count
+    while left < 0:
+        hart, steps = next(turns)
+        left += steps
+    if left:
+        yield hart, left
+    yield from turns
+
+
+def pokes(address: int, data: bytes) -> List[str]:
+    """Returns the commands that write bytes."""
+    return ["poke %x %02x" % (address + n, it) for n, it in enumerate(data)]

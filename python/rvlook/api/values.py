@@ -1,0 +1,151 @@
+"""The values that a machine returns: answers of the monitor, ends of a program, traps, access rights and access maps."""
+from __future__ import annotations
+
+import html
+import io
+from dataclasses import dataclass
+from typing import Iterator, Optional, TYPE_CHECKING
+
+from rvlook.access.map_text import changed_rows, print_event
+from rvlook.errors import RvlookError
+from rvlook.output.printer import Printer
+from rvlook.protocol import names
+
+if TYPE_CHECKING:
+    from rvlook.access.map import Event
+    from rvlook.protocol.symbols import Symbols
+
+EXITED, STOPPED, INTERRUPTED = range(3)  # a0 of the host after an enclave has exited
+LEFT = ("exited", "stopped", "interrupted")
+COLOURS = {"---": "#eee", "rwx": "#9d9", "rw-": "#bdf"}  # of access rights in a notebook
+OTHER_COLOUR = "#fd9"
+
+
+class NotReached(RvlookError):
+    """A place, a call or an answer that the machine did not reach. The text says where the machine is instead."""
+
+
+@dataclass(frozen=True)
+class Trap:
+    """A trap: its cause (mcause) and its value (mtval), both as numbers."""
+    cause: int
+    value: int
+
+    @property
+    def name(self) -> str:
+        """Returns the name of the cause, such as `load access fault`."""
+        return names.cause_name("%08x" % self.cause)
+
+    def __str__(self) -> str:
+        return "%s, value %08x" % (self.name, self.value)
+
+
+@dataclass(frozen=True)
+class Ending:
+    """The end of a program. `why` is `finished`, `halted` (in an endless loop) or `fault`; `status` is that of finish(status), else None."""
+    why: str
+    place: str
+    status: Optional[int] = None
+
+
+@dataclass(frozen=True)
+class Answer:
+    """The answer of the monitor to a call of the host. `how` is `done`, `refused`, `exited`, `stopped`, `interrupted`, or `running` if the enclave
+    has not exited yet. `value` is a1 as a number; for `refused` it is the name of the status, or a0 if the status has none."""
+    how: str
+    value: object = 0
+
+    def __str__(self) -> str:
+        if self.how == "interrupted":
+            return self.how
+        return "%s %s %s" % (self.how, "at" if self.how == "running" else "with", self.value)
+
+    __repr__ = __str__
+
+
+def answer_of(is_entered: bool, a0: int, a1: int) -> Answer:
+    """Decodes a0 and a1 of the host after a call; `is_entered` says whether the call entered an enclave."""
+    if a0 in names.STATUSES:
+        return Answer("refused", names.STATUSES[a0])
+    if is_entered and a0 < len(LEFT):
+        return Answer(LEFT[a0], 0 if a0 == INTERRUPTED else a1)
+    return Answer("done", a1) if a0 == 0 else Answer("refused", a0)
+
+
+def stopped(value: int) -> Answer:
+    """Returns the answer of an enclave that stops with a value; it can be resumed."""
+    return Answer("stopped", value)
+
+
+def exited(value: int) -> Answer:
+    """Returns the answer of an enclave that exits with a value."""
+    return Answer("exited", value)
+
+
+def interrupted() -> Answer:
+    """Returns the answer of an enclave that the timer interrupted; it can be resumed."""
+    return Answer("interrupted")
+
+
+def refused(why: str) -> Answer:
+    """Returns the answer of a monitor that refuses a call with this status (docs/MONITOR.md), such as `refused("BadState")`. Raises ValueError for
+    another name."""
+    if why not in names.STATUSES.values():
+        raise ValueError("no status '%s'; the statuses are %s" % (why, ", ".join(names.STATUSES.values())))
+    return Answer("refused", why)
+
+
+class Rights(str):
+    """Access rights, such as `rw-`. If the bytes of a place have different rights, these are joined by `/`, and equal no single ones. `reason` has
+    the ranges and their rights."""
+    reason: str
+
+    def __new__(cls, text: str, reason: str = "") -> Rights:
+        self = super().__new__(cls, text)
+        self.reason = reason
+        return self
+
+
+class AccessMap:
+    """The access rights of all worlds at one step. It prints as `rvlook map` does, a notebook shows a table, and `new - old` is a list of the
+    changes."""
+
+    def __init__(self, event: Event, symbols: Symbols) -> None:
+        self.event, self.symbols = event, symbols
+
+    def __str__(self) -> str:
+        text = io.StringIO()
+        print_event(Printer(False, text), self.event, self.symbols)
+        return text.getvalue()
+
+    def __eq__(self, other: object) -> bool:
+        return isinstance(other, AccessMap) and self.rows() == other.rows()
+
+    def rows(self) -> list[tuple[int, int, str, dict[str, str]]]:
+        """Returns the rows: the first address, the end, the meaning, and the rights of each world (on the bare machine, of each mode)."""
+        return [(it.range.first, it.range.end, it.what, dict(self.rights_in(it.may))) for it in self.event.rows]
+
+    def rights_in(self, may: dict[str, dict[str, str]]) -> Iterator[tuple[str, str]]:
+        """Yields each world or mode with its rights."""
+        for column in self.event.columns:
+            for mode, rights in may[column.name].items():
+                yield (mode, rights) if column.world == "bare" else (column.world, rights)
+
+    def __sub__(self, before: AccessMap) -> list[str]:
+        """Returns the changes since an earlier map, one line for each range."""
+        return ["  ".join(("%08x-%08x" % (it.first, it.end - 1), *changed, what)).rstrip()
+                for it, what, changed in changed_rows(self.event, before.event)]
+
+    def _repr_html_(self) -> str:
+        """Returns the map as an HTML table."""
+        rows = self.rows()
+        worlds = list(rows[0][3])
+        head = "".join("<th>%s" % html.escape(it) for it in ("bytes", *worlds, ""))
+        body = "".join("<tr><td><code>%08x-%08x</code>%s<td>%s</tr>" % (
+            first, end - 1, "".join(map(cell, (may.get(it, "---") for it in worlds))), html.escape(what)) for first, end, what, may in rows)
+        return "<table><tr>%s</tr>%s</table>" % (head, body)
+
+
+def cell(rights: str) -> str:
+    """Returns access rights as a cell of an HTML table."""
+    return "<td style='background:%s'><code>%s</code>" % (COLOURS.get(rights, OTHER_COLOUR), rights)

@@ -1,0 +1,79 @@
+"""Finds what last stored a byte, by a repetition of the run with a watchpoint."""
+from __future__ import annotations
+
+from typing import Iterable, Iterator, List, Optional, Sequence, Tuple, TYPE_CHECKING
+
+from rvlook.output.printer import place_text
+from rvlook.protocol.instructions import instruction_of
+from rvlook.protocol.run import MOST_STEPS
+from rvlook.protocol.timeline import Action, Steps, Timeline, actions_between
+
+if TYPE_CHECKING:
+    from rvlook.protocol.run import Setup
+
+MOST_ACCESSES = 50  # that are examined, from the last one on
+
+Access = Tuple[int, bool]  # the step of a load or store, and whether the test wrote there by a `poke` after that step instead
+
+
+def writer_of(setup: Setup, past: Sequence[Action], address: int) -> Optional[str]:
+    """Returns what last stored the byte at an address, as text; None if nothing has, or if it is none of the last MOST_ACCESSES accesses."""
+    for step, is_poke in reversed(accesses(setup, past, address)[-MOST_ACCESSES:]):
+        if is_poke:
+            return "the test, after step %d" % step
+        found = store_at(setup, past, step)
+        if found is not None:
+            return found
+    return None
+
+
+def accesses(setup: Setup, past: Iterable[Action], address: int) -> List[Access]:
+    """Returns the accesses to a byte, in the order of the run."""
+    found: List[Access] = []
+    again = Timeline(setup)
+    try:
+        again.do("watch %x" % address)
+        for it in past:
+            if isinstance(it, Steps):
+                found += [(step, False) for step in watched_steps(again, it)]
+            else:
+                again.do_all([*it.chosen, it.line])
+                if it.line.startswith("poke") and int(it.line.split()[1], 16) == address:
+                    found.append((again.position, True))
+    finally:
+        again.close()
+    return found
+
+
+def watched_steps(again: Timeline, steps: Steps) -> Iterator[int]:
+    """Repeats steps; yields the number of each one that accesses the watched byte."""
+    for hart, count in parts_of(steps):
+        while count:
+            ran = again.run(hart, min(count, MOST_STEPS))
+            count -= ran.steps
+            if ran.why.startswith("watch"):
+                yield again.position
+
+
+def parts_of(steps: Steps) -> Iterator[Tuple[int, int]]:
+    """Yields steps as a hart and a number of steps each: all at once if they are of one hart."""
+    if steps.chosen:
+        yield int(steps.turns[0]), steps.count
+        return
+    for n in range(steps.count):
+        yield int(steps.turns[n % len(steps.turns)]), 1
+
+
+def store_at(setup: Setup, past: Iterable[Action], step: int) -> Optional[str]:
+    """Returns the instruction of a step as text if it is a store; else None."""
+    before = tuple(actions_between(past, -1, step - 1))
+    hart = next((it.last for it in actions_between(past, step - 1, step) if isinstance(it, Steps)), 0)
+    timeline = Timeline(setup, before, hart)
+    try:
+        pc = timeline.ask("regs")[0][32][3:]
+        done = instruction_of(timeline.ask("dis " + pc)[0][0].encode())
+        if done is None or done.memory is None or done.memory.kind != "w":
+            return None
+        return "%s at %s, step %d, in %s" % (done.abi, place_text(pc, setup.symbols), step, timeline.worlds[hart])
+    finally:
+        timeline.close()
