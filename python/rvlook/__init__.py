@@ -2,5 +2,5 @@
 
 A subpackage imports only itself and those before it in this order, which tests/rvlook/test_static.py checks:
 
-    errors output protocol image access trace finders monitors page prompt gdb cli
+    escapes errors output build protocol image access trace finders monitors page prompt gdb cli api
 """

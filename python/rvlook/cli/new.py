@@ -2,15 +2,19 @@
 from __future__ import annotations
 
 import os
+import re
 import shutil
 import sys
 
 from rvlook.errors import RvlookError, Unfinished
+from rvlook.output.files import create_file
 from rvlook.output.printer import Printer
 
 PACKAGE = os.path.dirname(os.path.dirname(os.path.realpath(__file__)))
 EXAMPLES = ("../../examples", "../../../../share/rvbench/examples")  # of a clone, and of an installation
-TEMPLATES = {"Makefile": "Makefile", "ci": "ci", "tasks.json": os.path.join(".vscode", "tasks.json")}
+TEMPLATES = {"Makefile": "Makefile", "ci": "ci", "pytest.ini": "pytest.ini", "tasks.json": os.path.join(".vscode", "tasks.json"),
+             "test_enclave.py": os.path.join("tests", "test_enclave.py")}
+SPECIAL = re.compile(r"""["'`$\\#\x00-\x1f\x7f]""")  # characters that make or a shell reads in another way
 START = os.path.join("enclaves", "hello")
 
 
@@ -24,29 +28,66 @@ def examples() -> str:
 
 
 def show_new(folder: str) -> None:
-    """Makes the folder: the sources of a first enclave, a Makefile, tasks for an editor, and a script for a CI job."""
+    """Makes the folder: the sources of a first enclave, tests, a Makefile, tasks for an editor, and a script for a CI job.
+
+    Writes no file that exists, and follows no link. Raises RvlookError or Unfinished; then nothing of the folder is left."""
     source = examples()
-    if os.path.exists(folder) and (not os.path.isdir(folder) or os.listdir(folder)):
+    commands = {"@BUILD@": quotable(os.path.join(source, "build")), "@RVLOOK@": quotable(rvlook()),
+                "@PYTHON@": quotable(sys.executable), "@PACKAGE@": quotable(os.path.dirname(PACKAGE))}
+    if not folder:
+        raise RvlookError("the name of the folder is empty; name a new folder")
+    if os.path.lexists(folder) and (not os.path.isdir(folder) or os.listdir(folder)):
         raise RvlookError("'%s' exists and is not empty; name a new folder" % folder)
+    was_there, made = os.path.isdir(folder), folder
     try:
-        os.makedirs(os.path.join(folder, ".vscode"), exist_ok=True)
-        for name in sorted(os.listdir(os.path.join(source, START))):
-            if name.endswith(".c"):
-                shutil.copyfile(os.path.join(source, START, name), os.path.join(folder, name))
-        for name, target in TEMPLATES.items():
-            fill(os.path.join(source, "new", name), os.path.join(folder, target), source)
-    except OSError as fault:
-        raise RvlookError("cannot write '%s': %s" % (folder, fault.strerror)) from None
+        for target, template in files_of(source).items():
+            os.makedirs(os.path.join(folder, os.path.dirname(target)), exist_ok=True)
+            fill(template, os.path.join(folder, target), commands)
+    except (OSError, ValueError) as fault:  # ValueError: a NUL in the name
+        made = ""
+        raise Unfinished("cannot write '%s': %s" % (folder, getattr(fault, "strerror", None) or fault)) from None
+    finally:
+        if not made:
+            remove(folder, was_there)
     Printer().line("made %s; next: cd %s && make run" % (folder, folder))
 
 
-def fill(template: str, target: str, source: str) -> None:
-    """Writes a template with the paths of the tools; the file keeps its mode."""
+def files_of(source: str) -> dict[str, str]:
+    """Returns for each file of a new folder its template in the examples."""
+    start = os.path.join(source, START)
+    found = {it: os.path.join(start, it) for it in sorted(os.listdir(start)) if it.endswith(".c")}
+    return {**found, **{target: os.path.join(source, "new", name) for name, target in TEMPLATES.items()}}
+
+
+def fill(template: str, target: str, commands: dict[str, str]) -> None:
+    """Writes a template with the paths of the tools to a new file, with the mode of the template."""
     with open(template, encoding="utf-8") as it:
         text = it.read()
-    with open(target, "w", encoding="utf-8") as it:
-        it.write(text.replace("@BUILD@", os.path.join(source, "build")).replace("@RVLOOK@", rvlook()))
+    for name, command in commands.items():
+        text = text.replace(name, command)
+    create_file(target, os.fsencode(text))
     shutil.copymode(template, target)
+
+
+def remove(folder: str, keeps_folder: bool) -> None:
+    """Removes what was written into a folder that was new or empty."""
+    for it in os.listdir(folder) if os.path.isdir(folder) else ():
+        path = os.path.join(folder, it)
+        if os.path.isdir(path) and not os.path.islink(path):
+            shutil.rmtree(path, ignore_errors=True)
+        else:
+            os.unlink(path)
+    if not keeps_folder and os.path.isdir(folder):
+        os.rmdir(folder)
+
+
+def quotable(path: str) -> str:
+    """Returns a path that a Makefile, its shell and a script may have in quotes. Raises Unfinished for one with another meaning there."""
+    special = SPECIAL.search(path)
+    if special:
+        raise Unfinished("the path '%s' has the character '%s', which a Makefile cannot hold; move the clone or the installation"
+                         % (path, special[0]))
+    return path
 
 
 def rvlook() -> str:

@@ -38,15 +38,22 @@ def setup_of(arguments: Namespace) -> Setup:
 
 def schedule_of(arguments: Namespace, lines: Iterable[ScriptLine]) -> str:
     """Returns the schedule of two harts after the script; empty for the selected hart alone. A note reports the default."""
+    if arguments.needs_order and arguments.harts > 1 and not sets_order(lines):
+        raise UsageError("%s has no schedule for --harts 2; set the order of the harts in the script, or use races --harts 2" % arguments.subcommand)
     if not arguments.has_schedule:
         return ""
     if arguments.schedule is None and arguments.seed is None:
-        if arguments.harts == 1 or any(tokens_of(it.text)[:1] in MOVING for it in lines):
+        if arguments.harts == 1 or sets_order(lines):
             return ""
         note("the harts alternate every %d steps; use --schedule N or --seed N for another order" % TURN)
     elif arguments.harts == 1:
         raise UsageError("--schedule and --seed require --harts 2")
     return alternating(arguments.schedule or TURN) if arguments.seed is None else random_schedule(arguments.seed)
+
+
+def sets_order(lines: Iterable[ScriptLine]) -> bool:
+    """Returns whether a script executes steps or selects a hart."""
+    return any(tokens_of(it.text)[:1] in MOVING for it in lines)
 
 
 def has_monitor(arguments: Namespace, image: Image, script: Iterable[ScriptLine]) -> bool:

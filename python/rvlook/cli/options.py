@@ -2,15 +2,18 @@
 from __future__ import annotations
 
 import argparse
+import math
 import re
 from typing import Any, NoReturn, TYPE_CHECKING
 
 from rvlook.errors import UsageError
+from rvlook.monitors.ranges_file import GRAMMAR
 from rvlook.protocol.schedule import TURN
 
 if TYPE_CHECKING:
     from argparse import ArgumentParser
 
+LONG_NUMBER = re.compile(r"(\d{20})\d{20,}")
 WORLD = re.compile(r"host\Z|bare\Z|[MSU]\Z|e([0-9]|1[0-2])\Z")
 
 
@@ -21,8 +24,8 @@ class Parser(argparse.ArgumentParser):
         super().__init__(allow_abbrev=False, **settings)
 
     def error(self, message: str) -> NoReturn:
-        """Raises UsageError with the message of argparse."""
-        raise UsageError("%s; see '%s --help'" % (message, self.prog))
+        """Raises UsageError with the message of argparse, in which long numbers are cut."""
+        raise UsageError("%s; see '%s --help'" % (LONG_NUMBER.sub(r"\1...", message), self.prog))
 
 
 def count(text: str) -> int:
@@ -43,6 +46,17 @@ def integer_of(text: str, least: int, what: str) -> int:
         number = least - 1
     if number < least:
         raise argparse.ArgumentTypeError("'%s' is not %s" % (text, what))
+    return number
+
+
+def seconds(text: str) -> float:
+    """Converts a number of seconds, which is finite and not negative."""
+    try:
+        number = float(text)
+    except ValueError:
+        number = -1.0
+    if not (math.isfinite(number) and number >= 0):
+        raise argparse.ArgumentTypeError("'%s' is not a non-negative number of seconds" % text)
     return number
 
 
@@ -75,7 +89,7 @@ def image_options(parser: ArgumentParser, has_json: bool = True, steps: int = 10
                         help="run at most N steps after the script (default: %d)" % steps)
     parser.add_argument("--json", action="store_true",
                         help="print one JSON object per line (see docs/LOOK.md)" if has_json else argparse.SUPPRESS)
-    parser.set_defaults(opened=None, schedule=None, has_schedule=False)
+    parser.set_defaults(opened=None, schedule=None, has_schedule=False, needs_order=False)
 
 
 def schedule_options(parser: ArgumentParser) -> None:
@@ -98,6 +112,13 @@ def findings_options(parser: ArgumentParser) -> None:
     """Adds the options that report findings to a calling program."""
     parser.add_argument("--exit-zero", dest="is_report", action="store_true", help="exit with status 0 instead of 1 if there are findings")
     parser.add_argument("--junit", metavar="FILE", help="write the findings to FILE as a JUnit XML report")
+
+
+def expect_option(parser: ArgumentParser) -> None:
+    """Adds the option that names failures which the author expects."""
+    parser.add_argument("--expect", metavar="FAILURE", action="append",
+                        help="expect FAILURE, which is then no finding: the name of a trap or of a status, such as 'store access fault' or "
+                             "BadRegion, with @PLACE for one function or address; repeatable")
 
 
 def trace_options(parser: ArgumentParser) -> None:
@@ -135,7 +156,7 @@ def leak_options(parser: ArgumentParser) -> None:
                         help="set the location of the secret: PLACE[:BYTES] in the region, image:PLACE[:BYTES], or REGISTER@PLACE for a register "
                              "when the enclave first reaches PLACE")
     parser.usage = "rvlook leak IMAGE --at PLACE [ONE TWO] [OPTIONS]; ONE and TWO are the secrets, in hexadecimal digits"
-    parser.set_defaults(secrets=())
+    parser.set_defaults(secrets=(), needs_order=True)
     parser.add_argument("--strict", action="store_true", help="compare the operands of divisions too, whose latency may depend on them")
     public_option(parser)
     parser.add_argument("--tries", metavar="N", type=positive, help="compare N generated secrets: corner values, single bits and random values")
@@ -148,7 +169,7 @@ def inputs_options(parser: ArgumentParser) -> None:
     parser.add_argument("--at", metavar="PLACE", help="set the location of a secret as for leak; report inputs at which it comes out")
     public_option(parser)
     parser.add_argument("--runs", metavar="N", type=positive, default=300, help="try at most N runs (default: 300)")
-    parser.add_argument("--seconds", metavar="S", type=float, help="stop after S seconds, and report the results so far")
+    parser.add_argument("--seconds", metavar="S", type=seconds, help="stop after S seconds, and report the results so far")
     parser.add_argument("--seed", metavar="N", type=int, default=0, help="set the seed of the random values (default: 0)")
     parser.add_argument("--entry", action="store_true", help="vary a0 to a3 at the entry too, which the monitor sets")
     parser.add_argument("--scripts", metavar="DIR", help="write an rvbench input for each finding to DIR")
@@ -170,6 +191,7 @@ def public_option(parser: ArgumentParser) -> None:
 def timer_options(parser: ArgumentParser) -> None:
     """Adds the options of `timer`."""
     parser.add_argument("--every", metavar="N", type=positive, default=1, help="interrupt before every Nth step only (default: 1)")
+    parser.set_defaults(needs_order=True)
 
 
 def races_options(parser: ArgumentParser) -> None:
@@ -195,7 +217,7 @@ def part_options(parser: ArgumentParser, first: str, last: str) -> None:
     """Adds the options that select a part of a long task, with their help, and its time limit."""
     parser.add_argument("--from", dest="first", metavar="N", type=count, default=0, help=first)
     parser.add_argument("--to", dest="last", metavar="N", type=count, help=last)
-    parser.add_argument("--seconds", metavar="S", type=float, help="stop after S seconds, and report the results so far")
+    parser.add_argument("--seconds", metavar="S", type=seconds, help="stop after S seconds, and report the results so far")
 
 
 def monitor_options(parser: ArgumentParser) -> None:
@@ -216,21 +238,28 @@ def conform_options(parser: ArgumentParser) -> None:
     monitor_options(parser)
     parser.add_argument("--tries", metavar="N", type=count, default=60, help="run N random scripts after the directed ones (default: 60)")
     parser.add_argument("--items", metavar="N", type=positive, default=120, help="run about N items in each random script (default: 120)")
+    parser.add_argument("--deep", action="store_true",
+                        help="add scripts with many calls, and with blocks of up to 2 MiB in 4 MiB of RAM; this takes minutes")
     parser.add_argument("--exact", action="store_true", help="compare the PMP entries as stored, and mepc, mcause and mtval")
     parser.add_argument("--only", metavar="TEXT", default="", help="run only the scripts with TEXT in their names, and accept empty cells")
     parser.add_argument("--jobs", metavar="N", type=positive, default=1, help="run N scripts at the same time (default: 1)")
-    parser.add_argument("--seconds", metavar="S", type=float, help="stop after S seconds, and report the results so far")
+    parser.add_argument("--seconds", metavar="S", type=seconds, help="stop after S seconds, and report the results so far")
     parser.add_argument("--scripts", metavar="DIR", help="write the shrunk script of each side to DIR")
+    parser.add_argument("--table", action="store_true", help="show the coverage table after a difference, too")
+    parser.set_defaults(ram=None, host=None)
 
 
 def guard_options(parser: ArgumentParser) -> None:
     """Adds the options of `guard`."""
     parser.add_argument("image", metavar="IMAGE", help="an ELF file with a monitor that runs in M, its host and its enclaves")
-    parser.add_argument("ranges", metavar="RANGES", help="a file that declares who owns which range (see docs/LOOK.md)")
+    parser.add_argument("--host", metavar="FILE", help="load the host and its enclaves from a second ELF file")
+    parser.add_argument("ranges", metavar="RANGES", help="a file that declares who owns which range")
     monitor_options(parser)
     parser.add_argument("--timers", metavar="N", type=count, default=8, help="run N times with timer interrupts at random moments (default: 8)")
     parser.add_argument("--steps", metavar="N", type=count, default=20000, help="run at most N steps of S and U (default: 20000)")
+    parser.add_argument("--jobs", metavar="N", type=positive, default=1, help="do N runs at the same time (default: 1)")
     parser.set_defaults(exact=False)
+    parser.epilog, parser.formatter_class = GRAMMAR, argparse.RawDescriptionHelpFormatter
 
 
 def gdb_options(parser: ArgumentParser) -> None:

@@ -6,14 +6,14 @@ import os
 import sys
 from typing import Any, Callable, Sequence, TYPE_CHECKING
 
-from rvlook.cli.options import (Parser, conform_options, findings_options, gdb_options, guard_options, image_options, inputs_options, leak_options,
-                                map_options, page_options, races_options, schedule_options, slot_option, timer_options, touch_options,
-                                trace_options, window_options)
+from rvlook.cli.options import (Parser, conform_options, expect_option, findings_options, gdb_options, guard_options, image_options,
+                                inputs_options, leak_options, map_options, page_options, races_options, schedule_options, slot_option,
+                                timer_options, touch_options, trace_options, window_options)
 from rvlook.cli.subcommands import (do_conform, do_explain, do_gdb, do_guard, do_inputs, do_leak, do_map, do_measure, do_new, do_page, do_prompt,
                                     do_races, do_run, do_timer, do_touch, do_trace, do_window)
 from rvlook.gdb.monitor import CommandLine
 from rvlook.cli.version import version
-from rvlook.errors import RvlookError, UsageError
+from rvlook.errors import RvlookError, UsageError, reason_of
 from rvlook.output.findings import Findings, check_junit, write_junit
 from rvlook.protocol.nearest import nearest
 
@@ -101,13 +101,14 @@ class Version(argparse.Action):
 def add_new(subparsers: Any) -> None:
     """Adds the subcommand `new`."""
     about = "Make a folder for an enclave of your own"
-    parser = subparsers.add_parser("new", help=about, description=about + ": sources, a Makefile, tasks for an editor, and a script for CI.")
+    parser = subparsers.add_parser("new", help=about, description=about + ": sources, tests, a Makefile, tasks for an editor, and a script for CI.")
     parser.add_argument("folder", metavar="DIR", help="the folder, which must be new or empty")
     parser.set_defaults(do=do_new, subcommand="new")
 
 
 OVER_AN_IMAGE: Sequence[Any] = (  # a name, its function, its help, and its options
-    ("run", do_run, "Run a program to its end, print what it writes to its console, and exit with its status", schedule_options),
+    ("run", do_run, "Run a program to its end, print what it writes to its console, and exit with its status", expect_option,
+     schedule_options, findings_options),
     ("map", do_map, "Show who can access what, and each change of it", map_options, schedule_options, findings_options),
     ("trace", do_trace, "Show each step of a run", trace_options, schedule_options, findings_options),
     ("touch", do_touch, "Show what each world read, wrote and executed, and what it was permitted to", touch_options, schedule_options,
@@ -115,7 +116,7 @@ OVER_AN_IMAGE: Sequence[Any] = (  # a name, its function, its help, and its opti
     ("window", do_window, "Show what each enclave activation read, wrote and left in its window", window_options, schedule_options,
      findings_options),
     ("inputs", do_inputs, "Vary what the host gives an enclave, and show what the host can make it do", slot_option, inputs_options,
-     findings_options),
+     expect_option, findings_options),
     ("leak", do_leak, "Compare runs that differ only in a secret of an enclave, and show where they diverge", slot_option, leak_options,
      findings_options),
     ("timer", do_timer, "Interrupt an enclave before each of its steps, and check that the result stays the same", slot_option, timer_options,
@@ -192,8 +193,8 @@ def perform(arguments: Namespace) -> int:
     try:
         arguments.do(arguments)
         return arguments.findings.status(arguments.is_report)
-    except (RvlookError, OSError, KeyboardInterrupt) as fault:
-        error = str(fault) or "interrupted"
+    except BaseException as fault:  # the report must not look like that of a run that was finished
+        error = "interrupted" if isinstance(fault, KeyboardInterrupt) else str(fault) if isinstance(fault, RvlookError) else reason_of(fault)
         raise
     finally:
         if arguments.junit:

@@ -45,7 +45,7 @@ def report_overflows(arguments: Namespace, run: Run, symbols: Symbols) -> None:
 
 def do_run(arguments: Namespace) -> None:
     """Runs `run`."""
-    show_run(*opened_to_its_script(arguments), arguments.findings)
+    show_run(*opened_to_its_script(arguments), arguments)
 
 
 def do_map(arguments: Namespace) -> None:

@@ -15,6 +15,7 @@ MOST = 1 << 16  # bytes of a packet; what is announced to a debugger is less
 NUMBER = re.compile(r"[0-9a-fA-F]{1,16}\Z")
 ESCAPED = re.compile(r"[#$}*]")
 INTERRUPT = b"\x03"
+BEFORE_PACKET = re.compile(rb"[+\-\x03]*")  # acknowledgements and Ctrl-C
 HUNG_UP = select.POLLHUP | select.POLLERR | getattr(select, "POLLRDHUP", 0)
 OFTEN = 0.2  # seconds between two checks whether the debugger has disconnected
 PATIENCE = 2  # seconds after which a waiting debugger gets a sign of life; lldb waits five for a reply
@@ -69,9 +70,10 @@ class Link:
         """Returns whether Ctrl-C came while the harts run; no packet comes then."""
         if len(self.buffer) < MOST and select.select([self.reading], [], [], 0)[0]:
             self.fill()
-        found = self.buffer.startswith(INTERRUPT)
-        self.buffer = self.buffer.lstrip(INTERRUPT)
-        return found
+        before = BEFORE_PACKET.match(self.buffer)
+        assert before
+        self.buffer = self.buffer[before.end():]
+        return INTERRUPT in before[0]
 
     @contextlib.contextmanager
     def watched(self, is_impatient: bool = False) -> Iterator[None]:

@@ -10,7 +10,7 @@ from typing import Callable, NamedTuple, Sequence, TYPE_CHECKING, TextIO
 
 from rvlook.protocol.bench_line import tokens_of
 from rvlook.protocol.commands import COMMANDS, Form, is_form, written
-from rvlook.output.escapes import visible
+from rvlook.escapes import visible
 from rvlook.errors import RvlookError
 from rvlook.gdb.entry import Entry
 from rvlook.gdb.moves import DISCARDED
@@ -26,7 +26,7 @@ if TYPE_CHECKING:
     from rvlook.protocol.symbols import Symbols
 
 OTHERS = ("measure", "explain")  # subcommands over a file of their own
-NOT_OFFERED = ("gdb", "conform", "guard")  # subcommands that run benches of their own, or this server
+NOT_OFFERED = ("gdb", "conform", "guard", "new")  # subcommands that run benches of their own or this server, or make a folder
 FROM_HERE = ("leak", "timer", "races")  # subcommands over the steps after the present one
 CAUGHT = ("switch", "trap", "call")
 OWN = {
@@ -35,7 +35,7 @@ OWN = {
     "entered": "entered: show where the host entered the enclave on this hart"}
 STALE = "(gdb shows old registers until `maintenance flush register-cache`; load python/rvlook/gdb/client.py to refresh them)\n"
 STALE_IN_LLDB = "(lldb shows old registers until the program continues)\n"
-READ_FILES, FOLDERS = ("script", "symbols", "file", "input"), ("scripts", "sources")  # arguments that name files and folders
+READ_FILES, FOLDERS = ("script", "symbols", "file", "input"), ("scripts", "sources", "folder", "junit")  # arguments that name files and folders
 
 
 class CommandLine(NamedTuple):

@@ -9,7 +9,7 @@ import threading
 from typing import Callable, Dict, Optional, TYPE_CHECKING
 
 from rvlook.protocol import names
-from rvlook.output.escapes import visible
+from rvlook.escapes import visible
 from rvlook.errors import BenchEnded, RvlookError, error as report_error, note, warn
 from rvlook.gdb.reverse import Back
 from rvlook.gdb.jumps import set_pc

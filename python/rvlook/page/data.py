@@ -84,6 +84,7 @@ class Collector:
 
     def __init__(self, run: Run, symbols: Symbols) -> None:
         self.objects, self.symbols = Objects(run, symbols, self), symbols
+        self.path = ""
         self.run: dict[str, Any] = {}
         self.end: dict[str, Any] = {}
         self.sites, self.places, self.traps, self.names = Table(), Table(), Table(), Table()
@@ -106,7 +107,7 @@ class Collector:
     @property
     def title(self) -> str:
         """Returns the name of the image, or of its folder if the image has a common name."""
-        path = os.path.abspath(self.run["image"])
+        path = os.path.abspath(self.path)
         name = os.path.basename(path)
         return os.path.basename(os.path.dirname(path)) if name in COMMON else os.path.splitext(name)[0] if name.endswith(".elf") else name
 
@@ -115,8 +116,8 @@ class Collector:
         getattr(self, "take_" + __kind)(members)
 
     def take_run(self, it: dict[str, Any]) -> None:
-        """Takes the object of the run."""
-        self.run = it
+        """Takes the object of the run. A page is passed on, so it has the name of the image and no path."""
+        self.path, self.run = it["image"], {**it, "image": os.path.basename(it["image"])}
 
     def take_end(self, it: dict[str, Any]) -> None:
         """Takes the object of the end."""

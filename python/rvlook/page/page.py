@@ -1,6 +1,8 @@
 """The subcommand `page`: writes a run as one page for a browser."""
 from __future__ import annotations
 
+import base64
+import hashlib
 import os
 from typing import Any, Sequence, TYPE_CHECKING
 
@@ -23,6 +25,7 @@ if TYPE_CHECKING:
     from rvlook.protocol.symbols import Symbols
 
 FOLDER = os.path.dirname(os.path.abspath(__file__))
+STYLES = ("page.css",)
 SCRIPTS = ("data.js", "chart.js", "marks.js", "panel.js", "stack.js", "find.js", "keys.js")
 
 
@@ -43,7 +46,30 @@ def show_page(run: Run, symbols: Symbols, printer: Printer, template: Any, paths
     columns = Columns()
     variables = [vars(it) for it in frames_of(paths[0] if len(paths) > 1 else None, run.setup.image, found.executed())]
     data = {**found.data(columns), "segments": segments_of(found), "sources": sources, "variables": variables}
-    printer.document(template.render(title=found.title, data=compressed(data, columns), scripts=SCRIPTS))
+    style, script = text_of(STYLES), text_of(SCRIPTS)
+    printer.document(template.render(title=found.title, data=compressed(data, columns), style=style, script=script, policy=policy_of(style, script)))
+
+
+def text_of(names: Sequence[str]) -> str:
+    """Returns the text of files of this folder."""
+    texts = []
+    for name in names:
+        with open(os.path.join(FOLDER, name), encoding="utf-8") as file:
+            texts.append(file.read())
+    return "\n" + "\n".join(texts)
+
+
+def policy_of(style: str, script: str) -> str:
+    """Returns the content security policy of a page: it runs only this script, has only this style, and loads nothing but its own data.
+
+    A name that broke out of its place in the page could run no script."""
+    return ("default-src 'none'; script-src '%s'; style-src '%s'; connect-src data:; base-uri 'none'; form-action 'none'"
+            % (hash_of(script), hash_of(style)))
+
+
+def hash_of(text: str) -> str:
+    """Returns the hash of the text of an element, as a policy names it (Content Security Policy 2.3.1)."""
+    return "sha256-" + base64.b64encode(hashlib.sha256(text.encode("utf-8")).digest()).decode("ascii")
 
 
 def collected(run: Run, symbols: Symbols) -> Collector:

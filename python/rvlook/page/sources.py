@@ -1,17 +1,18 @@
 """Reads the source files that the line tables of an ELF file name. A line table can name any file of this machine, and pages are passed
-on. Therefore only regular files below the folder of the ELF file, or below a folder of `--sources`, are read. Each is reported on standard
-error."""
+on. Therefore only regular files below the folder of the ELF file, or below a folder of `--sources`, are read. Their names end as those of sources
+do, and no part of their path below the folder is hidden. Each is reported on standard error."""
 from __future__ import annotations
 
 import os
 import stat
 from typing import Sequence
 
-from rvlook.output.escapes import visible
+from rvlook.escapes import visible
 from rvlook.errors import RvlookError, note
 from rvlook.image.source_paths import files_of
 
 LARGEST = 200000  # bytes of a source that is shown
+ENDINGS = (".c", ".h", ".s", ".S", ".asm", ".inc", ".cc", ".cpp", ".cxx", ".C", ".hh", ".hpp", ".hxx", ".rs", ".zig", ".go", ".ads", ".adb", ".d")
 
 
 def roots_of(folders: Sequence[str]) -> list[str]:
@@ -37,10 +38,16 @@ def source_texts(paths: Sequence[str], wanted: set[str], roots: list[str]) -> di
     return texts
 
 
+def is_shown_below(path: str, root: str) -> bool:
+    """Returns whether a path is below a folder, with no hidden file or folder on the way."""
+    return os.path.commonpath([path, root]) == root and not any(it.startswith(".") for it in os.path.relpath(path, root).split(os.path.sep))
+
+
 def text_of(path: str, roots: Sequence[str]) -> str | None:
-    """Returns the text of a source, or None: it is not there, is no regular file below one of the folders, or is too long."""
+    """Returns the text of a source, or None if it may not be shown or is too long. It must be a regular file below one of the folders. Its name must
+    end as that of a source, and no part of its path may be hidden. Symbolic links are resolved first."""
     path = os.path.realpath(path)
-    if not any(os.path.commonpath([path, it]) == it for it in roots):
+    if not path.endswith(ENDINGS) or not any(is_shown_below(path, it) for it in roots):
         return None
     try:
         with open(os.open(path, os.O_RDONLY | os.O_NONBLOCK | os.O_NOFOLLOW | os.O_CLOEXEC), "rb") as file:

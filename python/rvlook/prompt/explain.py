@@ -12,12 +12,14 @@ from rvlook.protocol.bench import COUNTS, program_path
 from rvlook.protocol.bench_line import LONGEST_LINE, has_reply, is_separator, lines_of, tokens_of
 from rvlook.protocol.commands import COMMANDS
 from rvlook.protocol.messages import input_error, line_error
-from rvlook.errors import Unfinished
-from rvlook.image.files import bounded, read_file
+from rvlook.errors import RvlookError, Unfinished
+from rvlook.image.files import MOST_LINES, bounded, read_file
 
 if TYPE_CHECKING:
     from rvlook.output.findings import Findings
     from rvlook.output.printer import Printer
+
+MOST_ERRORS = 10000  # errors of an input that are explained
 
 
 @dataclass(frozen=True)
@@ -101,36 +103,45 @@ def shown(text: str) -> str:
 
 def script_errors(lines: Iterable[tuple[int, str]], replies: Sequence[str], is_twin: bool) -> list[Explained]:
     """Returns the lines of a script that have an error reply."""
-    found, index = [], 0
+    found: list[Explained] = []
+    index = 0
     for number, line in lines:
         if not has_reply(line):
             continue
+        if len(found) > MOST_ERRORS:
+            break
         tokens = tokens_of(line)
         reply = replies[index] if index < len(replies) else ""
         if tokens == ["--"] and is_twin:
             continue
-        if reply.startswith("error "):
+        if reply.startswith("error ") and tokens != ["enclaves"]:  # which has no error; without enclaves, the reply is that of the next line
             index += 1
             found.append(Explained(number, shown(line), reply, *line_error(reply, tokens)))
         else:
-            index += marked_count(replies[index:]) or count_of(tokens, replies[index:])
+            index = marked_end(replies, index) or end_of(tokens, replies, index)
     return found
 
 
-def marked_count(replies: Sequence[str]) -> int:
-    """Returns how many of the lines are the replies of two benches to one command."""
-    first = next((n for n, it in enumerate(replies) if not it.startswith("a: ")), len(replies))
-    second = next((n for n, it in enumerate(replies[first:]) if not it.startswith("b: ")), len(replies) - first)
-    return first + second
+def end_of_run(replies: Sequence[str], index: int, start: str) -> int:
+    """Returns the index after the lines from `index` on that begin with `start`."""
+    while index < len(replies) and replies[index].startswith(start):
+        index += 1
+    return index
 
 
-def count_of(tokens: Sequence[str], replies: Sequence[str]) -> int:
-    """Returns how many of the lines are the reply to a command."""
+def marked_end(replies: Sequence[str], index: int) -> int:
+    """Returns the index after the replies of two benches to one command; 0 if there are none at `index`."""
+    end = end_of_run(replies, end_of_run(replies, index, "a: "), "b: ")
+    return end if end > index else 0
+
+
+def end_of(tokens: Sequence[str], replies: Sequence[str], index: int) -> int:
+    """Returns the index after the reply to a command."""
     if tokens[0] == "enclaves":
-        return next((n for n, it in enumerate(replies) if not it.startswith("enclave ")), len(replies))
+        return end_of_run(replies, index, "enclave ")
     if tokens[0] == "sched":
-        return 2 if len(replies) > 1 and replies[0].startswith("hart 0") and replies[1].startswith("hart 1") else 1
-    return COUNTS.get(tokens[0], 1)
+        return index + (2 if [it[:6] for it in replies[index:index + 2]] == ["hart 0", "hart 1"] else 1)
+    return index + COUNTS.get(tokens[0], 1)
 
 
 def command_line_errors(arguments: Sequence[str]) -> list[Explained]:
@@ -154,8 +165,10 @@ def argument_error(arguments: Sequence[str], index: int) -> tuple[str, str]:
 def show_explain(path: str, arguments: Sequence[str], printer: Printer, findings: Findings) -> None:
     """Prints the errors of an input, and what to write; each is a finding."""
     data = bounded(sys.stdin.buffer, "standard input") if path == "-" else read_file(path)
+    if data.count(b"\n") > MOST_LINES:
+        raise RvlookError("script '%s' is too long: it has more than %d lines" % (path, MOST_LINES))
     found = explained(arguments or ["run"], data)
-    for it in found:
+    for it in found[:MOST_ERRORS]:
         findings.add("line %d" % it.line if it.line else "input", "%s: %s: %s" % (it.text, it.reply, it.meaning))
         if printer.as_json:
             printer.object("error", line=it.line, text=it.text, reply=it.reply, meaning=it.meaning, suggestion=it.suggestion)
@@ -165,6 +178,8 @@ def show_explain(path: str, arguments: Sequence[str], printer: Printer, findings
         printer.line("  " + it.meaning)
         if it.suggestion:
             printer.line("  try: " + it.suggestion)
+    if len(found) > MOST_ERRORS:
+        findings.cut_short("explain stopped after %d errors; correct them, and run it again" % MOST_ERRORS)
     if not found:
         findings.add("input")
     if not found and not printer.as_json:

@@ -5,7 +5,7 @@ import sys
 from typing import Iterator, TYPE_CHECKING
 
 from rvlook.protocol.bench_line import lines_of
-from rvlook.output.escapes import visible_line
+from rvlook.escapes import visible_line
 from rvlook.prompt.session import TimelineKeeper, Session, completions
 from rvlook.output.printer import Style
 from rvlook.protocol.timeline import Timeline

@@ -8,7 +8,7 @@ from rvlook.protocol import names
 from rvlook.protocol.bench_line import has_reply, is_malformed, tokens_of
 from rvlook.protocol.commands import COMMANDS, Form, is_form
 from rvlook.protocol.console import consoles_of
-from rvlook.output.escapes import visible
+from rvlook.escapes import visible
 from rvlook.protocol.messages import line_error
 from rvlook.errors import SymbolError
 from rvlook.protocol.lines import resolved
