@@ -7,14 +7,10 @@ import subprocess
 import pytest
 
 from conftest import BUILD, PROGRAMS, ROOT
+from support.builds import COMPILERS, HAS_CLANG, build, with_clang
 
 EXAMPLES = ROOT / "examples"
 LINK = EXAMPLES / "shared" / "link.ld"
-HAS_CLANG = bool(shutil.which("clang") and shutil.which("ld.lld") and shutil.which("llvm-objcopy"))
-HAS_GCC = bool(shutil.which("riscv64-unknown-elf-gcc"))
-COMPILERS = [pytest.param("--clang", marks=pytest.mark.skipif(not HAS_CLANG, reason="clang, lld or llvm is not installed")),
-             pytest.param("--gcc", marks=pytest.mark.skipif(not HAS_GCC, reason="riscv64-unknown-elf-gcc is not installed"))]
-with_clang = pytest.mark.skipif(not HAS_CLANG, reason="clang, lld or llvm is not installed")
 STORED = tuple("enclaves/" + it for it in ("adds", "bug", "host_inputs", "hmac", "hmac_attacked", "refused", "store", "store_leaking", "timer", "at_rest",
                                            "two_harts")) + ("monitors/own_monitor",)
 MONITOR = EXAMPLES / "monitors" / "own_monitor"
@@ -42,12 +38,6 @@ unsigned application(volatile unsigned *window)
     return window[2] = application_twice(sum_of(window[0], window[1]));
 }
 """
-
-
-def build(*arguments, command=BUILD, cwd=ROOT, compiler="--clang", **env):
-    """Runs `build`; returns its `CompletedProcess`."""
-    return subprocess.run([str(command), compiler, *map(str, arguments)], cwd=cwd, capture_output=True, text=True, timeout=120,
-                          env={**os.environ, **env}, check=False)
 
 
 @pytest.fixture
@@ -88,6 +78,7 @@ def last_reply(program, folder, *commands):
 def test_the_stored_images_are_what_clang_14_builds(tmp_path, name):
     examples = tmp_path / "examples"
     shutil.copytree(EXAMPLES, examples, symlinks=True)
+    (tmp_path / "python").symlink_to(ROOT / "python")
     done = build(name, command=examples / "build")
     assert (done.returncode, done.stderr) == (0, "")
     for part in ("image", "symbols"):

@@ -175,7 +175,8 @@ def check_moves(one, other):
             assert (a.hart, a.kind) == (b.hart, b.kind)
             assert a.kind == "low" or a.trap == b.trap
             if a.shows_window:
-                window = slice(0 if a.kind == "exit" else 2, None)
+                # A timer interrupt, whose cause has bit 31, hands over no register.
+                window = slice(0 if a.kind == "exit" and int(a.trap.split(":")[0], 16) < 0x80000000 else 2, None)
                 assert [it for it in a.handover if it != "ok"][window] == [it for it in b.handover if it != "ok"][window]
 
 

@@ -1,4 +1,4 @@
-"""The commands of README.md, of the tutorial and of OWN_MONITOR.md work in a fresh clone, in order.
+"""The commands of README.md, of the tutorial, of OWN_MONITOR.md and of TESTS.md work in a fresh clone, in order.
 
 bash runs each block of indented lines in the clone. Each command exits with status 0, or 1 if it is a subcommand of rvlook that reports
 findings. The text below a line with `$` is its output; a line `...` matches any lines. The tests skip ./check,
@@ -13,7 +13,7 @@ import pytest
 
 from conftest import ROOT
 
-PAGES = ("README.md", "docs/TUTORIAL.md", "docs/OWN_MONITOR.md")
+PAGES = ("README.md", "docs/TUTORIAL.md", "docs/OWN_MONITOR.md", "docs/TESTS.md")
 FINDS = re.compile(r"^\./rvlook (?:leak|races|timer|window|inputs|conform|guard) .*$", re.M)  # status 1 is a finding
 LEFT_OUT = ("./check", "./prove", "apt-get")
 BLOCK = re.compile(r"(?:^    .*\n|^\n(?=    ))+", re.M)

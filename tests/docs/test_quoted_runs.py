@@ -1,7 +1,7 @@
 """Quoted runs: the text below a command after `$` is the output of that command.
 
 `./rvbench` is replaced by the built program. The output of ./rvlook may be quoted in parts, with a line `...` between them.
-test_doc_commands.py tests the commands on the enclave ../my_enclave that a page has built before.
+test_doc_commands.py tests the commands on an enclave that a page has built before.
 """
 import os
 import re
@@ -13,6 +13,7 @@ import pytest
 ROOT = Path(__file__).resolve().parents[2]
 PAGES = [ROOT / "README.md", *sorted(ROOT.glob("docs/**/*.md"))]
 SECONDS = 60
+BUILT = ("../my_enclave", "../tested_enclave")  # by a page
 
 
 def runs_of(text):
@@ -48,7 +49,7 @@ def is_quoted(program, command, wanted):
 
 
 QUOTED = [(page, command, wanted) for page in PAGES for command, wanted in runs_of(page.read_text(encoding="utf-8"))
-          if "../my_enclave" not in command]
+          if not any(it in command for it in BUILT)]
 
 
 @pytest.mark.parametrize("page, command, wanted", QUOTED, ids=["%s:%d" % (page.name, at) for at, (page, _, _) in enumerate(QUOTED)])

@@ -1,5 +1,6 @@
 """`conform`: the example monitor is alike, each field that can differ is reported as itself, and the exit statuses and outputs."""
 import dataclasses
+import re
 
 import pytest
 
@@ -174,6 +175,25 @@ def test_report_names_the_last_instruction_and_its_line(rvlook, wrong_order):
     assert [it.split() for it in lines[3:6]] == [["x10"], ["own", "monitor", "fffffffd"], ["monitor", "of", "rvbench", "fffffffe"]]
     assert lines[6].startswith("    last written in M by lw a0, 40(t6) at ") and "start.s:" in lines[6]
     assert ", last stored by sw " in lines[7] and "monitor.c:" in lines[8]
+
+
+def test_coverage_table_follows_a_difference_only_on_request(rvlook, wrong_order):
+    words = ("conform", wrong_order, "--only", "two refusals")
+    assert "coverage:" not in rvlook(*words).stdout
+    assert re.search(r"\ncoverage: \d+ of 66 cells\n", rvlook(*words, "--table").stdout)
+
+
+def test_missing_check_is_shown_as_the_branch_of_a_similar_call(rvlook, objects, tmp_path):
+    """The monitor accepts an entry at the end of the region. A similar call with another bad entry is refused by both."""
+    edit = ("monitor.c", "    if (entry % 4 || !contains(region, entry))\n", "    if (entry % 4 || (entry != region.base + region.size && !contains(region, entry)))\n")
+    elf = variant(tmp_path, [edit])
+    line = 1 + (tmp_path / "monitor" / "monitor.c").read_text().splitlines().index(edit[2].rstrip("\n"))
+    done = rvlook("conform", elf, "--only", "entries")
+    shown = done.stdout.split("the result of '")[1].splitlines()
+    assert done.returncode == 1 and shown[0].startswith("create with a") and "' is BadEntry in both monitors; " in shown[0]
+    assert [it.split()[0] for it in shown[1:4]] == ["after", "to", "not"] and "monitor.c:%d" % line in shown[1]
+    status, found = objects("conform", elf, "--only", "entries")
+    assert status == 1 and [it["result"] for it in found if it["object"] == "divergence"] == ["BadEntry"]
 
 
 def test_trap_in_m_is_located(rvlook, tmp_path):

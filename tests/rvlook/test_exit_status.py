@@ -149,6 +149,17 @@ def test_junit_has_a_case_for_each_pair_activation_and_end(rvlook, short_program
 
 
 @junitparser
+def test_junit_has_a_case_and_the_time_of_each(rvlook, short_program, tmp_path):
+    path = tmp_path / "report.xml"
+    assert rvlook("map", *short_program("leak_trap"), "--junit", path).returncode == 0
+    suite, cases = junit(path)
+    assert cases == [("the run",)] and float(suite.get("time")) > 0
+    rvlook("leak", *short_program("leak_trap"), "--at", "secret:4", "--tries", "2", "--junit", path)
+    (suite,) = ElementTree.parse(path).getroot()
+    assert [float(it.get("time")) > 0 for it in suite] == [True, True]
+
+
+@junitparser
 def test_junit_has_an_error_if_the_work_is_cut_short(rvlook, short_program, tmp_path):
     path = tmp_path / "it.xml"
     done = rvlook("timer", *short_program("leak_trap"), "--junit", path)

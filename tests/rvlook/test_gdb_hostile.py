@@ -140,7 +140,7 @@ class Port:
 
 
 NAMING = ["races --scripts {0}/ends", "page --sources {0}", "page --script {0}/file", "touch --lcov --symbols {0}/file",
-          "measure {0}/file 80000000 1000 0 0 80000000", "explain {0}/file"]
+          "measure {0}/file 80000000 1000 0 0 80000000", "explain {0}/file", "map --junit {0}/report"]
 
 
 def test_debugger_on_a_port_names_no_file(bench, elf, tmp_path):
@@ -152,6 +152,28 @@ def test_debugger_on_a_port_names_no_file(bench, elf, tmp_path):
             assert "secret" not in text
         assert "80000000" in port.monitor("where")
     assert not (tmp_path / "scripts").exists()
+
+
+@pytest.mark.parametrize("words", [(), ("--allow-files",)], ids=["without files", "with files"])
+def test_debugger_makes_no_folder(bench, elf, tmp_path, words):
+    folder = tmp_path / "folder"
+    folder.mkdir()
+    image = folder / "image.elf"
+    image.write_bytes(elf.read_bytes())
+    with Port(bench, image, *words) as port:
+        image.unlink()  # `new` got the name of the image
+        for line in ("new", "rvlook new", "rvlook new %s/mine" % folder, "new %s/mine" % folder):
+            port.monitor(line)
+        assert "new" not in port.monitor("help").split("subcommands over")[1].split(":")[1].split()
+    assert not list(folder.iterdir())
+
+
+@pytest.mark.parametrize("before", [b"+", b"-", b"++", b"+\x03+"])
+def test_acknowledgement_does_not_hide_an_interrupt(bench, tmp_path, before):
+    path = tmp_path / "image"
+    path.write_text("6f000000\n")
+    found, _ = replies(bench, path, packet("vCont;c"), before + b"\x03", timeout=30)
+    assert [it for it in found if it[:1] in b"ST"][-1].startswith(b"T")
 
 
 def test_debugger_on_a_port_names_files_by_permission(bench, elf, tmp_path):

@@ -41,10 +41,10 @@ def folder(tmp_path_factory):
         pytest.skip("clang 14 and lld are not installed")
     path = tmp_path_factory.mktemp("sessions")
     shutil.copytree(EXAMPLES, path / "examples")
-    for file, example in BUILT.items():
-        subprocess.run([path / "examples" / "build", example, path / file], check=True, capture_output=True)
     for name in ("rvlook", "python"):
         (path / name).symlink_to(ROOT / name)
+    for file, example in BUILT.items():
+        subprocess.run([path / "examples" / "build", example, path / file], check=True, capture_output=True)
     return path
 
 

@@ -1,5 +1,8 @@
 """`leak`: the step at which two runs diverge, and the compared secrets."""
+from types import SimpleNamespace
+
 import pytest
+from rvlook.finders import leak_text
 
 from conftest import EXAMPLES
 
@@ -97,4 +100,34 @@ def test_first_pair_with_equal_answers_is_shown(rvlook):
     folder = EXAMPLES / "enclaves" / "store_leaking"
     lines = rvlook("leak", "--monitor", folder / "image", "--symbols", folder / "symbols", "--at", "pin:8", "--tries", "4").stdout.splitlines()
     assert lines[0] == "pair 3 of 4, the first that differs with the same answer"
-    assert lines[-1] == "3 of them differ in the answer too, and may show no more than that"
+    assert lines[-1] == "3 pairs differ with the answer: the program answers its own secret in one way, and each other secret in another"
+
+
+def test_pair_with_equal_answers_is_shown_before_one_with_others(monkeypatch):
+    shown, lines = [], []
+    monkeypatch.setattr(leak_text, "pair_text", lambda leak, secrets, both, found: shown.append(found))
+    leak = SimpleNamespace(printer=SimpleNamespace(line=lines.append), channels=("pc", "answer"))
+    pairs = {number: leak_text.Compared(number, (), False, (), channels, "pair %d" % number, ())
+             for number, channels in ((1, ("pc", "answer")), (2, ("pc",)))}
+    leak_text.print_result(leak, [*pairs.values()], pairs, set())
+    assert shown == ["pair 2"] and lines[0] == "pair 2 of 2, the first that differs with the same answer"
+
+
+def test_verdict_of_a_correct_store_is_no_finding(rvlook):
+    folder = EXAMPLES / "enclaves" / "store"
+    done = rvlook("leak", "--monitor", folder / "image", "--symbols", folder / "symbols", "--at", "pin:8", "--tries", "6")
+    assert done.returncode == 0 and done.stdout.splitlines() == [
+        "4 pairs differ with the answer: the program answers its own secret in one way, and each other secret in another",
+        "no difference in the other 2 pairs: pc, steps, address, answer, window"]
+
+
+def test_time_of_a_wrong_secret_is_a_finding_beside_a_verdict(objects):
+    folder = EXAMPLES / "enclaves" / "store_leaking"
+    status, found = objects("leak", "--monitor", folder / "image", "--symbols", folder / "symbols", "--at", "pin:8", "--tries", "6")
+    assert (status, found[-1]["differing"], found[-1]["with_answer"]) == (1, [3], [1, 2, 4, 5])
+
+
+def test_answer_that_has_a_part_of_the_secret_is_no_verdict(objects):
+    folder = EXAMPLES / "enclaves" / "store_leaking"
+    status, found = objects("leak", "--monitor", folder / "image", "--symbols", folder / "symbols", "--at", "key:32", "--tries", "3")
+    assert (status, found[-1]["differing"], found[-1]["with_answer"]) == (1, [1, 2, 3], [])

@@ -5,7 +5,7 @@ from pathlib import Path
 
 import pytest
 from support.message_files import IMAGES, Files
-from support.message_runs import ACCESS, FULL, MORE, NEVER_BACK, ONE_SCRIPT, ORDER, OTHERWISE, REGISTERS, Runs
+from support.message_runs import ACCESS, CUT_PAIR, FULL, LATE_REPLAY, MANY_VECTORS, MORE, NEVER_BACK, ONE_SCRIPT, ORDER, OTHERWISE, REGISTERS, Runs
 
 from conftest import EXAMPLES, PROGRAMS, ROOT, RVLOOK
 
@@ -14,8 +14,8 @@ ROWS = [(int(status), severity, line.replace("\\|", "|")) for status, severity, 
         ROW.findall((ROOT / "docs" / "LOOK.md").read_text(encoding="utf-8").split("## Exit statuses")[1])]
 KEPT = ("RVBENCH",)  # in capitals, but no placeholder
 ADDS, LISTING, SUM = EXAMPLES / "enclaves" / "adds" / "image", EXAMPLES / "enclaves" / "adds" / "symbols", EXAMPLES / "programs" / "sum" / "stdin"
-LEAKS, OVERFLOW = IMAGES + "/leak/image", PROGRAMS / "stack_overflow"
-MONITORS = EXAMPLES / "monitors"
+LEAKS, USES = IMAGES + "/leak/image", PROGRAMS / "stack_uses"
+MONITORS, STORE = EXAMPLES / "monitors", EXAMPLES / "enclaves" / "store"
 NUMBERS = ("80020000", "1000", "0", "0", "80020000")
 
 
@@ -37,11 +37,9 @@ class Cases:
     def counted(self, *words):
         return "races", "--monitor", "--harts", "2", "--ram", "131072", self.files.counter, *words
 
-    def overflow(self, top):
-        """A program whose stack overflows, with another top of the stack in its symbols if one is given."""
-        text = (OVERFLOW / "symbols").read_text(encoding="ascii")
-        listing = self.files.write("listing_%s" % top, text.replace("80021000  runtime_stack_top", "%s  runtime_stack_top" % top) if top else text)
-        return "map", "--monitor", OVERFLOW / "image", "--symbols", listing
+    def overflow(self, task):
+        """A program whose stack overflows by a large frame (1), or by a store through a pointer (3)."""
+        return "map", "--monitor", USES / "image", "--symbols", USES / "symbols", "--script", self.files.write("task_%d" % task, "poke task %02x\n" % task)
 
     def of_images(self):
         """Messages about the image, its symbols and its script."""
@@ -61,7 +59,7 @@ class Cases:
             "cannot load 'FILE': rvbench: image 9": ("map", "--no-monitor", "--ram", "65536", files.compressed), "no symbols from": ("map", "--symbols", files.cut, SUM),
             "no symbols in": ("map", "--symbols", files.text, SUM),
             "no symbol 'NAME'; did": ("trace", "--monitor", ADDS, "--symbols", LISTING, "--function", "man"),
-            "no symbol 'NAME': no": ("trace", SUM, "--function", "main"), "no source lines": ("touch", SUM, "--lcov"),
+            "no symbol 'NAME': no": ("trace", SUM, "--function", "main"), "no source lines; use": ("touch", SUM, "--lcov"), "no source lines from": ("trace", files.endless, "--monitor", "--to", "3"),
             "embedding": ("page", files.with_source, "--steps", "40"), "--sources": ("page", SUM, "--sources", "/none"),
             "create rejects": ("measure", files.region, "80020000", "1001", *NUMBERS[2:]),
             "cannot read": ("measure", files.cut, *NUMBERS), "'FILE' has COUNT bytes": ("measure", ROOT / "docs" / "LOOK.md", *NUMBERS)}
@@ -76,12 +74,13 @@ class Cases:
             "the two secrets": self.leak("80020800", "00", "0001"), "the size of": self.tries("80020800"),
             "the enclave in slot NUMBER is never": self.leak("80020800", "00", "00", "--steps", "6158"),
             "--steps COUNT ended the run while the": ("timer", "--monitor", hmac, "--steps", "60"), "--seconds ended leak": self.tries("80020f00:4", "--seconds", "0"),
-            "--seconds ended inputs": ("inputs", "--monitor", ADDS, "--seconds", "0"), "inputs runs": ("inputs", "--monitor", ADDS, "--harts", "2"),
+            "--seconds ended inputs after": ("inputs", "--monitor", ADDS, "--seconds", "0"), "inputs runs": ("inputs", "--monitor", ADDS, "--harts", "2"),
             "the enclave in slot NUMBER does": ("inputs", "--monitor", EXAMPLES / "enclaves" / "two_harts" / "image", "--steps", "3000"),
+            "no two secrets": ("leak", "--monitor", STORE / "image", "--symbols", STORE / "symbols", "--at", "pin:8", "--tries", "2"),
             "the host does not": ("timer", "--monitor", ADDS), "the enclave in slot NUMBER never": self.tries("a0@80020f00"),
             "leak requires": ("leak", "--monitor", LEAKS, "--at", "80020800"), "no enclave runs": ("window", "--monitor", ADDS, "--steps", "9"),
-            "stack overflow in WORLD at step NUMBER, PLACE: sp": self.overflow(None),
-            "stack overflow in WORLD at step NUMBER, PLACE: store": self.overflow("80020fc0"),
+            "stack overflow in WORLD at step NUMBER, PLACE: sp": self.overflow(1),
+            "stack overflow in WORLD at step NUMBER, PLACE: store": self.overflow(3),
             "no enclave in": ("timer", SUM, "--monitor", "--steps", "9"),
             "the enclave in slot NUMBER executes": ("timer", "--monitor", EXAMPLES / "enclaves" / "at_rest" / "image"),
             "cannot write 'REPORT'": self.leak("80020800", "00", "00", "--junit", "/none/report"),
@@ -104,43 +103,71 @@ class Cases:
         """Messages of `run` about the end of a program."""
         hello = EXAMPLES / "enclaves" / "hello"
         again = self.files.write("again", "970200009382c2007390523073000000\n")  # sets mtvec to the address of its ecall
+        failing = ("--monitor", PROGRAMS / "failing" / "image", "--symbols", PROGRAMS / "failing" / "symbols", "--script")
+        host, call, hang, stuck = (self.files.write(it.replace(" ", "_"), it + "\n") for it in
+                                   ("poke task 01", "poke task 02", "poke task 03", "poke inside 02"))
+        attacked = EXAMPLES / "enclaves" / "hmac_attacked" / "image"
         return {
+            "CAUSE (value": ("run", *failing, host), "CALL refused": ("run", *failing, call), "the program hangs": ("run", *failing, hang),
+            "the enclave hangs": ("run", *failing, stuck), "expected: FAILURE": ("run", *failing, host, "--expect", "store access fault"),
+            "--expect 'FAILURE': it": ("run", *failing, hang[:-1] + "1", "--expect", "BadState"), "invalid --expect": ("run", SUM, "--expect", "BadEntri"),
+            "NUMBER more traps": ("run", "--monitor", attacked),
+            "the search for traps": ("run", "--steps", "400000", self.files.write("storm", "970200009382020173905230232000001300000023200000\n")),
             "the program ended": ("run", hello / "image", "--symbols", hello / "symbols"), "the program is in": ("run", ADDS),
             "the program did not end": ("run", self.files.loop, "--steps", "50"), "fault: CAUSE at": ("run", EXAMPLES / "programs" / "elf" / "image"),
             "fault: CAUSE again": ("run", again), "fault: a jump": ("run", MONITORS / "own_monitor" / "image")}
+
+    def guarded(self, name, steps):
+        """The example with two enclaves, in a short run. The line `once` lacks the first filler."""
+        ranges = self.files.write("ranges" + name, (MONITORS / "two_enclaves" / "ranges").read_text().replace("once         filler0 ", "once         "))
+        return "guard", "--timers", "0", "--steps", steps, MONITORS / "two_enclaves" / "image", ranges
 
     def of_monitors(self):
         """Messages of `conform` and `guard`."""
         files, own, pair = self.files, MONITORS / "own_monitor" / "image", MONITORS / "two_enclaves" / "image"
         return {
-            "'FILE' is not a 32-bit": ("conform", SUM), "'FILE' has COUNT mret": ("conform", EXAMPLES / "programs" / "elf" / "image"),
+            "'FILE' is not a 32-bit ELF file, which": ("conform", SUM), "'FILE' is not a 32-bit ELF file 2": ("guard", own, files.text, "--host", SUM),
+            "a segment of": ("guard", own, files.text, "--host", pair),
+            "'FILE' has COUNT mret": ("conform", EXAMPLES / "programs" / "elf" / "image"),
             "boot line": ("conform", own, "--boot", files.lines["unknown"]), "no script has": ("conform", own, "--only", "nothing"),
             "--ram": ("conform", own, "--ram", "131072"), "FILE:LINE: expected": ("guard", pair, files.text),
             "'FILE' has no range": ("guard", pair, files.write("hands", "hands a0\n")), "the time limit": ("conform", own, "--seconds", "0"),
+            "these enclaves never": self.guarded("9", "880"), "these enclaves were": self.guarded("0", "880"),
+            "after they were": self.guarded("1", "4000"), "a run ended": ("guard", "--timers", "0", own, MONITORS / "two_enclaves" / "ranges"),
             "--returns": ("map", "--returns", "--monitor", ADDS), "in M at step": ("map", "--returns", "--no-monitor", IMAGES + "/map_opened/image")}
 
     def of_arguments(self):
         """Messages about the command line."""
         return {
             "page does": ("page", SUM, "--json"), "no subcommand": ("mpa", SUM), "unrecognized": ("map", SUM, "--fly"),
+            "argument --seconds": ("races", "--seconds", "nan", SUM),
+            "SUBCOMMAND has no schedule": ("timer", "--monitor", "--harts", "2", ADDS),
             "argument --world": ("trace", SUM, "--world", "foo"), "argument --every": ("timer", SUM, "--every", "0"),
             "--to NUMBER": ("trace", SUM, "--from", "9", "--to", "3"), "--from NUMBER": self.tries("80020800:4", "--from", "3"),
             "cannot listen": ("gdb", SUM, "--port", "99999"), "--schedule and": ("map", ADDS, "--schedule", "4"),
-            "the harts alternate": ("map", ADDS, "--harts", "2"), "'DIR' exists": ("new", ROOT), "cannot write 'DIR'": ("new", "/proc/none"), "--harts 2": ("map", SUM, "--harts", "2"), "OPTION cannot": ("touch", SUM, "--lcov", "--json")}
+            "the harts alternate": ("map", ADDS, "--harts", "2"), "'DIR' exists": ("new", ROOT), "cannot write 'DIR'": ("new", "/proc/none"), "the name of the folder": ("new", ""), "--harts 2": ("map", SUM, "--harts", "2"), "OPTION cannot": ("touch", SUM, "--lcov", "--json")}
 
     def special(self):
         """Messages that need more than a command line: each has a function."""
         runs, files = self.runs, self.files
-        races = ("races", "--monitor", ADDS)
+        races, inputs = ("races", "--monitor", ADDS), ("inputs", "--monitor", EXAMPLES / "enclaves" / "bug" / "image")
         return {
             "running the unproved": lambda: runs.unproved(self.folder, SUM), "cannot build rvbench": lambda: runs.unbuilt(self.folder, SUM),
             "cannot find rvbench": lambda: runs.installed(self.folder, "map", SUM),
+            "out of memory": lambda: runs.run(("measure", "/dev/zero", *NUMBERS), 'ulimit -v 100000; exec "$0" "$@"'),
+            "internal error": lambda: runs.patched("trace.Tracer.events = lambda self: 1 // 0", ("trace", SUM)),
+            "explain stopped": lambda: runs.run(("explain", files.write("wrong", "6f000000\n--\n" + 10001 * "fly\n"))),
+            "the path 'PATH'": lambda: runs.in_folder(self.folder / "it's", "new", str(self.folder / "new")),
             "cannot find the examples": lambda: runs.installed(self.folder, "new", str(self.folder / "new")),
             "MODULE is not installed, so WHAT 0": lambda: runs.run(("map", "--monitor", ADDS), PYTHONPATH=files.without("elftools")),
             "MODULE is not installed, so WHAT 3": lambda: runs.run(("page", SUM), PYTHONPATH=files.without("jinja2")),
             "the step at ADDRESS had": lambda: runs.patched(OTHERWISE, races), "the step at ADDRESS changed": lambda: runs.patched(MORE, races),
             "a finding at": lambda: runs.patched(ACCESS, ("inputs", "--monitor", EXAMPLES / "enclaves" / "bug" / "image", "--runs", "40")),
             "the replay": lambda: runs.patched(ORDER, races), "the registers": lambda: runs.patched(REGISTERS, ("trace", SUM)),
+            "the two runs": lambda: runs.patched(CUT_PAIR, self.guarded("1", "4000")),
+            "the monitor has": lambda: runs.patched(MANY_VECTORS, self.guarded("2", "99")),
+            "--seconds ended inputs before": lambda: runs.patched(LATE_REPLAY, (*inputs, "--runs", "40", "--seconds", "4")),
+            "Ctrl-C ended inputs": lambda: runs.stopped((*inputs, "--runs", "1000000"), "Ctrl-C"),
             "no script covered": lambda: runs.patched(ONE_SCRIPT, ("conform", MONITORS / "own_monitor" / "image")),
             "hart NUMBER does not": lambda: runs.patched(NEVER_BACK, ("races", "--monitor", "--harts", "2", "--ram", "131072", files.spin)),
             "cannot run": lambda: runs.run(("map", SUM), RVBENCH=files.text), "RVBENCH": lambda: runs.run(("map", SUM), RVBENCH="/none"),

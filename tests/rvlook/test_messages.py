@@ -1,4 +1,5 @@
-"""Each message that rvlook prints in one line has a row in the table of docs/LOOK.md. Each row has a case in test_message_cases.py."""
+"""Each message that rvlook prints in one line has a row in the table of docs/LOOK.md. Each row has a case in test_message_cases.py. The errors of
+the Python API have rows in docs/TESTS.md."""
 import ast
 import re
 
@@ -16,6 +17,16 @@ PREFIX = "error operand: "  # in the message for a script line, before the error
 SHORT = 8  # the fewest letters of a pattern that identifies a message
 ELSEWHERE = {  # files whose texts have no prefix `rvlook: `: they are printed by the prompt or sent to a debugger
     "prompt/session.py", "prompt/prompt.py", "gdb/server.py", "gdb/reverse.py", "gdb/moves.py", "gdb/monitor.py", "gdb/link.py"}
+
+
+OF_API = ("api/", "image/types.py")
+ERROR_ROW = re.compile(r"^\| `(.*)` \| .*\|$", re.M)
+
+
+def api_rows():
+    """Returns the errors in docs/TESTS.md."""
+    text = (ROOT / "docs" / "TESTS.md").read_text(encoding="utf-8").split("## Errors")[1].split("\n## ")[0]
+    return [it.replace("\\|", "|") for it in ERROR_ROW.findall(text)]
 
 
 def rows():
@@ -96,7 +107,8 @@ def is_row_of(row, text):
 
 @pytest.mark.parametrize("place, text", sorted(set(messages()), key=lambda it: it[::-1]))
 def test_message_has_a_row(place, text):
-    assert any(is_row_of(row, text) for row in rows()), "%s prints %r, which is not in the table of docs/LOOK.md" % (place, text)
+    known, page = (api_rows(), "TESTS.md") if place.startswith(OF_API) else (rows(), "LOOK.md")
+    assert any(is_row_of(row, text) for row in known), "%s prints %r, which is not in the table of docs/%s" % (place, text, page)
 
 
 def test_messages_are_found():

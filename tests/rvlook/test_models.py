@@ -98,7 +98,8 @@ def test_measure_is_sha256_of_the_numbers_and_the_region(results):
     ("9300f0ff\n--\nreg a0\n", [(3, "reg a0", "error operand", "reg 10")]),
     ("9300f0ff\n--\nstep 1\nBreak 80000000\n", [(4, "Break 80000000", "error command", "break A")]),
     ("9300f0ff\n--\nstep 0\nreg 5\n", [(3, "step 0", "error operand", None)]),
-    ("9300f0ff\n--\nreg 5\n", [])], ids=["register", "command", "zero", "right"])
+    ("9300f0ff\n--\nenclaves\nreg 99\n", [(4, "reg 99", "error operand", None)]),
+    ("9300f0ff\n--\nreg 5\n", [])], ids=["register", "command", "zero", "enclaves", "right"])
 def test_explain_reports_each_refused_line(rvlook, text, wanted):
     done = rvlook("explain", "-", "--json", stdin=text)
     errors = [it for it in map(json.loads, done.stdout.splitlines()) if it["object"] == "error"]

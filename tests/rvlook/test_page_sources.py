@@ -1,5 +1,7 @@
 """The page embeds only source files below the folder of the ELF file and below `--sources`."""
 import base64
+import hashlib
+import html
 import json
 import os
 import re
@@ -68,6 +70,60 @@ def test_fifo_is_refused_and_not_waited_for(bench, folder):
     path = folder / "built" / "a.c"
     os.mkfifo(path)
     assert page_of(bench, folder, path)[0] == {}
+
+
+@pytest.mark.parametrize("name", ["id_rsa", "notes.txt", ".a.c", ".c", "a.c~", "a.pem"])
+def test_file_that_does_not_end_as_a_source_or_is_hidden_is_refused(bench, folder, name):
+    (folder / "built" / name).write_text(SECRET)
+    sources, errors = page_of(bench, folder, folder / "built" / name)
+    assert not sources and "source file" not in errors
+    assert page_of(bench, folder, folder / "built" / name, "--sources", folder)[0] == {}
+
+
+def test_file_in_a_hidden_folder_is_refused(bench, folder):
+    (folder / "built" / ".ssh").mkdir()
+    path = folder / "built" / ".ssh" / "a.c"
+    path.write_text(SECRET)
+    assert page_of(bench, folder, path)[0] == {}
+    assert page_of(bench, folder, path, "--sources", folder)[0] == {}
+    assert page_of(bench, folder, path, "--sources", folder / "built" / ".ssh")[0] == {"a.c": SECRET}
+
+
+@pytest.mark.parametrize("target", [".ssh/id_rsa", ".ssh/a.c", "notes"])
+def test_link_to_a_hidden_file_or_to_no_source_is_refused(bench, folder, target):
+    (folder / "built" / ".ssh").mkdir()
+    (folder / "built" / target).write_text(SECRET)
+    (folder / "built" / "a.c").symlink_to(folder / "built" / target)
+    assert page_of(bench, folder, folder / "built" / "a.c")[0] == {}
+
+
+@pytest.mark.parametrize("name", ["a.S", "a.h", "a.cpp", "a.rs"])
+def test_other_sources_are_taken_in(bench, folder, name):
+    (folder / "built" / name).write_text("text\n")
+    assert page_of(bench, folder, folder / "built" / name)[0] == {name: "text\n"}
+
+
+def test_page_has_no_path(bench, folder):
+    """The folder of the ELF file is in no part of the page."""
+    (folder / "built" / "a.c").write_text("int a;\n")
+    elf = folder / "built" / "p.elf"
+    elf.write_bytes(named(source=str(folder / "built" / "a.c")))
+    done = run(bench, "page", elf, *FEW)
+    packed = zlib.decompress(base64.b64decode(DATA.search(done.output)[1]))
+    assert b'"a.c":"int a;' in packed
+    assert str(folder).encode() not in packed + done.output
+
+
+def test_page_has_a_policy_with_the_hash_of_its_script(bench, folder):
+    elf = folder / "built" / "p.elf"
+    elf.write_bytes(named())
+    text = run(bench, "page", elf, *FEW).output.decode()
+    policy = html.unescape(re.search('<meta http-equiv="Content-Security-Policy" content="(.*?)">', text)[1])
+    assert policy.startswith("default-src 'none'; ")
+    for element, directive in (("<script type=\"module\">(.*?)</script>", "script-src"), ("<style>(.*?)</style>", "style-src")):
+        digest = hashlib.sha256(re.search(element, text, re.S)[1].encode()).digest()
+        assert "%s 'sha256-%s';" % (directive, base64.b64encode(digest).decode()) in policy
+    assert text.index("Content-Security-Policy") < text.index("<style>")
 
 
 def test_proc_is_refused_also_with_its_folder(bench, folder):

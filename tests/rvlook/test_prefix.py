@@ -2,6 +2,7 @@
 import os
 import shutil
 import subprocess
+import sys
 
 import pytest
 
@@ -81,6 +82,21 @@ def test_new_enclave_is_built_run_and_checked_outside_the_clone(run, tmp_path):
     assert (tmp_path / "mine" / "page.html").read_text(encoding="utf-8").startswith("<!DOCTYPE html>")
 
 
+@pytest.mark.skipif(not shutil.which("make") or not (shutil.which("clang") and shutil.which("ld.lld")), reason="make or clang is not installed")
+def test_tests_of_a_new_enclave_pass_and_pytest_finds_the_plugin(run, prefix, tmp_path):
+    assert run("rvlook", "new", "mine").returncode == 0
+    environment = {"PATH": os.environ["PATH"], "HOME": str(tmp_path), "TERM": "dumb"}
+    made = subprocess.run(["make", "-s", "-C", tmp_path / "mine", "test"], env=environment, capture_output=True, text=True, timeout=SECONDS, check=False)
+    assert made.returncode == 0 and " 9 passed in " in made.stdout, made.stdout + made.stderr
+    environment["PYTHONPATH"] = str(prefix / "lib" / "rvbench" / "python")
+    found = subprocess.run([sys.executable, "-m", "pytest", "-p", "no:cacheprovider", "-k", "answers"], cwd=tmp_path / "mine", env=environment,
+                           capture_output=True, text=True, timeout=SECONDS, check=False)
+    assert found.returncode == 0 and " 1 passed" in found.stdout and "plugins: " in found.stdout, found.stdout + found.stderr
+    (tmp_path / "mine" / "application.c").write_text("unsigned application(volatile unsigned *window) { return *window; }\n")
+    failing = subprocess.run(["make", "-s", "-C", tmp_path / "mine", "test"], env=environment, capture_output=True, text=True, timeout=SECONDS, check=False)
+    assert failing.returncode == 2 and "assert exited with 0 == exited with 42" in failing.stdout, failing.stdout
+
+
 def test_new_folder_must_be_empty(run, tmp_path):
     (tmp_path / "full").mkdir()
     (tmp_path / "full" / "file").touch()
@@ -97,5 +113,93 @@ def test_install_refuses_options_and_a_missing_program(bench, tmp_path):
     assert not (tmp_path / "x").exists()
 
 
+def test_new_folder_has_a_name(run, tmp_path):
+    (tmp_path / "host.c").write_text("kept\n")
+    done = run("rvlook", "new", "")
+    assert (done.returncode, done.stderr) == (2, "rvlook: error: the name of the folder is empty; name a new folder\n")
+    assert [it.name for it in tmp_path.iterdir()] == ["host.c"] and (tmp_path / "host.c").read_text() == "kept\n"
+
+
+@pytest.mark.parametrize("was_there", [False, True])
+def test_new_that_cannot_be_written_leaves_nothing(tmp_path, was_there):
+    """The limit of the size of a file is the full disk."""
+    folder = tmp_path / "mine"
+    if was_there:
+        folder.mkdir()
+    done = subprocess.run(["bash", "-c", 'ulimit -f 0; exec "$0" new "$1"', ROOT / "rvlook", folder], capture_output=True, text=True, check=False)
+    assert (done.returncode, done.stderr) == (3, "rvlook: error: cannot write '%s': File too large\n" % folder)
+    assert folder.exists() == was_there and not (was_there and list(folder.iterdir()))
+
+
+@pytest.mark.parametrize("name", ["it's", "a$(id)", "a`id`", "a\\b", "a#b", 'a"b'])
+def test_new_refuses_a_clone_whose_path_a_makefile_cannot_hold(tmp_path, name):
+    clone = tmp_path / name
+    for part in ("python", "examples"):
+        shutil.copytree(ROOT / part, clone / part, ignore=shutil.ignore_patterns("__pycache__"))
+    shutil.copy(ROOT / "rvlook", clone)
+    done = subprocess.run([clone / "rvlook", "new", tmp_path / "mine"], capture_output=True, text=True, check=False)
+    assert done.returncode == 3
+    assert "which a Makefile cannot hold; move the clone or the installation" in done.stderr
+    assert not (tmp_path / "mine").exists()
+
+
+@pytest.fixture
+def again(bench, prefix, tmp_path):
+    """Installs into a copy of the prefix; returns the copy and a function that installs into it again."""
+    copy = tmp_path / "copy"
+    shutil.copytree(prefix, copy, symlinks=True)
+    return copy, lambda: subprocess.run([ROOT / "install", copy], env={**os.environ, "RVBENCH": bench}, capture_output=True, text=True,
+                                        timeout=SECONDS, check=False)
+
+
+@pytest.mark.parametrize("name", ["bin/rvlook", "bin/rvbench", "lib/rvbench/rvbench", "share/man/man1/rvlook.1", "share/bash-completion/completions/rvbench"])
+def test_install_replaces_a_link_and_not_its_target(again, tmp_path, name):
+    folder, install = again
+    target = tmp_path / "target"
+    target.write_text("kept\n")
+    (folder / name).unlink(missing_ok=True)
+    (folder / name).symlink_to(target)
+    done = install()
+    assert done.returncode == 0, done.stderr
+    assert target.read_text() == "kept\n"
+    assert not (folder / name).is_symlink() or not name.startswith("bin")
+
+
+@pytest.mark.parametrize("obstacle", ["share/man/man1", "share/bash-completion", "bin"])
+def test_install_that_fails_leaves_the_earlier_installation(again, obstacle):
+    folder, install = again
+    shutil.rmtree(folder / obstacle)
+    (folder / obstacle).write_text("a file in the place of a folder\n")
+    (folder / "lib" / "rvbench" / "version").write_text("the earlier one\n")
+    before = contents_of(folder)
+    assert install().returncode != 0
+    assert contents_of(folder) == before
+
+
+def contents_of(folder):
+    """Returns each file and link of a folder with its contents."""
+    return {str(it.relative_to(folder)): os.readlink(it) if it.is_symlink() else it.read_bytes() for it in sorted(folder.rglob("*")) if not it.is_dir()}
+
+
+def test_install_leaves_no_stage(prefix):
+    assert sorted(it.name for it in prefix.iterdir()) == ["bin", "lib", "share"]
+
+
+def test_install_refuses_an_empty_name(bench, tmp_path):
+    done = subprocess.run([ROOT / "install", ""], env={**os.environ, "RVBENCH": bench, "HOME": str(tmp_path)}, capture_output=True, text=True,
+                          timeout=SECONDS, check=False)
+    assert (done.returncode, done.stderr) == (1, "install: error: the name of the prefix is empty\n")
+    assert not list(tmp_path.iterdir())
+
+
+@pytest.mark.skipif(not shutil.which("clang") or not shutil.which("ld.lld"), reason="clang or lld is not installed")
+def test_installed_build_builds(run, prefix, tmp_path):
+    shutil.copytree(prefix / "share" / "rvbench" / "examples" / "enclaves" / "hello", tmp_path / "hello")
+    done = run("rvbench-build", "hello", "hello.elf")
+    assert (done.returncode, done.stderr) == (0, "")
+    assert done.stdout.startswith("build: stack sizes in bytes: host ")
+    assert (tmp_path / "hello.elf").read_bytes().startswith(b"\x7fELF")
+
+
 def test_hello_of_new_is_the_example():
-    assert {it.name for it in (EXAMPLES / "new").iterdir()} == {"Makefile", "ci", "tasks.json"}
+    assert {it.name for it in (EXAMPLES / "new").iterdir()} == {"Makefile", "ci", "pytest.ini", "tasks.json", "test_enclave.py"}

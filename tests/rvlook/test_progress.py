@@ -63,3 +63,18 @@ def test_progress_is_shown_on_a_terminal_alone(rvlook):
     pairs = json.loads(done.stdout.splitlines()[-1])["pairs"]
     assert 0 < pairs < 1000
     assert (done.returncode, done.stderr) == (1, "rvlook: warning: --seconds ended leak after %d of 1000 pairs\n" % pairs)
+
+
+def test_conform_shows_a_bar_and_reports_what_it_has(stopped):
+    words = ("conform", EXAMPLES / "monitors" / "own_monitor" / "image", "--jobs", "2", "--json")
+    status, shown, found = stopped(words, r"\r\[#*\.+\] \d+ of \d+  ")
+    assert (status, shown >= TIMES) == (130, True)
+    assert (found[0]["object"], found[0]["scripts"] > 0, found[-1]["object"]) == ("conform", True, "cell")
+
+
+def test_guard_shows_a_bar_and_reports_what_it_has(stopped):
+    two = EXAMPLES / "monitors" / "two_enclaves"
+    status, shown, found = stopped(("guard", "--timers", "60", "--json", two / "image", two / "ranges"), r"\r\[#*\.+\] \d+ of 61  runs with marks")
+    kinds = [it["object"] for it in found]
+    assert (status, shown >= TIMES) == (130, True)
+    assert TIMES <= kinds.count("guarded_run") < 61 and kinds[-1] == "owner" and "guarded_twins" not in kinds

@@ -19,6 +19,9 @@ ENDS = {  # of each example: the exit status, the console, and how the note begi
     "enclaves/store": (0, [], LOOP + "80010024  halt"), "enclaves/store_leaking": (0, [], LOOP + "80010024  halt"),
     "enclaves/timer": (0, [], LOOP + "8001001c  halt"), "enclaves/two_harts": (0, [], LOOP + "80010024  halt"),
     "monitors/own_monitor": (3, [], FAULT), "monitors/two_enclaves": (3, [], FAULT)}
+EXPECTED = {  # the failures that an example is meant to have
+    "programs/handler": ("store access fault", "illegal instruction"), "enclaves/two_harts": ("@main",), "enclaves/at_rest": ("@main", "fetch access fault"),
+    "enclaves/hmac_attacked": ("@main", "fetch access fault"), "enclaves/refused": ("@attack", "fetch access fault", "BadState@main")}
 REFUSED = {"programs/traps": 2}  # its script has lines that rvbench refuses
 TWO = ("programs/race", "enclaves/two_harts")
 STEPS = "2000000"
@@ -29,7 +32,7 @@ def words_of(name):
     folder = EXAMPLES / name
     words = [folder / ("stdin" if (folder / "stdin").exists() else "image"), "--steps", STEPS]
     words += ["--symbols", folder / "symbols"] if (folder / "symbols").exists() else []
-    return words + (["--harts", "2"] if name in TWO else [])
+    return words + (["--harts", "2"] if name in TWO else []) + [word for it in EXPECTED.get(name, ()) for word in ("--expect", it)]
 
 
 def test_every_example_has_an_expected_end():

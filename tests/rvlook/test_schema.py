@@ -10,10 +10,12 @@ IMAGES, COPIES = PROGRAMS.parent / "images", PROGRAMS / "window_copies"
 LEAK, STORE = ("leak", "--monitor", IMAGES / "leak" / "image", "--at"), EXAMPLES / "enclaves" / "store_leaking"
 MONITORS = EXAMPLES / "monitors"
 GUARD = (MONITORS / "two_enclaves" / "image", MONITORS / "two_enclaves" / "ranges")
-EXIT_ZERO = ("timer", "leak", "window", "inputs", "races", "explain", "conform", "guard", "map")  # subcommands that end with 1 if they find something
+VAULT = IMAGES.parent / "monitors" / "vault"
+EXIT_ZERO = ("timer", "leak", "window", "inputs", "races", "explain", "conform", "guard", "map", "run")  # subcommands that end with 1 if they find something
 UNFINISHED = ("timer_not_resumed",)
 COMMANDS = {
     "run": ("run", EXAMPLES / "enclaves" / "hello" / "image", "--symbols", EXAMPLES / "enclaves" / "hello" / "symbols"),
+    "run_failures": ("run", "--monitor", EXAMPLES / "enclaves" / "at_rest" / "image", "--expect", "Overlap"),
     "trace_console": ("trace", EXAMPLES / "enclaves" / "hello" / "image", "--symbols", EXAMPLES / "enclaves" / "hello" / "symbols", "--to", "300"),
     "map": ("map", "--monitor", EXAMPLES / "enclaves" / "adds" / "image"), "map_pmp": ("map", EXAMPLES / "programs" / "pmp" / "stdin"),
     "map_returns": ("map", "--returns", IMAGES / "map_opened" / "image"),
@@ -27,7 +29,8 @@ COMMANDS = {
     "inputs": ("inputs", "--monitor", EXAMPLES / "enclaves" / "bug" / "image", "--symbols", EXAMPLES / "enclaves" / "bug" / "symbols", "--runs", "8"),
     "races": ("races", "--monitor", "--timer", "1", EXAMPLES / "enclaves" / "adds" / "image"), "explain": ("explain", IMAGES / "explain" / "input"),
     "conform": ("conform", MONITORS / "own_monitor" / "image", "--boot", IMAGES / "conform" / "boot", "--only", "region of 8000"),
-    "guard": ("guard", *GUARD, "--timers", "0", "--steps", "99"),
+    "guard": ("guard", *GUARD, "--timers", "0"),
+    "guard_traps": ("guard", VAULT / "image", VAULT / "ranges", "--symbols", VAULT / "symbols", "--timers", "0"),
     "guard_no_enclave": ("guard", MONITORS / "two_enclaves" / "image", IMAGES / "guard" / "ranges", "--timers", "0"),
     "measure": ("measure", IMAGES / "measure" / "region", "80020000", "1000", "0", "0", "80020000")}
 

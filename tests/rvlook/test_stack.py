@@ -22,6 +22,31 @@ def test_exit_zero_keeps_the_message(rvlook, program):
     assert (done.returncode, done.stderr) == (0, FRAME)
 
 
+@pytest.fixture
+def uses(rvlook, program, tmp_path):
+    """Runs a subcommand over the program `stack_uses` with a task."""
+    def run(subcommand, task):
+        script = tmp_path / "script"
+        script.write_text("poke task %02x\n" % task)
+        return rvlook(subcommand, *program("stack_uses"), "--script", script)
+    return run
+
+
+@pytest.mark.parametrize("task, text", [
+    (1, "step 61, in_a_large_frame+8: sp set to 80020240, 288 bytes below application_stack_bottom"),
+    (2, "step 150, fill+8: store to 8001fe44, 1308 bytes below application_stack_bottom"),
+    (3, "step 153, fill+8: store to 80020e48, 72 bytes above application_stack_top")], ids=["register", "pointer_below", "pointer_above"])
+def test_use_outside_the_stack_is_found(uses, task, text):
+    for subcommand in SUBCOMMANDS:
+        done = uses(subcommand, task)
+        assert (done.returncode, done.stderr) == (1, "rvlook: warning: stack overflow in e0 at %s\n" % text)
+
+
+def test_pointers_into_the_stack_and_their_distances_are_no_overflow(uses):
+    done = uses("touch", 0)
+    assert (done.returncode, done.stderr) == (0, "")
+
+
 @pytest.mark.parametrize("name", ["adds", "hmac", "store", "two_harts"])
 def test_the_examples_stay_inside_their_stacks(rvlook, name):
     folder = ROOT / "examples" / "enclaves" / name

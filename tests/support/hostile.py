@@ -125,7 +125,7 @@ def in_child(bench, words, files, seconds, memory):
 def check(done, notes=()):
     """Checks the properties of every run: no traceback, an end in time, and lines after `rvlook: ` without control characters."""
     errors = done.errors.decode("utf-8", "replace")
-    assert "Traceback" not in errors, errors
+    assert "Traceback" not in errors and "internal error" not in errors, errors
     assert done.status >= 0, "signal %d, %s" % (-done.status, errors)
     assert done.memory < MEMORY
     for line in errors.split("\n")[:-1]:

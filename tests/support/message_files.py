@@ -1,4 +1,5 @@
 """Creates files for the cases of messages: images, scripts and listings that each cause one message."""
+from support.dwarf_files import many_lines
 from support.hostile import named
 
 IMAGES = "tests/rvlook/images"
@@ -27,6 +28,7 @@ class Files:
         self.lines_of_script = self.write("lines", "\n" * LINES)
         source = self.write("own.c", "int own;\n")
         self.with_source = self.write("source.elf", named(source=source).decode("latin-1"))
+        self.endless = self.write("endless.elf", many_lines(elf, 1000000).decode("latin-1"))
         self.cut = self.write("cut.elf", "\x7fELF")
         self.large = folder / "large"
         with open(self.large, "wb") as file:

@@ -43,7 +43,18 @@ from rvlook.monitors import conform
 tasks_of = conform.tasks_of
 conform.tasks_of = lambda *more: tasks_of(*more)[:1]
 """
+CUT_PAIR = """
+import rvlook.monitors.twins as twins
+twins.Pair.compare = lambda self: self.result("", 7, why_cut="first continues at 80014000 or 80014004")
+"""
+MANY_VECTORS = "import rvlook.monitors.guarded as guarded; guarded.entries_of = lambda mtvec: range(0x80000000, 0x80000100, 4)"
 ACCESS = "import rvlook.finders.inputs.scripts as scripts; scripts.access_of = lambda *more: (0, 0)"
+LATE_REPLAY = """
+import time
+import rvlook.finders.inputs.report as inputs_report
+with_old_values = inputs_report.with_old_values
+inputs_report.with_old_values = lambda *more: (time.sleep(30), with_old_values(*more))[1]
+"""
 REGISTERS = """
 step = trace.Tracer.step
 def changing(self, number, hart_number, hart, *more):
@@ -92,8 +103,9 @@ class Runs:
         os.close(writing)
         return found
 
-    def stopped(self, words):
-        """Runs it, and sends SIGINT after a second; later if it had not started, or if Python dropped the signal in a finalizer."""
+    def stopped(self, words, wanted=""):
+        """Runs it, and sends SIGINT after a second. Tries again later if rvlook had not started, if Python dropped the signal in a finalizer, or if
+        the wanted text is not among its errors."""
         for pause in (1, 2, 4, 8, 16):
             with subprocess.Popen([self.look, *map(str, words)], cwd=self.root, stdin=subprocess.PIPE, stdout=subprocess.DEVNULL,
                                   stderr=subprocess.PIPE, text=True, env=self.environment,
@@ -101,7 +113,7 @@ class Runs:
                 time.sleep(pause)
                 process.send_signal(signal.SIGINT)
                 _, errors = process.communicate(timeout=60)
-            if process.returncode != -signal.SIGINT and "Exception ignored" not in errors:
+            if process.returncode != -signal.SIGINT and "Exception ignored" not in errors and wanted in errors:
                 break
         return process.returncode, errors.splitlines()
 
@@ -111,6 +123,12 @@ class Runs:
             source = Path(self.root, name)
             (shutil.copytree if source.is_dir() else shutil.copy)(source, folder / name)
         return lambda: self.ended([folder / "rvlook", "map", image], env=self.unset, cwd=folder)
+
+    def in_folder(self, folder, *words):
+        """Runs it in a clone in this folder, which is made."""
+        folder.mkdir()
+        self.in_clone(folder, ("python", "rvlook", "examples"), None)
+        return self.ended([folder / "rvlook", *words], cwd=folder)
 
     def unbuilt(self, folder, image):
         """Runs it in a clone in which tools/program fails."""

@@ -39,7 +39,10 @@ def copy_with(mutant, folder):
     path = folder / "python" / "rvlook" / mutant.file
     text = path.read_text(encoding="utf-8")
     assert text.count(mutant.old) == 1, "the text that the mutant replaces is not there once"
-    path.write_text(text.replace(mutant.old, mutant.new), encoding="utf-8")
+    changed = text.replace(mutant.old, mutant.new)
+    if path.suffix == ".py":
+        compile(changed, str(path), "exec")  # a mutant that does not compile fails every test
+    path.write_text(changed, encoding="utf-8")
 
 
 def check_noticed(mutant, folder, bench):

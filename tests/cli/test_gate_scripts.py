@@ -1,0 +1,88 @@
+"""`./prove` and `./check`: help, wrong arguments and Ctrl-C. They run in a copy of the sources, so that no other run waits for them."""
+import contextlib
+import os
+import shutil
+import signal
+import subprocess
+import time
+from pathlib import Path
+
+import pytest
+
+ROOT = Path(__file__).resolve().parents[2]
+# The line of each script after which its work has begun.
+BEGUN = {"prove": "prove: the first run takes", "check": "check: rt ci: begins"}
+# The seconds within which a script must end after Ctrl-C; a proof of a crate takes longer.
+PROMPT = 30
+INTERRUPTED = 130
+
+
+@pytest.fixture
+def copy(tmp_path):
+    """Returns the path of a copy of the files that the scripts need, without anything that was built."""
+    built = shutil.ignore_patterns("out", "__pycache__")
+    for name in ("crates", "tests/mutants", "tools"):
+        shutil.copytree(ROOT / name, tmp_path / name, ignore=built)
+    for name in ("prove", "check", "crates.txt", "HANDLES"):
+        shutil.copy(ROOT / name, tmp_path / name)
+    return tmp_path
+
+
+def ran(script, *arguments):
+    """Runs a script of this repository, which must end soon."""
+    return subprocess.run([str(ROOT / script), *arguments], capture_output=True, text=True, timeout=PROMPT, check=False)
+
+
+@contextlib.contextmanager
+def started(folder, script):
+    """Yields a script that was started in a folder, with its output. A test that itself runs in the background ignores Ctrl-C; the script does not."""
+    process = subprocess.Popen([str(folder / script)], cwd=folder, stdout=subprocess.PIPE, stderr=subprocess.STDOUT, text=True,
+                               preexec_fn=lambda: signal.signal(signal.SIGINT, signal.SIG_DFL))
+    try:
+        yield process
+    finally:
+        process.kill()
+        process.wait()
+
+
+def working_in(folder):
+    """Returns the command lines of the processes that work in a folder."""
+    found = []
+    for process in Path("/proc").glob("[0-9]*"):
+        try:
+            if Path(os.readlink(process / "cwd")).is_relative_to(folder):
+                found.append((process / "cmdline").read_bytes().replace(b"\0", b" ").decode(errors="replace"))
+        except OSError:
+            continue
+    return found
+
+
+@pytest.mark.parametrize("script", BEGUN)
+@pytest.mark.parametrize("option", ["-h", "--help"])
+def test_help_is_printed_and_nothing_is_proved(script, option):
+    result = ran(script, option)
+    assert (result.returncode, result.stderr) == (0, "")
+    assert f"./{script} [" in result.stdout
+
+
+@pytest.mark.parametrize("script", BEGUN)
+def test_an_unknown_argument_is_refused(script):
+    result = ran(script, "--helpp")
+    assert (result.returncode, result.stdout) == (2, "")
+    assert f"./{script} [" in result.stderr
+
+
+@pytest.mark.skipif(not shutil.which("rt"), reason="the Rattle kit is missing")
+@pytest.mark.parametrize("script", BEGUN)
+def test_ctrl_c_ends_the_script_and_its_processes(copy, script):
+    with started(copy, script) as process:
+        begun = any(BEGUN[script] in line for line in process.stdout)
+        time.sleep(1)
+        process.send_signal(signal.SIGINT)
+        output, _ = process.communicate(timeout=PROMPT)
+    assert begun and process.returncode == INTERRUPTED
+    assert output.strip().split("\n")[-1].startswith(f"{script}: interrupted") and "Traceback" not in output
+    deadline = time.monotonic() + PROMPT
+    while working_in(copy) and time.monotonic() < deadline:
+        time.sleep(0.1)
+    assert working_in(copy) == []

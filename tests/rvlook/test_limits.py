@@ -1,0 +1,86 @@
+"""Time limits, Ctrl-C, closed pipes and --harts 2: nothing of this looks like a result that it is not."""
+import os
+import signal
+import subprocess
+import time
+
+import pytest
+from support.message_runs import Runs
+
+from conftest import EXAMPLES, ROOT, RVLOOK
+
+BUG = EXAMPLES / "enclaves" / "bug"
+HMAC = EXAMPLES / "enclaves" / "hmac"
+TWO = ("--monitor", "--harts", "2", EXAMPLES / "enclaves" / "two_harts" / "image")
+SLACK = 8  # seconds beyond a limit: the report, and the start of Python on a busy machine
+
+
+def environment(bench):
+    return {**os.environ, "RVBENCH": bench, "TERM": "dumb"}
+
+
+@pytest.mark.parametrize("words", [("map",), ("trace",), ("touch",), ("map", "--harts", "2")])
+def test_pipe_that_is_closed_for_both_streams_has_status_141(bench, words):
+    reading, writing = os.pipe()
+    os.close(reading)
+    image = EXAMPLES / "enclaves" / "timer" / "image"
+    done = subprocess.run([RVLOOK, *words, image], stdout=writing, stderr=writing, cwd=ROOT, env=environment(bench), check=False)
+    os.close(writing)
+    assert done.returncode == 141
+
+
+@pytest.mark.parametrize("value", ["nan", "inf", "-1", "1e999", "soon"])
+@pytest.mark.parametrize("words", [("races", "--monitor"), ("inputs", "--monitor"), ("leak", "--monitor", "--at", "80020800"), ("conform",)],
+                         ids=lambda it: it[0])
+def test_seconds_are_finite_and_not_negative(rvlook, words, value):
+    done = rvlook(*words, "--seconds=" + value, EXAMPLES / "enclaves" / "adds" / "image")
+    assert (done.returncode, done.stdout) == (2, "") and "'%s' is not a non-negative number of seconds" % value in done.stderr
+
+
+def test_limit_of_seconds_holds_within_long_runs(bench):
+    """Each run takes two seconds, and sixteen of them are one turn of the search."""
+    slow = """
+import time
+from rvlook.finders.inputs.tracer import Tracer
+finish = Tracer.finish
+Tracer.finish = lambda *more: (time.sleep(2), finish(*more))[1]
+"""
+    start = time.monotonic()
+    status, errors = Runs(RVLOOK, ROOT, bench).patched(slow, ("inputs", "--monitor", HMAC / "image", "--seconds", "3"))
+    assert time.monotonic() - start < 3 + SLACK
+    assert status == 3 and errors[-1].startswith("rvlook: warning: --seconds ended inputs after ")
+
+
+def test_limit_of_seconds_ends_one_run_of_the_search(rvlook, tmp_path):
+    """The limit holds before the run itself is traced, too."""
+    start = time.monotonic()
+    done = rvlook("inputs", "--monitor", HMAC / "image", "--seconds", "0.01")
+    assert time.monotonic() - start < SLACK
+    assert (done.returncode, done.stderr) == (3, "rvlook: warning: --seconds ended inputs after 0 of 300 runs\n")
+
+
+def test_ctrl_c_prints_what_inputs_has_found(bench):
+    words = [RVLOOK, "inputs", "--monitor", BUG / "image", "--symbols", BUG / "symbols", "--runs", "1000000"]
+    for pause in (4, 8, 16):
+        with subprocess.Popen(words, stdout=subprocess.PIPE, stderr=subprocess.PIPE, text=True, cwd=ROOT, env=environment(bench),
+                              preexec_fn=lambda: signal.signal(signal.SIGINT, signal.default_int_handler)) as process:
+            time.sleep(pause)
+            process.send_signal(signal.SIGINT)
+            output, errors = process.communicate(timeout=60)
+        if "finding 1: load reaches served" in output:
+            break
+    assert process.returncode == 130 and "\n1 finding, seed 0. Covered: " in output
+    assert errors.startswith("rvlook: warning: Ctrl-C ended inputs after ") and errors.endswith("rvlook: error: interrupted\n")
+
+
+@pytest.mark.parametrize("words", [("timer",), ("leak", "--at", "80020800", "00", "01"), ("inputs",)], ids=lambda it: it[0])
+def test_no_finder_steps_one_of_two_harts(rvlook, words):
+    done = rvlook(words[0], *TWO, *words[1:])
+    assert (done.returncode, done.stdout) == (2, "") and "--harts 2" in done.stderr
+
+
+def test_script_may_set_the_order_of_the_harts(rvlook, tmp_path):
+    script = tmp_path / "script"
+    script.write_text("sched 0101\n")
+    done = rvlook("timer", *TWO, "--script", script)
+    assert done.returncode != 2
