@@ -10,6 +10,7 @@ import os
 import shutil
 import subprocess
 import tempfile
+import time
 import types
 from functools import lru_cache
 from pathlib import Path
@@ -51,6 +52,16 @@ def pytest_configure(config):
     if not os.environ.get("MADE_CASES"):
         os.environ["MADE_CASES"] = tempfile.mkdtemp(prefix="rvbench-cases-")
         config.add_cleanup(lambda: shutil.rmtree(os.environ["MADE_CASES"], ignore_errors=True))
+
+
+@pytest.hookimpl(optionalhook=True, trylast=True)
+def pytest_xdist_newgateway(gateway):
+    """Waits until a worker of xdist has answered what its reporter asks, so that its main thread runs the tests. Otherwise another thread of the
+    worker may run them, in which no signal can be set."""
+    until = time.monotonic() + SECONDS
+    while gateway.remote_status().numexecuting and time.monotonic() < until:
+        time.sleep(0.01)
+    time.sleep(0.1)
 
 
 @pytest.fixture

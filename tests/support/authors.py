@@ -7,6 +7,9 @@ import sys
 from conftest import EXAMPLES, ROOT
 
 SECONDS = 300
+# Variables of this run of pytest. CI and BUILD_NUMBER are among them, since pytest does not shorten comparisons with them.
+OF_THIS_RUN = ("PYTEST_ADDOPTS", "PYTEST_XDIST_WORKER", "PYTEST_CURRENT_TEST", "PYTEST_XDIST_WORKER_COUNT", "PYTEST_XDIST_TESTRUNUID",
+               "CI", "BUILD_NUMBER")
 PYTEST = ("-q", "-p", "rvlook.api.plugin", "-p", "no:cacheprovider", "--tb=short", "--color=no")
 
 
@@ -20,7 +23,7 @@ def copied(folder):
 def run_tests(bench, folder, *words):
     """Runs pytest in a folder, without the settings of this repository; returns its `CompletedProcess`, with text."""
     environment = {**os.environ, "RVBENCH": bench, "PYTHONPATH": str(ROOT / "python"), "PYTHONDONTWRITEBYTECODE": "1", "COLUMNS": "120"}
-    for name in ("PYTEST_ADDOPTS", "PYTEST_XDIST_WORKER", "PYTEST_CURRENT_TEST", "PYTEST_XDIST_WORKER_COUNT", "PYTEST_XDIST_TESTRUNUID"):
+    for name in OF_THIS_RUN:
         environment.pop(name, None)
     ini = folder / "pytest.ini"
     if not ini.exists():

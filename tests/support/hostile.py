@@ -55,7 +55,7 @@ def patched(at, new, data=HELLO):
 
 
 class Done(NamedTuple):
-    """How a run of rvlook ended: its status (minus the signal), its output, its errors, seconds, and bytes of memory."""
+    """How a run of rvlook ended: its status (minus the signal), its output, its errors, seconds, and bytes of memory more than this process had."""
     status: int
     output: bytes
     errors: bytes
@@ -70,14 +70,20 @@ def run(bench, *words, stdin=b"", seconds=SECONDS, memory=MEMORY):
     with tempfile.TemporaryFile() as given, tempfile.TemporaryFile() as output, tempfile.TemporaryFile() as errors:
         given.write(stdin)
         given.seek(0)
-        began, child = time.monotonic(), os.fork()
+        began, before, child = time.monotonic(), resident(), os.fork()
         if not child:
             in_child(bench, [str(it) for it in words], [it.fileno() for it in (given, output, errors)], seconds, memory)
         _, status, used = os.wait4(child, 0)
         took = time.monotonic() - began
         output.seek(0)
         errors.seek(0)
-        return Done(os.waitstatus_to_exitcode(status), output.read(), errors.read(), took, used.ru_maxrss * 1024)
+        return Done(os.waitstatus_to_exitcode(status), output.read(), errors.read(), took, used.ru_maxrss * 1024 - before)
+
+
+def resident():
+    """Returns the bytes of memory that this process has; a forked child begins with as many."""
+    with open("/proc/self/statm", encoding="ascii") as file:
+        return int(file.read().split()[1]) * resource.getpagesize()
 
 
 def load():
