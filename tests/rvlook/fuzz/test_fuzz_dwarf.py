@@ -2,6 +2,7 @@
 import struct
 import types
 
+import pytest
 from hypothesis import strategies as st
 from support import dwarf_files as files
 from support.fuzzing import at_most, fuzz
@@ -108,3 +109,11 @@ def test_subcommands_over_generated_debugging_information(bench, tmp_path, fuzz_
     words = st.sampled_from([["trace"], ["touch"], ["touch", "--lcov"], ["page"], ["window"], ["map"], ["inputs", "--runs", "2", "--seconds", "5"],
                              ["races", "--outcome", "a.b", "--seconds", "2"]])
     fuzz(st.tuples(words, images()), holds, 6, fuzz_seconds)
+
+
+def test_body_that_takes_too_much_is_a_failure():
+    with pytest.raises(MemoryError), at_most(20):
+        bytearray(3 << 30)
+    with pytest.raises(TimeoutError), at_most(1):
+        while True:
+            pass
