@@ -8,7 +8,7 @@ import pytest
 from conftest import ROOT
 
 PACKAGE = ROOT / "python" / "rvlook"
-ORDER = ("escapes", "errors", "output", "build", "protocol", "image", "access", "trace", "finders", "monitors", "page", "prompt", "gdb", "cli",
+ORDER = ("escapes", "errors", "output", "protocol", "image", "build", "access", "trace", "finders", "monitors", "page", "prompt", "gdb", "cli",
          "api", "__main__")
 OPTIONAL = {"elftools", "jinja2", "argcomplete", "junitparser", "jsonschema", "readline", "gdb"}  # packages that may be missing
 MOST_PARAMETERS = 6

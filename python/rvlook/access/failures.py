@@ -11,6 +11,7 @@ from bisect import bisect_right
 from dataclasses import dataclass, replace
 from typing import Iterable, Iterator, NamedTuple, Sequence, TYPE_CHECKING
 
+from rvlook.image.lacking import PAGE, extension_of
 from rvlook.output.printer import Json, place_text
 from rvlook.protocol import names
 from rvlook.protocol.replies import Location, step_of
@@ -28,6 +29,7 @@ PARTS = 16  # parts in one exchange
 MOST = 100000  # failures after which the scan ends: a handler that fails itself traps at each step
 COUNTERS = ("csr b00", "csr b02", "csr 320")  # mcycle, minstret and mcountinhibit
 TRAPPED = re.compile(rb"trap=[0-9a-f]")
+ILLEGAL = "00000002"
 ECALLS = ("00000008", "00000009", "0000000b")
 A0, READ, REGISTERS = 10, (10, 16, 17), 32  # the status of a call; that, its number and its key; all registers
 MASK = 0xFFFFFFFF
@@ -280,7 +282,9 @@ def failure_text(it: Failure, symbols: Symbols) -> str:
     where = (it.at.mode, it.at.world, it.step, place_text(it.at.pc, symbols) + times)
     if it.call:
         return "%s refused with %s in %s of %s at step %d, %s" % (it.call, it.name, *where)
-    return "%s (value %s) in %s of %s at step %d, %s" % (it.name, it.value, *where)
+    extension = extension_of(int(it.value, 16)) if it.name == names.cause_name(ILLEGAL) else None
+    value = "%s, %s, see %s" % (it.value, extension, PAGE) if extension else it.value
+    return "%s (value %s) in %s of %s at step %d, %s" % (it.name, value, *where)
 
 
 def failure_object(it: Failure, symbols: Symbols) -> dict[str, Json]:

@@ -25,7 +25,7 @@ import tempfile
 from dataclasses import dataclass
 from typing import Any, List, NoReturn, Sequence
 
-from rvlook.build.linking import Script, link, report_stacks
+from rvlook.build.linking import Script, link, report_lacking, report_stacks
 from rvlook.build.objects import Workshop
 from rvlook.build.outputs import install_elf, install_outputs
 from rvlook.build.programs import DROP_UNUSED, compile_monitor, compile_programs, has
@@ -122,6 +122,7 @@ def build(request: Request, examples: str) -> None:
     with tempfile.TemporaryDirectory(prefix="build.") as made:
         workshop = Workshop(toolchain, folders.folder, shared, made, cflags)
         elf = link_folders(workshop, folders, request.folder)
+        report_lacking(elf, request.kept or request.folder)
         if not folders.is_monitor:
             report_stacks(workshop, elf, request.least)
         if kept and not any(it.startswith("-O") for it in cflags):

@@ -10,6 +10,8 @@ from rvlook.build.objects import NamedSymbol, Workshop, symbols_in
 from rvlook.build.toolchain import BuildError, printable, run
 from rvlook.errors import print_plain
 from rvlook.escapes import visible
+from rvlook.image.lacking import lacking_texts
+from rvlook.protocol.inputs import Image
 
 TOO_SMALL = re.compile(r"region [`']([A-Z]*)'.*overflowed by ([0-9]+) bytes")
 UNDEFINED = (re.compile(r"undefined reference to [`']([^']*)'"), re.compile(r"undefined symbol: (.*)"))
@@ -83,6 +85,13 @@ def report_stacks(workshop: Workshop, path: str, least: int) -> None:
             print_plain("build: warning: the %s has %d bytes of stack, fewer than %d; increase the LENGTH of %s in link.ld"
                         % (name, size, least, STACKS[name]))
     print("build: stack sizes in bytes: %s" % ", ".join("%s %d" % it for it in sizes.items()), flush=True)
+
+
+def report_lacking(path: str, name: str) -> None:
+    """Warns of instructions that the machine does not have; `name` is that of the program in the warning."""
+    with open(path, "rb") as file:
+        for it in lacking_texts(Image(visible(name), b"", file.read())):
+            print_plain("build: warning: " + it)
 
 
 def stack_size(symbols: Sequence[NamedSymbol], name: str) -> int | None:

@@ -7,6 +7,7 @@ from typing import Iterable, TYPE_CHECKING
 from rvlook.errors import UsageError, note, warn
 from rvlook.image.detect import reason_for_monitor, has_compressed
 from rvlook.image.files import image_of, script_of
+from rvlook.image.lacking import lacking_texts
 from rvlook.image.symbols import symbols_from
 from rvlook.output.printer import Printer
 from rvlook.protocol.bench_line import tokens_of
@@ -30,6 +31,8 @@ def setup_of(arguments: Namespace) -> Setup:
     monitor = has_monitor(arguments, image, script)
     if has_compressed(image):
         warn("%s is built for compressed instructions, which rvbench does not support; rebuild it with -march=rv32im" % image.name)
+    for it in lacking_texts(image):
+        warn(it)
     symbols = symbols_from(arguments.symbols, image)
     lines = resolved_script(script, symbols)
     schedule = schedule_of(arguments, lines)

@@ -70,6 +70,8 @@ def report_rest(results: GuardResults, plan: GuardPlan, findings: Findings) -> N
             findings.cut_short("the two runs that differ in %s end after %d steps: %s" % (it.secret.text, it.step, it.why_cut))
     activity, ownership = results.activity, plan.ownership
     enclaves = enclaves_of(activity, ownership)
+    if not any(it.counts["returns from M"] for it in results.guards):
+        findings.cut_short("no world trapped, so that M never ran after its boot")
     idle = [it for it in enclaves if not activity[it].entered]
     kept = [it for it in enclaves if activity[it].entered and not activity[it].left]
     ended = [it for it in enclaves if activity[it].left and not activity[it].continued and not ownership.runs_once(it)]

@@ -49,7 +49,7 @@ def ownership_of(path: str, symbols: Symbols) -> Ownership:
         except MALFORMED:
             raise RvlookError("%s:%d: %s" % (path, number, FORMS)) from None
     owners = {it.owner for it in found.ranges} - {SHARED} | {it.name for it in found.tables}
-    missing = sorted({MONITOR, HOST} - owners, reverse=True) or ([] if found.enclaves() else ["an enclave"]) or [
+    missing = sorted({MONITOR, HOST} - owners, reverse=True) or [
         it for it in sorted(found.once) if not any(it == owner or re.fullmatch(re.escape(owner) + r"\d+", it) for owner in owners)]
     if missing:
         raise RvlookError("'%s' has no range of %s" % (path, missing[0]))
