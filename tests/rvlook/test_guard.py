@@ -108,6 +108,16 @@ def test_refused_create_has_no_result(rvlook, tmp_path):
     assert done.returncode == 3 and "these enclaves never ran: first, second, filler0," in done.stderr
 
 
+def test_monitor_and_host_without_an_enclave_are_checked(rvlook, tmp_path):
+    """The host of two enclaves loses the region of the first one, which these ranges give to the host."""
+    ranges = tmp_path / "ranges"
+    ranges.write_text("monitor 80000000-8000ffff\nhost 80010000-8002ffff\n")
+    untried = rvlook("guard", "--timers", "0", "--steps", "1", IMAGE, ranges)
+    assert untried.returncode == 3 and "no world trapped, so that M never ran after its boot" in untried.stderr
+    tried = rvlook("guard", "--timers", "0", IMAGE, ranges)
+    assert tried.returncode == 1 and "violation of access" in tried.stdout
+
+
 def test_enclave_that_is_not_left_has_no_result(rvlook):
     """The limit of the steps ends the run while the first enclave runs."""
     done = rvlook("guard", "--timers", "0", "--steps", "880", IMAGE, RANGES)
@@ -284,7 +294,7 @@ def test_malformed_line_is_refused(tmp_path, line):
 
 
 @pytest.mark.parametrize("text, missing", [("host 80010000-8003ffff\ne0 80020000-80020fff\n", "monitor"),
-                                           ("monitor 80000000-8000ffff\nhost 80010000-8003ffff\n", "an enclave"),
+                                           ("monitor 80000000-8000ffff\ne0 80020000-80020fff\n", "host"),
                                            (ADDS_RANGES + "once e0 e7\n", "e7")])
 def test_missing_owner_is_refused(tmp_path, text, missing):
     from rvlook.errors import RvlookError
