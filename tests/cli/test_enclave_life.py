@@ -1,6 +1,6 @@
 """Pairs of runs of one enclave: under unlike hosts and in other slots, with loops of secret length, and interrupted by the timer.
 
-The theorems of docs/LAWS.md, section "The life of an enclave", are about all such pairs. Each test draws pairs from a fixed seed and compares
+The theorems of docs/CALLS.md, section "The life of an enclave", are about all such pairs. Each test draws pairs from a fixed seed and compares
 the replies of the built program.
 """
 import random

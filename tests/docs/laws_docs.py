@@ -1,7 +1,7 @@
 #!/usr/bin/env python3
-"""python3 -m docs.laws_docs --check: checks that the names in docs/LAWS.md and docs/PROMISES.md exist where the pages say.
+"""python3 -m docs.laws_docs --check: checks that the names in docs/LAWS.md, docs/CALLS.md and docs/PROMISES.md exist where the pages say.
 
-In LAWS, each theorem has premises, a definition, a contract and limits. Its files, definitions, functions and clauses exist, and a name before
+In LAWS and CALLS, each theorem has premises, a definition, a contract and limits. Its files, definitions, functions and clauses exist, and a name before
 a file is in that file. A clause belongs to the functions before it, also in the index. Each definition is part of the contract of one of the
 functions of its theorem.
 
@@ -121,8 +121,8 @@ def main(arguments):
         print(__doc__)
         return 2
     sources = Sources()
-    laws, promises = (text_of(os.path.join(ROOT, "docs", name)) for name in ("LAWS.md", "PROMISES.md"))
-    for section in re.split(r"^(?=\*\*)", laws, flags=re.M):
+    laws, calls, promises = (text_of(os.path.join(ROOT, "docs", name)) for name in ("LAWS.md", "CALLS.md", "PROMISES.md"))
+    for section in re.split(r"^(?=\*\*)", laws + calls, flags=re.M):
         check_law(sources, section)
     check_table(sources, laws)
     check_places(sources, "", laws.split("\n## Limits of the theorems\n")[1])

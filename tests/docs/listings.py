@@ -154,7 +154,7 @@ def of_calls():
 def of_refusals():
     """Yields the missing and the different entries of the lists of refusals and their statuses."""
     statuses, (of_call, files) = calls()[2], refusals()
-    header, page, laws = text_of("examples/shared/calls.h"), text_of("docs/MONITOR.md"), text_of("docs/LAWS.md")
+    header, page, laws = text_of("examples/shared/calls.h"), text_of("docs/MONITOR.md"), text_of("docs/CALLS.md")
     if {name: number for number, name in names.STATUSES.items()} != statuses:
         yield "STATUSES of python/rvlook/protocol/names.py has other statuses"
     for name, number in statuses.items():
@@ -165,7 +165,7 @@ def of_refusals():
         of = ", ".join(call for call in of_call if name in of_call[call]) or "all"
         if f"| {number:x} | {name} | {of} | " not in page:
             yield f"the table of refusals in docs/MONITOR.md lacks {name} of {of}"
-    yield from (f"docs/LAWS.md lacks {it}, which has the refusals of a call" for it in sorted(files) if it not in laws)
+    yield from (f"docs/CALLS.md lacks {it}, which has the refusals of a call" for it in sorted(files) if it not in laws)
 
 
 def main(_arguments):
