@@ -1,10 +1,11 @@
 """Pairs of scripts that run an enclave and differ in a secret of it: others observe the same output.
 
 The clause `declassification` of `run_stream` (docs/LAWS.md, "Scripts that run an enclave") is about all such pairs. Each test takes a script of
-the examples, and pokes two secrets into the region before the enclave is first entered. It checks the premises of the theorem on both runs of
-the built program, step by step. Then it compares what others observe.
+the examples, and pokes two secrets into the region before the enclave is first entered. The steps of the enclave use them. The test checks the
+premises of the theorem on both runs of the built program, step by step. Then it compares what others observe.
 """
 import subprocess
+from typing import NamedTuple
 
 import pytest
 
@@ -17,13 +18,22 @@ from models.monitor_model import CREATE, DESTROY, EXIT, HOST_ENTRY, RUN, STOP
 MARK = "error command"  # the reply to a line that separates the replies of the lines
 HIDDEN = {"300", "341", "342", "343", "b00", "b80", "b02", "b82", "c00", "c80", "c02", "c82"}  # registers that no world reads, and mstatus
 NEVER_ENTERED = ["enclaves/at_rest"]
-UNUSED = 0xE00  # the offset in a region of a byte that no enclave of the examples uses
-SECRETS = {"enclaves/at_rest": 0x80020008, "enclaves/refused": 0x800201C0}  # the address of a secret in the region
-HANDED_OVER = {"enclaves/hmac": 0x800207F0, "enclaves/host_inputs": 0x800209E8, "enclaves/store": 0x80020898}  # of a key that is used
-VICTIM = 0x80020003  # the highest byte of the secret in the attacks on an enclave that does not run: it loads it by lui
+SHOWN = 400  # of the steps of an enclave, those after which its registers are compared
 SCRIPTS = sorted(it.parent.relative_to(EXAMPLES).as_posix() for it in EXAMPLES.glob("*/*/words"))
 ENCLAVES = [it for it in SCRIPTS if it.startswith(("enclaves/", "attacks/"))]
 WORLD = "e0"
+
+
+class Secret(NamedTuple):
+    """A byte of an enclave that its steps use and that it does not hand over: its offset in the region, and two values."""
+    offset: int
+    values: tuple = (0x3C, 0xE1)
+
+
+LOADED = Secret(0x003)  # the highest byte of the number that the victim of an attack loads by lui
+HANDED_OVER = {"enclaves/hmac": Secret(0x7F0), "enclaves/host_inputs": Secret(0x9E8), "enclaves/store": Secret(0x898)}  # of a key
+STACK = Secret(0x007, (0xFE, 0xFC))  # in addi sp, sp, N of the start code: the stack begins 32 or 64 bytes lower
+PUSHED = Secret(0x012, (0x81, 0x41))  # in addi sp, sp, N of the victim that runs: it pushes 8 or 12 bytes
 
 
 # ---- the program
@@ -145,6 +155,20 @@ class Run:
                 steps[i].append(it)
         return steps
 
+    def own_registers(self):
+        """Returns the registers of the hart after each of the first steps of the enclave."""
+        lines, places = [], []
+        for line, steps, selected in zip(self.lines, self.steps, self.selected):
+            for it in steps:
+                lines.append("sched %d" % it.hart)
+                if it.kind == "inside" and len(places) < SHOWN:
+                    places.append(len(lines) + 1)
+                    lines += ["hart %d" % it.hart, "regs", "hart %d" % selected]
+            if not steps:
+                lines.append(line)
+        told = self.script.replies(lines)
+        return [told[it] for it in places]
+
     def region_and_window(self, i):
         """Returns the region and the window of the enclave before line i, each as its base and its size."""
         for reply in self.tables[i - 1] if i else []:
@@ -257,30 +281,30 @@ def with_room(script):
     return lines[:at] + ["step %d" % count], lines[at:]
 
 
-def secret_of(name, run):
-    if name in SECRETS or name.startswith("attacks/") and not name.startswith("attacks/running"):
-        return SECRETS.get(name, VICTIM)
-    return run + UNUSED
+def secret_of(name):
+    """Returns the secret of an example."""
+    if name.startswith("attacks/"):
+        return PUSHED if name.startswith("attacks/running") else LOADED
+    return STACK
 
 
-def runs_with(script, secret_at):
-    """Returns two runs of a script. In each another byte is poked into the region of the new enclave, at the address that `secret_at` returns for
-    the base of the region."""
+def runs_with(script, secret):
+    """Returns two runs of a script. In each another value of the secret is poked into the region of the new enclave."""
     before, after = with_room(script)
     region = Run(script, [*before, "enclaves"]).region_and_window(len(before))[0][0]
-    return [Run(script, [*before, "poke %x %02x" % (secret_at(region), secret), *after]) for secret in (0x3C, 0xE1)]
+    return [Run(script, [*before, "poke %x %02x" % (region + secret.offset, it), *after]) for it in secret.values]
 
 
 @pytest.mark.parametrize("name", ENCLAVES)
 def test_scripts_with_another_secret_are_observed_alike(bench, name):
-    runs = runs_with(example(bench, name), lambda region: secret_of(name, region))
+    runs = runs_with(example(bench, name), secret_of(name))
     check(*runs)
-    assert all(own_steps(it) for it in runs) or name in NEVER_ENTERED
+    assert runs[0].own_registers() != runs[1].own_registers() or name in NEVER_ENTERED
 
 
 @pytest.mark.parametrize("name", HANDED_OVER)
 def test_secret_that_the_enclave_hands_over_is_no_instance(bench, name):
-    runs = runs_with(example(bench, name), lambda region: HANDED_OVER[name])
+    runs = runs_with(example(bench, name), HANDED_OVER[name])
     with pytest.raises(AssertionError):
         check(*runs)
 
