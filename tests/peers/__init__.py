@@ -1,0 +1,1 @@
+"""Comparisons of the program with tools that others wrote."""

@@ -1,0 +1,1 @@
+"""The program and QEMU in lockstep, over the gdb server of QEMU."""
