@@ -1,4 +1,4 @@
-"""The program and QEMU in lockstep: random streams agree, each deviation shows in its case and explains nothing else, and a false value is noticed."""
+"""The program and QEMU in lockstep: random streams agree, each deviation shows in its case and explains nothing else, and a false value fails."""
 import pytest
 
 from conftest import ROOT
