@@ -2,5 +2,5 @@
 
 A subpackage imports only itself and those before it in this order, which tests/rvlook/test_static.py checks:
 
-    escapes errors output protocol image build access trace finders monitors page prompt gdb cli api
+    escapes errors output protocol image build access trace finders symbolic monitors page prompt gdb cli api
 """

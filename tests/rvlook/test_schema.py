@@ -11,7 +11,7 @@ LEAK, STORE = ("leak", "--monitor", IMAGES / "leak" / "image", "--at"), EXAMPLES
 MONITORS = EXAMPLES / "monitors"
 GUARD = (MONITORS / "two_enclaves" / "image", MONITORS / "two_enclaves" / "ranges")
 VAULT = IMAGES.parent / "monitors" / "vault"
-EXIT_ZERO = ("timer", "leak", "window", "inputs", "races", "explain", "conform", "guard", "map", "run")  # subcommands that end with 1 if they find something
+EXIT_ZERO = ("timer", "leak", "window", "inputs", "races", "explain", "conform", "guard", "map", "run", "verify")  # subcommands that end with 1 if they find something
 UNFINISHED = ("timer_not_resumed",)
 COMMANDS = {
     "run": ("run", EXAMPLES / "enclaves" / "hello" / "image", "--symbols", EXAMPLES / "enclaves" / "hello" / "symbols"),
@@ -27,6 +27,7 @@ COMMANDS = {
     "window_copies": ("window", "--monitor", COPIES / "image", "--symbols", COPIES / "symbols", "--script", COPIES / "script", "--at", "key:20"),
     "window_harts": ("window", "--harts", "2", "--monitor", STORE / "image", "--symbols", STORE / "symbols", "--at", "key:32"),
     "inputs": ("inputs", "--monitor", EXAMPLES / "enclaves" / "bug" / "image", "--symbols", EXAMPLES / "enclaves" / "bug" / "symbols", "--runs", "8"),
+    "verify": ("verify", "--monitor", STORE / "image", "--symbols", STORE / "symbols", "--at", "key:32"),
     "races": ("races", "--monitor", "--timer", "1", EXAMPLES / "enclaves" / "adds" / "image"), "explain": ("explain", IMAGES / "explain" / "input"),
     "conform": ("conform", MONITORS / "own_monitor" / "image", "--boot", IMAGES / "conform" / "boot", "--only", "region of 8000"),
     "guard": ("guard", *GUARD, "--timers", "0"),

@@ -8,9 +8,9 @@ import pytest
 from conftest import ROOT
 
 PACKAGE = ROOT / "python" / "rvlook"
-ORDER = ("escapes", "errors", "output", "protocol", "image", "build", "access", "trace", "finders", "monitors", "page", "prompt", "gdb", "cli",
-         "api", "__main__")
-OPTIONAL = {"elftools", "jinja2", "argcomplete", "junitparser", "jsonschema", "readline", "gdb"}  # packages that may be missing
+ORDER = ("escapes", "errors", "output", "protocol", "image", "build", "access", "trace", "finders", "symbolic", "monitors", "page", "prompt", "gdb",
+         "cli", "api", "__main__")
+OPTIONAL = {"elftools", "jinja2", "argcomplete", "junitparser", "jsonschema", "readline", "gdb", "z3"}  # packages that may be missing
 MOST_PARAMETERS = 6
 MOST_LINES = 40
 FUNCTIONS = (ast.FunctionDef, ast.AsyncFunctionDef)

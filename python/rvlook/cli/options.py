@@ -182,6 +182,32 @@ def window_options(parser: ArgumentParser) -> None:
     public_option(parser)
 
 
+def verify_options(parser: ArgumentParser) -> None:
+    """Adds the options of `verify`."""
+    parser.add_argument("--at", metavar="PLACE", action="append", default=[],
+                        help="set the location of a secret in the region, PLACE[:BYTES]; repeatable")
+    parser.add_argument("--public", metavar="WHAT", action="append",
+                        help="allow WHAT to depend on the secret: PLACE[:BYTES] of the window or of instructions, or answer; with @answer=N only in "
+                             "activations that answer N; repeatable")
+    parser.add_argument("--must-know", metavar="PLACE", action="append", default=[],
+                        help="check that the secret comes out only to a host that knows these bytes of the region, PLACE[:BYTES]; repeatable")
+    parser.add_argument("--must-matter", metavar="PLACE", action="append", default=[],
+                        help="check that what comes out depends on each of these bytes of the secret, PLACE[:BYTES]; repeatable")
+    parser.add_argument("--wiped", action="store_true", help="check that nothing in the region or the registers depends on the secret at a stop")
+    parser.add_argument("--given", metavar="PLACE", action="append", default=[],
+                        help="take bytes of the window from the run itself, PLACE[:BYTES], such as lengths; repeatable")
+    parser.add_argument("--calm", action="store_true", help="assume that the host changes the window only while the enclave does not run")
+    parser.add_argument("--each", dest="merges", action="store_false", help="explore each sequence of activations by itself, not all of them at once")
+    parser.add_argument("--activations", metavar="N", type=positive, help="with --each: explore N activations (default: as many as the run has)")
+    parser.add_argument("--bound", metavar="N", type=positive, default=64, help="follow a loop whose end the host chooses for N rounds (default: 64)")
+    parser.add_argument("--loops", action="store_true", help="merge the paths at the head of such a loop instead, for any number of rounds")
+    parser.add_argument("--seconds", metavar="S", type=seconds, default=60, help="stop after S seconds, and report the results so far (default: 60)")
+    parser.add_argument("--timeout", metavar="MS", type=positive, default=5000, help="give z3 MS milliseconds for a query (default: 5000)")
+    parser.add_argument("--replay", metavar="N", type=count, default=10, help="replay every Nth path, 0 for none (default: 10)")
+    parser.add_argument("--scripts", metavar="DIR", help="write an rvbench input for each finding to DIR")
+    parser.set_defaults(path_steps=2000000)
+
+
 def public_option(parser: ArgumentParser) -> None:
     """Adds the option that names what may differ."""
     parser.add_argument("--public", metavar="WHAT", action="append",

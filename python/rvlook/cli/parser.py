@@ -8,9 +8,9 @@ from typing import Any, Callable, Sequence, TYPE_CHECKING
 
 from rvlook.cli.options import (Parser, conform_options, expect_option, findings_options, gdb_options, guard_options, image_options,
                                 inputs_options, leak_options, map_options, page_options, races_options, schedule_options, slot_option,
-                                timer_options, touch_options, trace_options, window_options)
+                                timer_options, touch_options, trace_options, verify_options, window_options)
 from rvlook.cli.subcommands import (do_conform, do_explain, do_gdb, do_guard, do_inputs, do_leak, do_map, do_measure, do_new, do_page, do_prompt,
-                                    do_races, do_run, do_timer, do_touch, do_trace, do_window)
+                                    do_races, do_run, do_timer, do_touch, do_trace, do_verify, do_window)
 from rvlook.gdb.monitor import CommandLine
 from rvlook.cli.version import version
 from rvlook.errors import RvlookError, UsageError, reason_of
@@ -28,6 +28,7 @@ SUBCOMMANDS = """subcommands:
   touch        show what each world read, wrote and executed
   window       show what each enclave activation did with its window
   inputs       vary what the host gives an enclave, and show what it can make it do
+  verify       answer questions about all paths of an enclave, for all inputs and secrets
   leak         compare runs that differ only in a secret of an enclave
   timer        interrupt an enclave before each step, and compare the results
   races        search all schedules of two harts and of timer interrupts
@@ -42,7 +43,8 @@ SUBCOMMANDS = """subcommands:
 Without a subcommand, rvlook IMAGE starts an interactive prompt.
 See 'rvlook SUBCOMMAND --help' and docs/LOOK.md."""
 
-NAMES = ("run", "map", "trace", "touch", "window", "inputs", "leak", "timer", "races", "conform", "guard", "measure", "explain", "page", "gdb", "new")
+NAMES = ("run", "map", "trace", "touch", "window", "inputs", "verify", "leak", "timer", "races", "conform", "guard", "measure", "explain", "page",
+         "gdb", "new")
 
 
 MOST_STEPS, MOST_STEPS_OF_RUN = 1000000, 1000000000  # the defaults of --steps
@@ -117,6 +119,8 @@ OVER_AN_IMAGE: Sequence[Any] = (  # a name, its function, its help, and its opti
      findings_options),
     ("inputs", do_inputs, "Vary what the host gives an enclave, and show what the host can make it do", slot_option, inputs_options,
      expect_option, findings_options),
+    ("verify", do_verify, "Explore all paths of an enclave, for all inputs of the host and all values of its secrets", slot_option, verify_options,
+     schedule_options, findings_options),
     ("leak", do_leak, "Compare runs that differ only in a secret of an enclave, and show where they diverge", slot_option, leak_options,
      findings_options),
     ("timer", do_timer, "Interrupt an enclave before each of its steps, and check that the result stays the same", slot_option, timer_options,

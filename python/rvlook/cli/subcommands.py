@@ -24,6 +24,7 @@ from rvlook.prompt.prompt import show_prompt
 from rvlook.trace.emulator import show_run
 from rvlook.trace.spike import show_spike
 from rvlook.trace.text import Filter, show_trace
+from rvlook.symbolic.verify import show_verify
 from rvlook.cli.new import show_new
 from rvlook.cli.opening import opened, opened_monitored, opened_to_its_script, refuse_empty_part, refuse_json, refuse_monitored, setup_of
 from rvlook.errors import RvlookError, UsageError, warn
@@ -104,6 +105,14 @@ def do_inputs(arguments: Namespace) -> None:
         raise UsageError("inputs runs one hart; give the file finding_N.input of --scripts to races --harts 2")
     run, symbols, printer = opened_monitored(arguments)
     show_inputs(run, symbols, variables_of(arguments.symbols, run.setup.image), printer, arguments)
+
+
+def do_verify(arguments: Namespace) -> None:
+    """Runs `verify`."""
+    if (arguments.public or arguments.wiped or arguments.must_know) and not arguments.at:
+        raise UsageError("--public, --wiped and --must-know require --at PLACE")
+    run, symbols, printer = opened_monitored(arguments)
+    show_verify(run, symbols, variables_of(arguments.symbols, run.setup.image), printer, arguments)
 
 
 def do_window(arguments: Namespace) -> None:

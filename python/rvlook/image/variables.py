@@ -30,11 +30,14 @@ MOST_ELEMENTS = 256  # of an array of structures
 
 @dataclass(frozen=True)
 class Member:
-    """A variable, or a member of one: its offset or address, its size in bytes, its name, and the size of an element if it is an array."""
+    """A variable, or a member of one: its offset or address, its size in bytes, its name, and the size of an element if it is an array. `row` is the
+    size of a row of an array of arrays, else 0."""
     at: int
     size: int
     name: str
     element: int = 0
+    row: int = 0
+    is_union: bool = False
 
 
 @dataclass(frozen=True)
@@ -174,7 +177,7 @@ class Unit:
             for n in range(min(size // part, MOST_ELEMENTS)):
                 yield from self.members(at + n * part, name + "[]", element, depth + 1)
         elif 0 < size < ADDRESSES.stop:
-            yield Member(at, size, name, part)
+            yield Member(at, size, name, part, self.row(kind, size), kind.tag == "DW_TAG_union_type")
 
     def size(self, kind: Any, depth: int = 0) -> int:
         """Returns the size of a type in bytes, 0 if it is not known."""
@@ -190,6 +193,12 @@ class Unit:
             known, most = it.attributes.get("DW_AT_count"), it.attributes.get("DW_AT_upper_bound")
             count *= known.value if known and isinstance(known.value, int) else most.value + 1 if most and isinstance(most.value, int) else 0
         return count * self.size(self.type_of(kind), depth + 1)
+
+    def row(self, kind: Any, size: int) -> int:
+        """Returns the size of a row of an array with more than one dimension, else 0."""
+        bounds = self.children.get(kind.offset, []) if kind.tag == "DW_TAG_array_type" else []
+        most = bounds[0].attributes.get("DW_AT_upper_bound") if len(bounds) > 1 else None
+        return size // (most.value + 1) if most is not None and isinstance(most.value, int) and most.value >= 0 else 0
 
     def plain(self, kind: Any) -> Any:
         """Returns a type without names and qualifiers, or None."""

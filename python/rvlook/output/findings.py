@@ -26,6 +26,7 @@ class Findings:
         self.cases: list[Case] = []
         self.refused: list[str] = []
         self.cut = ""
+        self.distrusted = False
         self.program_status = 0  # the exit status of a program that was run
         self.since = time.monotonic()  # when the last case was added
 
@@ -48,6 +49,10 @@ class Findings:
         warn(line)
         self.cut = line
 
+    def leave_open(self, line: str, is_distrusted: bool = False) -> None:
+        """Notes that a question has no answer, which the output says already. A result that is not to be trusted counts more than its findings."""
+        self.cut, self.distrusted = line, is_distrusted
+
     @property
     def has_found(self) -> bool:
         """Returns whether there is a finding."""
@@ -60,6 +65,8 @@ class Findings:
             return REFUSED
         if self.program_status:
             return self.program_status
+        if self.distrusted:
+            return UNFINISHED
         if self.has_found and not is_report:
             return FOUND
         return UNFINISHED if self.cut else 0

@@ -1,0 +1,166 @@
+"""Calls, returns, traps, control and status registers, and calls of the monitor (docs/ISA.md, docs/MONITOR.md)."""
+from __future__ import annotations
+
+from typing import Tuple
+
+from rvlook.symbolic.fields import CSRS, SCAUSE, SEPC, SSCRATCH, SSTATUS, STVAL, STVEC, Ended
+from rvlook.symbolic.memory import Memory
+from rvlook.symbolic.nodes import M32, Node, Word
+from rvlook.symbolic.words import add, operation
+
+MONITOR_KEY, MEASURE, STOP, EXIT = 0x0A454E43, 5, 6, 7
+BAD_ADDRESS, NOT_SUPPORTED = 0xFFFFFFF7, M32
+FETCH, ILLEGAL, BREAKPOINT, ECALL_U = 1, 2, 3, 8  # causes
+DIGEST = 32  # bytes of a measurement
+SIE, SPIE, SPP = 0x2, 0x20, 0x100  # bits of sstatus
+
+
+class Traps(Memory):
+    """A state that calls, returns and traps."""
+    __slots__ = ()
+
+    def called(self, pc: int, is_trap: bool = False) -> None:
+        """Takes a call, or a trap."""
+        s = self.search
+        self.context = s.world.contexts.called(self.context, pc, is_trap)
+        s.calls += 1
+        self.calls, self.call = (self.calls, self.call, pc + 4, self.regs[2]), s.calls
+
+    def returned(self, target: int) -> None:
+        """Takes a return. The host must not choose where it goes."""
+        s, c = self.search, self.search.world.contexts
+        if self.calls and self.calls[2] != target:
+            if self.is_base:
+                s.doubt("return", self, "a return that is none")
+            else:
+                s.report("return", self, "goes to %08x" % target, self.model)
+                raise Ended("finding")
+        self.context = c.returned(self.context, target)
+        self.leave_call(target)
+
+    def leave_call(self, target: int) -> None:
+        """Ends the innermost call that returns to an address, and those inside it."""
+        calls = self.calls
+        while calls:
+            calls, call, back, _ = calls
+            if back == target:
+                self.calls, self.call = calls, call
+                self.areas = tuple(it for it in self.areas if self.is_open(it[0]))
+                return
+
+    def moved_sp(self, old: int, is_relative: bool) -> None:
+        """Takes a new value of sp that is no constant step: another stack, or a variable-length array."""
+        new = self.regs[2]
+        if type(new) is not int:
+            raise Ended("sp")
+        self.bottom, _ = self.search.extents.stack_of(new)
+        if is_relative and new < old:
+            self.areas += ((self.call, new, old),)
+            if new < self.bottom:
+                self.overflow(new, "store")
+        elif is_relative:
+            self.areas = tuple(it for it in self.areas if it[0] != self.call or it[1] >= new)
+
+    # ---- traps
+
+    def trap(self, cause: int, value: Word) -> int:
+        """Takes a trap, as the monitor redirects it (docs/MONITOR.md, Trap handling). Returns the pc."""
+        s, csr = self.search, self.csr
+        target = self.fixed(csr[STVEC]) & -4  # first: it may divide the path, which then executes this step again
+        s.note_trap(self, cause, value)
+        status = csr[SSTATUS]
+        csr[SEPC], csr[SCAUSE], csr[STVAL] = self.pc & -4, cause, value
+        csr[SSTATUS] = status & ~(SIE | SPIE | SPP) | (SPP if self.mode else 0) | (SPIE if status & SIE else 0)
+        self.mode = 1
+        self.called(self.pc, True)
+        return target
+
+    def sret(self) -> int:
+        """Returns from a trap; returns the pc."""
+        target = self.fixed(self.csr[SEPC])
+        status, c = self.csr[SSTATUS], self.search.world.contexts
+        self.mode = status >> 8 & 1
+        self.csr[SSTATUS] = status & ~(SIE | SPIE | SPP) | (SIE if status & SPIE else 0) | SPIE
+        self.leave_call(target)
+        self.context = next((c.parents[it] for it in c.chain(self.context) if c.traps[it]), 0)
+        return target
+
+    def csr_access(self, rd: int, r1: int, number: int, w: int, more: Tuple[str, bool]) -> int:
+        """Executes an instruction on a control and status register. Returns the pc."""
+        how, is_number = more
+        if not self.mode or number not in CSRS:
+            return self.trap(ILLEGAL, w)
+        old, new, tag = self.csr[number], r1 if is_number else self.regs[r1], None if is_number else self.tags[r1]
+        old_tag, old_sp = self.csr_tags.get(number), self.regs[2]
+        if how == "w" or r1 != 0:
+            if how != "w":
+                new, tag = operation("or", old, new) if how == "s" else operation("and", old, operation("xor", new, M32)), None
+            new = operation("and", new, CSRS[number])
+            self.csr[number] = self.fixed(new) if number == SSTATUS else new
+            self.csr_tags[number] = tag if number == SSCRATCH else None
+        if rd:
+            self.regs[rd], self.tags[rd] = old, old_tag
+            if rd == 2:
+                self.moved_sp(old_sp, False)
+        return self.pc + 4
+
+    # ---- the monitor
+
+    def ecall(self) -> int:
+        """Calls the monitor, or its own runtime. Returns the pc."""
+        if not self.mode:
+            return self.trap(ECALL_U, 0)
+        r = self.regs
+        call = self.fixed(r[16]) if self.fixed(r[17]) == MONITOR_KEY else 0
+        if call in (STOP, EXIT):
+            self.leave_enclave(call)
+        elif call == MEASURE:
+            return self.measure()
+        else:
+            self.answer(NOT_SUPPORTED)
+        return self.pc + 4
+
+    def answer(self, status: int) -> None:
+        """Sets the result of a call of the monitor."""
+        self.regs[10], self.regs[11] = status, 0
+        self.tags[10] = self.tags[11] = None
+
+    def leave_enclave(self, call: int) -> None:
+        """Stops or exits. The next activation begins with what the host then gives."""
+        s, r = self.search, self.regs
+        s.answered(self, r[10])
+        self.answers.append((self.steps, call, r[10], len(self.loads), len(self.stores)))
+        s.left(self)
+        if call == EXIT:
+            raise Ended("exit")
+        if s.merger:
+            s.take_stop(self)
+            if not self.is_base:
+                raise Ended("stop")
+        if self.visit + 1 >= s.activations:
+            raise Ended("stop")
+        self.visit += 1
+        self.win, self.fetched, self.fetched_at, self.counts, self.pending, self.released = {}, {}, [], {}, (), False
+        self.winmem = bytearray(s.world.windows[min(self.visit, len(s.world.windows) - 1)])
+        self.answer(0)
+
+    def measure(self) -> int:
+        """Stores the measurement of the enclave, as the monitor does. Returns the pc."""
+        at, w = self.regs[11], self.search.world
+        digest = bytes.fromhex(w.enclave.measurement)
+        if type(at) is Node:
+            it = self.place_at(at, DIGEST, self.tags[11], 0, "store")
+            if it is not None and it.low == w.window[0]:
+                for n, b in enumerate(digest):
+                    self.sent(self.value(at) + n, 1, b, add(at, n))
+                self.answer(0)
+                return self.pc + 4
+            at = self.fixed(at, "address")
+        if all(w.is_allowed(at + n, 1) for n in range(DIGEST)):
+            self.access(at, DIGEST, self.tags[11], 0, "store")
+            for n, b in enumerate(digest):
+                self.store(at + n, 1, b)
+            self.answer(0)
+        else:
+            self.answer(BAD_ADDRESS)
+        return self.pc + 4

@@ -1,0 +1,157 @@
+"""Questions about steps: double fetches, traps, jumps, and stores to code."""
+from __future__ import annotations
+
+from typing import Dict, List, Sequence, Set, Tuple, TYPE_CHECKING
+
+from rvlook.symbolic.conditions import all_of, any_of, differ, eq, within
+from rvlook.symbolic.evaluation import evaluate
+from rvlook.symbolic.fields import Ended
+from rvlook.symbolic.nodes import Condition, Node, Word
+from rvlook.symbolic.origins import How
+from rvlook.symbolic.outputs import Outputs
+from rvlook.symbolic.words import not_, operation
+
+if TYPE_CHECKING:
+    from rvlook.symbolic.extents import Extent, Extents
+    from rvlook.symbolic.instructions import Step
+    from rvlook.symbolic.origins import Tag
+    from rvlook.symbolic.fields import AnyState as State
+
+Place = Tuple[int, int]  # an instruction and its call context
+CONSOLE_STATE = 16  # bytes before the text of a console (examples/shared/console.h)
+ECALL, WAITS = 8, "one instruction loads a byte again, as a loop that waits does"
+
+
+class Judge(Outputs):
+    """A search that asks about steps."""
+    extents: Extents
+
+    def __init__(self) -> None:
+        super().__init__()
+        self.code: Dict[int, Step] = {}  # the decoded instructions
+        self.written: Set[int] = set()  # the words of the region that any path stores to
+        self.saved: Dict[int, Set[int]] = {}  # the addresses at which a call saves registers
+        self.usual_objects: Dict[Place, List[Extent]] = {}
+        self.usual_moves: Set[Place] = set()
+        self.landed: Set[Tuple[int, Tuple[int, int]]] = set()  # an instruction, and an object that it reaches
+        self.again: Set[Tuple[Place, Place]] = set()
+
+    # ---- code
+
+    def note_written(self, state: State, at: int, width: int) -> None:
+        """Takes a store to the region. A store to an instruction that any path executes ends the path, which is then not complete."""
+        for place in range(at & -4, at + width, 4):
+            self.written.add(place)
+            if place in self.code and not self.is_trial:
+                self.changed_code.add(state.pc)
+                raise Ended("code")
+
+    # ---- the window
+
+    def is_given(self, at: int, width: int) -> bool:
+        """Returns whether the host gives bytes as in the run itself."""
+        given = self.world.given
+        return given is not None and all(given.has(at + n) for n in range(width))
+
+    def is_console(self, at: int, width: int) -> bool:
+        """Returns whether bytes are those in which a console in the window keeps its state: it reads back how much it has printed."""
+        it = self.world.symbols.by_name.get("window_console")
+        return it is not None and it.address <= at and at + width <= it.address + CONSOLE_STATE
+
+    def note_fetch(self, state: State, place: Word, width: int, names: Sequence[Tuple[int, str]]) -> None:
+        """Takes a load of the window: no byte of it may be loaded twice in an activation."""
+        if self.options.calm or type(place) is int and self.is_console(place, width):
+            return
+        here = state.pc, state.context
+        if type(place) is int:
+            for n, _ in names:
+                first = state.fetched.setdefault(place + n, here)
+                if state.fetched[place + n] is not here:
+                    self.fetched_again(state, first, place + n, state.model)
+        if (type(place) is not int or state.fetched_at) and ("reread", state.pc) not in self.found:
+            self.ask_overlap(state, place, width)
+        if type(place) is not int:
+            state.fetched_at.append((place, width, *here))
+
+    def fetched_again(self, state: State, first: Place, at: int, model: Dict[str, int]) -> None:
+        """Takes a byte of the window that is loaded a second time in an activation."""
+        here = state.pc, state.context
+        if (first, here) in self.again and not state.is_merged:
+            return
+        if not state.is_merged:
+            self.again.add((first, here))
+        if first == here:
+            self.doubt("reread", state, WAITS)
+        else:
+            self.report("reread", state, "loads %08x again, which %s has loaded" % (at, self.world.place(first[0])), model)
+
+    def ask_overlap(self, state: State, place: Word, width: int) -> None:
+        """Asks whether a load can have a byte that an earlier one had, where one of them is at an expression."""
+        here = state.pc, state.context
+        earlier = [(overlap(place, width, x, size), (pc, context)) for x, size, pc, context in state.fetched_at]
+        if type(place) is not int:
+            earlier += [(within(place, low - width + 1, high - 1), first) for low, high, first in ranges_of(state.fetched)]
+        for is_same in (False, True):
+            asked = [(condition, first) for condition, first in earlier if (first == here) is is_same]
+            question = any_of(*(condition for condition, _ in asked))
+            answer, model = self.solver.satisfiable(state.conds, question, state.model)
+            if answer is None:
+                self.undecided["reread", state.pc] += 1
+            elif answer:
+                memo: Dict[Node, object] = {}
+                first = next(first for condition, first in asked if evaluate(condition, model, memo))
+                self.fetched_again(state, first, evaluate(place, model, memo), model)
+                return
+
+    # ---- traps and jumps
+
+    def note_trap(self, state: State, cause: int, value: Word) -> None:
+        """Takes a trap of the enclave that is no call."""
+        if cause != ECALL:
+            self.report("fault", state, "traps: cause %d, value %08x" % (cause, state.value(value)), state.model)
+
+    def jump(self, state: State, x: Node, is_return: bool) -> int:
+        """Takes a jump to an address that is an expression; returns the address at which this path goes on. The host may choose among functions
+        that the enclave has compared it with."""
+        what = "return" if is_return else "jump"
+        if (what, state.pc) not in self.found:
+            known: List[Condition] = [eq(x, at) for at in sorted(self.world.functions)]
+            outside = differ(x, state.value(x)) if is_return else all_of(*(not_(it) for it in known))
+            answer, model = self.solver.satisfiable(state.conds, outside, state.model)
+            if answer:
+                self.report(what, state, "the host chooses the target: %08x" % evaluate(x, model, {}), model)
+            elif answer is None:
+                self.undecided[what, state.pc] += 1
+            if not answer:
+                return state.fixed(x)
+        if not state.is_base:
+            raise Ended("finding")
+        self.assumed_inside[state.pc] += 1
+        state.assume(eq(x, state.value(x)))
+        return state.value(x)
+
+    def check_target(self, state: State, target: int, tag: Tag, offset: int) -> None:
+        """Takes a jump to a number that is no return: it must be a function, or what the program has as an address."""
+        if target in self.world.functions:
+            return
+        if tag is None or target not in (tag.base, tag.base + offset & 0xFFFFFFFF):
+            self.doubt("jump", state, "a target that is no function and no address of the program")
+        elif tag.how in (How.FRAME, How.STACK) or target & 3:
+            self.doubt("jump", state, "a target that is no instruction")
+
+
+def overlap(x: Word, width: int, y: Word, size: int) -> Condition:
+    """Returns whether two accesses have a byte in common."""
+    distance = operation("add", operation("sub", x, y), width - 1)
+    return within(distance, 0, width + size - 2)
+
+
+def ranges_of(fetched: Dict[int, Place]) -> List[Tuple[int, int, Place]]:
+    """Returns bytes as ranges, each loaded by one instruction."""
+    found: List[Tuple[int, int, Place]] = []
+    for at in sorted(fetched):
+        if found and found[-1][1] == at and found[-1][2] == fetched[at]:
+            found[-1] = found[-1][0], at + 1, fetched[at]
+        else:
+            found.append((at, at + 1, fetched[at]))
+    return found

@@ -1,0 +1,182 @@
+"""Merges paths at the heads of loops, for any number of rounds.
+
+Nodes and conditions that all paths at a head have are kept. A byte that differs becomes an unknown of this loop. It has another value in each round,
+so no other node and no condition with it is kept. A merged loop is shown to end if a word of it only grows, or only falls, in each round."""
+from __future__ import annotations
+
+from typing import Dict, List, Optional, Set, Tuple, TYPE_CHECKING
+
+from rvlook.symbolic.conditions import ult
+from rvlook.symbolic.evaluation import evaluate
+from rvlook.symbolic.fields import MERGED_LOOP
+from rvlook.symbolic.merge import Cell, Key, Merged, Merger, Place, begin, join_tags, key_of, raw_cells, tags_of, taint_of
+from rvlook.symbolic.nodes import Byte, Node, Word, mask_of, variable
+from rvlook.symbolic.words import not_, word
+
+if TYPE_CHECKING:
+    from rvlook.symbolic.search import Search
+    from rvlook.symbolic.state import State
+
+MOST_RANKS = 40  # words that are tried as the measure of a loop
+
+
+class Head(Merged):
+    """The merged state at the head of a loop. `own` has the variables of its unknowns, `now` a value of each byte."""
+
+    def __init__(self, state: State) -> None:
+        super().__init__(state)
+        self.own, self.loads = 0, 0
+        self.conds: List[Node] = []
+        self.public: Set[Node] = set()
+        self.fetched: Dict[int, Tuple[int, int]] = {}
+        self.fetched_at: List[Tuple[Word, int, int, int]] = []
+        self.now: Dict[Place, int] = {}
+        self.model: Dict[str, int] = {}
+        self.ranks: Optional[Set[Tuple[Place, bool]]] = None  # words that change in one direction in each round: the place, and whether it grows
+        self.generation = 0  # the number of changes
+
+
+class Loops:
+    """The heads of the merged loops."""
+
+    def __init__(self, search: Search) -> None:
+        self.search = search
+        self.heads: Dict[Key, Tuple[LoopMerger, Head]] = {}
+
+    def take(self, state: State) -> Optional[Tuple[LoopMerger, Head]]:
+        """Takes a path at the head of a loop; returns what has to be explored again."""
+        key = key_of(state)
+        if key not in self.heads:
+            merger = LoopMerger(self.search, "v%d_" % len(self.heads))
+            self.heads[key] = merger, Head(state.fork(state.pc, True))
+            merger.first(self.heads[key][1], state)
+            is_changed = True
+        else:
+            merger, head = self.heads[key]
+            is_changed = merger.next(head, state)
+        head = self.heads[key][1]
+        if not is_changed or head.is_queued:
+            return None
+        head.is_queued = True
+        return merger, head
+
+    def endless(self) -> List[int]:
+        """Returns the heads of the loops whose end is not shown."""
+        return sorted({head.state.pc for _, head in self.heads.values() if head.ranks is not None and not head.ranks})
+
+
+class LoopMerger(Merger):
+    """The rules by which paths are merged at one head of a loop."""
+
+    def __init__(self, search: Search, prefix: str) -> None:
+        super().__init__(search)
+        self.prefix = prefix
+
+    def first(self, it: Head, state: State) -> None:
+        """Takes the first path at a head."""
+        it.cells, it.mem, it.tags = dict(raw_cells(state)), bytes(state.mem), tags_of(state)
+        it.conds, it.public = state.conds[:], set(state.public)
+        self.note(it, state)
+
+    def note(self, it: Head, state: State) -> bool:
+        """Takes what a path has loaded, and its values; returns whether the loads are new."""
+        grown = {**it.fetched, **state.fetched}
+        new = [x for x in state.fetched_at if x not in it.fetched_at and not mask_of(x[0]) & it.own]
+        is_changed = len(grown) > len(it.fetched) or bool(new) or len(state.loads) > it.loads and not it.loads
+        it.fetched, it.loads = grown, max(it.loads, len(state.loads))
+        it.fetched_at = it.fetched_at + new
+        it.model, it.now = dict(state.model), {at: evaluate(x, state.model, state.memo) for at, x in raw_cells(state)}
+        return is_changed
+
+    def next(self, it: Head, state: State) -> bool:
+        """Takes a further path at a head; returns whether the merged state changed."""
+        new = {at: self.loop_cell(it, state, at, x) for at, x in raw_cells(state)}
+        is_changed = self.join(it, new, bytes(state.mem))
+        is_changed = join_tags(it.tags, tags_of(state)) or is_changed
+        self.note_unknowns(it)
+        is_changed = self.drop(it) or is_changed
+        common = set(state.conds)
+        conds = [c for c in it.conds if c in common and not mask_of(c) & it.own]
+        public = {n for n in it.public & state.public if not mask_of(n) & it.own}
+        is_changed = is_changed or len(conds) < len(it.conds) or len(public) < len(it.public)
+        it.conds, it.public = conds, public
+        is_changed = self.note(it, state) or is_changed
+        if is_changed:
+            it.generation, it.ranks = it.generation + 1, None
+        else:
+            self.rank(it, state)
+        return is_changed
+
+    def loop_cell(self, it: Head, state: State, at: Place, x: Byte) -> Cell:
+        """Returns a byte as a cell: one with an unknown of this loop is a new unknown, unless it is the unknown of its own place."""
+        if type(x) is Node and mask_of(x) & it.own and not self.is_unknown_of(at, x):
+            return taint_of(state, x), None
+        return x
+
+    def note_unknowns(self, it: Head) -> None:
+        """Notes the variables of the unknowns."""
+        for at, cell in it.cells.items():
+            if type(cell) is tuple:
+                it.own |= variable(self.name_of(at, cell[0]), cell[0]).mask or 0
+
+    def drop(self, it: Head) -> bool:
+        """Replaces each node with an unknown of this loop by an unknown of its own, until there is none; returns whether there was one."""
+        is_changed, is_open = False, True
+        while is_open:
+            is_open = False
+            for at, cell in it.cells.items():
+                if type(cell) is Node and mask_of(cell) & it.own:
+                    it.cells[at], is_open, is_changed = (cell.taint, None), True, True
+            self.note_unknowns(it)
+        return is_changed
+
+    def opened(self, it: Merged) -> State:
+        """Returns a state to explore from the head of a loop on."""
+        assert isinstance(it, Head)
+        self.rounds += 1
+        it.is_queued = False
+        state = it.state.fork(it.state.pc, True)
+        begin(state, MERGED_LOOP)
+        state.conds, state.public, state.model = list(it.conds), set(it.public), dict(it.model)
+        state.loads, state.fetched, state.head = [(0, 0, ())] * it.loads, dict(it.fetched), state.pc
+        state.fetched_at = list(it.fetched_at)
+        state.round = self.prefix, it.generation
+        self.fill(state, it, it.now)
+        self.note_unknowns(it)
+        return state
+
+    # ---- whether the loop ends
+
+    def rank(self, it: Head, state: State) -> None:
+        """Notes which words change in one direction in a round: in all paths that began at this head in its last form, and came back."""
+        if state.round is None or state.round[0] == self.prefix and state.round[1] < it.generation:
+            return
+        found: Set[Tuple[Place, bool]] = set()
+        for at in self.candidates(it) if it.ranks is None else sorted({at for at, _ in it.ranks}, key=str):
+            before, after = self.word_at(it, at), self.present(state, at)
+            for grows in (True, False):
+                if it.ranks is None or (at, grows) in it.ranks:
+                    question = not_(ult(before, after) if grows else ult(after, before))
+                    answer, _ = self.search.solver.satisfiable(state.conds, question, state.model)
+                    found |= {(at, grows)} if answer is False else set()
+        it.ranks = found
+
+    def candidates(self, it: Head) -> List[Place]:
+        """Returns words of which a byte is an unknown: registers, and words of memory."""
+        places = [at for at, cell in it.cells.items() if type(cell) is tuple]
+        words = {at.split("_")[0] if isinstance(at, str) else at & -4 for at in places}  # type: Set[Place]
+        return sorted((at for at in words if not (isinstance(at, str) and at.startswith("c"))), key=str)[:MOST_RANKS]
+
+    def word_at(self, it: Head, at: Place) -> Word:
+        """Returns a word in the state in which a round begins."""
+        parts = []
+        for k in range(4):
+            place: Place = at + k if isinstance(at, int) else "%s_%d" % (at, k)
+            cell = it.cells.get(place, it.mem[at + k - self.search.world.region[0]] if isinstance(at, int) else 0)
+            parts.append(variable(self.name_of(place, cell[0]), cell[0]) if type(cell) is tuple else cell)
+        return word(*parts)
+
+    @staticmethod
+    def present(state: State, at: Place) -> Word:
+        """Returns the same word in the present state."""
+        return state.load(at, 4, False) if isinstance(at, int) else state.regs[int(at[1:])]

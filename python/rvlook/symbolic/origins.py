@@ -1,0 +1,63 @@
+"""Where an address comes from: the symbol, the frame or the pointer in memory from which an enclave computed it.
+
+A register and a word of memory have an origin beside their value. It stays when an offset is added, so that an access can be compared with the object
+from which its address was computed. A value without an origin is no pointer, as far as is known."""
+from __future__ import annotations
+
+from enum import Enum
+from typing import NamedTuple, Optional
+
+from rvlook.symbolic.nodes import M32
+
+
+class How(Enum):
+    """How the first address of an origin was computed."""
+    UPPER = "upper"  # lui or auipc: the lower bits are still to come
+    SYMBOL = "symbol"  # a constant address
+    STACK = "stack"  # sp itself: the offset is still to come
+    FRAME = "frame"  # sp and an offset
+    MEMORY = "memory"  # a pointer that the image has in its data
+    NONE = "none"  # a word in memory that is no pointer, although its value looks like one
+
+
+class Origin(NamedTuple):
+    """The first address of a pointer, and the call and the instruction in which it was computed. A call has a number."""
+    how: How
+    base: int
+    call: int = 0
+    pc: int = 0
+
+
+NO_ORIGIN = Origin(How.NONE, 0)
+Tag = Optional[Origin]
+
+
+def known(it: Tag) -> Tag:
+    """Returns an origin, or None for the mark of a word that is no pointer."""
+    return None if it is NO_ORIGIN else it
+
+
+def moved_by_constant(it: Tag, offset: int, pc: int) -> Tag:
+    """Returns the origin of a pointer to which a constant is added: it completes an address whose lower bits were still to come."""
+    if it is None or offset == 0:
+        return it
+    if it.how is How.UPPER:
+        return Origin(How.SYMBOL, it.base + offset & M32)
+    if it.how is How.STACK:
+        return Origin(How.FRAME, it.base + offset & M32, it.call, pc)
+    return it
+
+
+def added(one: Tag, two: Tag) -> Tag:
+    """Returns the origin of the sum of two words: that of the only pointer."""
+    return one if two is None else two if one is None else None
+
+
+def subtracted(one: Tag, two: Tag) -> Tag:
+    """Returns the origin of a difference: that of a pointer from which an offset is taken."""
+    return one if two is None else None
+
+
+def masked(one: Tag, two: Tag) -> Tag:
+    """Returns the origin of an and or an or of two words: that of the only pointer, which is aligned or chosen so."""
+    return added(one, two)

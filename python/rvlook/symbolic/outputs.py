@@ -1,0 +1,233 @@
+"""Questions about what leaves an enclave: secrets in the window and in answers, codes that the host must know, what remains at a stop."""
+from __future__ import annotations
+
+from typing import Dict, List, Optional, Sequence, Set, Tuple, TYPE_CHECKING
+
+from rvlook.symbolic.conditions import all_of, any_of, differ, eq
+from rvlook.symbolic.evaluation import evaluate
+from rvlook.symbolic.nodes import CHECK, INPUT, SECRET, Byte, Node, Word, by_name, mask_of, names_of, operands, variable
+from rvlook.symbolic.record import Record
+from rvlook.symbolic.words import byte, plain, word
+
+if TYPE_CHECKING:
+    from argparse import Namespace
+    from rvlook.symbolic.solver import Solver
+    from rvlook.symbolic.fields import AnyState as State
+    from rvlook.symbolic.world import World
+
+COMPARISONS = ("eq", "eq8", "ult", "lt")
+BYTES = 256  # values of a byte
+
+
+class Outputs(Record):
+    """A search that asks about outputs."""
+    world: World
+    options: Namespace
+    solver: Solver
+
+    def __init__(self) -> None:
+        super().__init__()
+        self.usual_raw: Set[Tuple[int, Optional[int]]] = set()  # where the run itself shows bytes of the secret
+        self.matters: Set[str] = set()  # bytes of which an output is known to depend on them
+        self.appears = 0  # the variables of all outputs and of all conditions at stops
+
+    def output(self, state: State, parts: Sequence[Byte], places: Sequence[Optional[int]], what: str) -> None:
+        """Takes bytes that the host can read afterwards. `places` has their addresses in the window, None for one that is not a number."""
+        own = [n for n, b in enumerate(parts) if type(b) is Node and b.taint & (SECRET | CHECK)]
+        if not own:
+            return
+        public = self.world.public
+        shown = [n for n in own if public.answer] if what == "answer" else [n for n in own if (at := places[n]) is not None and public.has(at)]
+        self.raw(state, parts, places, own, shown)
+        self.shows_check(state, [parts[n] for n in own])
+        secret = [n for n in own if parts[n].taint & SECRET]
+        if secret:
+            self.comes_out(state, any(parts[n].taint & CHECK for n in secret))
+            self.note_influence(state, parts)
+        hidden = [n for n in secret if n not in shown]
+        value = word(*[parts[n] if n in hidden else 0 for n in range(len(parts))], *[0] * (4 - len(parts)))
+        wanted = self.condition_of([places[n] for n in hidden])
+        if hidden and wanted is not None:
+            state.pending += ((wanted, value, state.pc),)
+        elif hidden:
+            state.differs(what, value)
+        for n in secret:
+            state.public.add(parts[n])
+        if type(value) is Node and len(hidden) == len(parts) == 4:
+            state.public.add(value)
+
+    def condition_of(self, places: Sequence[Optional[int]]) -> Optional[int]:
+        """Returns the answer with which bytes are public, or None."""
+        for public, wanted in self.world.public_if:
+            if places and all(at is not None and public.has(at) for at in places):
+                return wanted
+        return None
+
+    def raw(self, state: State, parts: Sequence[Byte], places: Sequence[Optional[int]], own: Sequence[int], shown: Sequence[int]) -> None:
+        """Takes bytes of the secret that come out as they are, or changed so that one can compute them: also a public place shows them only where
+        the run itself does."""
+        bare = [n for n in own if parts[n].taint & SECRET and is_one_byte(parts[n], SECRET)]
+        key = state.pc, places[bare[0]] if bare else None
+        if state.is_base and bare:
+            self.usual_raw.add(key)
+        elif bare and set(bare) <= set(shown) and key not in self.usual_raw:
+            self.report("raw", state, "%d bytes of the secret itself, at a public place where the run has others" % len(bare), state.model)
+
+    def shows_check(self, state: State, parts: Sequence[Node]) -> None:
+        """Takes bytes that depend on what the host must know: they may show whether it is right, and no more."""
+        for b in parts:
+            if not b.taint & CHECK:
+                continue
+            if is_one_byte(b, CHECK):
+                self.report("check", state, "what the host must know comes out", state.model)
+            elif comparisons_with(b, CHECK) != 1:
+                self.doubt("check", state, "an output depends on what the host must know by more than one comparison")
+
+    def comes_out(self, state: State, is_mixed: bool) -> None:
+        """Takes a place where a secret comes out: asks whether the host must know what it is to know. An output in which both are mixed may be chosen
+        without a branch."""
+        if not self.world.check or state.released or ("check", state.pc) in self.found:
+            return
+        state.released = True
+        answer = self.solver.is_free(state.conds, ["c_%08x" % at for at in self.world.check])
+        if answer and is_mixed:
+            self.doubt("check", state, "an output is computed of the secret and of what the host must know")
+        elif answer:
+            first, count = min(self.world.check), len(self.world.check)
+            self.report("check", state, "the secret comes out to a host that need not know %d bytes at %08x" % (count, first), state.model)
+        elif answer is None:
+            self.undecided["check", state.pc] += 1
+
+    def answered(self, state: State, value: Word) -> None:
+        """Takes the value with which the enclave leaves, and the outputs that are public only with some answer."""
+        for wanted, shown, pc in state.pending:
+            other = differ(value, wanted)
+            answer, _ = self.solver.satisfiable(state.conds, other, state.model)
+            if answer is False:
+                continue
+            conds = state.conds + ([other] if type(other) is Node else [])
+            differs, one, two = self.solver.pair(conds, shown, set(), state.model)
+            if differs and one is not None:
+                self.report("window", state, "the output of %s is public only with the answer %d" % (self.world.place(pc), wanted), one, two)
+            elif differs is None or answer is None:
+                self.undecided["window", pc] += 1
+        self.output(state, [byte(value, n) for n in range(4)], [None] * 4, "answer")
+        if type(value) is Node and value.taint & SECRET:
+            state.public.add(value)
+
+    # ---- what must matter
+
+    def note_influence(self, state: State, parts: Sequence[Byte]) -> None:
+        """Notes the bytes of the secret on which an output depends, each with two values for which it differs."""
+        mask = 0
+        for b in parts:
+            mask |= mask_of(b)
+        self.appears |= mask
+        for name in names_of(mask) if self.options.must_matter else ():
+            if name.startswith("k_") and name not in self.matters:
+                other = {**state.model, name: state.model.get(name, 0) ^ 0x55}
+                memo: Dict[Node, object] = {}
+                is_possible = all(evaluate(it, other, memo) for it in state.conds)
+                if is_possible and any(evaluate(b, other, memo) != state.value(b) for b in parts):
+                    self.matters.add(name)
+
+    # ---- the end of an activation
+
+    def left(self, state: State) -> None:
+        """Takes an activation that leaves: older states, and what remains in the region."""
+        for it in state.conds if self.options.must_matter else ():
+            self.appears |= mask_of(it)
+        if state.visit >= 2 and not self.options.merges and ("older", state.pc) not in self.found:
+            self.older(state)
+        if self.world.secret and self.options.wiped:
+            self.remains(state)
+
+    def remains(self, state: State) -> None:
+        """Asks what in the region and the registers depends on the secret at a stop."""
+        cells = {at: plain(it) for at, it in state.sym.items()}
+        places = sorted(at for at, it in cells.items() if is_secret(state, it) and not (at in self.world.secret and it.op == "var"))
+        registers = ["x%d" % n for n in range(1, 32) if is_secret(state, state.regs[n])]
+        registers += ["csr %x" % n for n, it in state.csr.items() if is_secret(state, it)]
+        text = "%d bytes of the region from %08x on" % (len(places), places[0]) if places else ""
+        if places or registers:
+            what = " and ".join(filter(None, (text, ("registers " if registers else "") + " ".join(registers))))
+            self.report("remains", state, "%s depend on the secret" % what, state.model)
+
+    def older(self, state: State) -> None:
+        """Asks whether the activation accepts a state of an earlier one as it does the latest."""
+        ends = [(0, 0)] + [(it[3], it[4]) for it in state.answers]
+        loaded: Dict[int, str] = {}
+        for _, at, names in state.loads[ends[state.visit][0]:]:
+            for n, name in names if type(at) is int else ():
+                loaded.setdefault(at + n, name)
+        kept = kept_states(state, ends)
+        latest = kept[-1]
+        places = [at for at in loaded if at in latest]
+        now = all_of(*(eq(input_of(loaded[at]), as_word(latest[at])) for at in places))
+        for old in kept[:-1] if places and now is not False else ():
+            changed = [at for at in places if at in old and old[at] != latest[at]]
+            then = [eq(input_of(loaded[at]), as_word(old.get(at, latest[at]))) for at in places]
+            question = all_of(*then, any_of(*(differ(as_word(old[at]), as_word(latest[at])) for at in changed)))
+            if self.accepts(state, question, now, changed):
+                return
+
+    def accepts(self, state: State, question: Node, now: Node, changed: List[int]) -> bool:
+        """Reports an older state that is accepted; returns whether it is."""
+        answer, model = self.solver.satisfiable(state.conds, question, state.model)
+        latest, _ = self.solver.satisfiable(state.conds, now, state.model) if answer else (False, None)
+        if answer is None or latest is None:
+            self.undecided["older", state.pc] += 1
+        if answer and latest:
+            self.report("older", state, "the window at %08x may be that of an earlier stop" % min(changed), model)
+        return bool(answer and latest)
+
+
+def kept_states(state: State, ends: Sequence[Tuple[int, int]]) -> List[Dict[int, Byte]]:
+    """Returns the bytes that the enclave has stored to the window up to the end of each earlier activation, by address."""
+    found: List[Dict[int, Byte]] = []
+    contents: Dict[int, Byte] = {}
+    for u in range(state.visit):
+        for _, at, width, v in state.stores[ends[u][1]:ends[u + 1][1]]:
+            contents.update({at + n: byte(v, n) for n in range(width)} if type(at) is int else {})
+        found.append(dict(contents))
+    return found
+
+
+def input_of(name: str) -> Word:
+    """Returns an input as a word."""
+    return as_word(by_name[name] if name in by_name else variable(name, INPUT))
+
+
+def as_word(b: Byte) -> Word:
+    """Returns a byte as a word."""
+    return word(b, 0, 0, 0)
+
+
+def is_secret(state: State, it: object) -> bool:
+    """Returns whether a word or a byte depends on the secret and is not public."""
+    return type(it) is Node and bool(it.taint & SECRET) and it not in state.public
+
+
+def is_one_byte(b: Node, taint: int) -> bool:
+    """Returns whether a byte depends on one byte of a secret alone, and shows it: it has another value for each of its values."""
+    mask = mask_of(b)
+    if b.taint & ~taint or mask & mask - 1 or not mask:
+        return False
+    name = names_of(mask)[0]
+    return len({evaluate(b, {name: v}, {}) for v in range(BYTES)}) == BYTES
+
+
+def comparisons_with(node: Node, taint: int) -> int:
+    """Returns the number of comparisons through which a node depends on a secret; more than one if it depends on it otherwise."""
+    found, stack, seen = 0, [node], {node}
+    while stack:
+        it = stack.pop()
+        if it.op in COMPARISONS and it.taint & taint:
+            found += 1
+        elif it.op == "var" and it.taint & taint:
+            found += 2
+        else:
+            new = [a for a in operands(it) if a.taint & taint and a not in seen]
+            seen.update(new)
+            stack += new
+    return found

@@ -1,0 +1,117 @@
+"""The questions of `verify`, and the answer to each of them: PROVED, FOUND, NOT DECIDED or none found."""
+from __future__ import annotations
+
+from dataclasses import dataclass, field
+from typing import Dict, List, Sequence, Tuple, TYPE_CHECKING
+
+from rvlook.symbolic.paths import MOST_VALUES
+
+if TYPE_CHECKING:
+    from rvlook.symbolic.record import Finding
+    from rvlook.symbolic.search import Search
+
+PROVED, FOUND, NOT_DECIDED, NONE_FOUND = "PROVED", "FOUND", "NOT DECIDED", "none found"
+QUESTIONS: Dict[str, Tuple[str, Sequence[str]]] = {
+    "memory": ("no access leaves its object, no jump has a target that the host chooses, no saved return address is overwritten",
+               ("load", "store", "return", "jump", "value", "branch")),
+    "traps": ("no step of the enclave faults", ("fault",)),
+    "returns": ("no path goes on for ever", ("stuck",)),
+    "double fetches": ("no byte of the window is loaded twice", ("reread",)),
+    "time": ("pc, addresses and operands of divisions do not depend on the secret", ("pc", "address", "operand")),
+    "outputs": ("window and answers depend on the secret only where it is public", ("window", "answer", "raw")),
+    "checks": ("the secret never comes out for another value of the bytes that the host must know", ("check",)),
+    "remains": ("nothing in the region or the registers depends on the secret at a stop", ("remains",)),
+    "influence": ("what comes out depends on each byte of the secret that must matter", ("influence",)),
+    "state": ("no older state is accepted as the latest", ("older",))}
+REASONS = {"code": "a path reaches code that changes", "outside": "a path leaves the region", "steps": "a path is too long",
+           "sp": "the stack pointer depends on the host", "bound": ""}
+
+
+@dataclass
+class Answer:
+    """The answer to a question, with the places where it is not decided."""
+    name: str
+    verdict: str
+    title: str
+    findings: List[Finding] = field(default_factory=list)
+    places: List[str] = field(default_factory=list)
+
+
+def asked(search: Search) -> List[str]:
+    """Returns the questions that the options ask."""
+    options, has_secret = search.options, bool(search.world.secret)
+    left_out = {"checks": not search.world.check, "remains": not (has_secret and options.wiped), "influence": not options.must_matter,
+                "state": bool(search.merger) or search.activations < 3, "time": not has_secret, "outputs": not has_secret}
+    return [name for name in QUESTIONS if not left_out.get(name)]
+
+
+def gone(search: Search) -> List[str]:
+    """Returns why not all paths were covered."""
+    place, found = search.world.place, []
+    if search.merge_queue:
+        found.append("%d merged states are left" % len(search.merge_queue))
+    if search.queue:
+        found.append("%d paths are left, all with at most %d rounds of each loop done" % (len(search.queue), max(0, (search.rest or 1) - 1)))
+    for pc in search.cut_loops:
+        found.append("the loop at %s is followed for %d rounds" % (place(pc), search.options.bound))
+    for pc in search.left_after_leak:
+        found.append("after the leak at %s other secrets are left out" % place(pc))
+    for pc in search.many:
+        found.append("the word at %s has more than %d values" % (place(pc), MOST_VALUES))
+    for pc in search.assumed_inside:
+        found.append("after the finding at %s the access stays inside" % place(pc))
+    for pc in sorted(search.changed_code):
+        found.append("code changes, at %s" % place(pc))
+    for pc in sorted(search.given_written):
+        found.append("%s stores to bytes of --given" % place(pc))
+    found += ["%s (%d paths)" % (text, search.ends[why]) for why, text in REASONS.items() if text and search.ends[why]]
+    if search.ends["finding"]:
+        found.append("%d paths end at a finding" % search.ends["finding"])
+    return found
+
+
+def untrusted(search: Search) -> List[str]:
+    """Returns which replays differ from what the search predicts."""
+    found = ["the replay of %s" % it for it in search.wrong]
+    return found + ["the replay of the finding %s at %s: %s" % (it.what, search.world.place(it.pc), it.answer)
+                    for it in search.found.values() if it.answer and not it.is_confirmed]
+
+
+def answers(search: Search) -> List[Answer]:
+    """Returns the answer to each question."""
+    is_complete = not gone(search) and not untrusted(search)
+    found = []
+    for name in asked(search):
+        title, kinds = QUESTIONS[name]
+        it = Answer(name, PROVED if is_complete else NONE_FOUND, title)
+        it.findings = sorted((x for x in search.found.values() if x.what in kinds and x.is_confirmed), key=lambda x: (x.pc, x.what))
+        for (what, pc), count in sorted(search.undecided.items(), key=lambda x: (x[0][1], x[0][0])):
+            if what in kinds and (what, pc) not in search.found:
+                why = "; ".join(sorted(search.reasons.get((what, pc), ())))
+                it.places.append("%s at %s%s, %d times" % (what, search.world.place(pc), ": " + why if why else "", count))
+        it.places += ["the end of the loop at %s" % search.world.place(pc) for pc in search.loops.endless()] if name == "returns" else []
+        it.places += influences(search, is_complete) if name == "influence" else []
+        it.verdict = FOUND if it.findings else NOT_DECIDED if it.places else it.verdict
+        found.append(it)
+    return found
+
+
+def influences(search: Search, _: bool) -> List[str]:
+    """Returns the bytes of the secret that no output is known to depend on."""
+    missing = [at for at in search.world.must_matter if "k_%08x" % at not in search.matters]
+    return ["no output is known to depend on %d bytes, the first at %08x" % (len(missing), missing[0])] if missing else []
+
+
+def is_complete(search: Search) -> bool:
+    """Returns whether all questions are answered for all paths."""
+    return not gone(search) and not untrusted(search) and not search.undecided and not search.loops.endless()
+
+
+def covered(search: Search) -> str:
+    """Returns what a complete search has covered."""
+    number = "any number of activations" if search.merger else "1 activation" if search.activations == 1 else "%d activations" % search.activations
+    given = ", with the bytes of --given" if search.world.given else ""
+    calm = ", for a host that waits while the enclave runs" if search.options.calm else ""
+    secrets = ", all secrets" if search.world.secret else ""
+    types = "" if search.world.has_types else "; objects are known by symbols alone, without types"
+    return "all paths, all inputs%s%s, %s%s%s" % (secrets, given, number, calm, types)

@@ -1,0 +1,192 @@
+"""Questions about expressions: cheap attempts first, then z3 with a limit. Conditions that share no variable with the question are left out.
+
+Each answer that something exists is evaluated before it counts. An answer that nothing exists is that of simplification or of z3."""
+from __future__ import annotations
+
+import random
+import time
+from typing import Any, Dict, FrozenSet, List, Optional, Sequence, Set, Tuple
+
+from rvlook.symbolic.evaluation import Model, evaluate, reduced
+from rvlook.symbolic.guess import Part, solutions
+from rvlook.symbolic.nodes import CHECK, SECRET, Condition, Node, Word, by_name, mask_of, names_of
+from rvlook.symbolic.translate import Primed, Translator
+
+CORNERS = (0, 1, 255, 128, 127, 65, 4, 16)
+MOST_NAMES, TRIES, REPAIRS = 64, 6, 4  # variables of a question that is guessed; guesses; repaired conditions of a guess
+Answer = Optional[bool]  # None if it is not decided
+Pair = Tuple[Answer, Optional[Part], Optional[Part]]
+
+
+class Solver:
+    """Answers questions: True with a model, False, or None if it is not decided. `proofs` has the conditions of each answer that nothing exists, if
+    it is a list."""
+
+    def __init__(self, timeout: int, seed: int = 0) -> None:
+        self.timeout, self.rng, self.plain = timeout, random.Random(seed), Translator()
+        self.z3 = self.plain.z3
+        self.cache: Dict[Any, Any] = {}
+        self.primed: Dict[FrozenSet[Node], Primed] = {}
+        self.queries = self.guesses = self.cached = 0
+        self.seconds = 0.0
+        self.proofs: Optional[List[List[Any]]] = None
+
+    # ---- one run
+
+    @staticmethod
+    def sliced(conditions: Sequence[Node], mask: int) -> Tuple[List[Node], int]:
+        """Returns the conditions that share variables with a question, directly or by others, and all these variables."""
+        left, found = list(conditions), []  # type: List[Node], List[Node]
+        while True:
+            more = [it for it in left if mask_of(it) & mask]
+            if not more:
+                return found, mask
+            found += more
+            chosen = set(more)
+            left = [it for it in left if it not in chosen]
+            for it in more:
+                mask |= mask_of(it)
+
+    def satisfiable(self, conditions: Sequence[Node], question: Condition, model: Part) -> Tuple[Answer, Part]:
+        """Returns whether the conditions and a question hold for some values, and a model, which is changed from one of the conditions. `model` has
+        a value for each variable."""
+        if type(question) is bool:
+            return question, model
+        relevant, mask = self.sliced(conditions, mask_of(question))
+        key = question, frozenset(relevant)
+        if key not in self.cache:
+            self.cache[key] = self.answered(relevant, question, mask, model)
+        else:
+            self.cached += 1
+        answer, part = self.cache[key]
+        return answer, {**model, **part} if part else model
+
+    def answered(self, relevant: List[Node], question: Node, mask: int, model: Part) -> Tuple[Answer, Optional[Part]]:
+        """Returns whether conditions and a question hold, with the values that differ from a model: by guesses, by simplification, or by z3."""
+        part = self.guessed(relevant, question, mask_of(question), model)
+        if part is not None:
+            self.guesses += 1
+            return True, part
+        left, values = reduced([*relevant, question])
+        if left is None:
+            self.note_proof([self.plain(it) for it in (*relevant, question)])
+            return False, None
+        answer, part = (True, {}) if not left else self.solve([self.plain(it) for it in left], names_of(mask))
+        if answer and part is not None:
+            part.update({k.args[0]: v for k, v in values.items()})
+            memo: Dict[Node, Any] = {}
+            whole = {**model, **part}
+            if not all(evaluate(it, whole, memo) for it in (*relevant, question)):
+                return None, None
+        return answer, part
+
+    def guessed(self, conditions: Sequence[Node], question: Node, mask: int, model: Part) -> Optional[Part]:
+        """Returns values of the variables of a question for which it holds and so do the conditions; or None."""
+        names = names_of(mask)
+        if len(names) > MOST_NAMES:
+            return None
+        parts = [it for it, _ in zip(solutions(question, model, {}), range(8))]
+        for turn in range(TRIES):
+            parts.append({n: CORNERS[turn] if turn < 3 else self.rng.randrange(256) if turn < 5 else self.rng.choice(CORNERS) for n in names})
+        for part in parts:
+            found = self.repaired(part, conditions, question, model)
+            if found is not None:
+                return found
+        return None
+
+    @staticmethod
+    def repaired(part: Part, conditions: Sequence[Node], question: Node, model: Part) -> Optional[Part]:
+        """Returns a guess for which a question and conditions hold, after repairs of conditions that do not; or None."""
+        other: Part = {**model, **part}
+        for _ in range(REPAIRS):
+            memo: Dict[Node, Any] = {}
+            if not evaluate(question, other, memo):
+                return None
+            failing = next((it for it in conditions if not evaluate(it, other, memo)), None)
+            if failing is None:
+                return {n: v for n, v in other.items() if n in part or v != model.get(n)}
+            change = next((it for it in solutions(failing, other, memo) if it and not part.keys() & it.keys()), None)
+            if change is None:
+                return None
+            other = {**other, **change}
+        return None
+
+    def solve(self, asts: List[Any], names: Sequence[str]) -> Tuple[Answer, Optional[Part]]:
+        """Asks z3. Returns True with the values of the variables, False, or None."""
+        began = time.perf_counter()
+        self.queries += 1
+        answer, values = self.z3.checked(asts, self.timeout)
+        self.seconds += time.perf_counter() - began
+        if answer is False:
+            self.note_proof(asts)
+        return answer, {n: values.get(n, 0) for n in names} if answer else None
+
+    def note_proof(self, asts: List[Any]) -> None:
+        """Keeps the conditions that cannot hold together, for a second solver."""
+        if self.proofs is not None:
+            self.proofs.append(asts)
+
+    def is_free(self, conditions: Sequence[Node], names: Sequence[str]) -> Answer:
+        """Returns whether conditions also hold for other values of bytes that the host must know, with the same inputs."""
+        own = [it for it in conditions if it.taint & CHECK]
+        mask = 0
+        for it in own:
+            mask |= mask_of(it)
+        if any(not (by_name[n].mask or 0) & mask for n in names):
+            return True
+        primed = Primed(self.plain, (), CHECK)
+        other = [self.z3.unequal(self.plain(by_name[n]), primed(by_name[n])) for n in names]
+        relevant, _ = self.sliced(conditions, mask)
+        return self.solve([self.plain(it) for it in relevant] + [primed(it) for it in own] + [self.z3.disjunction(other)], [])[0]
+
+    # ---- two runs with different secrets
+
+    def pair(self, conditions: Sequence[Node], question: Word, public: Set[Node], model: Part) -> Pair:
+        """Returns whether a node can differ for two secrets and equal inputs, with two models. `public` has the nodes that are taken to be equal."""
+        if type(question) is not Node or not question.taint & SECRET or question in public:
+            return False, None, None
+        relevant, mask = self.sliced(conditions, mask_of(question))
+        key = "pair", question, frozenset(relevant), frozenset(public)
+        if key in self.cache:
+            self.cached += 1
+            return self.cache[key]
+        secret = [it for it in relevant if it.taint & SECRET]
+        found = self.different(question, mask, secret, public, model) or self.solved_pair(question, mask, relevant, key[3], model)
+        self.cache[key] = found
+        return found
+
+    def solved_pair(self, question: Node, mask: int, relevant: List[Node], public: FrozenSet[Node], model: Part) -> Pair:
+        """Asks z3 whether a node can differ for two secrets."""
+        primed = self.primed.setdefault(public, Primed(self.plain, public))
+        asts = [self.plain(it) for it in relevant] + [primed(it) for it in relevant if it.taint & SECRET]
+        names = names_of(mask)
+        both = names + [n + "'" for n in names if by_name[n].taint & SECRET]
+        answer, part = self.solve(asts + [self.z3.unequal(self.plain(question), primed(question))], both)
+        if not answer or part is None:
+            return answer, None, None
+        one = {**model, **{n: v for n, v in part.items() if not n.endswith("'")}}
+        return True, one, {**one, **{n[:-1]: v for n, v in part.items() if n.endswith("'")}}
+
+    def different(self, question: Node, mask: int, conditions: Sequence[Node], public: Set[Node], model: Part) -> Optional[Pair]:
+        """Tries other secrets; returns the answer of `pair`, or None."""
+        names = [n for n in names_of(mask) if by_name[n].taint & SECRET]
+        memo: Dict[Node, Any] = {}
+        own = evaluate(question, model, memo)
+        forced = {it: evaluate(it, model, memo) for it in public if it.taint & SECRET and mask_of(it) & mask}
+        for turn in range(TRIES if names else 0):
+            other, known = {**model, **self.other_secret(turn, names, model)}, dict(forced)
+            if evaluate(question, other, known) != own and all(evaluate(it, other, known) for it in conditions):
+                self.guesses += 1
+                return True, dict(model), other
+        return None
+
+    def other_secret(self, turn: int, names: Sequence[str], model: Model) -> Part:
+        """Returns another secret: all bits changed, zeros, one bit changed, or random bytes."""
+        if turn == 0:
+            return {n: model.get(n, 0) ^ 255 for n in names}
+        if turn == 1:
+            return {n: 0 for n in names}
+        if turn == 2:
+            n = self.rng.choice(names)
+            return {n: model.get(n, 0) ^ 1 << self.rng.randrange(8)}
+        return {n: self.rng.randrange(256) for n in names}

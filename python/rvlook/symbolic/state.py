@@ -1,0 +1,87 @@
+"""The state of a path, and its steps."""
+from __future__ import annotations
+
+from typing import Optional
+
+from rvlook.symbolic.calls import FETCH, Traps
+from rvlook.symbolic.decode import decode
+from rvlook.symbolic.fields import STVEC, Ended
+from rvlook.symbolic.instructions import Step, compiled
+from rvlook.symbolic.nodes import M32, Word
+from rvlook.symbolic.words import operation
+
+SLICE = 256  # steps between two looks at the time
+LONGEST = 2000  # steps of an endless loop that is noticed
+
+
+def fetch_fault(s: Traps, pc: int) -> int:
+    """Executes a step outside the region, which traps."""
+    return s.trap(FETCH, pc)
+
+
+class State(Traps):
+    """The state of a path."""
+    __slots__ = ()
+
+    def go(self) -> str:
+        """Executes steps until the path ends; returns why."""
+        s = self.search
+        code, limit = s.code, s.options.path_steps
+        try:
+            while True:
+                for _ in range(SLICE):
+                    pc = self.pc
+                    f = code.get(pc)
+                    if f is None:
+                        f = self.decoded(pc)
+                    self.pc = f(self, pc)
+                    self.pcs.append(pc)
+                if s.is_late():
+                    raise Ended("late")
+                if self.steps > limit:
+                    raise Ended("steps")
+                if self.steps > s.patience and not self.is_base:
+                    self.repeats()
+        except Ended as end:
+            self.pcs.append(self.pc)
+            return str(end)
+
+    def step(self) -> None:
+        """Executes one step."""
+        pc = self.pc
+        self.pc = (self.search.code.get(pc) or self.decoded(pc))(self, pc)
+        self.pcs.append(pc)
+
+    def decoded(self, pc: int) -> Step:
+        """Returns the function of the instruction at a pc, as the image has it."""
+        s = self.search
+        low, high = s.world.region
+        if not (low <= pc and pc + 4 <= high):
+            if not self.csr[STVEC]:
+                raise Ended("outside")
+            return fetch_fault
+        if pc in s.written or any(pc + n in self.sym for n in range(4)):
+            s.changed_code.add(pc)
+            raise Ended("code")
+        s.code[pc] = compiled(decode(int.from_bytes(s.world.memory[pc - low:pc - low + 4], "little")))
+        return s.code[pc]
+
+    def repeats(self) -> None:
+        """Reports the path if it is in a loop without inputs in which nothing changes."""
+        seen, loads, first = set(), len(self.loads), self.pc
+        for _ in range(LONGEST):
+            if self.pc == first:
+                key = tuple(self.regs), hash(bytes(self.mem)), hash(frozenset(self.sym.items())), self.mode, tuple(self.csr.values())
+                if key in seen and len(self.loads) == loads:
+                    self.search.report("stuck", self, "never returns", self.model)
+                    raise Ended("finding")
+                seen.add(key)
+            self.step()
+
+    def access_address(self) -> Optional[Word]:
+        """Returns the address of the load or store at the pc, or None."""
+        low = self.search.world.region[0]
+        it = decode(int.from_bytes(self.search.world.memory[self.pc - low:self.pc - low + 4], "little"))
+        if it.kind not in ("load", "store"):
+            return None
+        return operation("add", self.regs[it.r1], it.imm & M32)

@@ -1,0 +1,140 @@
+"""The report of `verify`: the findings with their inputs, the answer to each question, and what was covered."""
+from __future__ import annotations
+
+import time
+from typing import Dict, List, Sequence, TYPE_CHECKING, Tuple
+
+from rvlook.output.printer import Style, hex8
+from rvlook.symbolic import questions
+from rvlook.symbolic.confirm import confirm
+from rvlook.symbolic.evaluation import evaluate
+from rvlook.symbolic.nodes import by_name, mask_of
+
+if TYPE_CHECKING:
+    from argparse import Namespace
+    from rvlook.output.printer import Printer
+    from rvlook.symbolic.record import Finding
+    from rvlook.symbolic.search import Search
+
+MOST_INPUTS = 24  # rows of the table of inputs
+STYLES = {questions.PROVED: Style.good, questions.FOUND: Style.bad}
+HEADINGS = {"pc": "the pc depends on the secret", "address": "the address depends on the secret", "operand": "the operand depends on the secret",
+            "window": "the window depends on the secret", "answer": "the answer depends on the secret"}
+
+
+def heading_of(search: Search, it: Finding) -> str:
+    """Returns a finding in one line."""
+    return "%s, at %s" % (it.text if it.what not in HEADINGS else it.text or HEADINGS[it.what], search.world.place(it.pc))
+
+
+def inputs_of(search: Search, it: Finding) -> List[Tuple[int, int, int, int]]:
+    """Returns the inputs that the path of a finding asks about: the activation, the address, the value, and the value of the run itself."""
+    memo: Dict[object, object] = {}
+    mask = 0
+    for condition in it.conds:
+        mask |= mask_of(condition)
+    mask |= mask_of(it.address)
+    ends, found = [end[0] for end in it.answers], []
+    for step, at, names in it.loads:
+        visit = sum(end < step for end in ends)
+        own = search.world.windows[min(visit, len(search.world.windows) - 1)]
+        for n, name in names:
+            place = evaluate(at, it.one, memo) + n  # type: ignore[arg-type]
+            if name in by_name and (by_name[name].mask or 0) & mask:
+                found.append((visit + 1, place, it.one[name], own[place - search.world.window[0]]))
+    return found
+
+
+def input_rows(search: Search, it: Finding) -> List[str]:
+    """Returns the inputs of a finding as lines: words are put together, and bytes as they are."""
+    rows, found = [row for row in inputs_of(search, it) if row[2] != row[3]], []
+    while rows:
+        visit, at = rows[0][:2]
+        count = next((n for n in (4, 2) if [row[:2] for row in rows[:n]] == [(visit, at + k) for k in range(n)] and not at % n), 1)
+        value, old = (int.from_bytes(bytes(row[k] for row in rows[:count]), "little") for k in (2, 3))
+        name = search.world.symbols.name(at) or hex8(at)
+        found.append("  input  activation %d: %s = 0x%x instead of 0x%x (%08x, %d bytes)" % (visit, name, value, old, at, count))
+        rows = rows[count:]
+    more = ["  input  ... and %d more" % (len(found) - MOST_INPUTS)] if len(found) > MOST_INPUTS else []
+    return (found[:MOST_INPUTS] or ["  input  none: the run itself"]) + more
+
+
+def details_of(search: Search, it: Finding) -> List[str]:
+    """Returns the further lines of a finding."""
+    times = ", %d times" % it.count if it.count > 1 else ""
+    lines = ["  step %d  %08x  %s  [%s%s]" % (len(it.pcs), it.pc, search.world.symbols.name(it.pc) or "", it.answer, times)]
+    if it.two:
+        texts = tuple("".join("%02x" % model["k_%08x" % at] for at in search.world.secret) for model in (it.one, it.two))
+        lines.append("  secrets %s and %s" % texts)
+    return lines + input_rows(search, it)
+
+
+def show(search: Search, printer: Printer, options: Namespace) -> None:
+    """Confirms and prints what a search found and covered, and notes it for the exit status."""
+    for it in search.found.values():
+        it.answer = confirm(search, it)
+    answers = questions.answers(search)
+    reasons = questions.gone(search)
+    wrong = questions.untrusted(search)
+    if printer.as_json:
+        write_objects(search, answers, printer, reasons + wrong)
+    else:
+        print_text(search, answers, printer, reasons, wrong)
+    for answer in answers:
+        options.findings.add(answer.name, "\n".join("\n".join([heading_of(search, it), *details_of(search, it)]) for it in answer.findings))
+    if wrong:
+        options.findings.leave_open("NOT TO BE TRUSTED: " + wrong[0], True)
+    elif not questions.is_complete(search):
+        options.findings.leave_open("not complete: " + "; ".join(reasons or ["places are not decided"]))
+
+
+def print_text(search: Search, answers: Sequence[questions.Answer], printer: Printer, reasons: Sequence[str], wrong: Sequence[str]) -> None:
+    """Prints the findings, the answers, and what was covered."""
+    number = 0
+    for it in (it for answer in answers for it in answer.findings):
+        number += 1
+        printer.line(printer.styled("finding %d: %s" % (number, heading_of(search, it)), Style.bad))
+        for line in details_of(search, it):
+            printer.line(line)
+    for answer in answers:
+        count = " %d" % len(answer.findings) if answer.findings else ""
+        verdict = (answer.verdict + count).ljust(12)
+        style = STYLES.get(answer.verdict)
+        printer.line("%s %s: %s" % (printer.styled(verdict, style) if style else verdict, answer.name, answer.title))
+    for answer in answers:
+        for text in answer.places:
+            printer.line("not decided  %s" % text)
+    for text in wrong:
+        printer.line(printer.styled("NOT TO BE TRUSTED: %s" % text, Style.bad))
+    printer.line(covered_text(search))
+    if questions.is_complete(search):
+        printer.line(printer.styled("COMPLETE: %s" % questions.covered(search), Style.good if not number else Style.heading))
+    else:
+        printer.line("not complete: %s" % "; ".join([*reasons, *wrong] or ["places are not decided"]))
+
+
+def covered_text(search: Search) -> str:
+    """Returns how much was explored, in a line."""
+    s = search.solver
+    return "Explored: %d paths, %d steps, %d instructions, %d merged states; %d queries to z3, %d answered by values; %d paths replayed; %.1f s" % (
+        search.paths, search.steps, len(search.code), len(search.merger.merged) if search.merger else 0, s.queries, s.guesses,
+        sum(search.replays.values()), time.perf_counter() - search.began)
+
+
+def write_objects(search: Search, answers: Sequence[questions.Answer], printer: Printer, reasons: Sequence[str]) -> None:
+    """Writes the findings, the answers, and what was covered as objects."""
+    number = 0
+    for answer in answers:
+        for it in answer.findings:
+            number += 1
+            rows = inputs_of(search, it)
+            printer.object("proof_finding", number=number, question=answer.name, what=it.what, text=heading_of(search, it), step=len(it.pcs),
+                           pc=hex8(it.pc), symbol=search.world.symbols.name(it.pc), source=search.world.symbols.source(it.pc),
+                           confirmed=it.answer,
+                           inputs=[{"activation": row[0], "address": hex8(row[1]), "value": row[2], "instead_of": row[3]} for row in rows])
+    for answer in answers:
+        printer.object("question", name=answer.name, title=answer.title, verdict=answer.verdict, findings=len(answer.findings),
+                       undecided=answer.places)
+    printer.object("verify", slot=search.options.slot, complete=questions.is_complete(search), covered=questions.covered(search),
+                   reasons=list(reasons), paths=search.paths, steps=search.steps, instructions=len(search.code), replays=sum(search.replays.values()),
+                   queries=search.solver.queries)

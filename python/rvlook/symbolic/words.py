@@ -1,0 +1,264 @@
+"""Words and bytes as expressions, simplified as they are made: bytes of words, and the bits that may be set."""
+from __future__ import annotations
+
+from typing import Any, Callable, Dict, Optional, Tuple
+
+from rvlook.symbolic.nodes import M32, Byte, Condition, Node, Word, concrete, make, signed
+
+COMMUTES = ("add", "xor", "or", "and", "mul")
+
+
+def may_of(x: Word) -> int:
+    """Returns the bits that may be set."""
+    return x if type(x) is int else x.may
+
+
+def below(n: int) -> int:
+    """Returns the mask of all bits up to the highest one of a number."""
+    return (1 << n.bit_length()) - 1
+
+
+def bytes_of(x: Word) -> Optional[Tuple[Byte, ...]]:
+    """Returns the four bytes of a word as far as they are known one by one, else None."""
+    if type(x) is int:
+        return x & 255, x >> 8 & 255, x >> 16 & 255, x >> 24
+    return x.args if x.op == "word" else None
+
+
+def word(b0: Byte, b1: Byte, b2: Byte, b3: Byte) -> Word:
+    """Returns the word of four bytes, the lowest first."""
+    if type(b0) is int and type(b1) is int and type(b2) is int and type(b3) is int:
+        return b0 | b1 << 8 | b2 << 16 | b3 << 24
+    if type(b0) is Node and b0.op == "byte" and b0.args[1] == 0:
+        w = b0.args[0]
+        if byte(w, 1) == b1 and byte(w, 2) == b2 and byte(w, 3) == b3:
+            return w
+    return make("word", (b0, b1, b2, b3), may_of(b0) | may_of(b1) << 8 | may_of(b2) << 16 | may_of(b3) << 24)
+
+
+def byte(x: Word, n: int) -> Byte:
+    """Returns a byte of a word."""
+    if type(x) is int:
+        return x >> 8 * n & 255
+    if x.op == "word":
+        return x.args[n]
+    may = x.may >> 8 * n & 255
+    return make("byte", (x, n), may) if may else 0
+
+
+def parts_of(x: Node) -> Tuple[Any, ...]:
+    """Returns the bytes of a word as pairs (word, n), which `plain` makes bytes of: most words are stored and loaded as a whole."""
+    if x.parts is None:
+        x.parts = (x, 0), (x, 1), (x, 2), (x, 3)
+    return x.parts
+
+
+def plain(p: Any) -> Byte:
+    """Returns a byte that may be a pair."""
+    return byte(*p) if type(p) is tuple else p
+
+
+def extended(b0: Byte, b1: Byte, width: int) -> Word:
+    """Returns one or two bytes as a word with the sign of the last."""
+    if width == 1:
+        if type(b0) is int:
+            return signed(b0, 8) & M32
+        return word(b0, 0, 0, 0) if b0.may < 128 else make("sx8", (b0,))
+    if type(b0) is int and type(b1) is int:
+        return signed(b0 | b1 << 8, 16) & M32
+    return word(b0, b1, 0, 0) if may_of(b1) < 128 else make("sx16", (b0, b1))
+
+
+def operation(op: str, x: Word, y: Word) -> Word:
+    """Returns the result of an operation on two words."""
+    if type(x) is int:
+        if type(y) is int:
+            return concrete(op, x, y)
+        if op in COMMUTES:
+            x, y = y, x
+    rule = RULES.get(op)
+    return rule(x, y) if rule else make(op, (x, y))
+
+
+def add(x: Word, y: Word) -> Word:
+    """Returns the sum of a node and a word."""
+    if type(y) is int:
+        if y == 0:
+            return x
+        if x.op == "add" and type(x.args[1]) is int:
+            return add(x.args[0], x.args[1] + y & M32)
+    else:
+        if type(x) is Node and x.op == "add" and type(x.args[1]) is int:
+            return add(add(x.args[0], y), x.args[1])
+        if y.op == "add" and type(y.args[1]) is int:
+            return add(add(x, y.args[0]), y.args[1])
+        if x.number > y.number:
+            x, y = y, x
+    if not may_of(x) & may_of(y):
+        return or_(x, y)
+    total = x.may + may_of(y)
+    return make("add", (x, y), below(total) if total <= M32 else M32)
+
+
+def sub(x: Word, y: Word) -> Word:
+    """Returns the difference of two words."""
+    if type(y) is int:
+        return operation("add", x, -y & M32)
+    return 0 if x is y else make("sub", (x, y))
+
+
+def bytewise(op: str, a: Byte, b: Byte) -> Optional[Byte]:
+    """Returns a bitwise operation on two bytes if at least one decides it, else None."""
+    if type(a) is int and type(b) is int:
+        return concrete(op, a, b)
+    if type(a) is int:
+        a, b = b, a
+    if type(b) is not int:
+        return None
+    neutral = 255 if op == "and" else 0
+    return a if b == neutral else 0 if op == "and" and b == 0 else None
+
+
+def merged(op: str, x: Word, y: Word) -> Optional[Word]:
+    """Returns a bitwise operation on words whose bytes are known one by one, if no two bytes are combined; else None."""
+    p, q = bytes_of(x), bytes_of(y)
+    if not p or not q:
+        return None
+    found = [bytewise(op, a, b) for a, b in zip(p, q)]
+    return None if None in found else word(*found)
+
+
+def xor(x: Word, y: Word) -> Word:
+    """Returns the exclusive or of a node and a word."""
+    if x is y:
+        return 0
+    if type(y) is int:
+        if y == 0:
+            return x
+        if x.op == "xor" and type(x.args[1]) is int:
+            return operation("xor", x.args[0], x.args[1] ^ y)
+        if x.op == "bool" and y == 1:
+            return bool_(not_(x.args[0]))
+    elif x.number > y.number:
+        x, y = y, x
+    it = merged("xor", x, y)
+    return make("xor", (x, y), below(x.may | may_of(y))) if it is None else it
+
+
+def or_(x: Word, y: Word) -> Word:
+    """Returns the or of two words, one of which is a node."""
+    if x is y:
+        return x
+    if type(x) is int:
+        x, y = y, x
+    if type(y) is int and y == 0:
+        return x
+    if type(y) is Node and x.number > y.number:
+        x, y = y, x
+    it = merged("or", x, y)
+    return make("or", (x, y), x.may | may_of(y)) if it is None else it
+
+
+def and_(x: Word, y: Word) -> Word:
+    """Returns the and of a node and a word."""
+    if x is y:
+        return x
+    if type(y) is int:
+        if not x.may & y:
+            return 0
+        if not x.may & ~y:
+            return x
+        if x.op == "and" and type(x.args[1]) is int:
+            return and_(x.args[0], x.args[1] & y)
+        if y == 255:
+            return word(byte(x, 0), 0, 0, 0)
+        if y == 0xFFFF:
+            return word(byte(x, 0), byte(x, 1), 0, 0)
+    elif x.number > y.number:
+        x, y = y, x
+    it = merged("and", x, y)
+    return make("and", (x, y), x.may & may_of(y)) if it is None else it
+
+
+def sll(x: Word, y: Word) -> Word:
+    """Returns a word shifted left."""
+    if type(y) is not int:
+        return make("sll", (x, y))
+    y &= 31
+    if y == 0:
+        return x
+    b = bytes_of(x)
+    if b and not y & 7:
+        n = y >> 3
+        return word(*([0] * n + list(b[:4 - n])))
+    may = may_of(x) << y & M32
+    return make("sll", (x, y), may) if may else 0
+
+
+def srl(x: Word, y: Word) -> Word:
+    """Returns a word shifted right, with zeros."""
+    if type(y) is not int:
+        return make("srl", (x, y), below(may_of(x)))
+    y &= 31
+    if y == 0:
+        return x
+    if not x.may >> y:
+        return 0
+    if not y & 7 and (x.op == "word" or y == 24):
+        n = y >> 3
+        return word(*([byte(x, k) for k in range(n, 4)] + [0] * n))
+    return make("srl", (x, y), x.may >> y)
+
+
+def sra(x: Word, y: Word) -> Word:
+    """Returns a word shifted right, with its sign."""
+    if type(x) is Node and x.may < 1 << 31:
+        return srl(x, y)
+    if type(y) is int and not y & 31:
+        return x
+    return make("sra", (x, y & 31 if type(y) is int else y))
+
+
+def mul(x: Word, y: Word) -> Word:
+    """Returns the lower word of the product of a node and a word."""
+    if type(y) is int:
+        if y == 0:
+            return 0
+        if not y & y - 1:
+            return sll(x, y.bit_length() - 1)
+    elif x.number > y.number:
+        x, y = y, x
+    most = x.may * may_of(y)
+    return make("mul", (x, y), below(most) if most <= M32 else M32)
+
+
+def remu(x: Word, y: Word) -> Word:
+    """Returns the unsigned remainder."""
+    if type(y) is int and y and not y & y - 1:
+        return and_(x, y - 1)
+    return make("remu", (x, y), below(may_of(x)))
+
+
+def divu(x: Word, y: Word) -> Word:
+    """Returns the unsigned quotient."""
+    if type(y) is int and y and not y & y - 1:
+        return srl(x, y.bit_length() - 1)
+    return make("divu", (x, y), below(may_of(x)) if type(y) is int and y else M32)
+
+
+def bool_(c: Condition) -> Word:
+    """Returns a condition as a word."""
+    return int(c) if type(c) is bool else make("bool", (c,), 1)
+
+
+# ---- conditions
+
+def not_(c: Condition) -> Condition:
+    """Returns the negation of a condition."""
+    if type(c) is bool:
+        return not c
+    return c.args[0] if c.op == "not" else make("not", (c,), 1)
+
+
+RULES: Dict[str, Callable[[Word, Word], Word]] = {  # conditions.py adds the comparisons
+    "add": add, "sub": sub, "xor": xor, "or": or_, "and": and_, "sll": sll, "srl": srl, "sra": sra, "mul": mul, "remu": remu, "divu": divu}
