@@ -9,10 +9,12 @@ from rvlook.access.returns import show_returns
 from rvlook.access.stack import overflow_text, overflows
 from rvlook.access.touch import show_touch
 from rvlook.finders.inputs.report import show_inputs
+from rvlook.finders.leak_search import LeakOptions, values_in
 from rvlook.finders.leak_text import show_leak
 from rvlook.finders.races.text import show_races
 from rvlook.finders.timer import show_timer
-from rvlook.finders.window import show_window
+from rvlook.finders.window import WindowOptions
+from rvlook.finders.window_text import show_window
 from rvlook.gdb.server import serve_gdb
 from rvlook.monitors.conform_text import show_conform
 from rvlook.monitors.guard_text import show_guard
@@ -94,7 +96,13 @@ def do_leak(arguments: Namespace) -> None:
     refuse_empty_part(arguments, 1)
     if arguments.tries is not None and arguments.first > arguments.tries:
         raise UsageError("--from %d is greater than --tries %d" % (arguments.first, arguments.tries))
-    show_leak(*opened(arguments), arguments)
+    if arguments.tries is None and len(arguments.secrets) != 2:
+        raise UsageError("leak requires two secrets (ONE TWO) or --tries N; see 'rvlook leak --help'")
+    run, _, printer = opened(arguments)
+    values = [] if arguments.tries is not None else values_in(arguments.secrets)
+    options = LeakOptions(arguments.at, arguments.slot, arguments.public or (), arguments.strict, values, arguments.tries, arguments.first,
+                          arguments.last, arguments.seed, arguments.seconds)
+    show_leak(run, printer, options, arguments.findings)
 
 
 def do_inputs(arguments: Namespace) -> None:
@@ -120,7 +128,8 @@ def do_window(arguments: Namespace) -> None:
     if arguments.public and not arguments.at:
         raise UsageError("--public requires --at PLACE")
     run, _, printer = opened_monitored(arguments)
-    show_window(run, variables_of(arguments.symbols, run.setup.image), printer, arguments)
+    options = WindowOptions(arguments.at, arguments.slot, arguments.public or ())
+    show_window(run, variables_of(arguments.symbols, run.setup.image), printer, options, arguments.findings)
 
 
 def do_timer(arguments: Namespace) -> None:

@@ -1,4 +1,4 @@
-"""The subcommand `window`: what each activation of an enclave did with the bytes of its window.
+"""What each activation of an enclave did with the bytes of its window.
 
 It read them, read them again (a double fetch), received them from another enclave, or wrote them, or an earlier activation left them. A second run
 shows whether what was written depends on a secret. Copies of the secret in the window are found too."""
@@ -6,31 +6,22 @@ from __future__ import annotations
 
 from collections import defaultdict
 from dataclasses import dataclass, field
-from typing import Iterable, Iterator, Mapping, NamedTuple, Optional, TYPE_CHECKING, Tuple
+from typing import Callable, Iterator, Mapping, NamedTuple, Optional, Sequence, TYPE_CHECKING, Tuple
 
 from rvlook.errors import Unfinished
 from rvlook.access.fields import FieldReader, Fields
 from rvlook.finders.leak import public_of
 from rvlook.finders.secrets import secret_of
 from rvlook.finders.secret_copies import copies_in, short_copies_in
-from rvlook.output.progress import Progress
-from rvlook.access.ranges import derived_rights
-from rvlook.output.printer import Style, hex8, run_object
 from rvlook.access.activations import Activation, Activations
 
 if TYPE_CHECKING:
-    from argparse import Namespace
     from rvlook.finders.leak import Public
     from rvlook.finders.secret_copies import Copy
     from rvlook.finders.secrets import Secret
     from rvlook.image.variables import Variables
-    from rvlook.output.printer import Printer
     from rvlook.protocol.run import Run
     from rvlook.protocol.symbols import Symbols
-
-WIDTH = 16  # bytes of a row of the dump
-END_TEXT = {"none": "still running"}  # of an activation that has not ended
-
 
 Marks = Tuple[Tuple[int, ...], Optional[bool], bool]  # instructions, whether it is secret, and whether it is public
 Kept = Tuple[int, int, int]  # a value, the instruction that stored it, and the number of the activation
@@ -221,40 +212,39 @@ def copies_of(activation: Activation, other: Activation | None, secret: Secret, 
         yield SecretCopy(copy, is_secret, all(public.has(base + at) or at in writers and public.has(writers[at]) for at in indices))
 
 
-def show_window(run: Run, variables: Variables, printer: Printer, options: Namespace) -> None:
-    """Prints what each activation did with its window."""
-    symbols = run.setup.symbols
-    secret, slot, public = None, options.slot, public_of(options.public, symbols)
-    if options.at:
-        secret = secret_of(options.at, symbols, run, 0 if slot is None else slot)
-        secret = secret.with_bytes(secret.bytes_in(run))
-    others = WithComplement(run, secret) if secret else None
-    if printer.as_json:
-        run_object(printer, run, symbols)
-    leftovers, number, activations = Leftovers(), 0, Activations(run)
-    fields = Fields(symbols)
-    reader, context = FieldReader(run, variables.parameters, fields), Context(symbols, fields, public)
-    write = activation_objects if printer.as_json else activation_text
-    with Progress() as progress:
-        for activation in activations.all():
+@dataclass(frozen=True)
+class WindowOptions:
+    """What is examined: the slot of the enclave (all without one), the place of the secret (none without one), and what may depend on it."""
+    at: Optional[str] = None
+    slot: Optional[int] = None
+    public: Sequence[str] = ()
+
+
+class WindowSearch:
+    """A run whose activations are examined, with a second run that has another secret if there is one."""
+
+    def __init__(self, run: Run, variables: Variables, options: WindowOptions) -> None:
+        self.run, self.options, symbols = run, options, run.setup.symbols
+        self.context = Context(symbols, Fields(symbols), public_of(options.public, symbols))
+        self.secret: Secret | None = None
+        if options.at:
+            secret = secret_of(options.at, symbols, run, 0 if options.slot is None else options.slot)
+            self.secret = secret.with_bytes(secret.bytes_in(run))
+        self.reader = FieldReader(run, variables.parameters, self.context.fields)
+
+    def views(self, heard: Callable[[int], None] = lambda step: None) -> Iterator[tuple[Activation, View]]:
+        """Yields each activation with its findings. Calls `heard` with the last step of each activation. Raises Unfinished if there is none."""
+        others = WithComplement(self.run, self.secret) if self.secret else None
+        leftovers, slot, number = Leftovers(), self.options.slot, 0
+        for activation in Activations(self.run).all():
             if slot is None or activation.slot == slot:
                 number += 1
-                progress.clear()
-                reader.read(activation)
-                other = others.next(activation) if others and secret and activation.slot == secret.slot else None
-                view = view_of(activation, leftovers, other, secret, context)
-                write(printer, context, activation, view, secret)
-                options.findings.add("%s, activation %d" % (activation.world, activation.number), finding_of(activation, view, context, secret))
-            progress.show("step %d, %d activations", activation.last or 0, number)
-    if not number:
-        raise Unfinished("no enclave runs" if slot is None else "no enclave in slot %d" % slot)
-
-
-def finding_of(activation: Activation, view: View, context: Context, secret: Secret | None) -> str:
-    """Returns the rows that are findings, as a text; empty if there is none."""
-    rows = [found_text(activation, it, context) for it in view.found if it.is_finding]
-    rows += [copy_text(activation, it, context, secret) for it in view.copies if it.is_finding]
-    return "\n".join(it.strip() for it in rows)
+                self.reader.read(activation)
+                other = others.next(activation) if others and self.secret and activation.slot == self.secret.slot else None
+                yield activation, view_of(activation, leftovers, other, self.secret, self.context)
+            heard(activation.last or 0)
+        if not number:
+            raise Unfinished("no enclave runs" if slot is None else "no enclave in slot %d" % slot)
 
 
 class WithComplement:
@@ -269,111 +259,3 @@ class WithComplement:
         """Returns the next activation; one without stores if there is none."""
         found: Activation | None = next(self.activations, None)
         return found or Activation(activation.world, activation.hart, 0, 0, activation.enclave)
-
-
-def between_text(activation: Activation, at: int) -> str:
-    """Returns who may write to a byte of the window between two loads of an activation."""
-    for world in activation.others:
-        if "w" in derived_rights(world, activation.table, at):
-            return "the other hart (%s) may write in between" % world
-    return "the host may write in between, after a timer interrupt"
-
-
-def places_text(pcs: Iterable[int], symbols: Symbols) -> str:
-    """Returns instructions by source line, symbol or address."""
-    return " and ".join(dict.fromkeys(symbols.source(pc) or symbols.name(pc) or hex8(pc) for pc in pcs))
-
-
-def found_text(activation: Activation, it: Found, context: Context) -> str:
-    """Returns a range as a line."""
-    symbols = context.symbols
-    base = activation.enclave.window + it.first
-    parts = ["  %-11s %08x-%08x %6d" % (it.what, base, base + it.size - 1, it.size), context.fields.name(base) or ""]
-    if it.what == "remains":
-        pc, number = it.pcs
-        parts.append("%s, in activation %d" % (places_text([pc], symbols), number))
-    elif it.what == "receives":
-        parts.append("%s of %s" % (places_text(it.pcs, symbols), it.world))
-    elif it.what == "rereads":
-        first, second = (symbols.source(pc) or symbols.name(pc) or hex8(pc) for pc in it.pcs)
-        parts.append("%s and %s; %s" % (first, second, between_text(activation, base)))
-    else:
-        parts.append(places_text(it.pcs, symbols))
-    if it.is_secret is not None:
-        parts.append(secret_text(it))
-    return "  ".join(part for part in parts if part)
-
-
-def secret_text(it: Found | SecretCopy) -> str:
-    """Returns whether bytes of the window depend on the secret."""
-    return ("depends on the secret" + (", public" if it.is_public else "")) if it.is_secret else "the same with another secret"
-
-
-def copy_text(activation: Activation, it: SecretCopy, context: Context, secret: Secret | None) -> str:
-    """Returns a copy of a part of the secret as a line."""
-    assert secret is not None
-    copy, base = it.copy, activation.enclave.window + it.copy.at
-    places = "byte %d" % copy.offset if copy.size == 1 else "bytes %d to %d" % (copy.offset, copy.offset + copy.size - 1)
-    what = "all %d bytes of the secret" % copy.size if copy.size == len(secret.bytes) else "%s of the %d-byte secret" % (places, len(secret.bytes))
-    parts = ["  %-11s %08x-%08x %6d" % ("copy", base, base + copy.size - 1, copy.size), context.fields.name(base) or "", what, secret_text(it)]
-    return "  ".join(part for part in parts if part)
-
-
-def rows_of(activation: Activation) -> Iterator[tuple[int, bytes]]:
-    """Yields the address and the bytes of each row of the window at the end that is not all zero."""
-    for at in range(0, len(activation.after), WIDTH):
-        row = activation.after[at:at + WIDTH]
-        if any(row):
-            yield activation.enclave.window + at, row
-
-
-def row_text(at: int, row: bytes) -> str:
-    """Returns a row of the window as a line of a hex dump."""
-    shown = "".join(chr(it) if 0x20 <= it < 0x7F else "." for it in row)
-    return "  %08x  %s  %s" % (at, " ".join("%02x" % it for it in row), shown)
-
-
-def heading_of(activation: Activation) -> str:
-    """Returns the heading of an activation."""
-    hart = "hart %d  " % activation.hart if activation.others else ""
-    answer = "  a0=%08x a1=%08x" % activation.answer if activation.answer else ""
-    end = END_TEXT.get(activation.ended_by, "ended by " + activation.ended_by)
-    return "%s%s, activation %d: steps %d to %d, %s%s" % (hart, activation.world, activation.number, activation.first, activation.last, end, answer)
-
-
-def activation_text(printer: Printer, context: Context, activation: Activation, view: View, secret: Secret | None) -> None:
-    """Prints an activation."""
-    printer.line(printer.styled(heading_of(activation), Style.heading))
-    for it in view.found:
-        text = found_text(activation, it, context)
-        printer.line(printer.styled(text, Style.bad) if it.is_finding else text)
-    if not view.found:
-        printer.line("  does not access its window" if activation.enclave.window_size else "  no window")
-    for at, row in rows_of(activation):
-        printer.line(row_text(at, row))
-    for found in view.copies:
-        text = copy_text(activation, found, context, secret)
-        printer.line(printer.styled(text, Style.bad) if found.is_finding else text)
-    printer.line()
-
-
-def activation_objects(printer: Printer, context: Context, activation: Activation, view: View, _secret: Secret | None) -> None:
-    """Writes an activation as objects."""
-    symbols = context.symbols
-    printer.object("activation", world=activation.world, hart=activation.hart, activation=activation.number, first=activation.first,
-                   last=activation.last, ended_by=activation.ended_by,
-                   answer=[hex8(it) for it in activation.answer], window=hex8(activation.enclave.window), size=activation.enclave.window_size)
-    for it in view.found:
-        base, pcs = activation.enclave.window + it.first, it.pcs[:1] if it.what == "remains" else it.pcs
-        printer.object("window", world=activation.world, activation=activation.number, what=it.what, first=hex8(base), last=hex8(base + it.size - 1),
-                       symbol=symbols.name(base), field=context.fields.known(base), stored_by=it.world or None,
-                       pcs=[hex8(pc) for pc in pcs], sources=[symbols.source(pc) for pc in pcs],
-                       secret=it.is_secret, public=it.is_public, of=it.pcs[1] if it.what == "remains" else None,
-                       between=between_text(activation, base) if it.what == "rereads" else None)
-    for at, row in rows_of(activation):
-        printer.object("dump", world=activation.world, activation=activation.number, at=hex8(at), bytes=row.hex())
-    for found in view.copies:
-        copy, base = found.copy, activation.enclave.window
-        printer.object("copy", world=activation.world, activation=activation.number, at=hex8(base + copy.at),
-                       field=context.fields.known(base + copy.at), size=copy.size,
-                       offset=copy.offset, secret=found.is_secret, public=found.is_public)

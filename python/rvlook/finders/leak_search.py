@@ -1,0 +1,180 @@
+"""The search of `leak`: runs a program with one pair of secrets, or with many, and compares what a host observes. It prints nothing."""
+from __future__ import annotations
+
+import time
+from dataclasses import dataclass, field
+from typing import Callable, List, Optional, Sequence, TYPE_CHECKING
+
+from rvlook.errors import RvlookError
+from rvlook.finders.leak import CHANNELS, Comparison, check_values, observe, public_of
+from rvlook.finders.secrets import WORD, drawn_pairs, secret_of
+from rvlook.output.progress import Progress
+
+if TYPE_CHECKING:
+    from rvlook.finders.leak import Observation
+    from rvlook.finders.secrets import Pair, Secret
+    from rvlook.protocol.run import Run
+
+MOST_GUESSES = 8  # values of the host near which secrets are drawn
+
+
+@dataclass(frozen=True)
+class LeakOptions:
+    """What is compared: the place of the secret, the slot of its enclave, what may differ, and whether operands of divisions count. `values` has
+    two secrets; without them `tries` pairs are drawn with a seed, of which those from `first` to `last` are run, for at most `seconds`."""
+    at: str
+    slot: int = 0
+    public: Sequence[str] = ()
+    is_strict: bool = False
+    values: Sequence[bytes] = ()
+    tries: Optional[int] = None
+    first: int = 1
+    last: Optional[int] = None
+    seed: int = 0
+    seconds: Optional[float] = None
+
+
+class Leak:
+    """A run, its secret, and how it is compared. `cut` says why an observation ended too early, if one did."""
+
+    def __init__(self, run: Run, options: LeakOptions) -> None:
+        self.run, self.symbols, self.options, self.cut = run, run.setup.symbols, options, ""
+        self.public, self.is_strict = public_of(options.public, self.symbols), options.is_strict
+        left_out = {"operand"} - ({"operand"} if self.is_strict else set()) | (set() if run.setup.monitor else {"answer", "window"})
+        self.channels = [it for it in CHANNELS if it not in left_out]
+
+    def secret(self, size: int | None = None) -> Secret:
+        """Returns the secret that the options name; `size` is its length in bytes."""
+        return secret_of(self.options.at, self.symbols, self.run, self.options.slot, size)
+
+    def observe(self, secret: Secret) -> Observation:
+        """Returns the observations of the run with a secret. Notes if --steps ends the run too early."""
+        found = observe(self.run.with_lines(secret.step, secret.lines()), secret, self.is_strict)
+        if found.is_cut and not self.cut:
+            what = "the enclave in slot %d was running" % secret.slot if self.run.setup.monitor else "it was running"
+            self.cut = "--steps %d ended the run while %s" % (self.run.setup.limit, what)
+        return found
+
+    def compared(self, one: Observation, two: Observation, secret: Secret) -> Comparison:
+        """Compares the observations of two runs."""
+        return Comparison(one, two, secret, self.public, self.is_strict)
+
+    def reply(self, run: Run, step: int) -> str:
+        """Returns the reply of the bench to a step."""
+        with run.replay() as replay:
+            replay.go(step - 1)
+            return (replay.go(step) or "")[len("ran 1 "):]
+
+
+@dataclass(frozen=True)
+class Compared:
+    """A pair of secrets by number, whether the first one is that of the program, the answers with both, and the channels in which they differ.
+    `found` and `both` are the comparison and the observations; a drawn pair without a difference has none."""
+    number: int
+    secrets: Sequence[Secret]
+    is_own: bool
+    answers: Sequence[object]
+    channels: Sequence[str]
+    found: Optional[Comparison]
+    both: Sequence[Observation]
+
+
+@dataclass
+class Tried:
+    """The result of drawn pairs: each pair, why some were left out, and whether Ctrl-C ended the search."""
+    pairs: List[Compared] = field(default_factory=list)
+    cut: str = ""
+    is_interrupted: bool = False
+
+    @property
+    def verdicts(self) -> set[int]:
+        """Returns the numbers of the pairs that differ with a verdict."""
+        return verdicts_of(self.pairs)
+
+    @property
+    def differing(self) -> dict[int, Compared]:
+        """Returns the pairs that differ without a verdict, by number."""
+        verdicts = self.verdicts
+        return {it.number: it for it in self.pairs if it.channels and it.number not in verdicts}
+
+
+def compare_given(leak: Leak) -> Compared:
+    """Compares the runs with the two secrets that the options give. Raises RvlookError."""
+    values = leak.options.values
+    check_values(values)
+    secret = leak.secret(len(values[0]))
+    secrets = [secret.with_bytes(it) for it in values]
+    with Progress() as progress:
+        progress.show("running with %s", values[0].hex())
+        one, two = (leak.observe(it) for it in secrets)
+    found = leak.compared(one, two, secret)
+    return Compared(1, secrets, False, (), found.channels(), found, (one, two))
+
+
+def compare_drawn(leak: Leak, heard: Callable[[Compared], None] = lambda it: None) -> Tried:
+    """Compares the run with runs that have drawn secrets. Calls `heard` with each pair."""
+    options, tried = leak.options, Tried()
+    first = leak.secret()
+    own = first.with_bytes(first.bytes_in(leak.run))
+    until = None if options.seconds is None else time.monotonic() + options.seconds
+    try:
+        with Progress() as progress:
+            base = leak.observe(own)
+            count = options.tries or 0
+            pairs = drawn_pairs(own.bytes, guesses_of(base, len(own.bytes)), options.seed, options.first, min(count, options.last or count))
+            for pair in pairs:
+                tried.pairs.append(try_pair(leak, own, base, pair))
+                heard(tried.pairs[-1])
+                progress.bar(len(tried.pairs), len(pairs), "%d differ" % sum(bool(it.channels) for it in tried.pairs))
+                if until is not None and time.monotonic() > until and len(tried.pairs) < len(pairs):
+                    tried.cut = "--seconds ended leak after %d of %s" % (len(tried.pairs), pairs_text(len(pairs)))
+                    break
+    except KeyboardInterrupt:
+        tried.is_interrupted = True
+    return tried
+
+
+def verdicts_of(tried: Sequence[Compared]) -> set[int]:
+    """Returns the numbers of the pairs that differ with a verdict: the program answers its own secret in one way, and each other secret in another.
+    Other differences of such a pair may follow from the answer. If the answer has a part of the secret, other secrets have several answers."""
+    own = {it.answers[0] for it in tried if it.is_own}
+    others = {answer for it in tried for answer in it.answers[it.is_own:]}
+    secrets = {secret.bytes for it in tried for secret in it.secrets[it.is_own:]}
+    is_verdict = len(own) == len(others) == 1 and own != others and len(secrets) > 1
+    return {it.number for it in tried if it.is_own} if is_verdict else set()
+
+
+def guesses_of(base: Observation, size: int) -> list[bytes]:
+    """Returns values that the host may give for the secret: aligned bytes of the window that the enclave loads."""
+    found: dict[bytes, None] = {}
+    for it in base.activations:
+        loaded = {at for op in it.operations if op.kind == "r" for at in range(op.address, op.address + op.width)}
+        for offset in range(0, len(it.before) - size + 1, min(size, WORD)):
+            if loaded.issuperset(range(it.enclave.window + offset, it.enclave.window + offset + size)):
+                found[it.before[offset:offset + size]] = None
+    return list(found)[:MOST_GUESSES]
+
+
+def try_pair(leak: Leak, own: Secret, base: Observation, pair: Pair) -> Compared:
+    """Compares the runs with the two secrets of a pair."""
+    one = own if pair.one is None else own.with_bytes(pair.one)
+    two = own.with_bytes(pair.two)
+    both = (base if pair.one is None else leak.observe(one)), leak.observe(two)
+    found = leak.compared(*both, own)
+    channels = found.channels()
+    answers = [tuple((it.ended_by, it.answer) for it in observation.activations) for observation in both]
+    kept = (found, both) if channels else (None, ())
+    return Compared(pair.number, (one, two), pair.one is None, answers, channels, *kept)
+
+
+def pairs_text(count: int) -> str:
+    """Returns a number of pairs in words."""
+    return "1 pair" if count == 1 else "%d pairs" % count
+
+
+def values_in(texts: Sequence[str]) -> list[bytes]:
+    """Returns secrets that are given as hexadecimal digits. Raises RvlookError."""
+    try:
+        return [bytes.fromhex(text) for text in texts]
+    except ValueError:
+        raise RvlookError("a secret must consist of pairs of hexadecimal digits") from None
