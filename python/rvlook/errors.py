@@ -3,6 +3,8 @@ from __future__ import annotations
 
 import os
 import sys
+from contextlib import contextmanager
+from typing import Iterator, List
 
 from rvlook.escapes import visible
 
@@ -49,9 +51,26 @@ def print_plain(line: str) -> None:
         sys.stderr = open(os.devnull, "w", encoding="utf-8")
 
 
+HEARD: List[List[str]] = []  # the lists of the callers that take messages; the last one gets them
+
+
+@contextmanager
+def heard() -> Iterator[List[str]]:
+    """Gives a list that gets the messages of the body, which are not printed then."""
+    HEARD.append([])
+    try:
+        yield HEARD[-1]
+    finally:
+        HEARD.pop()
+
+
 def print_line(severity: str, line: str) -> None:
     """Prints a message to standard error: the program, a severity and the text, whose control characters are made visible."""
-    print_plain("rvlook: %s: %s" % (severity, visible(line)))
+    text = "rvlook: %s: %s" % (severity, visible(line))
+    if HEARD:
+        HEARD[-1].append(text)
+    else:
+        print_plain(text)
 
 
 def error(line: str) -> None:

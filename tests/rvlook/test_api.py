@@ -312,6 +312,46 @@ def test_a_finder_returns_its_findings(built, tmp_path):
     assert len(races) == 1 and "# " in races[0].script
 
 
+def test_a_finding_has_its_place(built, tmp_path):
+    program = load(build(EXAMPLES / "enclaves" / "store_leaking", tmp_path / "leaking.elf"))
+    pc = find.leaks(program, "pin", [b"12345678", b"27182800"])[0]
+    assert pc.text.startswith("differs at step %d, %08x" % (pc.step, pc.pc)) and pc.source.startswith("application.c:")
+    again = find.window(program)
+    assert again and {it.title.split(",")[0] for it in again} == {"e0"} and all(it.text.startswith("rereads") and it.pc for it in again)
+    assert again.report.count("rereads") == len(again) and "e0, activation 1" in again.checks
+
+
+def test_pairs_of_drawn_secrets_are_compared(built, tmp_path):
+    program = load(build(EXAMPLES / "enclaves" / "store", tmp_path / "store.elf"))
+    found = find.leaks(program, "pin:8", tries=6)
+    assert not found and not found.unfinished and len(found.checks) == 6 and "no difference in the other 2 pairs" in found.report
+
+
+def test_inputs_have_scripts_and_failures_of_the_run(built, tmp_path):
+    program = load(build(EXAMPLES / "enclaves" / "bug", tmp_path / "bug.elf"))
+    found = find.inputs(program, runs=40)
+    assert found and all("# ./rvbench " in it.script and it.step and it.source for it in found)
+    assert not found.unfinished and "Covered:" in found.report
+
+
+def test_guard_and_conform_find_a_planted_bug(built, tmp_path):
+    from support.monitors import variant
+    folder = EXAMPLES / "monitors" / "two_enclaves"
+    assert not find.guard(folder / "image", folder / "ranges", timers=0).unfinished
+    open_regions = variant(tmp_path, [("pmp.c", "cfg[slot + 1] = slot == world ? OPEN : CLOSED", "cfg[slot + 1] = OPEN")], folder)
+    found = find.guard(open_regions, folder / "ranges", timers=0)
+    assert [it.title for it in found] == ["access"] and found[0].source and "violation of access" in found.report
+    (tmp_path / "other").mkdir()
+    measured = variant(tmp_path / "other", [("monitor.c", "enclaves[slot].measurement[i];", "enclaves[slot].measurement[i] ^ 1;")])
+    different = find.conform(measured, only="measured byte 0")
+    assert len(different) == 1 and "setreg" in different[0].script and different.report.startswith("different: ")
+
+
+def test_finder_prints_nothing(hello, capfd):
+    found = find.window(hello)
+    assert not found and found.report and capfd.readouterr() == ("", "")
+
+
 def test_a_search_without_findings_is_false(hello):
     found = find.timer(hello, every=7)
     assert not found and not found.unfinished and found.checks == ("e0: same result with timer interrupts",)

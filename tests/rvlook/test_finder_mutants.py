@@ -50,7 +50,7 @@ MUTANTS = (
            "test_run_failures.py::test_expectation_is_of_its_name_and_its_place"),
     Mutant("run_takes_a_hang_for_an_end", "trace/emulator.py", 'return name is not None and "+" in name and', "return False and",
            "test_run_failures.py::test_hang_is_no_end"),
-    Mutant("inputs_ignores_failures_of_the_run_itself", "finders/inputs/report.py", "    show_failures(run, symbols, printer, options)\n", "",
+    Mutant("inputs_ignores_failures_of_the_run_itself", "finders/inputs/report.py", "    heard(found.failures)\n", "",
            "test_run_failures.py::test_failure_of_the_enclave_in_the_run_itself_is_a_finding_of_inputs"),
     Mutant("map_ignores_refused_calls", "access/map.py", 'register_values(after)) if world != "bare" else None', 'register_values(after)) if False else None',
            "test_run_failures.py::test_map_shows_a_refused_call"),

@@ -1,38 +1,55 @@
-"""The finders as functions. Each returns its findings, and prints nothing.
-
-`timer` and `overflows` call the functions that compute. The others run their subcommand in this process with its output captured, since these
-compute and print in one pass."""
+"""The finders as functions. Each returns its findings, and prints nothing."""
 from __future__ import annotations
 
-import contextlib
 import io
 import os
-import re
 import shlex
-import tempfile
-from dataclasses import dataclass
-from typing import Any, Callable, Dict, List, Optional, Sequence, TYPE_CHECKING, Tuple, Union
+from contextlib import contextmanager
+from dataclasses import dataclass, replace
+from typing import Any, Callable, Dict, Iterator, List, Optional, Sequence, TYPE_CHECKING, Tuple, Union
 
+from rvlook.access.expectations import Report as FailureReport
+from rvlook.access.failures import failure_text
 from rvlook.access.stack import overflow_text, overflows as overflows_of
 from rvlook.api.program import RAM, STEPS
-from rvlook.cli.parser import read
-from rvlook.errors import RvlookError
-from rvlook.finders.timer import find_timer
-from rvlook.output.printer import place_text
+from rvlook.cli.opening import sets_order
+from rvlook.errors import UsageError, heard
+from rvlook.finders.inputs.report import details_of, find_inputs, print_text
+from rvlook.finders.inputs.scripts import texts_of
+from rvlook.finders.inputs.session import InputsOptions
+from rvlook.finders.leak_search import Leak, LeakOptions, compare_drawn, compare_given
+from rvlook.finders.leak_text import finish, pair_text, text_of_channel, text_of_pair
+from rvlook.finders.races.text import RacesOptions, find_races, texts
+from rvlook.finders.timer import find_timer, timer_text
+from rvlook.finders.window import WindowOptions, WindowSearch
+from rvlook.finders.window_text import activation_text, rows_that_are_findings
+from rvlook.image.variables import variables_of
+from rvlook.monitors.conform import Plan
+from rvlook.monitors.conform_text import LEAST_RAM, MonitorFiles, find_conform, rest_of, script_text, show_counts
+from rvlook.monitors.guard_runs import GuardPlan, do_runs
+from rvlook.monitors.guard_text import rest_of as rest_of_guard, show_results, show_run
+from rvlook.monitors.ranges_file import ownership_of
+from rvlook.output.findings import Findings as Cases
+from rvlook.output.printer import Printer, place_text
+from rvlook.output.progress import Progress
+from rvlook.protocol.run import run_of
+from rvlook.protocol.schedule import TURN, alternating
 
 if TYPE_CHECKING:
+    from rvlook.access.failures import Failure
     from rvlook.access.stack import Overflow
     from rvlook.api.program import Program
-    from rvlook.output.findings import Case, Findings as Cases
+    from rvlook.finders.leak_search import Compared
+    from rvlook.protocol.run import Run
 
 Names = Union[str, Sequence[str]]
-NUMBERED = re.compile(r"(?:finding|final state) \d+")  # in a case whose script a subcommand writes
+Path = Union[str, "os.PathLike[str]"]
 
 
 @dataclass(frozen=True, repr=False)
 class Finding:
-    """A finding. `title` is the check, `text` what it found. `script` is the input of rvbench that repeats it, if the finder writes one. `pc`,
-    `step` and `source` (file and line) are set by `timer` and `overflows`."""
+    """A finding. `title` is the check, `text` what it found. `script` is the input of rvbench that repeats it, if the finder writes one. `pc`, `step`
+    and `source` (file and line) are those of the instruction, if there is one."""
     title: str
     text: str
     script: Optional[str] = None
@@ -56,40 +73,18 @@ class Findings(List[Finding]):
         self.checks: Tuple[str, ...] = ()
 
 
-def run_finder(name: str, arguments: Sequence[str], program: Optional[Program] = None, has_scripts: bool = False) -> Findings:
-    """Runs a subcommand, over the run of a program if there is one; returns its findings. Raises RvlookError as the subcommand does, and if rvbench
-    rejects a line of the script."""
-    report, notes = io.StringIO(), io.StringIO()
-    words = [name, *(image_arguments(program) if program else []), *arguments]
-    with tempfile.TemporaryDirectory() as folder:
-        options = read([*words, *(["--scripts", folder] if has_scripts else [])])
-        if program is not None and (program.setup.harts == 1 or name == "races"):  # with two harts the others have a schedule
-            options.opened = program.run, program.symbols
-        with contextlib.redirect_stdout(report), contextlib.redirect_stderr(notes):
-            options.do(options)
-        cases: Cases = options.findings
-        found = Findings([Finding(it.name, it.finding, script_in(folder, it)) for it in cases.cases if it.finding], command_of(words, program))
-    if cases.refused:
-        raise RvlookError("\n".join(cases.refused))
-    found.checks, found.unfinished = tuple(it.name for it in cases.cases), cases.cut
-    found.report, found.notes = report.getvalue(), notes.getvalue()
-    return found
+@contextmanager
+def searching(words: Sequence[str], program: Optional[Program] = None) -> Iterator[Tuple[Findings, Printer]]:
+    """Gives findings to fill and the printer of their report. The notes and warnings of the body are those of the findings."""
+    found, text = Findings(command=command_of([*words[:1], *(image_arguments(program) if program else []), *words[1:]], program)), io.StringIO()
+    with heard() as messages:
+        yield found, Printer(False, text)
+    found.report, found.notes = text.getvalue(), "".join(it + "\n" for it in messages)
 
 
 def command_of(words: Sequence[str], program: Optional[Program]) -> str:
     """Returns the command line of a search; empty if no command line loads the program in the same way."""
     return "" if program is not None and program.has_boot else " ".join(map(shlex.quote, ["rvlook", *words]))
-
-
-def script_in(folder: str, it: Case) -> Optional[str]:
-    """Returns the script that a subcommand wrote for a finding, or None."""
-    number = NUMBERED.search("%s %s" % (it.name, it.finding))
-    path = os.path.join(folder, number[0].replace(" ", "_") if number else "own.script")
-    found = next((it for it in (path, path + ".input") if os.path.exists(it)), None)
-    if found is None:
-        return None
-    with open(found, encoding="latin-1") as file:
-        return file.read()
 
 
 def image_arguments(program: Program) -> List[str]:
@@ -111,53 +106,165 @@ def option_arguments(options: Dict[str, Any]) -> List[str]:
     return found
 
 
+def several(names: Optional[Names]) -> Sequence[str]:
+    """Returns names that are given as one or as a list."""
+    return [names] if isinstance(names, str) else list(names or ())
+
+
+def at_place(program: Program, pc: Optional[int]) -> Dict[str, Any]:
+    """Returns the pc and the source line of a finding."""
+    return dict(pc=pc, source=None if pc is None else program.symbols.line(pc))
+
+
+def ordered(program: Program, finder: str) -> Run:
+    """Returns the run of a program with an order of its harts. Raises UsageError for a finder that needs a script with an order."""
+    setup = program.setup
+    if setup.harts == 1 or sets_order(setup.lines):
+        return program.run
+    if finder != "window":
+        raise UsageError("%s has no schedule for two harts; set the order of the harts in the script" % finder)
+    return run_of(replace(setup, schedule=alternating(TURN)))
+
+
 def leaks(program: Program, secret: str, values: Sequence[bytes] = (), *, tries: Optional[int] = None, public: Names = (), strict: bool = False,
           slot: int = 0, seed: int = 0, seconds: Optional[float] = None) -> Findings:
     """Compares runs that differ only in a secret: with two `values`, or with `tries` pairs of drawn ones (by default 8). docs/ASK.md has the options
     of `leak`."""
-    options = dict(at=secret, tries=tries if values or tries else 8, public=public, strict=strict, slot=slot, seed=seed, seconds=seconds)
-    return run_finder("leak", [*(it.hex() for it in values), *option_arguments(options)], program)
+    count = None if values else tries or 8
+    words = option_arguments(dict(at=secret, tries=tries if values else count, public=public, strict=strict, slot=slot, seed=seed, seconds=seconds))
+    options = LeakOptions(secret, slot, several(public), strict, values, count, seed=seed, seconds=seconds)
+    with searching(["leak", *(it.hex() for it in values), *words], program) as (found, printer):
+        leak = Leak(ordered(program, "leak"), options)
+        if values:
+            pair = compare_given(leak)
+            pair_text(leak, printer, pair)
+            found += [leak_finding(program, what, text_of_channel(leak, pair, what), pair) for what in pair.channels]
+            found.checks, found.unfinished = tuple(leak.channels), leak.cut
+        else:
+            tried, cases = compare_drawn(leak), Cases()
+            finish(leak, printer, tried, cases)
+            found += [leak_finding(program, "pair %d" % number, text_of_pair(it), it) for number, it in tried.differing.items()]
+            found.checks, found.unfinished = tuple(it.name for it in cases.cases), leak.cut or tried.cut or cases.cut
+    return found
+
+
+def leak_finding(program: Program, title: str, text: str, pair: Compared) -> Finding:
+    """Returns a difference of two runs as a finding, at its first instruction."""
+    assert pair.found is not None
+    first = next((it for it in pair.found.all() if it.what == title), pair.found.all()[0])
+    return Finding(title, text, step=first.steps[0], **at_place(program, first.pc))
 
 
 def window(program: Program, secret: Optional[str] = None, *, public: Names = (), slot: Optional[int] = None) -> Findings:
-    """Finds double fetches from the window, and data that remains there or depends on a secret."""
-    return run_finder("window", option_arguments(dict(at=secret, public=public, slot=slot)), program)
+    """Finds double fetches from the window, and data that remains there or depends on a secret. Raises Unfinished if no enclave runs."""
+    words = option_arguments(dict(at=secret, public=public, slot=slot))
+    with searching(["window", *words], program) as (found, printer):
+        run = ordered(program, "window")
+        search, names = WindowSearch(run, variables_of(None, run.setup.image), WindowOptions(secret, slot, several(public))), []
+        for activation, view in search.views():
+            names.append("%s, activation %d" % (activation.world, activation.number))
+            activation_text(printer, search.context, activation, view, search.secret)
+            found += [Finding(names[-1], text, step=activation.last, **at_place(program, pc))
+                      for text, pc in rows_that_are_findings(activation, view, search.context, search.secret)]
+        found.checks = tuple(names)
+    return found
 
 
 def inputs(program: Program, secret: Optional[str] = None, *, public: Names = (), runs: int = 300, seed: int = 0, entry: bool = False,
            slot: int = 0, seconds: Optional[float] = None) -> Findings:
-    """Varies what the host gives an enclave in `runs` runs, and finds what the host can make it do."""
-    options = dict(at=secret, public=public, runs=runs, seed=seed, entry=entry, slot=slot, seconds=seconds)
-    return run_finder("inputs", option_arguments(options), program, True)
+    """Varies what the host gives an enclave in `runs` runs, and finds what the host can make it do. A trap or a refused call in the run itself is a
+    finding, too. Raises Unfinished if the enclave does not return in the run itself."""
+    words = option_arguments(dict(at=secret, public=public, runs=runs, seed=seed, entry=entry, slot=slot, seconds=seconds))
+    options = InputsOptions(slot, secret, several(public), entry, runs, seed, seconds)
+    with searching(["inputs", *words], program) as (found, printer):
+        run, cases = ordered(program, "inputs"), Cases()
+        report = FailureReport((), program.symbols, printer, cases)
+        result = find_inputs(run, variables_of(None, run.setup.image), options, report.show)
+        found += [failure_finding(program, it) for it in result.failures]
+        search = result.session.search
+        if search:
+            print_text(search, result.groups, printer, options)
+        for number, (group, heading) in enumerate(zip(result.groups, result.headings), 1):
+            assert search is not None
+            it = group.first
+            found.append(Finding("finding %d" % number, "\n".join([heading, *details_of(search, group)]),
+                                 texts_of(search, it, heading)[0].decode("latin-1"), step=it.trace.steps[it.index], **at_place(program, it.pc)))
+        found.checks = (*(it.name for it in cases.cases), *(it.title for it in found[len(result.failures):]), "e%d: inputs of the host" % slot)
+        found.unfinished = result.cut or (result.session.cut_text if result.session.cut else "")
+    return found
+
+
+def failure_finding(program: Program, it: Failure) -> Finding:
+    """Returns a trap or a refused call as a finding."""
+    text = failure_text(it, program.symbols)
+    return Finding(it.call or it.name, text, step=it.step, **at_place(program, int(it.at.pc, 16)))
 
 
 def races(program: Program, *, forbid: Names = (), outcome: Names = (), timers: int = 0, preemptions: Optional[int] = None, end: Names = (),
           limit: int = 0, seconds: Optional[float] = None) -> Findings:
     """Searches all schedules of two harts and of `timers` timer interrupts for final states that `forbid` names."""
-    options = dict(forbid=forbid, outcome=outcome, timer=timers, preemptions=preemptions, end=end, limit=limit, seconds=seconds)
-    return run_finder("races", option_arguments(options), program, True)
+    words = option_arguments(dict(forbid=forbid, outcome=outcome, timer=timers, preemptions=preemptions, end=end, limit=limit, seconds=seconds))
+    options = RacesOptions(several(forbid), several(outcome), several(end), preemptions, timers, limit=limit, seconds=seconds)
+    with searching(["races", *words], program) as (found, printer):
+        report = find_races(program.run, options)
+        texts(report, printer)
+        bad = [(it[0].text, it[1]) for it in report.bad] if report.conditions else [
+            ("final state %d" % it.end.number, it.end) for it in report.stories if report.is_finding(it)]
+        found += [Finding("--forbid " + name if report.conditions else name, report.title(it),
+                          report.scripts[it.number].decode("latin-1")) for name, it in bad]
+        found.checks = tuple(["--forbid " + it.text for it in report.conditions] or ["final state %d" % it.end.number for it in report.stories])
+        found.unfinished = "" if report.bad else report.cut_text()
+    return found
 
 
-def conform(monitor: Union[str, os.PathLike[str]], *, only: str = "", tries: int = 60, jobs: int = 1, exact: bool = False, seed: int = 1,
-            seconds: Optional[float] = None, boot: Optional[str] = None) -> Findings:
-    """Compares a monitor of your own with the proved one, call by call (docs/OWN_MONITOR.md)."""
-    options = dict(only=only or None, tries=tries, jobs=jobs, exact=exact, seed=seed, seconds=seconds, boot=boot)
-    return run_finder("conform", [os.fspath(monitor), *option_arguments(options)])
+def conform(monitor: Path, *, only: str = "", tries: int = 60, items: int = 120, jobs: int = 1, exact: bool = False, seed: int = 1,
+            deep: bool = False, ram: Optional[int] = None, boot: Optional[str] = None, seconds: Optional[float] = None) -> Findings:
+    """Compares a monitor of your own with the proved one, call by call (docs/OWN_MONITOR.md). `script` of the finding is the shrunk script for it."""
+    words = option_arguments(dict(only=only or None, tries=tries, items=items, jobs=jobs, exact=exact, seed=seed, deep=deep, ram=ram, boot=boot,
+                                  seconds=seconds))
+    files = MonitorFiles(os.fspath(monitor), ram=LEAST_RAM if ram is None else ram, boot=boot, exact=exact)
+    plan = Plan(tries, items, str(seed), only, seconds, jobs, deep, ram is not None or boot is not None)
+    with searching(["conform", os.fspath(monitor), *words]) as (found, printer):
+        result = find_conform(files, plan, lambda it: show_counts(it, printer))
+        if result.shrunk:
+            found.append(Finding("conform", result.finding, script_text(result.shrunk)))
+        found.checks, found.unfinished = ("conform",), rest_of(result.outcome, plan)
+    return found
+
+
+def guard(image: Path, ranges: Path, *, host: Optional[Path] = None, timers: int = 8, seed: int = 1, steps: int = 20000, jobs: int = 1,
+          ram: int = LEAST_RAM, boot: Optional[str] = None) -> Findings:
+    """Checks that a monitor isolates the worlds below it, whatever its calls are (docs/OWN_MONITOR.md). `ranges` is the file that says who owns
+    which memory. A finding has the step below M and the pc of the trap."""
+    path = None if host is None else os.fspath(host)
+    words = option_arguments(dict(host=path, timers=timers, seed=seed, steps=steps, jobs=jobs, ram=ram, boot=boot))
+    files = MonitorFiles(os.fspath(image), path, ram=ram, boot=boot)
+    with searching(["guard", os.fspath(image), os.fspath(ranges), *words]) as (found, printer):
+        setup, symbols = files.setup()
+        plan = GuardPlan(setup, ownership_of(os.fspath(ranges), symbols), symbols, steps, seed, timers, jobs)
+        with Progress() as progress:
+            results = do_runs(plan, progress, lambda number, it: show_run(printer, plan.name(number), it))
+        show_results(plan, results, printer)
+        violation = results.violation
+        if violation:
+            found.append(Finding(violation.check, violation.text, pc=violation.pc, step=violation.step, source=symbols.line(violation.pc)))
+        found.checks, found.unfinished = ("guard",), "; ".join(rest_of_guard(results, plan))
+    return found
 
 
 def timer(program: Program, *, slot: int = 0, every: int = 1) -> Findings:
     """Interrupts an enclave before every Nth of its steps, and compares the result. Raises Unfinished if there is no enclave in the slot."""
-    outcome, last = find_timer(program.run, slot, every)
+    with searching(["timer", *option_arguments(dict(slot=slot, every=every))], program) as (found, printer):
+        run = ordered(program, "timer")
+        outcome, last = find_timer(run, slot, every)
+        timer_text(run, program.symbols, printer, slot, every, outcome)
     it = outcome.difference
-    options = option_arguments(dict(slot=slot, every=every))
-    found = Findings(command=command_of(["timer", *image_arguments(program), *options], program))
     if it is not None:
         pc = None if it.pc is None else int(it.pc, 16)
         place = "" if it.pc is None else " at " + place_text(it.pc, program.symbols)
-        found.append(Finding("step %d of e%d%s" % (it.number, slot, place), "%s instead of %s" % (it.actual, it.expected), None, pc,
-                             it.number, None if pc is None else program.symbols.line(pc)))
+        found.append(Finding("step %d of e%d%s" % (it.number, slot, place), "%s instead of %s" % (it.actual, it.expected), step=it.number,
+                             **at_place(program, pc)))
     found.checks = ("e%d: same result with timer interrupts" % slot,)
-    found.report = "e%d: %d steps, %d interrupts\n" % (slot, outcome.steps, outcome.interrupts)
     if outcome.not_resumed is not None:
         found.unfinished = "the host does not resume the enclave in slot %d after the interrupt at its step %d" % (slot, outcome.not_resumed.number)
     elif last.is_cut:
@@ -179,4 +286,5 @@ def overflow_finding(it: Overflow, program: Program) -> Finding:
 
 
 FINDERS: Dict[str, Callable[..., Findings]] = {
-    "overflows": overflows, "leaks": leaks, "window": window, "inputs": inputs, "timer": timer, "races": races, "conform": conform}
+    "overflows": overflows, "leaks": leaks, "window": window, "inputs": inputs, "timer": timer, "races": races, "conform": conform,
+    "guard": guard}

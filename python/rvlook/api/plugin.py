@@ -22,7 +22,7 @@ MARKERS = (
     "interrupts(*every): run the test once with each number N: the timer interrupts the enclave before every Nth of its steps, None for never",
     "finds_nothing(finder, *arguments, **options): search instead of running the body; the test fails if the finder finds something")
 REPEATED = {"schedules": "schedule %s", "interrupts": "interrupt every %s"}  # markers that repeat a test, with the name of each repetition
-WITHOUT_PROGRAM = ("conform",)  # finders whose first argument is a file
+FILES = {"conform": 1, "guard": 2}  # finders without a program, and how many arguments are files
 SECTION = "rvbench"  # the heading of the state of a machine
 LOADED: Dict[Tuple[object, ...], Program] = {}  # by path and options
 BUILT: Dict[str, str] = {}  # the ELF file of each folder
@@ -131,8 +131,9 @@ def search(item: Any, finder: str, *arguments: Any, **options: Any) -> None:
     if finder not in FINDERS:
         near = nearest(finder, FINDERS)
         raise RvlookError("no finder '%s'; %s" % (finder, "did you mean '%s'?" % near if near else "the finders are " + ", ".join(FINDERS)))
-    if finder in WITHOUT_PROGRAM:
-        found = FINDERS[finder](path_of(item._request, arguments[0]), *arguments[1:], **options)
+    if finder in FILES:
+        files, rest = arguments[:FILES[finder]], arguments[FILES[finder]:]
+        found = FINDERS[finder](*(path_of(item._request, it) for it in files), *rest, **options)
     else:
         found = FINDERS[finder](item._request.getfixturevalue("program"), *arguments, **options)
     item.add_report_section("call", "output of " + finder, found.report + ("" if found else found.notes))

@@ -9,15 +9,19 @@ from rvlook.access.returns import show_returns
 from rvlook.access.stack import overflow_text, overflows
 from rvlook.access.touch import show_touch
 from rvlook.finders.inputs.report import show_inputs
+from rvlook.finders.inputs.session import InputsOptions
 from rvlook.finders.leak_search import LeakOptions, values_in
 from rvlook.finders.leak_text import show_leak
-from rvlook.finders.races.text import show_races
+from rvlook.finders.races.text import RacesOptions, show_races
 from rvlook.finders.timer import show_timer
 from rvlook.finders.window import WindowOptions
 from rvlook.finders.window_text import show_window
 from rvlook.gdb.server import serve_gdb
-from rvlook.monitors.conform_text import show_conform
+from rvlook.monitors.conform import Plan
+from rvlook.monitors.conform_text import LEAST_RAM, ConformOutput, MonitorFiles, show_conform
+from rvlook.monitors.guard_runs import GuardPlan
 from rvlook.monitors.guard_text import show_guard
+from rvlook.monitors.ranges_file import ownership_of
 from rvlook.image.measure import show_measure
 from rvlook.image.variables import variables_of
 from rvlook.page.page import page_template, show_page
@@ -111,8 +115,10 @@ def do_inputs(arguments: Namespace) -> None:
         raise UsageError("--public requires --at PLACE")
     if arguments.harts > 1:
         raise UsageError("inputs runs one hart; give the file finding_N.input of --scripts to races --harts 2")
-    run, symbols, printer = opened_monitored(arguments)
-    show_inputs(run, symbols, variables_of(arguments.symbols, run.setup.image), printer, arguments)
+    run, _, printer = opened_monitored(arguments)
+    options = InputsOptions(arguments.slot, arguments.at, arguments.public or (), arguments.entry, arguments.runs, arguments.seed, arguments.seconds,
+                            arguments.expect or (), arguments.scripts)
+    show_inputs(run, variables_of(arguments.symbols, run.setup.image), printer, options, arguments.findings)
 
 
 def do_verify(arguments: Namespace) -> None:
@@ -134,23 +140,39 @@ def do_window(arguments: Namespace) -> None:
 
 def do_timer(arguments: Namespace) -> None:
     """Runs `timer`."""
-    show_timer(*opened_monitored(arguments), arguments)
+    run, _, printer = opened_monitored(arguments)
+    show_timer(run, printer, arguments.slot, arguments.every, arguments.findings)
 
 
 def do_races(arguments: Namespace) -> None:
     """Runs `races`."""
     refuse_empty_part(arguments, 0)
-    show_races(*opened(arguments), arguments)
+    run, _, printer = opened(arguments)
+    options = RacesOptions(arguments.forbid or (), arguments.outcome or (), arguments.end or (), arguments.preemptions, arguments.timers,
+                           arguments.first, arguments.last, arguments.limit, arguments.plain, arguments.seconds, arguments.symbols,
+                           arguments.scripts)
+    show_races(run, printer, options, arguments.findings)
+
+
+def files_of(arguments: Namespace) -> MonitorFiles:
+    """Returns the files of an author's monitor."""
+    ram = LEAST_RAM if arguments.ram is None else arguments.ram
+    return MonitorFiles(arguments.image, arguments.host, arguments.symbols, ram, arguments.boot, arguments.lowered or (), arguments.exact)
 
 
 def do_conform(arguments: Namespace) -> None:
     """Runs `conform`."""
-    show_conform(arguments)
+    has_ram = arguments.ram is not None or arguments.boot is not None
+    plan = Plan(arguments.tries, arguments.items, str(arguments.seed), arguments.only, arguments.seconds, arguments.jobs, arguments.deep, has_ram)
+    output = ConformOutput(arguments.scripts, arguments.table)
+    show_conform(files_of(arguments), plan, Printer(arguments.json), output, arguments.findings)
 
 
 def do_guard(arguments: Namespace) -> None:
     """Runs `guard`."""
-    show_guard(arguments)
+    setup, symbols = files_of(arguments).setup()
+    plan = GuardPlan(setup, ownership_of(arguments.ranges, symbols), symbols, arguments.steps, arguments.seed, arguments.timers, arguments.jobs)
+    show_guard(plan, Printer(arguments.json), arguments.findings)
 
 
 def do_measure(arguments: Namespace) -> None:

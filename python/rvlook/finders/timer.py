@@ -15,7 +15,7 @@ from rvlook.protocol.run import End, Stretch
 from rvlook.output.printer import Style, place_text, run_object
 
 if TYPE_CHECKING:
-    from argparse import Namespace
+    from rvlook.output.findings import Findings
     from rvlook.output.printer import Printer
     from rvlook.protocol.bench import Bench
     from rvlook.protocol.replies import Enclave
@@ -203,12 +203,11 @@ def find_timer(run: Run, slot: int = 0, every: int = 1) -> tuple[Outcome, Last]:
     return outcome, last
 
 
-def show_timer(run: Run, symbols: Symbols, printer: Printer, options: Namespace) -> None:
+def show_timer(run: Run, printer: Printer, slot: int, every: int, findings: Findings) -> None:
     """Runs an enclave with and without timer interrupts, and reports whether the results are equal. Raises Unfinished if the host does not
     resume the enclave."""
-    slot, every, findings = options.slot, options.every, options.findings
     outcome, last = find_timer(run, slot, every)
-    (timer_object if printer.as_json else timer_text)(run, symbols, printer, slot, every, outcome)
+    (timer_object if printer.as_json else timer_text)(run, run.setup.symbols, printer, slot, every, outcome)
     if outcome.not_resumed:
         raise Unfinished("the host does not resume the enclave in slot %d after the timer interrupt at its step %d; timer requires a "
                          "host that always resumes it" % (slot, outcome.not_resumed.number))

@@ -36,11 +36,16 @@ def show_window(run: Run, variables: Variables, printer: Printer, options: Windo
             findings.add("%s, activation %d" % (activation.world, activation.number), finding_of(activation, view, search.context, search.secret))
 
 
+def rows_that_are_findings(activation: Activation, view: View, context: Context, secret: Secret | None) -> list[tuple[str, int | None]]:
+    """Returns the rows of an activation that are findings, each with the first instruction that it names."""
+    rows: list[tuple[str, int | None]] = [(found_text(activation, it, context).strip(), next(iter(it.pcs), None))
+                                          for it in view.found if it.is_finding]
+    return rows + [(copy_text(activation, it, context, secret).strip(), None) for it in view.copies if it.is_finding]
+
+
 def finding_of(activation: Activation, view: View, context: Context, secret: Secret | None) -> str:
     """Returns the rows that are findings, as a text; empty if there is none."""
-    rows = [found_text(activation, it, context) for it in view.found if it.is_finding]
-    rows += [copy_text(activation, it, context, secret) for it in view.copies if it.is_finding]
-    return "\n".join(it.strip() for it in rows)
+    return "\n".join(text for text, _ in rows_that_are_findings(activation, view, context, secret))
 
 
 def between_text(activation: Activation, at: int) -> str:

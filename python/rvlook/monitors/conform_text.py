@@ -2,8 +2,9 @@
 from __future__ import annotations
 
 import os
+from dataclasses import dataclass
 from itertools import groupby
-from typing import TYPE_CHECKING
+from typing import Callable, NamedTuple, Optional, Sequence, TYPE_CHECKING
 
 from rvlook.errors import RvlookError, Unfinished, UsageError
 from rvlook.image.files import image_of, read_file, script_lines
@@ -21,8 +22,8 @@ from rvlook.protocol.lines import no_symbol, resolved_script
 from rvlook.protocol.memory_map import MONITOR_END
 
 if TYPE_CHECKING:
-    from argparse import Namespace
     from rvlook.monitors.pair import Played
+    from rvlook.output.findings import Findings
     from rvlook.protocol.symbols import Symbols
 
 MOST_SHOWN = 6  # differences
@@ -33,19 +34,37 @@ CAUSED_BY_A_BRANCH = (Kind.register, Kind.pc, Kind.mode, Kind.rights)
 LEAST_RAM = 0x30000  # bytes; the directed scripts use them
 
 
-def monitor_setup(arguments: Namespace) -> tuple[MonitorSetup, Symbols]:
-    """Returns the author's monitor as the arguments describe it, and its symbols. Raises RvlookError."""
-    image = image_of(arguments.image)
-    symbols = symbols_from(arguments.symbols, image)
-    if arguments.host:
-        image, symbols_of_host = joined(image, arguments.host)
-        symbols = both(symbols, symbols_of_host)
-    boot: tuple[str, ...] = ("setreg 10 %x" % MONITOR_END, size_line(arguments.ram))
-    if arguments.boot:
-        lines = resolved_script(script_lines(read_file(arguments.boot), arguments.boot), symbols)
-        boot = tuple(it.text for it in lines if not it.text.lstrip().startswith("#"))
-    lowered = tuple(address_of(it, symbols) for it in arguments.lowered or ())
-    return MonitorSetup(image, arguments.ram, boot, return_addresses(image), lowered, arguments.exact), symbols
+class ConformOutput(NamedTuple):
+    """What `conform` shows and writes: the folder for the shrunk scripts, and whether the coverage table is shown after a difference, too."""
+    scripts: Optional[str] = None
+    table: bool = False
+
+
+@dataclass(frozen=True)
+class MonitorFiles:
+    """An author's monitor: its image, a second file with the host, the file of symbols, the bytes of RAM, and the script lines of the boot.
+    `lowered` has the symbols at whose stores the timer line is lowered. `exact` compares PMP entries as stored."""
+    image: str
+    host: Optional[str] = None
+    symbols: Optional[str] = None
+    ram: int = LEAST_RAM
+    boot: Optional[str] = None
+    lowered: Sequence[str] = ()
+    exact: bool = False
+
+    def setup(self) -> tuple[MonitorSetup, Symbols]:
+        """Reads the files; returns the monitor and its symbols. Raises RvlookError."""
+        image = image_of(self.image)
+        symbols = symbols_from(self.symbols, image)
+        if self.host:
+            image, symbols_of_host = joined(image, self.host)
+            symbols = both(symbols, symbols_of_host)
+        boot: tuple[str, ...] = ("setreg 10 %x" % MONITOR_END, size_line(self.ram))
+        if self.boot:
+            lines = resolved_script(script_lines(read_file(self.boot), self.boot), symbols)
+            boot = tuple(it.text for it in lines if not it.text.lstrip().startswith("#"))
+        lowered = tuple(address_of(it, symbols) for it in self.lowered)
+        return MonitorSetup(image, self.ram, boot, return_addresses(image), lowered, self.exact), symbols
 
 
 def address_of(name: str, symbols: Symbols) -> int:
@@ -56,48 +75,65 @@ def address_of(name: str, symbols: Symbols) -> int:
     return address
 
 
-def show_conform(arguments: Namespace) -> None:
-    """Compares the monitors, and shows the first difference and the coverage table. A difference is a finding; an empty cell and a time limit
-    make the result incomplete. After Ctrl-C shows what was found, and raises KeyboardInterrupt."""
-    has_ram = arguments.ram is not None or arguments.boot is not None
-    arguments.ram = LEAST_RAM if arguments.ram is None else arguments.ram
-    if arguments.ram < LEAST_RAM:
-        raise UsageError("--ram %d is less than %d" % (arguments.ram, LEAST_RAM))
-    setup, symbols = monitor_setup(arguments)
-    plan = Plan(arguments.tries, arguments.items, str(arguments.seed), arguments.only, arguments.seconds, arguments.jobs, arguments.deep, has_ram)
-    printer, findings = Printer(arguments.json), arguments.findings
+@dataclass
+class Conformance:
+    """The result of `conform`: the outcome, and the shrunk script with the monitor as it was set up if there is a difference."""
+    outcome: Outcome
+    plan: Plan
+    setup: MonitorSetup
+    symbols: Symbols
+    shrunk: Optional[Shrunk] = None
+
+    @property
+    def finding(self) -> str:
+        """Returns the first difference as a text; empty if there is none."""
+        first = self.shrunk.played.differences[0] if self.shrunk else None
+        return "%s: %s, not %s" % (first.name, first.own, first.reference) if first else ""
+
+
+def find_conform(files: MonitorFiles, plan: Plan, heard: Callable[[Outcome], None] = lambda it: None) -> Conformance:
+    """Compares the monitors, and shrinks the script of the first difference. Calls `heard` before it shrinks. Raises RvlookError."""
+    if files.ram < LEAST_RAM:
+        raise UsageError("--ram %d is less than %d" % (files.ram, LEAST_RAM))
+    setup, symbols = files.setup()
     outcome = compare(setup, plan)
     if not outcome.coverage.scripts and not outcome.is_interrupted:
         raise RvlookError("no script has '%s' in its name" % plan.only)
-    show_counts(outcome, printer)
+    heard(outcome)
+    found = Conformance(outcome, plan, setup, symbols)
     if outcome.different and outcome.task:
-        setup = outcome.task.setup(setup)
-        shrunk = Shrinker(setup, outcome.different).shrink()
-        outcome.is_interrupted = shrunk.is_interrupted
-        Report(setup, symbols, printer, outcome).show(shrunk)
-        first = shrunk.played.differences[0]
-        findings.add("conform", "%s: %s, not %s" % (first.name, first.own, first.reference))
-        if arguments.scripts:
-            write_scripts(arguments.scripts, setup, shrunk, printer)
-    else:
-        findings.add("conform")
-    if not outcome.different or arguments.table or arguments.json:
-        show_coverage(outcome, printer)
-    if outcome.is_interrupted:
+        found.setup = outcome.task.setup(setup)
+        found.shrunk = Shrinker(found.setup, outcome.different).shrink()
+        outcome.is_interrupted = found.shrunk.is_interrupted
+    return found
+
+
+def show_conform(files: MonitorFiles, plan: Plan, printer: Printer, output: ConformOutput, findings: Findings) -> None:
+    """Compares the monitors, and shows the first difference and the coverage table. A difference is a finding; an empty cell and a time limit
+    make the result incomplete. After Ctrl-C shows what was found, and raises KeyboardInterrupt."""
+    found = find_conform(files, plan, lambda it: show_counts(it, printer))
+    if found.shrunk:
+        Report(found.setup, found.symbols, printer, found.outcome).show(found.shrunk)
+    findings.add("conform", found.finding)
+    if found.shrunk and output.scripts:
+        write_scripts(output.scripts, found.setup, found.shrunk, printer)
+    if not found.outcome.different or output.table or printer.as_json:
+        show_coverage(found.outcome, printer)
+    if found.outcome.is_interrupted:
         raise KeyboardInterrupt
-    report_rest(outcome, plan, findings.cut_short)
+    rest = rest_of(found.outcome, plan)
+    if rest:
+        findings.cut_short(rest)
 
 
-def report_rest(outcome: Outcome, plan: Plan, cut_short: object) -> None:
-    """Reports what was not examined: scripts after the time limit, and empty cells of the table."""
-    assert callable(cut_short)
+def rest_of(outcome: Outcome, plan: Plan) -> str:
+    """Returns what was not examined: scripts after the time limit, or empty cells of the table; empty if nothing was left out."""
     empty = outcome.coverage.empty()
     if outcome.different or plan.only:
-        return
+        return ""
     if outcome.left:
-        cut_short("the time limit of %g seconds left out %d scripts" % (plan.seconds or 0, outcome.left))
-    elif empty:
-        cut_short("no script covered %s" % "; ".join(empty))
+        return "the time limit of %g seconds left out %d scripts" % (plan.seconds or 0, outcome.left)
+    return "no script covered %s" % "; ".join(empty) if empty else ""
 
 
 def show_counts(outcome: Outcome, printer: Printer) -> None:
@@ -224,6 +260,11 @@ def wrapped(words: list[str]) -> list[str]:
             lines.append("")
         lines[-1] += ("  " if lines[-1] else "") + word
     return lines
+
+
+def script_text(shrunk: Shrunk) -> str:
+    """Returns the shrunk script for the author's monitor."""
+    return "".join(line + "\n" for line in shrunk.played.own_log)
 
 
 def write_scripts(folder: str, setup: MonitorSetup, shrunk: Shrunk, printer: Printer) -> None:

@@ -57,6 +57,11 @@ class GuardResults:
         return found[0] if found else None
 
     @property
+    def finding(self) -> str:
+        """Returns the first violation as a text; empty if there is none."""
+        return "%s: %s" % (self.violation.check, self.violation.text) if self.violation else ""
+
+    @property
     def activity(self) -> dict[str, Activity]:
         """Returns the activity of each owner in all runs with marks."""
         found: dict[str, Activity] = defaultdict(Activity)

@@ -3,39 +3,44 @@ from __future__ import annotations
 
 from typing import Sequence, TYPE_CHECKING
 
-from rvlook.monitors.conform_text import monitor_setup
 from rvlook.monitors.guard_runs import GuardPlan, GuardResults, do_runs
 from rvlook.monitors.ownership import HOST
-from rvlook.monitors.ranges_file import ownership_of
 from rvlook.monitors.unexecuted_text import show_unexecuted
-from rvlook.output.printer import Printer, hex8, place_text
+from rvlook.output.printer import hex8, place_text
 from rvlook.output.progress import Progress
 
 if TYPE_CHECKING:
-    from argparse import Namespace
     from collections import Counter
     from rvlook.monitors.guard import Activity, Guard, Violation
     from rvlook.monitors.ownership import Ownership
     from rvlook.monitors.twins import Compared
     from rvlook.output.findings import Findings
+    from rvlook.output.printer import Printer
     from rvlook.protocol.symbols import Symbols
 
 COUNTS = {"steps": "steps below M", "returns": "returns from M", "switches": "switches", "continued": "worlds that continue",
           "given_back": "ranges given back"}
 
 
-def show_guard(arguments: Namespace) -> None:
+def show_guard(plan: GuardPlan, printer: Printer, findings: Findings) -> None:
     """Runs the image without and with timer interrupts and in pairs, and shows the first violation, which is a finding. An enclave that was not
     entered, left and continued makes the result incomplete. After Ctrl-C shows what was found, and raises KeyboardInterrupt."""
-    setup, symbols = monitor_setup(arguments)
-    plan = GuardPlan(setup, ownership_of(arguments.ranges, symbols), symbols, arguments.steps, arguments.seed, arguments.timers, arguments.jobs)
-    printer, findings = Printer(arguments.json), arguments.findings
     with Progress() as progress:
         def show(number: int, guard: Guard) -> None:
             progress.clear()
             show_run(printer, plan.name(number), guard)
         results = do_runs(plan, progress, show)
-    violation = results.violation
+    show_results(plan, results, printer)
+    findings.add("guard", results.finding)
+    if results.is_interrupted:
+        raise KeyboardInterrupt
+    for it in rest_of(results, plan):
+        findings.cut_short(it)
+
+
+def show_results(plan: GuardPlan, results: GuardResults, printer: Printer) -> None:
+    """Shows the first violation, and what the runs did."""
+    symbols, violation = plan.symbols, results.violation
     if results.pairs is not None:
         show_twins(printer, results.pairs)
     if violation:
@@ -44,10 +49,6 @@ def show_guard(arguments: Namespace) -> None:
     show_activity(printer, results.activity, plan.ownership)
     if results.code and results.never is not None:
         show_unexecuted(printer, symbols, results.code, results.never)
-    findings.add("guard", "%s: %s" % (violation.check, violation.text) if violation else "")
-    if results.is_interrupted:
-        raise KeyboardInterrupt
-    report_rest(results, plan, findings)
 
 
 def enclaves_of(activity: dict[str, Activity], ownership: Ownership) -> list[str]:
@@ -58,30 +59,29 @@ def enclaves_of(activity: dict[str, Activity], ownership: Ownership) -> list[str
     return list(dict.fromkeys([*(it for it in ownership.enclaves() if it not in tables), *unused, *seen]))
 
 
-def report_rest(results: GuardResults, plan: GuardPlan, findings: Findings) -> None:
-    """Reports what was not examined: a run that ended early, and enclaves that were not entered, not left, or did not continue."""
-    if results.loops:
-        findings.cut_short("a run ended in a loop of traps at %s: the instruction traps each time it continues" % place_text(
-            "%08x" % results.loops[0], plan.symbols))
+def rest_of(results: GuardResults, plan: GuardPlan) -> list[str]:
+    """Returns what was not examined: a run that ended early, and enclaves that were not entered, not left, or did not continue."""
+    found = ["a run ended in a loop of traps at %s: the instruction traps each time it continues" % place_text("%08x" % it, plan.symbols)
+             for it in results.loops[:1]]
     if results.violation:
-        return
-    for it in results.pairs or ():
-        if it.why_cut:
-            findings.cut_short("the two runs that differ in %s end after %d steps: %s" % (it.secret.text, it.step, it.why_cut))
+        return found
+    found += ["the two runs that differ in %s end after %d steps: %s" % (it.secret.text, it.step, it.why_cut)
+              for it in results.pairs or () if it.why_cut]
     activity, ownership = results.activity, plan.ownership
     enclaves = enclaves_of(activity, ownership)
     if not any(it.counts["returns from M"] for it in results.guards):
-        findings.cut_short("no world trapped, so that M never ran after its boot")
+        found.append("no world trapped, so that M never ran after its boot")
     idle = [it for it in enclaves if not activity[it].entered]
     kept = [it for it in enclaves if activity[it].entered and not activity[it].left]
     ended = [it for it in enclaves if activity[it].left and not activity[it].continued and not ownership.runs_once(it)]
     if ended:
-        findings.cut_short("after they were left, these enclaves never continued: %s; let the host continue them, or add 'once OWNER' to RANGES"
-                           % ", ".join(ended))
+        found.append("after they were left, these enclaves never continued: %s; let the host continue them, or add 'once OWNER' to RANGES"
+                     % ", ".join(ended))
     if kept:
-        findings.cut_short("these enclaves were entered and never left: %s; use more --steps, or let them call the monitor" % ", ".join(kept))
+        found.append("these enclaves were entered and never left: %s; use more --steps, or let them call the monitor" % ", ".join(kept))
     if idle:
-        findings.cut_short("these enclaves never ran: %s; let the host enter them, or remove them from RANGES" % ", ".join(idle))
+        found.append("these enclaves never ran: %s; let the host enter them, or remove them from RANGES" % ", ".join(idle))
+    return found
 
 
 def show_handled(printer: Printer, symbols: Symbols, handled: Counter[int]) -> None:

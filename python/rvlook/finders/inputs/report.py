@@ -2,28 +2,28 @@
 from __future__ import annotations
 
 from dataclasses import dataclass
-from typing import Sequence, TYPE_CHECKING
+from typing import Callable, Sequence, TYPE_CHECKING
 
 from rvlook.access.expectations import Report, expectation_of
 from rvlook.access.failures import failures_of
 from rvlook.finders.inputs import scripts
 from rvlook.finders.inputs.code import Kind
 from rvlook.finders.inputs.judge import FAULT, What
-from rvlook.finders.inputs.session import GRACE, INTERRUPT, Session
+from rvlook.finders.inputs.session import GRACE, INTERRUPT, InputsOptions, Session
 from rvlook.finders.races.time_limit import OutOfTime, TimeLimit
 from rvlook.output.printer import Style, hex8, run_object
 from rvlook.protocol.replies import bytes_of
 from rvlook.protocol.run import End
 
 if TYPE_CHECKING:
-    from argparse import Namespace
+    from rvlook.access.failures import Failure
     from rvlook.finders.inputs.judge import Finding
     from rvlook.finders.inputs.search import Search
     from rvlook.finders.inputs.trace import Change, Changes
     from rvlook.image.variables import Variables
+    from rvlook.output.findings import Findings
     from rvlook.output.printer import Json, Printer
     from rvlook.protocol.run import Replay, Run
-    from rvlook.protocol.symbols import Symbols
 
 MOST_SHOWN = 4  # objects of one access; bytes of a value
 LONGEST = 16
@@ -52,40 +52,64 @@ class Coverage:
     all_lines: int
 
 
-def show_inputs(run: Run, symbols: Symbols, variables: Variables, printer: Printer, options: Namespace) -> None:
+@dataclass
+class Inputs:
+    """What a search found: the failures of the run itself, the groups of findings with their headings, and why a part was left out."""
+    session: Session
+    failures: Sequence[Failure]
+    groups: Sequence[Group] = ()
+    headings: Sequence[str] = ()
+    cut: str = ""
+
+
+def find_inputs(run: Run, variables: Variables, options: InputsOptions, heard: Callable[[Sequence[Failure]], None] = lambda it: None) -> Inputs:
+    """Searches the inputs of an enclave, and replays the findings. Calls `heard` with the failures of the run itself before the search."""
+    session = Session(options, TimeLimit(options.seconds))
+    found = Inputs(session, failures_in(run, options.slot))
+    heard(found.failures)
+    session.work(run, run.setup.symbols, variables)
+    search = session.search
+    if search:
+        found.groups = groups_of(search, session.findings())
+        found.cut = replay_all(session, search, found.groups)
+        found.headings = [heading_of(search, it) for it in found.groups]
+    return found
+
+
+def show_inputs(run: Run, variables: Variables, printer: Printer, options: InputsOptions, findings: Findings) -> None:
     """Searches the inputs of an enclave, and prints the findings and the coverage. After Ctrl-C it prints what it has found, and raises
     KeyboardInterrupt."""
-    session = Session(options, TimeLimit(options.seconds))
+    symbols = run.setup.symbols
     if printer.as_json:
         run_object(printer, run, symbols)
-    show_failures(run, symbols, printer, options)
-    session.work(run, symbols, variables)
+    report = Report([expectation_of(it, symbols) for it in options.expected], symbols, printer, findings)
+    found = find_inputs(run, variables, options, report.show)
+    session = found.session
+    if found.cut:
+        findings.cut_short(found.cut)
     if session.search:
-        show_findings(session, session.search, printer)
+        show_findings(found, session.search, printer, findings)
     if session.cut:
         printer.stream.flush()
-        options.findings.cut_short(session.cut_text)
+        findings.cut_short(session.cut_text)
     if session.cut == INTERRUPT:
         raise KeyboardInterrupt
 
 
-def show_findings(session: Session, search: Search, printer: Printer) -> None:
-    """Replays and prints the findings of a search, and its coverage."""
-    options = session.options
-    groups = groups_of(search, session.findings())
-    replay_all(session, search, groups)
-    headings = [heading_of(search, it) for it in groups]
+def show_findings(found: Inputs, search: Search, printer: Printer, findings: Findings) -> None:
+    """Prints the findings of a search, and its coverage."""
+    options, groups = found.session.options, found.groups
     if options.scripts:
-        scripts.write(options.scripts, search, [it.first for it in groups], headings)
+        scripts.write(options.scripts, search, [it.first for it in groups], found.headings)
     (write_objects if printer.as_json else print_text)(search, groups, printer, options)
-    for number, (group, heading) in enumerate(zip(groups, headings), 1):
-        options.findings.add("finding %d" % number, "\n".join([heading, *details_of(search, group)]))
+    for number, (group, heading) in enumerate(zip(groups, found.headings), 1):
+        findings.add("finding %d" % number, "\n".join([heading, *details_of(search, group)]))
     if not groups:
-        options.findings.add("e%d: inputs of the host" % options.slot)
+        findings.add("e%d: inputs of the host" % options.slot)
 
 
-def replay_all(session: Session, search: Search, groups: Sequence[Group]) -> None:
-    """Replays each finding, and reads the values that its changes replace. Notes if the time ended before that."""
+def replay_all(session: Session, search: Search, groups: Sequence[Group]) -> str:
+    """Replays each finding, and reads the values that its changes replace. Returns why some were left out, if the time ended before that."""
     done = 0
     try:
         with session.limit.until(1.0, 2 * GRACE):
@@ -93,14 +117,14 @@ def replay_all(session: Session, search: Search, groups: Sequence[Group]) -> Non
                 it.first.trace.changes = with_old_values(search.run, it.first.trace.changes)
                 scripts.check(search, it.first)
     except OutOfTime:
-        session.options.findings.cut_short("--seconds ended inputs before finding %d of %d was replayed" % (done, len(groups)))
+        return "--seconds ended inputs before finding %d of %d was replayed" % (done, len(groups))
+    return ""
 
 
-def show_failures(run: Run, symbols: Symbols, printer: Printer, options: Namespace) -> None:
-    """Reports the traps and the refused calls of the enclave in the run itself, before any input is changed."""
-    report = Report([expectation_of(it, symbols) for it in options.expect or ()], symbols, printer, options.findings)
+def failures_in(run: Run, slot: int) -> list[Failure]:
+    """Returns the traps and the refused calls of the enclave in the run itself, before any input is changed."""
     last = next(it.steps for it in run.stretches() if isinstance(it, End))
-    report.show([it for it in failures_of(run, "", last) if it.at.world == "e%d" % options.slot])
+    return [it for it in failures_of(run, "", last) if it.at.world == "e%d" % slot]
 
 
 def groups_of(search: Search, findings: Sequence[Finding]) -> list[Group]:
@@ -216,7 +240,7 @@ def coverage_text(search: Search) -> str:
         it.inputs, it.values, it.both, it.branches, lines, cut, rest)
 
 
-def print_text(search: Search, groups: Sequence[Group], printer: Printer, options: Namespace) -> None:
+def print_text(search: Search, groups: Sequence[Group], printer: Printer, options: InputsOptions) -> None:
     """Prints the findings and the coverage."""
     for number, group in enumerate(groups, 1):
         printer.line(printer.styled("finding %d: %s" % (number, heading_of(search, group)), Style.bad))
@@ -244,7 +268,7 @@ def inputs_text(search: Search) -> list[str]:
     return found
 
 
-def write_objects(search: Search, groups: Sequence[Group], printer: Printer, options: Namespace) -> None:
+def write_objects(search: Search, groups: Sequence[Group], printer: Printer, options: InputsOptions) -> None:
     """Writes the findings and the coverage as objects."""
     for number, group in enumerate(groups, 1):
         it = group.first

@@ -57,18 +57,24 @@ def check(search: Search, finding: Finding) -> None:
         raise Unfinished("a finding at step %d differs in its replay on rvbench" % trace.steps[index])
 
 
+def texts_of(search: Search, finding: Finding, heading: str) -> tuple[bytes, bytes]:
+    """Returns two inputs of the bench: one that replays a finding, and one that ends after its last change."""
+    setup = search.run.setup
+    with replay_of(search, finding) as replay:
+        before = lines_to_input(replay, finding)
+        after = lines_after(search, replay, finding)
+    head = [comment(heading), comment("./rvbench %s < this file" % " ".join(setup.arguments()))]
+    whole, part = (setup.image.text + b"--\n" + "".join(map(ended, lines)).encode("latin-1", "replace")
+                   for lines in (head + before + after, head[:1] + before))
+    return whole, part
+
+
 def write(folder: str, search: Search, findings: Sequence[Finding], headings: Sequence[str]) -> None:
     """Writes two files for each finding: `finding_N` replays it, `finding_N.input` ends after its last change. Raises RvlookError."""
-    setup = search.run.setup
     try:
         os.makedirs(folder, exist_ok=True)
         for number, (finding, heading) in enumerate(zip(findings, headings), 1):
-            with replay_of(search, finding) as replay:
-                before = lines_to_input(replay, finding)
-                after = lines_after(search, replay, finding)
-            head = [comment(heading), comment("./rvbench %s < this file" % " ".join(setup.arguments()))]
-            for name, lines in (("finding_%d", head + before + after), ("finding_%d.input", head[:1] + before)):
-                text = setup.image.text + b"--\n" + "".join(map(ended, lines)).encode("latin-1", "replace")
+            for name, text in zip(("finding_%d", "finding_%d.input"), texts_of(search, finding, heading)):
                 replace_file(os.path.join(folder, name % number), text)
     except OSError as error:
         raise RvlookError("cannot write to '%s': %s" % (folder, error.strerror)) from None

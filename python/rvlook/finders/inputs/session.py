@@ -2,7 +2,7 @@
 from __future__ import annotations
 
 from dataclasses import dataclass, field
-from typing import Optional, TYPE_CHECKING
+from typing import Optional, Sequence, TYPE_CHECKING
 
 from rvlook.finders.inputs.search import Search
 from rvlook.finders.inputs.secret_rules import SecretRules, replayed_states
@@ -12,7 +12,6 @@ from rvlook.finders.secrets import secret_of
 from rvlook.output.progress import Progress
 
 if TYPE_CHECKING:
-    from argparse import Namespace
     from rvlook.finders.inputs.judge import Finding
     from rvlook.image.variables import Variables
     from rvlook.protocol.run import Run
@@ -22,10 +21,26 @@ SECONDS, INTERRUPT = "--seconds", "Ctrl-C"  # what ends a search early
 GRACE = 2.0  # seconds after the limit in which the findings are completed, and again in which they are replayed
 
 
+@dataclass(frozen=True)
+class InputsOptions:
+    """What is searched: the slot of the enclave, the place of its secret (none without one), what may depend on it, and whether the search begins at
+    the entry. `runs` are done with a seed, for at most `seconds`. `expected` names failures of the run itself that are no findings. `scripts` is the
+    folder for the inputs of findings."""
+    slot: int = 0
+    at: Optional[str] = None
+    public: Sequence[str] = ()
+    entry: bool = False
+    runs: int = 300
+    seed: int = 0
+    seconds: Optional[float] = None
+    expected: Sequence[str] = ()
+    scripts: Optional[str] = None
+
+
 @dataclass
 class Session:
     """A search and what ended it early, if so. There is no search if the run itself was not traced."""
-    options: Namespace
+    options: InputsOptions
     limit: TimeLimit
     search: Optional[Search] = None
     cut: str = ""

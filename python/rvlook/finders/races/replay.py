@@ -3,7 +3,7 @@ table, and each byte of RAM. Also writes its schedule as an input of rvbench."""
 from __future__ import annotations
 
 import os
-from typing import Callable, Sequence, TYPE_CHECKING
+from typing import Mapping, Sequence, TYPE_CHECKING
 
 from rvlook.protocol.bench_line import ended
 from rvlook.escapes import visible
@@ -106,12 +106,11 @@ def script_of(machine: Machine, end: FinalState, outcome: Sequence[Observed], he
     return setup.image.text + b"--\n" + "".join(map(ended, lines)).encode("latin-1", "replace")
 
 
-def write_scripts(folder: str, machine: Machine, ends: Sequence[FinalState], outcome: Sequence[Observed],
-                  heading_of: Callable[[FinalState], str]) -> None:
-    """Writes a file for each final state; raises RvlookError if that fails."""
+def write_scripts(folder: str, scripts: Mapping[int, bytes]) -> None:
+    """Writes a file for each final state, by its number; raises RvlookError if that fails."""
     try:
         os.makedirs(folder, exist_ok=True)
-        for end in ends:
-            replace_file(os.path.join(folder, "final_state_%d" % end.number), script_of(machine, end, outcome, heading_of(end)))
+        for number, text in scripts.items():
+            replace_file(os.path.join(folder, "final_state_%d" % number), text)
     except OSError as error:
         raise RvlookError("cannot write to '%s': %s" % (folder, error.strerror)) from None

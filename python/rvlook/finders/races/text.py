@@ -2,7 +2,7 @@
 from __future__ import annotations
 
 from dataclasses import dataclass, field
-from typing import Callable, Iterator, List, Sequence, Set, TYPE_CHECKING, Tuple
+from typing import Callable, Dict, Iterator, List, Optional, Sequence, Set, TYPE_CHECKING, Tuple
 
 from rvlook.finders.outcomes import Condition, Table, condition_of, number_of, outcomes_of, ranges_of, value_text, watched_of
 from rvlook.errors import RvlookError, Unfinished, warn
@@ -11,19 +11,19 @@ from rvlook.finders.races.search import MOST_ALONE, Bounds, Search
 from rvlook.finders.races.final_states import (ENDED, GRACE, HALTS, NOT_SEARCHED, RUNS_ON, SLACK, UNFINISHED, WAITS, FinalState, FinalStates,
                                                find_final_states)
 from rvlook.finders.races.machine import Machine, commands_of
-from rvlook.finders.races.replay import Replays, write_scripts
+from rvlook.finders.races.replay import Replays, script_of, write_scripts
 from rvlook.output.printer import Style, hex8, place_text, run_object
 from rvlook.protocol.run import Run
 from rvlook.protocol.symbols import Symbols
 from rvlook.finders.races.time_limit import OutOfTime, TimeLimit
 
 if TYPE_CHECKING:
-    from argparse import Namespace
     from rvlook.finders.outcomes import Observed, Value
     from rvlook.finders.races.search import DependentStep, Node
     from rvlook.output.findings import Findings
     from rvlook.output.printer import Json, Printer
 
+INTERRUPT = "Ctrl-C"
 SHOWN = 3  # accesses at the beginning and at the end of a hart's turn
 HOW_TEXT = {WAITS: "waits forever", RUNS_ON: "runs forever", NOT_SEARCHED: "not searched further"}
 
@@ -193,11 +193,32 @@ def level_text(search: Search) -> str:
     return "those with " + " and ".join(parts)
 
 
-def show_races(run: Run, symbols: Symbols, printer: Printer, options: Namespace) -> None:
-    """Searches all orders, and reports the final states. Raises Unfinished if the program cannot be searched."""
-    conditions = [condition_of(it, symbols) for it in options.forbid or ()]
+@dataclass(frozen=True)
+class RacesOptions:
+    """What is searched: the forbidden final states, what distinguishes them, the places at which a hart may end, the most preemptions and timer
+    interrupts, the step after which the first switch comes, and the most `seconds`. `limit` is that of a hart that runs alone, `plain` switches
+    before each step, `symbols` is the file of variables, and `scripts` the folder for the inputs of final states."""
+    forbid: Sequence[str] = ()
+    outcome: Sequence[str] = ()
+    end: Sequence[str] = ()
+    preemptions: Optional[int] = None
+    timers: int = 0
+    first: int = 0
+    last: Optional[int] = None
+    limit: int = 0
+    plain: bool = False
+    seconds: Optional[float] = None
+    symbols: Optional[str] = None
+    scripts: Optional[str] = None
+
+
+def find_races(run: Run, options: RacesOptions) -> Report:
+    """Searches all orders, and replays the final states. Writes their inputs if the options have a folder. Raises Unfinished if the program cannot be
+    searched."""
+    symbols = run.setup.symbols
+    conditions = [condition_of(it, symbols) for it in options.forbid]
     outcome = outcomes_of(options.outcome, conditions, run, options.symbols)
-    ends = [address_of(it, symbols) for it in options.end or ()]
+    ends = [address_of(it, symbols) for it in options.end]
     bounds = Bounds(options.preemptions, options.timers, run.setup.limit, options.first, options.last)
     limit = TimeLimit(options.seconds)
     machine = Machine(run, ends, options.limit)
@@ -206,12 +227,21 @@ def show_races(run: Run, symbols: Symbols, printer: Printer, options: Namespace)
             search = Search(machine, bounds, options.plain, watched_of(outcome), limit)
             search.progress = progress_of(progress)
             found = find_final_states(search, lambda it: outcome or [*ranges_of(it.shared, symbols), Table()])
-        print_report(Report(run, symbols, search, found, conditions), printer, options)
+        return completed(Report(run, symbols, search, found, conditions), options.scripts)
     except RvlookError as fault:  # the arguments are right, but the program cannot be searched
         raise Unfinished(str(fault)) from None
     finally:
         machine.close()
-    if search.why_cut == "Ctrl-C":
+
+
+def show_races(run: Run, printer: Printer, options: RacesOptions, findings: Findings) -> None:
+    """Searches all orders, and prints the final states. Raises Unfinished if the program cannot be searched."""
+    report = find_races(run, options)
+    (objects if printer.as_json else texts)(report, printer)
+    note(findings, report)
+    if not report.bad:
+        note_cut(findings, report)
+    if report.search.why_cut == INTERRUPT:
         raise KeyboardInterrupt
 
 
@@ -235,8 +265,8 @@ def progress_of(progress: Progress) -> Callable[[Search], None]:
 
 @dataclass
 class Report:
-    """A search and its final states; `stories` and `bad`, the final states that are forbidden with their conditions, are known after the
-    replay."""
+    """A search and its final states. After the replay, `stories` describes them, `bad` has those that are forbidden with their conditions, and
+    `scripts` the input of the bench for each number."""
     run: Run
     symbols: Symbols
     search: Search
@@ -244,57 +274,62 @@ class Report:
     conditions: List[Condition]
     stories: List[Story] = field(default_factory=list)
     bad: List[Tuple[Condition, FinalState]] = field(default_factory=list)
+    scripts: Dict[int, bytes] = field(default_factory=dict)
+
+    def title(self, end: FinalState) -> str:
+        """Returns a final state as a line with its number."""
+        return "final state %d: %s" % (end.number, self.stories[end.number - 1].heading())
+
+    def is_finding(self, story: Story) -> bool:
+        """Returns whether a final state counts as found if none is forbidden."""
+        return story.end.number > 1 or not {how for how, _ in story.end.harts} <= {ENDED, UNFINISHED, NOT_SEARCHED}
+
+    def cut_text(self) -> str:
+        """Returns why a part of the orders was not searched; empty if all were, or if Ctrl-C ended the search."""
+        if is_whole(self.search, self.found) or self.search.why_cut == INTERRUPT:
+            return ""
+        long = [story for story in self.stories if any(how == UNFINISHED for how, _ in story.end.harts)]
+        if self.conditions:
+            return "--forbid is undecided: the search is incomplete"
+        return "the search is incomplete: " + (long[0].heading() if long else "it was stopped by %s" % (self.search.why_cut or "--seconds"))
 
 
-def print_report(report: Report, printer: Printer, options: Namespace) -> None:
-    """Reports all final states, each replayed on the bench first."""
-    search, found, conditions = report.search, report.found, report.conditions
-    machine, named = search.machine, found.outcome
-    replay(search, found, conditions)
-    end_pcs = [{pc for it in found.ends for how, pc in it.harts[hart:hart + 1]} for hart in range(machine.count)]
-    stories = report.stories = [Story(it, named, search, report.symbols, end_pcs) for it in found.ends]
-    if options.scripts:
-        write_scripts(options.scripts, machine, found.ends, named, lambda end: "final state %d: %s" % (
-            end.number, stories[end.number - 1].heading()))
-    bad = report.bad = forbidden(conditions, found)
-    (objects if printer.as_json else texts)(report, printer)
-    note(options.findings, stories, bad, conditions)
-    if not bad:
-        note_cut(options.findings, stories, search, found, conditions)
+def completed(report: Report, folder: str | None) -> Report:
+    """Replays the final states, describes them, and writes their inputs if there is a folder; returns the report."""
+    search, found = report.search, report.found
+    replay(search, found, report.conditions)
+    end_pcs = [{pc for it in found.ends for how, pc in it.harts[hart:hart + 1]} for hart in range(search.machine.count)]
+    report.stories = [Story(it, found.outcome, search, report.symbols, end_pcs) for it in found.ends]
+    report.bad = forbidden(report.conditions, found)
+    report.scripts = {it.number: script_of(search.machine, it, found.outcome, report.title(it)) for it in found.ends}
+    if folder:
+        write_scripts(folder, report.scripts)
+    return report
 
 
-def note(findings: Findings, stories: Sequence[Story], bad: Sequence[tuple[Condition, FinalState]], conditions: Sequence[Condition]) -> None:
+def note(findings: Findings, report: Report) -> None:
     """Notes what counts as found: with --forbid the ends that are forbidden, else each end but the first, and each in which a hart does
     not come to its end."""
-    if conditions:
-        note_forbidden(findings, stories, bad, conditions)
+    if report.conditions:
+        note_forbidden(findings, report)
         return
-    for story in stories:
-        is_finding = story.end.number > 1 or not {how for how, _ in story.end.harts} <= {ENDED, UNFINISHED, NOT_SEARCHED}
-        findings.add("final state %d" % story.end.number, story.heading() if is_finding else "")
+    for story in report.stories:
+        findings.add("final state %d" % story.end.number, story.heading() if report.is_finding(story) else "")
 
 
-def note_cut(findings: Findings, stories: Sequence[Story], search: Search, found: FinalStates, conditions: Sequence[Condition]) -> None:
+def note_cut(findings: Findings, report: Report) -> None:
     """Notes whether a part of the orders was not searched: by --seconds, or because a hart was given up."""
-    if is_whole(search, found) or search.why_cut == "Ctrl-C":
-        return
-    long = [story for story in stories if any(how == UNFINISHED for how, _ in story.end.harts)]
-    if conditions:
-        findings.cut_short("--forbid is undecided: the search is incomplete")
-    elif long:
-        findings.cut_short("the search is incomplete: " + long[0].heading())
-    else:
-        findings.cut_short("the search is incomplete: it was stopped by %s" % (search.why_cut or "--seconds"))
+    text = report.cut_text()
+    if text:
+        findings.cut_short(text)
 
 
-def note_forbidden(findings: Findings, stories: Sequence[Story], bad: Sequence[tuple[Condition, FinalState]],
-                   conditions: Sequence[Condition]) -> None:
+def note_forbidden(findings: Findings, report: Report) -> None:
     """Notes the ends that --forbid names; no other counts as found."""
-    for condition, end in bad:
+    for condition, end in report.bad:
         warn("--forbid %s: final state %d matches" % (condition.text, end.number))
-    for condition in conditions:
-        ends = ["final state %d: %s" % (it.end.number, it.heading()) for it in stories if (condition, it.end) in bad]
-        findings.add("--forbid " + condition.text, "\n".join(ends))
+    for condition in report.conditions:
+        findings.add("--forbid " + condition.text, "\n".join(report.title(it.end) for it in report.stories if (condition, it.end) in report.bad))
 
 
 def replay(search: Search, found: FinalStates, conditions: Sequence[Condition]) -> None:
