@@ -41,18 +41,18 @@ def differing(title: str, cases: List[Any], ours: List[Any], theirs: List[Any]) 
     return lines, len(cases)
 
 
-def compare_texts(ours: Program, other: Any) -> Found:
-    """Assembles all rows by both, and compares with the words of the model."""
-    rows = {text: word for text, word in all_rows().items() if has_text_elsewhere(text)}
-    texts, words = list(rows), list(rows.values())
+def compare_texts(ours: Program, other: Any, share: int = 1) -> Found:
+    """Assembles one of `share` texts of all rows by both, and compares with the words of the model."""
+    rows = [(text, word) for text, word in all_rows().items() if has_text_elsewhere(text)][::share]
+    texts, words = [text for text, _ in rows], [word for _, word in rows]
     first, count = differing("model", texts, ours.assemble(texts), words)
     second, _ = differing("assembled", texts, ours.assemble(texts), other.assemble(texts))
     return first + second, count
 
 
-def compare_words(ours: Program, other: Any) -> Found:
-    """Disassembles the words of all rows by both, and assembles the texts of each by the other."""
-    words = list(all_rows().values())
+def compare_words(ours: Program, other: Any, share: int = 1) -> Found:
+    """Disassembles one of `share` words of all rows by both, and assembles the texts of each by the other."""
+    words = list(all_rows().values())[::share]
     mine, theirs = ours.disassemble(words), other.disassemble(words)
     found, count = differing("disassembled", [hex(it) for it in words], mine, theirs)
     known = [(word, text, its) for word, text, its in zip(words, mine, theirs) if text and its and has_text_elsewhere(text)]

@@ -1,0 +1,1 @@
+"""GCC's execution tests on the program."""

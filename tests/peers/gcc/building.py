@@ -1,0 +1,92 @@
+"""Builds and runs a test of GCC in each of its forms: on the bare machine, as the host, and as an enclave."""
+from __future__ import annotations
+
+import re
+import subprocess
+from dataclasses import dataclass
+from pathlib import Path
+from typing import Dict, List, Tuple
+
+from .sources import Source
+
+HERE = Path(__file__).resolve().parent
+COMPILER = "riscv64-unknown-elf-gcc"
+TARGET = ("-march=rv32im_zicsr", "-mabi=ilp32")
+# The linker finds the compiler's library by this name.
+LIBRARY_TARGET = "-march=rv32im"
+# As in GCC's own runs: builtins and warnings as in a hosted program.
+FLAGS = ("-w", "-O2", "-std=gnu17", "-fno-stack-protector", "-fno-pic", "-I", str(HERE / "include"))
+RAM, MILLION, RUNS, SECONDS = 16777216, 1000000, 60, 120
+PASSED = 0
+MEANING = {97: "a call of the monitor was refused", 98: "a trap", 99: "abort"}
+
+
+@dataclass(frozen=True)
+class Form:
+    """A way to run a test: the arguments of the program, and the addresses of the linker script."""
+
+    name: str
+    words: Tuple[str, ...]
+    host: int
+    region: int
+    size: int
+
+
+FORMS = (Form("bare", (), 0x80000000, 0x80000000, 0x1000000), Form("host", ("--monitor",), 0x80010000, 0x80010000, 0xFF0000),
+         Form("enclave", ("--monitor",), 0x80010000, 0x80800000, 0x800000))
+
+
+class BuildFailed(Exception):
+    """A test does not build for a freestanding RV32IM. The text is the compiler's first error."""
+
+
+def compile_with(*words: str) -> None:
+    """Runs the compiler; raises `BuildFailed` with its first error."""
+    done = subprocess.run([COMPILER, *TARGET, *words], capture_output=True, text=True, errors="replace", timeout=SECONDS, check=False)
+    if done.returncode:
+        found = re.search(r"(?:fatal )?error: (.*)|(undefined reference to .*)|ld: (.*)", done.stderr)
+        raise BuildFailed(next(filter(None, found.groups())) if found else done.stderr.strip().split("\n")[-1])
+
+
+def support(folder: Path) -> Dict[str, List[str]]:
+    """Compiles what all tests share; returns the objects of each form."""
+    compile_with("-O2", "-ffreestanding", "-fno-tree-loop-distribute-patterns", "-fno-builtin", "-c", "-o", str(folder / "support.o"),
+                 str(HERE / "support.c"))
+    for form in FORMS:
+        compile_with("-c", "-o", str(folder / (form.name + ".o")), str(HERE / ("start_%s.s" % form.name)))
+    return {form.name: [str(folder / (form.name + ".o")), str(folder / "support.o")] for form in FORMS}
+
+
+def build(source: Source, folder: Path, shared: Dict[str, List[str]]) -> Dict[str, Path]:
+    """Builds a test in each form; returns the ELF files. Raises `BuildFailed`."""
+    stem = source.name.replace("/", "_")
+    test = folder / (stem + ".o")
+    compile_with(*FLAGS, *source.options, "-c", "-o", str(test), str(source.path))
+    made = {}
+    for form in FORMS:
+        made[form.name] = folder / ("%s.%s" % (stem, form.name))
+        places = ["-Wl,--defsym=%s=%d" % it for it in (("host_base", form.host), ("region_base", form.region), ("region_size", form.size))]
+        compile_with(LIBRARY_TARGET, "-nostdlib", "-static", "-Wl,-n", "-T", str(HERE / "link.ld"), *places, "-o", str(made[form.name]), str(test),
+                     *shared[form.name], "-lgcc")
+    return made
+
+
+def end_of(elf: Path) -> int:
+    """Returns the address at which a test has ended."""
+    done = subprocess.run(["riscv64-unknown-elf-nm", elf], capture_output=True, text=True, check=True)
+    return int(next(line for line in done.stdout.splitlines() if line.endswith(" test_ended")).split()[0], 16)
+
+
+def run(program: str, elf: Path, form: Form) -> str:
+    """Runs a test; returns an empty text if it ended with status 0, and else how it ended."""
+    image = "\n".join(re.findall(".{1,120}", elf.read_bytes().hex()))
+    script = "\n".join([image, "--", "break %x" % end_of(elf), *["run %d" % MILLION] * RUNS, "reg 10", ""])
+    done = subprocess.run([program, "run", "--ram", str(RAM), *form.words], input=script, capture_output=True, text=True, timeout=SECONDS,
+                          check=False)
+    lines = done.stdout.splitlines()
+    if done.returncode or len(lines) != RUNS + 2:
+        return "the program ends with status %d: %s" % (done.returncode, lines[-1:])
+    if not any(" why=break " in line for line in lines):
+        return "needs more than %d million steps" % RUNS
+    status = int(lines[-1].partition("=")[2], 16)
+    return "" if status == PASSED else MEANING.get(status, "status %d" % status)
