@@ -1,6 +1,7 @@
 """The finders as functions. Each returns its findings, and prints nothing."""
 from __future__ import annotations
 
+import html
 import io
 import os
 import shlex
@@ -71,6 +72,14 @@ class Findings(List[Finding]):
         super().__init__(findings)
         self.command, self.report, self.notes, self.unfinished = command, "", "", ""
         self.checks: Tuple[str, ...] = ()
+
+    def _repr_html_(self) -> str:
+        """Returns the findings as an HTML table, or a line if there are none."""
+        if not self:
+            what = "did not finish: " + self.unfinished if self.unfinished else "no finding in %d checks" % len(self.checks)
+            return "<p>%s</p>" % html.escape(what)
+        rows = "".join("<tr><td>%s<td><pre>%s</pre><td>%s</tr>" % tuple(map(html.escape, (it.title, it.text, it.source or ""))) for it in self)
+        return "<table><tr><th>check<th>finding<th>source</tr>%s</table>" % rows
 
 
 @contextmanager
