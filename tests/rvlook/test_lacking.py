@@ -84,11 +84,12 @@ def test_build_and_run_name_the_functions(rvlook, built, tmp_path):
     folder.mkdir()
     (folder / "host.c").write_text(SOURCE)
     program = tmp_path / "locks.elf"
-    done = subprocess.run([BUILD, folder, program], env={"PATH": "/usr/bin:/bin", "CFLAGS": "-march=rv32ima -Og"}, capture_output=True, text=True, check=False)
+    environment = {"PATH": "/usr/bin:/bin", "CFLAGS": "-march=rv32ima -Og"}
+    done = subprocess.run([BUILD, folder, program], env=environment, capture_output=True, text=True, check=False)
     assert done.returncode == 0, done.stderr
     assert re.search(r"^build: warning: \S+ has atomic instructions in take", done.stderr, re.M), done.stderr
     assert re.search(r"^build: warning: \S+ has fence\.i instructions in flush", done.stderr, re.M)
-    ran = rvlook("run", program)
-    assert ran.returncode == 1
+    ran = rvlook("run", "--steps", "200", program)
+    assert ran.returncode in (1, 3)
     assert re.search(r"^rvlook: warning: \S+ has fence\.i instructions in flush", ran.stderr, re.M)
     assert re.search(r"illegal instruction \(value 0000100f, fence\.i instruction, see docs/FIRMWARE\.md\) in S of host at step \d+, \w+  flush", ran.stderr)

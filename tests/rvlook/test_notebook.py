@@ -22,8 +22,8 @@ def executed(bench, folder, path):
     for name in ("nbconvert", "ipykernel"):
         pytest.importorskip(name)
     environment = {**os.environ, "RVBENCH": bench, "PYTHONPATH": str(ROOT / "python"), "PYTHONDONTWRITEBYTECODE": "1", "HOME": str(folder)}
-    done = subprocess.run([sys.executable, "-m", "nbconvert", "--to", "notebook", "--execute", "--output-dir", str(folder), "--output", "executed", str(path)],
-                          env=environment, capture_output=True, text=True, timeout=300, check=False)
+    words = ["--to", "notebook", "--execute", "--output-dir", str(folder), "--output", "executed", str(path)]
+    done = subprocess.run([sys.executable, "-m", "nbconvert", *words], env=environment, capture_output=True, text=True, timeout=300, check=False)
     made = folder / "executed.ipynb"
     return done, json.loads(made.read_text(encoding="utf-8"))["cells"] if made.exists() else []
 
@@ -40,8 +40,8 @@ def test_notebook_runs(bench, built, tmp_path):
 def test_notebook_with_a_wrong_pin_fails(bench, built, tmp_path):
     path = NOTEBOOK.parent / "store.ipynb"
     changed = tmp_path / "wrong.ipynb"
-    changed.write_text(path.read_text(encoding="utf-8").replace("27182818", "27182819").replace("Path.cwd(), *Path.cwd().parents",
-                                                                                            "Path('%s')," % ROOT))
+    text = path.read_text(encoding="utf-8").replace("27182818", "27182819")
+    changed.write_text(text.replace("Path.cwd(), *Path.cwd().parents", "Path('%s')," % ROOT))
     done, _ = executed(bench, tmp_path, changed)
     assert done.returncode == 1 and "AssertionError" in done.stderr
 

@@ -8,7 +8,8 @@ source is compiled for both. IN_ENCLAVE is defined for the enclave. The host beg
 shared/host.s. An enclave with a runtime.c begins in its runtime.s, else in shared/runtime.s. CFLAGS adds options for the C compiler, as -Og
 for debugging; a relative path in it is relative to DIR. The default compiler is clang with lld, else riscv64-unknown-elf-gcc.
 
-A folder with a monitor.c is a monitor in mode M: all its sources, and its link.ld. It begins at monitor_entry. With --with-monitor the folder
+A folder with a monitor.c, or with a link.ld whose entry is monitor_entry, is a monitor in mode M: all its sources in C, C++ and assembly, and its
+link.ld. It begins at monitor_entry. No constructor of C++ is called before it. With --with-monitor the folder
 MONITOR is such a monitor, and the ELF file has the monitor, the host and the enclave of DIR. It begins in M at monitor_entry. If FILE is given,
 only FILE is written then, and the folder DIR stays as it is.
 
@@ -28,7 +29,7 @@ from typing import Any, List, NoReturn, Sequence
 from rvlook.build.linking import Script, link, report_lacking, report_stacks
 from rvlook.build.objects import Workshop
 from rvlook.build.outputs import install_elf, install_outputs
-from rvlook.build.programs import DROP_UNUSED, compile_monitor, compile_programs, has
+from rvlook.build.programs import DROP_UNUSED, compile_monitor, compile_programs, has, is_monitor
 from rvlook.build.toolchain import BuildError, toolchain_of
 from rvlook.errors import print_plain
 from rvlook.escapes import visible
@@ -103,9 +104,9 @@ def folder_of(name: str, examples: str) -> str:
 def folders_of(request: Request, examples: str) -> Folders:
     """Returns the folders that are built, which have the sources that they need. Raises BuildError."""
     folder = folder_of(request.folder, examples)
-    monitor = folder_of(request.monitor, examples) if request.monitor else folder if has(folder, "monitor.c") else ""
-    if monitor and not has(monitor, "monitor.c"):
-        raise BuildError("error: no monitor.c in '%s'" % visible(request.monitor))
+    monitor = folder_of(request.monitor, examples) if request.monitor else folder if is_monitor(folder) else ""
+    if monitor and not is_monitor(monitor):
+        raise BuildError("error: no monitor in '%s': it has no monitor.c, and no link.ld with ENTRY(monitor_entry)" % visible(request.monitor))
     if monitor and not has(monitor, "link.ld"):
         raise BuildError("error: no link.ld in '%s'" % visible(request.monitor or request.folder))
     if folder != monitor and not has(folder, "host.c"):

@@ -9,6 +9,8 @@ from typing import Iterable, NamedTuple, Sequence, Tuple
 from rvlook.build.toolchain import BuildError, Toolchain, output_of, printable, report, run
 from rvlook.escapes import visible
 
+C, CPP = (".c",), (".cpp", ".cc", ".cxx")  # endings of sources in C and in C++
+OF_CPP = ("-fno-exceptions", "-fno-rtti", "-fno-threadsafe-statics", "-fno-asynchronous-unwind-tables")  # what needs a runtime library
 OF_C = ("-ffreestanding", "-fno-builtin", "-Wall", "-Wextra", "-Os", "-I")
 APART = ("-ffunction-sections", "-fdata-sections")  # so that the linker can drop a function that is not used
 NM_LINE = re.compile(r"([0-9a-f]{8,16}|-{8,16}|)\s+(\S) (.*)\Z")  # an address, dashes in bitcode, or nothing if it is undefined
@@ -55,9 +57,10 @@ class Workshop:
             raise BuildError("error: '%s' is not a regular file" % visible(source))
         target = os.path.join(self.made, name)
         words = [*self.toolchain.compile, "-gdwarf-4"]
-        if source.endswith(".c"):
-            words += [*OF_C, self.shared, *options, *self.cflags]
-        done = run([*words, "-c", "-o", target, path], self.folder if source.endswith(".c") else os.path.dirname(os.path.join(self.folder, source)))
+        is_compiled = source.endswith((*C, *CPP))
+        if is_compiled:
+            words += [*(OF_CPP if source.endswith(CPP) else ()), *OF_C, self.shared, *options, *self.cflags]
+        done = run([*words, "-c", "-o", target, path], self.folder if is_compiled else os.path.dirname(os.path.join(self.folder, source)))
         if done.returncode:
             raise BuildError(printable(done.stderr) or "error: '%s' cannot be compiled" % visible(source))
         report(done.stderr)

@@ -2,14 +2,16 @@
 from __future__ import annotations
 
 import os
+import re
 from dataclasses import dataclass, field
 from typing import List
 
-from rvlook.build.objects import APART, Workshop
+from rvlook.build.objects import APART, C, CPP, Workshop
 from rvlook.build.toolchain import BuildError
 from rvlook.escapes import visible
 
-KINDS = (".c", ".s", ".S")  # the order in which sources are compiled and linked
+KINDS = (*C, *CPP, ".s", ".S")  # the order in which sources are compiled and linked
+MONITOR_ENTRY = re.compile(rb"\bENTRY\s*\(\s*monitor_entry\s*\)")  # in the link.ld of a monitor
 FIRST = ("start.s", "host.s", "enclave.s", "runtime.s")  # which are compiled before all others
 OF_HOST, OF_ENCLAVE = ("host", "start"), ("runtime", "application", "enclave")  # how the names of the sources of one side begin
 IN_ENCLAVE = "-DIN_ENCLAVE"
@@ -33,6 +35,14 @@ def sources_in(folder: str) -> list[str]:
 def has(folder: str, name: str) -> bool:
     """Returns whether the folder has a regular file of this name."""
     return os.path.isfile(os.path.join(folder, name))
+
+
+def is_monitor(folder: str) -> bool:
+    """Returns whether a folder has a monitor: a monitor.c, or a link.ld whose entry is monitor_entry."""
+    if has(folder, "monitor.c") or not has(folder, "link.ld"):
+        return has(folder, "monitor.c")
+    with open(os.path.join(folder, "link.ld"), "rb") as file:
+        return bool(MONITOR_ENTRY.search(file.read()))
 
 
 def compile_monitor(workshop: Workshop, folder: str) -> None:
