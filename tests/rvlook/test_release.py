@@ -14,8 +14,8 @@ import pytest
 from conftest import ROOT
 
 SECONDS = 600
-COREUTILS = ("cat", "chmod", "cp", "cut", "dirname", "env", "head", "ln", "ls", "mkdir", "mktemp", "mv", "printf", "readlink", "rm", "sha256sum", "sort",
-             "tail", "touch", "tr", "wc")
+COREUTILS = ("cat", "chmod", "cp", "cut", "dirname", "env", "head", "ln", "ls", "mkdir", "mktemp", "mv", "printf", "readlink", "rm", "sha256sum",
+             "sort", "tail", "touch", "tr", "wc")
 LEFT_OUT = "./release"
 BLOCK = re.compile(r"(?:^    .*\n)+", re.M)
 INSTALLED = ("bin/rvbench", "bin/rvlook", "bin/rvbench-build", "lib/rvbench/version", "share/rvbench/examples/shared/calls.h")
@@ -52,8 +52,9 @@ def unpacked(tarball, tmp_path):
     folder = next((tmp_path / "empty").iterdir())
 
     def run(line):
-        return subprocess.run([tools / "bash", "-e", "-o", "pipefail", "-c", line], cwd=folder, env={"PATH": str(tools), "HOME": str(tmp_path / "home")},
-                              capture_output=True, text=True, timeout=SECONDS, check=False)
+        environment = {"PATH": str(tools), "HOME": str(tmp_path / "home")}
+        return subprocess.run([tools / "bash", "-e", "-o", "pipefail", "-c", line], cwd=folder, env=environment, capture_output=True, text=True,
+                              timeout=SECONDS, check=False)
     (tmp_path / "home").mkdir()
     return folder, run
 

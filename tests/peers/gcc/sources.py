@@ -10,9 +10,9 @@ from typing import List, Optional, Tuple
 TARBALLS = "/usr/src/gcc-12"
 INSIDE = "gcc/testsuite/gcc.c-torture/execute"
 # What this machine or this way to run lacks; GCC's own list is in gcc/testsuite/lib/target-supports.exp. Any other target is present.
-LACKING = {"trampolines": "needs trampolines on an executable stack", "fileio": "needs files", "signal": "needs signals", "mmap": "needs mmap",
+LACKING = {"trampolines": "trampolines need fence.i", "fileio": "needs files", "signal": "needs signals", "mmap": "needs mmap",
            "pthread": "needs threads", "int128": "needs 128-bit integers", "alloca": "", "label_values": "", "indirect_jumps": ""}
-DIRECTIVE = re.compile(r"\{\s*(dg-[a-z-]+)\s+(\"[^\"]*\"|[\w.+-]+)((?:\s+\{[^}]*\})?)")
+DIRECTIVE = re.compile(r'\{\s*(dg-[a-z-]+)\s+(?:\{\s*)?("[^"]*"|[\w.+-]+)(?:\s*\}(?=\s*\}))?((?:\s+\{[^}]*\})?)')
 
 
 @dataclass(frozen=True)

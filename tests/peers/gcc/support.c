@@ -140,7 +140,7 @@ long labs(long value)
     return value < 0 ? -value : value;
 }
 
-static char heap[1 << 20];
+static char heap[1 << 21];
 static size_t used;
 
 void *malloc(size_t size)

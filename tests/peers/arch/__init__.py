@@ -1,0 +1,1 @@
+"""riscv-arch-test on the program, from a folder that has it."""

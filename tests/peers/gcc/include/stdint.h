@@ -1,0 +1,2 @@
+/* The types of the compiler itself. */
+#include <stdint-gcc.h>

@@ -1,0 +1,1 @@
+"""The self test of Mbed TLS on the program."""
