@@ -86,3 +86,13 @@ def test_ctrl_c_ends_the_script_and_its_processes(copy, script):
     while working_in(copy) and time.monotonic() < deadline:
         time.sleep(0.1)
     assert working_in(copy) == []
+
+
+@pytest.mark.parametrize("subject, status", [
+    ("rv_hart: keep the superinstruction of xor", 0), ("SPEED, DECISIONS: measure again", 0), ("rv_hart: " + "x" * 63, 0), ("rv_hart: " + "x" * 64, 1),
+    ("keep the superinstruction of xor", 1), ("rv_hart: Keep it", 1), ("", 1)])
+def test_hook_checks_the_subject_of_a_commit(tmp_path, subject, status):
+    message = tmp_path / "message"
+    message.write_text("# a comment of git\n%s\n\nThe reason is in the body, which may have lines of any length.%s\n" % (subject, "." * 80))
+    done = subprocess.run([ROOT / "tools" / "hooks" / "commit-msg", message], capture_output=True, text=True, check=False)
+    assert done.returncode == status and bool(done.stderr) == bool(status)

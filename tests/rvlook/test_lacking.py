@@ -30,7 +30,8 @@ def texts_of(data):
 
 @pytest.mark.parametrize("word, kind", [
     (0x0CB5262F, "atomic instruction"), (0x1005252F, "atomic instruction"), (0x0000100F, "fence.i instruction"),
-    (0x00052507, "floating-point instruction"), (0x02A5F553, "floating-point instruction"), (0x0FF0000F, None), (0x00000013, None), (0x00000073, None)])
+    (0x00052507, "floating-point instruction"), (0x02A5F553, "floating-point instruction"), (0x0FF0000F, None), (0x00000013, None),
+    (0x00000073, None)])
 def test_kind_of_a_word(word, kind):
     assert extension(word) == kind
 
@@ -92,4 +93,5 @@ def test_build_and_run_name_the_functions(rvlook, built, tmp_path):
     ran = rvlook("run", "--steps", "200", program)
     assert ran.returncode in (1, 3)
     assert re.search(r"^rvlook: warning: \S+ has fence\.i instructions in flush", ran.stderr, re.M)
-    assert re.search(r"illegal instruction \(value 0000100f, fence\.i instruction, see docs/FIRMWARE\.md\) in S of host at step \d+, \w+  flush", ran.stderr)
+    kind = r"illegal instruction \(value 0000100f, fence\.i instruction, see docs/FIRMWARE\.md\)"
+    assert re.search(kind + r" in S of host at step \d+, \w+  flush", ran.stderr)
