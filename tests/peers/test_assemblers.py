@@ -20,7 +20,7 @@ class Falsified(Program):
     """A program whose assembler changes a bit of one word, and whose disassembler knows one word less."""
 
     def assemble(self, texts):
-        """Returns the words of texts, of which the last is false."""
+        """Returns the words of texts. The last is false."""
         words = super().assemble(texts)
         return [*words[:-1], words[-1] ^ 1 << 20]
 

@@ -20,7 +20,7 @@ def compiler():
 
 
 def small_library(folder, failing):
-    """Makes a library whose self tests pass, but for one; returns its folder."""
+    """Makes a library in which one self test fails, if `failing` names it; returns its folder."""
     headers, functions = re.findall(r'"mbedtls/(\w+\.h)"', SOURCE), re.findall(r"\bmbedtls_\w+_self_test\b", SOURCE)
     (folder / "include" / "mbedtls").mkdir(parents=True)
     (folder / "library").mkdir()

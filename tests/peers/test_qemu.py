@@ -1,11 +1,13 @@
 """The program and QEMU in lockstep: random streams agree, each deviation shows in its case and explains nothing else, and a false value fails."""
+import re
+
 import pytest
 
-from conftest import ROOT
 from peers.qemu.actions import instruction
 from peers.qemu.cases import CASES, OPEN, VECTOR, access, below, write
 from peers.qemu.deviations import DEVIATIONS
 from peers.qemu.faulty import FAULTY
+from peers.qemu.harts import Pair, compare_schedules
 from peers.qemu.lockstep import Difference, Ended
 from peers.qemu.registers import RAM
 from peers.qemu.remote import RemoteError
@@ -15,7 +17,8 @@ from peers.qemu.stops import STOPS
 # The least number of steps of each of the four tests of streams, and of the blocks.
 STEPS, BLOCKS = 600, 4
 SEED = "gate"
-PAGE = ROOT / "docs" / "PEERS.md"
+# The first step of a schedule.
+OTHER = re.compile("sched 0")
 
 
 @pytest.mark.parametrize("part", range(4))
@@ -85,7 +88,13 @@ def test_a_false_value_is_noticed(bench, qemu_version, side):
             run_stream(bench, SEED, part, side=side)
 
 
-def test_the_page_has_the_table_of_deviations():
-    text = PAGE.read_text(encoding="utf-8")
-    rows = ["| %s | %s | %s | %s |" % (it.name, it.section, it.text, "choice" if it.is_choice else "against it") for it in (*DEVIATIONS, *STOPS)]
-    assert [row for row in rows if row not in text] == []
+@pytest.mark.parametrize("seed", ["gate", "gate again"])
+def test_schedules_of_two_harts_agree(bench, qemu_version, seed):
+    assert compare_schedules(bench, seed, 1000) >= 1000
+
+
+def test_another_schedule_of_two_harts_is_noticed(bench, qemu_version, monkeypatch):
+    ask = Pair.ask
+    monkeypatch.setattr(Pair, "ask", lambda self, lines, replies: ask(self, [OTHER.sub("sched 1", it) for it in lines], replies))
+    with pytest.raises(Difference):
+        compare_schedules(bench, "gate", 1000)

@@ -12,8 +12,8 @@ from .tools import Program
 
 Found = Tuple[List[str], int]
 
-# Words that another disassembler knows: mask, match, an example, and what it is there. fence.tso is a fence here, and executed as one, but the
-# program disassembles a fence with fm as a word.
+# Words that another disassembler knows: mask, match, an example, and its meaning there. The program executes fence.tso as a fence.
+# It disassembles each fence with fm as a word.
 FOREIGN = (
     (0xFE00707F, 0x02001013, 0x02001013, "slli of RV64"), (0xFE00707F, 0x02005013, 0x02005013, "srli of RV64"),
     (0xFE00707F, 0x42005013, 0x42005013, "srai of RV64"), (0xFFFFFFFF, 0x8330000F, 0x8330000F, "fence.tso"),

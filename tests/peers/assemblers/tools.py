@@ -123,7 +123,7 @@ def read_listing(text: str, count: int, assemble: Callable[[Sequence[str]], List
 
 
 def plain(text: str, address: int) -> Optional[str]:
-    """Returns an instruction in the program's form, but for the names of control and status registers."""
+    """Returns an instruction in the program's form. A control and status register keeps its name."""
     text = re.sub(r"\s*(<[^u].*|#.*)$", "", text.strip())
     name, _, operands = text.replace("\t", " ").partition(" ")
     if UNKNOWN.fullmatch(text) or not name:

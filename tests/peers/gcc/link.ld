@@ -1,4 +1,4 @@
-/* A test in a region; the host before it is empty but for the enclave. --defsym gives host_base, region_base and region_size. */
+/* A test in a region, and the host of an enclave before it. --defsym gives host_base, region_base and region_size. */
 ENTRY(_start)
 PHDRS { host PT_LOAD; test PT_LOAD; }
 SECTIONS

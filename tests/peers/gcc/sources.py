@@ -9,7 +9,7 @@ from typing import List, Optional, Tuple
 
 TARBALLS = "/usr/src/gcc-12"
 INSIDE = "gcc/testsuite/gcc.c-torture/execute"
-# What this machine or this way to run lacks; GCC's own list is in gcc/testsuite/lib/target-supports.exp. Any other target is present.
+# Effective targets that this machine or this way to run lacks. GCC's own list is in gcc/testsuite/lib/target-supports.exp.
 LACKING = {"trampolines": "trampolines need fence.i", "fileio": "needs files", "signal": "needs signals", "mmap": "needs mmap",
            "pthread": "needs threads", "int128": "needs 128-bit integers", "alloca": "", "label_values": "", "indirect_jumps": ""}
 DIRECTIVE = re.compile(r'\{\s*(dg-[a-z-]+)\s+(?:\{\s*)?("[^"]*"|[\w.+-]+)(?:\s*\}(?=\s*\}))?((?:\s+\{[^}]*\})?)')

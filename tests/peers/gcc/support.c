@@ -1,4 +1,4 @@
-/* What a test of GCC uses of a C library, where that is a few lines. */
+/* The functions of a C library that tests of GCC use, if they are a few lines. */
 typedef __SIZE_TYPE__ size_t;
 
 __attribute__((noreturn)) void finish(int status);

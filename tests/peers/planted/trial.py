@@ -14,7 +14,7 @@ from .errors import PlantedError
 SEED, WORDS = "planted", 500
 # One of so many texts is compared with LLVM: the program is built without optimisation.
 SHARE = 37
-# So many programs are also run several steps at once.
+# The number of programs that are also run several steps at once.
 BLOCKS = 4
 
 

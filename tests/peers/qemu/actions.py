@@ -1,4 +1,4 @@
-"""What both sides do before and in a step: an action. A step is an action with the states around it."""
+"""Actions, which both sides execute, and steps: an action with the states before and after it."""
 from __future__ import annotations
 
 from dataclasses import dataclass, field

@@ -1,4 +1,4 @@
-"""A case for each deviation of QEMU: actions from reset on, after the last of which the deviation shows."""
+"""A case for each deviation of QEMU: actions from reset on. The deviation shows after the last one."""
 from __future__ import annotations
 
 from typing import Dict, List

@@ -1,5 +1,5 @@
 """The deviations of QEMU 7.2 from this machine, as predictions. A prediction gives bits of registers that QEMU shows after a step instead of the
-bench's. Any other difference, and any other value, is reported. So a deviation explains its own case, and hides nothing beside it.
+bench's. Any other difference, and any other value, is reported. A deviation therefore explains only its own case.
 
 Sections are those of the Privileged Architecture 20211203. A `choice` is left open by the manual; in the other rows QEMU contradicts it.
 """
@@ -18,8 +18,8 @@ SSTATUS = SIE | SPIE | SPP | VS | SUM | 1 << 19 | SD
 
 @dataclass(frozen=True)
 class Deviation:
-    """A deviation: its name, the section of the manual, what QEMU does, what QEMU shows (`predict`), and what the bench must show (`manual`) after
-    the same steps, so that an error of the bench that QEMU has too is noticed. `is_choice`: the manual permits both."""
+    """A deviation: its name, the section of the manual, and what QEMU does. `predict` gives what QEMU shows after a step, and `manual` what the
+    bench must show, so that an error that both have is noticed. `is_choice`: the manual permits both."""
 
     name: str
     section: str

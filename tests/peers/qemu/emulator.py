@@ -33,8 +33,8 @@ def version() -> Optional[str]:
 class Emulator:
     """A run of QEMU that stops after each step. `harts` is 1 or 2; hart H is the thread H + 1 of the server.
 
-    If it `counts`, mcycle and minstret count instructions, and the timer line must stay set: a timer that is due later makes QEMU advance the
-    counters while the hart is stopped. Otherwise the counters are the time of the host, and the timer line can change.
+    If it `counts`, mcycle and minstret count instructions. The timer line must then stay set: QEMU would advance the counters to the time at which
+    a later timer is due. Otherwise the counters are the time of the host, and the timer line can change.
     """
 
     def __init__(self, harts: int = 1, ram: int = RAM_BYTES, counts: bool = True):

@@ -37,7 +37,7 @@ class FaultyMemory(Bench):
     """Shows the last byte of memory that it reads with bit 0 changed, if it is not 0."""
 
     def read_memory(self, address: int, count: int) -> bytes:
-        """Returns bytes of memory, of which one is false."""
+        """Returns bytes of memory. One is false."""
         data = super().read_memory(address, count)
         return data[:-1] + bytes([data[-1] ^ 1]) if count > 4 and data[-1] else data
 

@@ -1,5 +1,5 @@
-"""What the manual, or a choice of docs/ISA.md, requires of the bench in the steps in which QEMU deviates. Each function gives bits of registers
-after a step. Independent of the code under test. Sections are those of the Privileged Architecture 20211203.
+"""The values that the manual, or a choice of docs/ISA.md, requires of the bench in the steps in which QEMU deviates. Each function gives bits of
+registers after a step. Independent of the code under test. Sections are those of the Privileged Architecture 20211203.
 """
 from __future__ import annotations
 
@@ -61,8 +61,8 @@ def zero_counters(step: Step) -> Prediction:
 
 
 def counters(step: Step) -> Prediction:
-    """Requires the values of the counters: mcycle counts steps, minstret instructions that do not trap (3.1.10, 3.1.13, 3.3.1), unless the step
-    writes one of their halves. An instruction reads a counter as it was before the step."""
+    """Requires the values of the counters: mcycle counts steps, and minstret instructions that do not trap (3.1.10, 3.1.13, 3.3.1). A write of a half
+    replaces the count. An instruction reads a counter as it was before the step."""
     found: Prediction = {}
     name = NAMES.get(step.csr, "") if step.is_csr and not step.trap else ""
     for low, counts in (("mcycle", True), ("minstret", step.trap is None)):

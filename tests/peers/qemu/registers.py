@@ -19,7 +19,7 @@ NUMBERS = {
     "mcycle": 0xB00, "minstret": 0xB02, "mcycleh": 0xB80, "minstreth": 0xB82, "mvendorid": 0xF11, "marchid": 0xF12, "mimpid": 0xF13,
     "mhartid": 0xF14, "mconfigptr": 0xF15}
 NAMES = {number: name for name, number in NUMBERS.items()}
-# Compared after each step. Of the 29 event selectors the first and the last are enough: each is zero here, and no step but a write changes one.
+# Compared after each step. The first and the last of the 29 event selectors are enough: each is zero here, and only a write could change one.
 COMPARED = [name for name in NUMBERS if not name.startswith("mhpmevent")] + ["mhpmevent3", "mhpmevent31"]
 PMPCFG = ("pmpcfg0", "pmpcfg1", "pmpcfg2", "pmpcfg3")
 MHPMEVENT = tuple("mhpmevent%d" % number for number in range(3, 32))

@@ -15,7 +15,7 @@ from .streams import Stream, blocks
 
 # The most steps of a stream: each begins at reset, so that a locked PMP entry does not last.
 STREAM = 150
-# Of three streams two have counters, and one changes the timer line.
+# Two of three streams have counters, and one changes the timer line.
 PARTS = 3
 # A block program has this many instructions, in runs of 1 to 40 steps.
 BLOCK, RUN = 120, 40
@@ -23,7 +23,7 @@ BLOCK, RUN = 120, 40
 
 @dataclass
 class Counts:
-    """What runs did: steps, streams, the uses of each deviation, and the reasons why streams ended early."""
+    """The counts of runs: steps, streams, the uses of each deviation, and the reasons why streams ended early."""
 
     steps: int = 0
     streams: int = 0

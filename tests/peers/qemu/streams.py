@@ -1,5 +1,5 @@
-"""Random streams of instructions. Each instruction is chosen by the state before its step, so that a stream reaches every mode, both sides of the
-boundaries of PMP entries and of RAM, and never waits for a lucky jump.
+"""Random streams of instructions. Each instruction is chosen by the state before its step. A stream therefore reaches every mode, and both sides of
+the boundaries of PMP entries and of RAM.
 """
 from __future__ import annotations
 
