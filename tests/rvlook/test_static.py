@@ -81,7 +81,8 @@ def test_mypy_finds_nothing(tmp_path):
 
 
 def test_linter_finds_nothing():
-    run_tool("flake8", "--isolated", "--max-line-length", "150", "python/rvlook", "tests/rvlook/test_static.py", "tests/rvlook/test_install.py")
+    run_tool("flake8", "--isolated", "--max-line-length", "150", "python/rvlook", "tests/rvlook/test_static.py", "tests/rvlook/test_install.py",
+             "tests/rvlook/test_release.py", "tests/peers", "tests/peers/run", "release")
 
 
 def test_no_import_cycles():

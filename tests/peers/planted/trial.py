@@ -2,12 +2,13 @@
 from __future__ import annotations
 
 from dataclasses import dataclass
-from typing import Optional
 
 from peers.assemblers import comparison
 from peers.assemblers.tools import Llvm, Program, ToolError
+from peers.qemu.cases import CASES
+from peers.qemu.deviations import DEVIATIONS
 from peers.qemu.lockstep import Difference
-from peers.qemu.runner import Counts, run_block, run_stream
+from peers.qemu.runner import STREAM, Counts, run_actions, run_block, run_stream
 
 from .errors import PlantedError
 
@@ -16,34 +17,36 @@ SEED, WORDS = "planted", 500
 SHARE = 37
 # The number of programs that are also run several steps at once.
 BLOCKS = 4
+# The steps of streams before the directed cases.
+FIRST = 1500
 
 
 @dataclass(frozen=True)
 class Row:
-    """A row of the table: an error, the steps after which QEMU noticed it (None: not), and whether the assemblers did."""
+    """A row of the table: an error, how QEMU noticed it (an empty text: it did not), and whether the assembler of LLVM did."""
 
     error: PlantedError
-    steps: Optional[int]
+    qemu: str
     assemblers: bool
 
     @property
     def is_unnoticed(self) -> bool:
         """Returns whether no peer noticed the error."""
-        return self.steps is None and not self.assemblers
+        return not self.qemu and not self.assemblers
 
     def __str__(self) -> str:
         """Returns the row as in the page."""
-        noticed = ["QEMU, %d steps" % self.steps] if self.steps is not None else []
+        noticed = [self.qemu] if self.qemu else []
         return "| %s | %s | %s |" % (self.error.name, self.error.text, ", ".join(noticed + ["LLVM"] * self.assemblers) or "**nobody**")
 
 
 def row(error: PlantedError, program: str, most: int) -> Row:
     """Tries the peers on a program with an error."""
-    return Row(error, steps_to_notice(program, most), is_assembled_otherwise(program))
+    return Row(error, noticed_by_qemu(program, most), is_assembled_otherwise(program))
 
 
-def steps_to_notice(program: str, most: int) -> Optional[int]:
-    """Returns the number of steps that agreed before QEMU differed, or None if all of them agreed."""
+def noticed_by_qemu(program: str, most: int) -> str:
+    """Returns how QEMU noticed an error: by streams of FIRST steps, by a directed case, or by streams of at most this number of steps."""
     counts, part = Counts(), 0
     while counts.steps < most:
         try:
@@ -51,9 +54,23 @@ def steps_to_notice(program: str, most: int) -> Optional[int]:
             if part < BLOCKS:
                 counts.add(run_block(program, SEED, part))
         except (Difference, RuntimeError):
-            return counts.steps
+            return "QEMU, %d steps" % counts.steps
+        if counts.steps >= FIRST > counts.steps - STREAM:
+            case = failing_case(program)
+            if case:
+                return "QEMU, case *%s*" % case
         part += 1
-    return None
+    return ""
+
+
+def failing_case(program: str) -> str:
+    """Returns the first directed case that differs, or an empty text."""
+    for name in (it.name for it in DEVIATIONS):
+        try:
+            run_actions(program, CASES[name])
+        except (Difference, RuntimeError):
+            return name
+    return ""
 
 
 def is_assembled_otherwise(program: str) -> bool:
