@@ -45,6 +45,7 @@ def pytest_addoption(parser):
     parser.addoption("--all-orders", action="store_true", help="compare races with all schedules of more programs, which takes minutes")
     parser.addoption("--all-mutants", action="store_true", help="compare every mutant of own_monitor, those without an effect over all scripts")
     parser.addoption("--pairs", type=int, default=100, help="run this many pairs of unlike hosts and clocks (default: 100)")
+    parser.addoption("--verify-programs", type=int, default=0, help="compare verify with rvbench on N random programs of some 100 steps (default: 500)")
     parser.addoption("--fuzz-seconds", type=float, default=0, help="run each fuzzer of tests/rvlook/fuzz for this long (default: a few examples)")
 
 

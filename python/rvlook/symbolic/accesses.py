@@ -4,16 +4,18 @@ from __future__ import annotations
 from typing import List, Optional, Tuple
 
 from rvlook.symbolic.conditions import all_of, within
+from rvlook.symbolic.decode import decode
 from rvlook.symbolic.evaluation import evaluate
 from rvlook.symbolic.extents import Extent
 from rvlook.symbolic.fields import Ended
 from rvlook.symbolic.members import asked_member, member_leaves
-from rvlook.symbolic.nodes import INPUT, M32, SECRET, Condition, Node
+from rvlook.symbolic.nodes import INPUT, M32, SECRET, Condition, Node, Word
 from rvlook.symbolic.origins import How, Origin, Tag
 from rvlook.symbolic.paths import MOST_VALUES, Paths
 from rvlook.symbolic.words import not_
 
 UNKNOWN = "an address whose origin is not known"
+LOOK_BACK = 6  # instructions in which a constant is searched
 FOLDED = "an address that may be folded by the compiler"
 
 
@@ -32,23 +34,47 @@ class Accesses(Paths):
                 return True
         return False
 
-    def candidates(self, it: Origin, offset: int) -> List[int]:
-        """Returns the addresses that may name the object of an access: the first address of its origin, with the offset of the instruction if the
-        compiler may have divided it so."""
-        is_own = it.call == self.call
-        if it.how in (How.UPPER, How.STACK) and is_own:
-            return [it.base + offset & M32]
-        return [it.base, it.base + offset & M32] if it.how is How.FRAME and is_own and offset else [it.base]
+    def anchored(self, it: Tag, x: Word, offset: int) -> Tag:
+        """Returns the origin of a constant and an offset in another register. If that is exactly where a variable begins, it names this variable:
+        compilers address several variables from one of them."""
+        if it is None or it.how is not How.SYMBOL or it.call != self.call or x != it.base or not offset:
+            return it
+        found = self.search.extents.at(self, it.base + offset & M32, None)
+        is_other = found is not None and found.is_start and found.low == it.base + offset & M32
+        return it._replace(base=it.base + offset & M32) if is_other else it
 
-    def objects_of(self, it: Origin, offset: int) -> List[Extent]:
-        """Returns the objects that an access may belong to: more than one only if the origin does not tell them apart."""
-        found: List[Extent] = []
-        for base in self.candidates(it, offset):
-            extent = self.search.extents.at(self, base, it)
-            if extent is not None and all(extent[:2] != other[:2] for other in found):
-                found.append(extent)
-        exact = [extent for extent in found if extent.is_start]
-        return exact if len(exact) == 1 else found
+    def constant_in(self, register: int, pc: int) -> int:
+        """Returns the constant that one of the last instructions has added to a register, 0 if there is none."""
+        w = self.search.world
+        for n in range(1, min(LOOK_BACK, len(self.pcs)) + 1):
+            at = pc - 4 * n
+            if self.pcs[-n] != at or not w.region[0] <= at:
+                return 0
+            code = decode(int.from_bytes(w.memory[at - w.region[0]:at - w.region[0] + 4], "little"))
+            if code.rd == register:
+                return code.imm if code.kind == "imm" and code.more == "add" and code.r1 not in (0, register) else 0
+        return 0
+
+    def objects_of(self, it: Origin, offset: int, at: Optional[int] = None) -> List[Extent]:
+        """Returns the objects that an access may belong to: more than one only if the origin fits both. `at` is the address if it is a number.
+        The offset of the instruction may be a part of the address, in the function that has computed it. Then the object is the one that begins
+        there, or that the run itself reaches."""
+        s, is_own = self.search, it.call == self.call
+        first = s.extents.at(self, it.base, it)
+        second = s.extents.at(self, it.base + offset & M32, it) if is_own and offset else first
+        if it.how is How.STACK and is_own and it.more:
+            first = s.extents.at(self, it.base + it.more + offset & M32, it)
+            if second is None or first is not None and first.is_start and not second.is_start:
+                second = first
+        if it.how in (How.UPPER, How.STACK) and is_own:
+            return [second] if second is not None else []
+        if first is None or second is None or first[:2] == second[:2] or it.how not in (How.SYMBOL, How.FRAME):
+            return [found for found in (first or second,) if found is not None]
+        if self.is_base and at is not None and second.has(at, 1) and not first.has(at, 1):
+            s.landed.add((self.pc, second[:2]))
+        if second.is_start or (self.pc, second[:2]) in s.landed:
+            return [second]
+        return [first] if first.is_start else [first, second]
 
     # ---- addresses that are numbers
 
@@ -66,7 +92,7 @@ class Accesses(Paths):
         if tag.how in (How.FRAME, How.STACK) and not self.is_open(tag.call):
             s.report(kind, self, "uses a local variable of a function that has returned", self.model)
             return
-        objects = self.objects_of(tag, offset)
+        objects = self.objects_of(tag, offset, at)
         hit = [it for it in objects if it.has(at, width)]
         if not hit:
             self.leaves(at, width, tag, objects, kind)
@@ -125,6 +151,8 @@ class Accesses(Paths):
         insides = [(within(x, it.low, it.high - width), it) for it in objects]
         if not any(inside is True for inside, _ in insides) and self.asked_outside(x, insides, is_sure, kind) is None:
             return None
+        if self.is_base and not any(self.holds(inside) for inside, _ in insides):
+            return None  # the run itself is outside
         found = self.chosen(insides)
         if tag is not None and found.low != s.world.window[0]:
             asked_member(self, x, width, tag, offset, kind)

@@ -48,6 +48,12 @@ class Traps(Memory):
                 self.areas = tuple(it for it in self.areas if self.is_open(it[0]))
                 return
 
+    def leave_frame(self) -> None:
+        """Ends the frame of the present call: a function that it jumps to has another one."""
+        self.search.calls += 1
+        self.areas = tuple(it for it in self.areas if it[0] != self.call)
+        self.call = self.search.calls
+
     def moved_sp(self, old: int, is_relative: bool) -> None:
         """Takes a new value of sp that is no constant step: another stack, or a variable-length array."""
         new = self.regs[2]

@@ -1,4 +1,4 @@
-"""Where the object at an address begins and ends: a variable, a member, a local variable, a saved register, or the rest of a frame."""
+"""Finds the bounds of the object at an address: a variable, a member, a local variable, a saved register, or the rest of a frame."""
 from __future__ import annotations
 
 from bisect import bisect_right

@@ -20,6 +20,7 @@ if TYPE_CHECKING:
 Place = Tuple[int, int]  # an instruction and its call context
 CONSOLE_STATE = 16  # bytes before the text of a console (examples/shared/console.h)
 ECALL, WAITS = 8, "one instruction loads a byte again, as a loop that waits does"
+MEETS = "an index of the host may lead to a byte that was loaded before"
 
 
 class Judge(Outputs):
@@ -86,22 +87,26 @@ class Judge(Outputs):
             self.report("reread", state, "loads %08x again, which %s has loaded" % (at, self.world.place(first[0])), model)
 
     def ask_overlap(self, state: State, place: Word, width: int) -> None:
-        """Asks whether a load can have a byte that an earlier one had, where one of them is at an expression."""
+        """Asks whether a load has a byte that an earlier one had, where one of them is at an expression. If it must have one, it is a double fetch.
+        If it only can, that is not decided, unless the place is a pointer of the host, which may meet any other place."""
         here = state.pc, state.context
         earlier = [(overlap(place, width, x, size), (pc, context)) for x, size, pc, context in state.fetched_at]
         if type(place) is not int:
             earlier += [(within(place, low - width + 1, high - 1), first) for low, high, first in ranges_of(state.fetched)]
-        for is_same in (False, True):
-            asked = [(condition, first) for condition, first in earlier if (first == here) is is_same]
-            question = any_of(*(condition for condition, _ in asked))
-            answer, model = self.solver.satisfiable(state.conds, question, state.model)
-            if answer is None:
-                self.undecided["reread", state.pc] += 1
-            elif answer:
-                memo: Dict[Node, object] = {}
-                first = next(first for condition, first in asked if evaluate(condition, model, memo))
-                self.fetched_again(state, first, evaluate(place, model, memo), model)
-                return
+        question = any_of(*(condition for condition, _ in earlier))
+        can, model = self.solver.satisfiable(state.conds, question, state.model)
+        if can is False:
+            return
+        must_not, _ = self.solver.satisfiable(state.conds, not_(question), state.model)
+        if can is None or must_not is None:
+            self.undecided["reread", state.pc] += 1
+        elif must_not is False:
+            memo: Dict[Node, object] = {}
+            hits = [first for condition, first in earlier if evaluate(condition, model, memo)]
+            first = next((it for it in hits if it != here), hits[0])
+            self.fetched_again(state, first, evaluate(place, model, memo), model)
+        elif state.has_origin():
+            self.doubt("reread", state, MEETS)
 
     # ---- traps and jumps
 

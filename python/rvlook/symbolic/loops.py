@@ -162,7 +162,7 @@ class LoopMerger(Merger):
         it.ranks = found
 
     def candidates(self, it: Head) -> List[Place]:
-        """Returns words of which a byte is an unknown: registers, and words of memory."""
+        """Returns the registers and words of memory that have an unknown byte."""
         places = [at for at, cell in it.cells.items() if type(cell) is tuple]
         words = {at.split("_")[0] if isinstance(at, str) else at & -4 for at in places}  # type: Set[Place]
         return sorted((at for at in words if not (isinstance(at, str) and at.startswith("c"))), key=str)[:MOST_RANKS]

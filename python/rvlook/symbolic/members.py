@@ -1,4 +1,4 @@
-"""Members: an access that moves within a variable stays in the array in which it begins. Where types do not tell this, it is not decided."""
+"""Members: an access that moves within a variable stays in the array in which it begins. This is not decided without types."""
 from __future__ import annotations
 
 from typing import Dict, List, Optional, Tuple, TYPE_CHECKING

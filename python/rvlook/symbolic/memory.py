@@ -114,7 +114,7 @@ class Memory(Accesses):
     # ---- the window
 
     def received(self, at: int, width: int, place: Word) -> List[Byte]:
-        """Returns bytes of the window: new inputs, unless the host stands still during an activation. `place` is the address, maybe an expression."""
+        """Returns bytes of the window: new inputs, unless the host waits during an activation. `place` is the address, maybe an expression."""
         s, own = self.search, self.search.world.window[0]
         is_number = type(place) is int
         if is_number and s.options.calm and all(at + n in self.win for n in range(width)):
@@ -148,7 +148,7 @@ class Memory(Accesses):
         return list(self.winmem[at - own:at - own + width])
 
     def sent(self, at: int, width: int, value: Word, place: Word) -> None:
-        """Stores to the window. Bytes that depend on a secret are asked for, unless they are public."""
+        """Stores to the window. Asks about bytes that depend on a secret, unless they are public."""
         s, own, is_number = self.search, self.search.world.window[0], type(place) is int
         parts = [byte(value, n) for n in range(width)]
         s.output(self, parts, [place + n if is_number else None for n in range(width)], "window")

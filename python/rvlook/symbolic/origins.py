@@ -1,4 +1,4 @@
-"""Where an address comes from: the symbol, the frame or the pointer in memory from which an enclave computed it.
+"""The origin of an address: the symbol, the frame or the pointer in memory from which an enclave computed it.
 
 A register and a word of memory have an origin beside their value. It stays when an offset is added, so that an access can be compared with the object
 from which its address was computed. A value without an origin is no pointer, as far as is known."""
@@ -21,11 +21,13 @@ class How(Enum):
 
 
 class Origin(NamedTuple):
-    """The first address of a pointer, and the call and the instruction in which it was computed. A call has a number."""
+    """The first address of a pointer, and the call and the instruction in which it was computed. A call has a number. `more` is a constant in the
+    index that was added to sp, which the compiler may have taken from the offset."""
     how: How
     base: int
     call: int = 0
     pc: int = 0
+    more: int = 0
 
 
 NO_ORIGIN = Origin(How.NONE, 0)
@@ -42,7 +44,7 @@ def moved_by_constant(it: Tag, offset: int, pc: int) -> Tag:
     if it is None or offset == 0:
         return it
     if it.how is How.UPPER:
-        return Origin(How.SYMBOL, it.base + offset & M32)
+        return Origin(How.SYMBOL, it.base + offset & M32, it.call)
     if it.how is How.STACK:
         return Origin(How.FRAME, it.base + offset & M32, it.call, pc)
     return it

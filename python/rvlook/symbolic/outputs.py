@@ -64,8 +64,8 @@ class Outputs(Record):
         return None
 
     def raw(self, state: State, parts: Sequence[Byte], places: Sequence[Optional[int]], own: Sequence[int], shown: Sequence[int]) -> None:
-        """Takes bytes of the secret that come out as they are, or changed so that one can compute them: also a public place shows them only where
-        the run itself does."""
+        """Takes bytes of the secret that come out as they are, or changed so that one can compute them. A public place shows them only if the run
+        itself does so."""
         bare = [n for n in own if parts[n].taint & SECRET and is_one_byte(parts[n], SECRET)]
         key = state.pc, places[bare[0]] if bare else None
         if state.is_base and bare:
@@ -74,7 +74,7 @@ class Outputs(Record):
             self.report("raw", state, "%d bytes of the secret itself, at a public place where the run has others" % len(bare), state.model)
 
     def shows_check(self, state: State, parts: Sequence[Node]) -> None:
-        """Takes bytes that depend on what the host must know: they may show whether it is right, and no more."""
+        """Takes bytes that depend on what the host must know: they may show whether it is right, and nothing else."""
         for b in parts:
             if not b.taint & CHECK:
                 continue
@@ -137,7 +137,7 @@ class Outputs(Record):
         """Takes an activation that leaves: older states, and what remains in the region."""
         for it in state.conds if self.options.must_matter else ():
             self.appears |= mask_of(it)
-        if state.visit >= 2 and not self.options.merges and ("older", state.pc) not in self.found:
+        if state.visit >= 2 and (state.is_base or not self.options.merges) and ("older", state.pc) not in self.found:
             self.older(state)
         if self.world.secret and self.options.wiped:
             self.remains(state)

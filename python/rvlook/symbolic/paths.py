@@ -1,4 +1,4 @@
-"""Where a path divides: branches, words that must be numbers, and the question whether two secrets give different values."""
+"""Divides a path: at branches, and at words that must be numbers. Asks whether two secrets give different values."""
 from __future__ import annotations
 
 from typing import List

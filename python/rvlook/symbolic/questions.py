@@ -16,13 +16,14 @@ QUESTIONS: Dict[str, Tuple[str, Sequence[str]]] = {
                ("load", "store", "return", "jump", "value", "branch")),
     "traps": ("no step of the enclave faults", ("fault",)),
     "returns": ("no path goes on for ever", ("stuck",)),
-    "double fetches": ("no byte of the window is loaded twice", ("reread",)),
+    "double fetches": ("no byte of the window is loaded twice, unless through a pointer of the host", ("reread",)),
     "time": ("pc, addresses and operands of divisions do not depend on the secret", ("pc", "address", "operand")),
     "outputs": ("window and answers depend on the secret only where it is public", ("window", "answer", "raw")),
     "checks": ("the secret never comes out for another value of the bytes that the host must know", ("check",)),
     "remains": ("nothing in the region or the registers depends on the secret at a stop", ("remains",)),
     "influence": ("what comes out depends on each byte of the secret that must matter", ("influence",)),
     "state": ("no older state is accepted as the latest", ("older",))}
+OWN_PATH = ", in the activations of the run itself; use --each for others"
 REASONS = {"code": "a path reaches code that changes", "outside": "a path leaves the region", "steps": "a path is too long",
            "sp": "the stack pointer depends on the host", "bound": ""}
 
@@ -41,7 +42,7 @@ def asked(search: Search) -> List[str]:
     """Returns the questions that the options ask."""
     options, has_secret = search.options, bool(search.world.secret)
     left_out = {"checks": not search.world.check, "remains": not (has_secret and options.wiped), "influence": not options.must_matter,
-                "state": bool(search.merger) or search.activations < 3, "time": not has_secret, "outputs": not has_secret}
+                "state": search.activations < 3, "time": not has_secret, "outputs": not has_secret}
     return [name for name in QUESTIONS if not left_out.get(name)]
 
 
@@ -83,7 +84,7 @@ def answers(search: Search) -> List[Answer]:
     found = []
     for name in asked(search):
         title, kinds = QUESTIONS[name]
-        it = Answer(name, PROVED if is_complete else NONE_FOUND, title)
+        it = Answer(name, PROVED if is_complete else NONE_FOUND, title + (OWN_PATH if name == "state" and search.merger else ""))
         it.findings = sorted((x for x in search.found.values() if x.what in kinds and x.is_confirmed), key=lambda x: (x.pc, x.what))
         for (what, pc), count in sorted(search.undecided.items(), key=lambda x: (x[0][1], x[0][0])):
             if what in kinds and (what, pc) not in search.found:

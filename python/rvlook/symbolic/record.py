@@ -1,4 +1,4 @@
-"""What a search has found, what it has not decided, and what it has left out."""
+"""The record of a search: its findings, the questions that it has not decided, and the paths that it has left out."""
 from __future__ import annotations
 
 from collections import Counter

@@ -19,7 +19,7 @@ RESUME, ECALL = 4, 0x73
 
 
 class Path(Protocol):
-    """What a path has loaded, stored and answered."""
+    """The loads, the stores and the answers of a path."""
     loads: List[Load]
     stores: List[Store]
     answers: List[Answer]
@@ -27,7 +27,7 @@ class Path(Protocol):
 
 @dataclass
 class Replayed:
-    """What a replay shows: the pcs before the steps, the registers before the last step, the pc and the trap after it, and the first difference."""
+    """The results of a replay: the pcs before the steps, the registers before the last step, the pc and the trap after it, and the first difference."""
     pcs: List[int] = field(default_factory=list)
     regs: List[int] = field(default_factory=list)
     after: int = 0

@@ -78,6 +78,12 @@ class State(Traps):
                 seen.add(key)
             self.step()
 
+    def has_origin(self) -> bool:
+        """Returns whether the load or store at the pc goes to an address that the enclave has computed, not to a pointer of the host."""
+        low = self.search.world.region[0]
+        it = decode(int.from_bytes(self.search.world.memory[self.pc - low:self.pc - low + 4], "little"))
+        return it.kind in ("load", "store") and self.tags[it.r1] is not None
+
     def access_address(self) -> Optional[Word]:
         """Returns the address of the load or store at the pc, or None."""
         low = self.search.world.region[0]

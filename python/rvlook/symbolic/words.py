@@ -146,7 +146,7 @@ def xor(x: Word, y: Word) -> Word:
 
 
 def or_(x: Word, y: Word) -> Word:
-    """Returns the or of two words, one of which is a node."""
+    """Returns the or of a node and a word."""
     if x is y:
         return x
     if type(x) is int:

@@ -1,4 +1,4 @@
-"""What all paths have in common: the run itself up to the first entry, the windows that its host gives, objects, secrets, and what is public."""
+"""The common part of all paths: the run itself up to the first entry, the windows that its host gives, objects, secrets, and public places."""
 from __future__ import annotations
 
 from dataclasses import dataclass, field
