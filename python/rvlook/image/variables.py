@@ -197,8 +197,11 @@ class Unit:
     def row(self, kind: Any, size: int) -> int:
         """Returns the size of a row of an array with more than one dimension, else 0."""
         bounds = self.children.get(kind.offset, []) if kind.tag == "DW_TAG_array_type" else []
-        most = bounds[0].attributes.get("DW_AT_upper_bound") if len(bounds) > 1 else None
-        return size // (most.value + 1) if most is not None and isinstance(most.value, int) and most.value >= 0 else 0
+        if len(bounds) < 2:
+            return 0
+        known, most = (bounds[0].attributes.get(it) for it in ("DW_AT_count", "DW_AT_upper_bound"))
+        count = known.value if known and isinstance(known.value, int) else most.value + 1 if most and isinstance(most.value, int) else 0
+        return size // count if count > 0 else 0
 
     def plain(self, kind: Any) -> Any:
         """Returns a type without names and qualifiers, or None."""

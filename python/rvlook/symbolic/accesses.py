@@ -66,7 +66,7 @@ class Accesses(Paths):
             first = s.extents.at(self, it.base + it.more + offset & M32, it)
             if second is None or first is not None and first.is_start and not second.is_start:
                 second = first
-        if it.how in (How.UPPER, How.STACK) and is_own:
+        if is_own and at is not None and at == it.base + offset & M32 or it.how in (How.UPPER, How.STACK) and is_own:
             return [second] if second is not None else []
         if first is None or second is None or first[:2] == second[:2] or it.how not in (How.SYMBOL, How.FRAME):
             return [found for found in (first or second,) if found is not None]

@@ -12,6 +12,7 @@ if TYPE_CHECKING:
     from rvlook.image.variables import Member
     from rvlook.symbolic.accesses import Accesses
 
+ROW = "an index into an array of arrays"
 UNION = "a member of a union"
 MEMBER = "a member that is moved from by numbers"
 Linear = Dict[Node, int]  # nodes with their coefficients
@@ -92,6 +93,8 @@ def asked_member(state: Accesses, x: Node, width: int, tag: Origin, offset: int,
         s.doubt(kind, state, UNION)
         return
     terms, constant = linear(operation("sub", x, low))
+    if member.row and not any(factor % member.row == 0 for factor in terms.values()):
+        ask_flat(state, x, width, found, kind)
     for size, stride in sizes_of(state, member, terms):
         rest: Word = constant % stride if stride else constant
         for node, factor in terms.items():
@@ -104,6 +107,15 @@ def asked_member(state: Accesses, x: Node, width: int, tag: Origin, offset: int,
             s.report(kind, state, "the host can move it out of %s" % member.name, model)
             s.assumed_inside[state.pc] += 1
             return
+
+
+def ask_flat(state: Accesses, x: Node, width: int, place: Tuple[Member, int], kind: str) -> None:
+    """Takes an access at an expression to an array of arrays, in which no part of the expression chooses the row: whether it leaves a row is not
+    known, unless it stays in the first."""
+    member, low = place
+    answer, _ = state.search.solver.satisfiable(state.conds, not_(within(x, low, low + member.row - width)), state.model)
+    if answer is not False:
+        state.search.doubt(kind, state, ROW)
 
 
 def sizes_of(state: Accesses, member: Member, terms: Linear) -> List[Tuple[int, int]]:

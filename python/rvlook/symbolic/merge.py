@@ -1,8 +1,8 @@
 """Merges the paths that stop at the same place, so that one activation is explored for any number of earlier ones.
 
 A byte that differs between two paths, or depends on their inputs, becomes an unknown: a new variable, with the set of its values if they are few
-numbers. The conditions of the paths are dropped. A merged state includes all states that were merged, and more. A proof about it is a proof about all of them,
-while a finding in it may be none."""
+numbers. The conditions of the paths are dropped. A merged state includes all states that were merged, and more. A proof about it is a proof about all
+of them, while a finding in it may be none."""
 from __future__ import annotations
 
 from typing import Any, Dict, FrozenSet, Iterator, List, Optional, Tuple, TYPE_CHECKING, Union

@@ -62,14 +62,24 @@ class Paths(Fields):
             s.left_after_leak[pc] += 1
         else:
             answer, model = s.solver.satisfiable(self.conds, not_(here), self.model)
-            if answer is False:
-                return target if taken else following  # the conditions imply this side
+            if answer is False:  # the conditions imply this side
+                self.count_implied()
+                return target if taken else following
             if answer:
                 self.leave_other_side(here, model, following if taken else target)
             else:
                 s.undecided["branch", pc] += 1
         self.conds.append(here)
         return target if taken else following
+
+    def count_implied(self) -> None:
+        """Counts the rounds of a loop whose end is not possible any more. After as many as are followed, the state may repeat."""
+        s, key = self.search, (-self.pc, self.context)
+        count = self.counts[key] = self.counts.get(key, 0) + 1
+        if count == s.options.bound:
+            s.try_endless(self)
+            if ("stuck", self.pc) in s.found and not self.is_base:
+                raise Ended("finding")
 
     def leave_other_side(self, here: Node, model: dict[str, int], other: int) -> None:
         """Leaves the other side of a branch to a path of its own, unless this is one round of a loop too many. A misaligned target traps at the

@@ -27,7 +27,7 @@ class Path(Protocol):
 
 @dataclass
 class Replayed:
-    """The results of a replay: the pcs before the steps, the registers before the last step, the pc and the trap after it, and the first difference."""
+    """The results of a replay: the pcs, the registers before the last step, the pc and the trap after it, and the first difference."""
     pcs: List[int] = field(default_factory=list)
     regs: List[int] = field(default_factory=list)
     after: int = 0

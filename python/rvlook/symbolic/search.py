@@ -81,7 +81,7 @@ class Search(Judge):
     def later(self, state: State) -> None:
         """Adds a path. Those with fewer rounds of loops come first."""
         if not self.is_trial:
-            rounds = max(state.counts.values(), default=0)
+            rounds = max((n for (pc, _), n in state.counts.items() if pc > 0), default=0)
             heapq.heappush(self.queue, (rounds, self.paths + len(self.queue), id(state), state))
 
     def take_stop(self, state: AnyState) -> None:
