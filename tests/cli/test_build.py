@@ -301,43 +301,7 @@ def test_a_folder_without_a_monitor_is_refused_as_one(folder, tmp_path):
         1, "build: error: no monitor in '%s': it has no monitor.c, and no link.ld with ENTRY(monitor_entry)\n" % folder)
 
 
-OTHER_MONITOR = {
-    "link.ld": """ENTRY ( monitor_entry )
-MEMORY { KERNEL : ORIGIN = 0x80000000, LENGTH = 64K }
-PHDRS { kernel PT_LOAD; }
-SECTIONS
-{
-    .monitor : { *(.monitor.text.entry) *(.monitor.text*) *(.monitor.rodata*) *(.monitor.*data*) *(.monitor.*bss*) } > KERNEL :kernel
-    /DISCARD/ : { *(.comment) *(.note .note.*) *(.eh_frame*) *(.monitor.eh_frame*) *(.riscv.attributes) *.attributes }
-}
-""",
-    "boot.S": """
-        .section .text.entry, "ax"
-        .globl monitor_entry
-monitor_entry:
-        la      sp, stack_top
-        mv      s0, a0
-        call    protect
-        csrw    mepc, s0
-        li      t0, 1 << 11
-        csrw    mstatus, t0
-        mret
-        .bss
-        .balign 16
-        .space  1024
-stack_top:
-""",
-    "kernel.cpp": """
-template <unsigned number> struct Entry {
-    static void open(unsigned address) { asm volatile("csrw %0, %1" : : "i"(0x3b0 + number), "r"(address >> 2)); }
-};
-
-struct Protection {
-    virtual void set() const { Entry<0>::open(0x80010000); Entry<1>::open(0xfffffffc); asm volatile("csrw pmpcfg0, %0" : : "r"(0x0f08)); }
-};
-
-extern "C" void protect() { Protection().set(); }
-"""}
+OTHER_MONITOR = ROOT / "tests" / "cli" / "other_monitor"  # a link script, assembly and C++
 
 
 @pytest.mark.parametrize("compiler", ["--clang", "--gcc"])
@@ -345,9 +309,7 @@ def test_a_monitor_in_other_languages_is_built(rvlook, folder, tmp_path, compile
     if not shutil.which("clang" if compiler == "--clang" else "riscv64-unknown-elf-g++"):
         pytest.skip("the compiler is not installed")
     monitor, pair = tmp_path / "kernel", tmp_path / "pair.elf"
-    monitor.mkdir()
-    for name, text in OTHER_MONITOR.items():
-        (monitor / name).write_text(text)
+    shutil.copytree(OTHER_MONITOR, monitor)
     assert build(compiler, "--with-monitor", monitor, folder, pair).stderr == ""
     shown = rvlook("map", "--returns", "--no-monitor", "--script", EXAMPLES / "monitors" / "boot", "--steps", "100", pair).stdout
     assert "to S at 80010000  _start" in shown and "80010000-" in shown

@@ -8,9 +8,8 @@ source is compiled for both. IN_ENCLAVE is defined for the enclave. The host beg
 shared/host.s. An enclave with a runtime.c begins in its runtime.s, else in shared/runtime.s. CFLAGS adds options for the C compiler, as -Og
 for debugging; a relative path in it is relative to DIR. The default compiler is clang with lld, else riscv64-unknown-elf-gcc.
 
-A folder with a monitor.c, or with a link.ld whose entry is monitor_entry, is a monitor in mode M: all its sources in C, C++ and assembly, and its
-link.ld. It begins at monitor_entry. No constructor of C++ is called before it. With --with-monitor the folder
-MONITOR is such a monitor, and the ELF file has the monitor, the host and the enclave of DIR. It begins in M at monitor_entry. If FILE is given,
+A folder with a monitor.c, or with a link.ld whose entry is monitor_entry, is a monitor in mode M. All its sources in C, C++ and assembly are
+linked. It begins at monitor_entry, and no constructor of C++ is called before it. With --with-monitor the folder MONITOR is such a monitor, and the ELF file has the monitor, the host and the enclave of DIR. It begins in M at monitor_entry. If FILE is given,
 only FILE is written then, and the folder DIR stays as it is.
 
 Reports how many bytes each stack has, and warns if the host or the application has fewer than BYTES (1024).

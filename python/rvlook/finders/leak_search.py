@@ -20,8 +20,8 @@ MOST_GUESSES = 8  # values of the host near which secrets are drawn
 
 @dataclass(frozen=True)
 class LeakOptions:
-    """What is compared: the place of the secret, the slot of its enclave, what may differ, and whether operands of divisions count. `values` has
-    two secrets; without them `tries` pairs are drawn with a seed, of which those from `first` to `last` are run, for at most `seconds`."""
+    """The options of a comparison: the place of the secret, the slot of its enclave, what may differ, and whether operands of divisions count.
+    `values` has two secrets. Without them `tries` pairs are drawn with a seed. Those from `first` to `last` are run, for at most `seconds`."""
     at: str
     slot: int = 0
     public: Sequence[str] = ()

@@ -1,4 +1,4 @@
-"""What each activation of an enclave did with the bytes of its window.
+"""Examines what each activation of an enclave did with the bytes of its window.
 
 It read them, read them again (a double fetch), received them from another enclave, or wrote them, or an earlier activation left them. A second run
 shows whether what was written depends on a secret. Copies of the secret in the window are found too."""
@@ -214,7 +214,7 @@ def copies_of(activation: Activation, other: Activation | None, secret: Secret, 
 
 @dataclass(frozen=True)
 class WindowOptions:
-    """What is examined: the slot of the enclave (all without one), the place of the secret (none without one), and what may depend on it."""
+    """The options of a search: the slot of the enclave (all without one), the place of the secret (none without one), and what may depend on it."""
     at: Optional[str] = None
     slot: Optional[int] = None
     public: Sequence[str] = ()

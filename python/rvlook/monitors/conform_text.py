@@ -35,7 +35,7 @@ LEAST_RAM = 0x30000  # bytes; the directed scripts use them
 
 
 class ConformOutput(NamedTuple):
-    """What `conform` shows and writes: the folder for the shrunk scripts, and whether the coverage table is shown after a difference, too."""
+    """The output of `conform`: the folder for the shrunk scripts, and whether the coverage table is shown after a difference, too."""
     scripts: Optional[str] = None
     table: bool = False
 

@@ -54,7 +54,7 @@ class Coverage:
 
 @dataclass
 class Inputs:
-    """What a search found: the failures of the run itself, the groups of findings with their headings, and why a part was left out."""
+    """The result of a search: the failures of the run itself, the groups of findings with their headings, and why a part was left out."""
     session: Session
     failures: Sequence[Failure]
     groups: Sequence[Group] = ()

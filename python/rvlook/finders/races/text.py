@@ -195,9 +195,9 @@ def level_text(search: Search) -> str:
 
 @dataclass(frozen=True)
 class RacesOptions:
-    """What is searched: the forbidden final states, what distinguishes them, the places at which a hart may end, the most preemptions and timer
-    interrupts, the step after which the first switch comes, and the most `seconds`. `limit` is that of a hart that runs alone, `plain` switches
-    before each step, `symbols` is the file of variables, and `scripts` the folder for the inputs of final states."""
+    """The options of a search: the forbidden final states, what distinguishes them, and the places at which a hart may end. It has at most so many
+    preemptions, timer interrupts and seconds. The first switch comes after step `first`, and not after `last`. `limit` is that of a hart that runs
+    alone, `plain` switches before each step, `symbols` is the file of variables, and `scripts` the folder for the inputs of final states."""
     forbid: Sequence[str] = ()
     outcome: Sequence[str] = ()
     end: Sequence[str] = ()
