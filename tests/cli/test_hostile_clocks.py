@@ -37,9 +37,9 @@ class End(Enum):
 
 @dataclass
 class Host:
-    """A host that runs an enclave of a slot on some hart. It writes the lines of a script, and keeps the numbers of four kinds of lines. Replies to
-    `own` are the enclave's steps. Those to `interrupts` show a0 and a1 after a timer interrupt. Those to `seen` are observed by others. Those to
-    `bytes` show the bytes of the enclave at the end of a part of its life."""
+    """A host that runs an enclave of a slot on some hart. It writes the lines of a script. `own` has the numbers of the steps of the enclave.
+    `interrupts` has those of the lines that show a0 and a1 after a timer interrupt. `seen` has those of the lines whose replies others observe.
+    `bytes` has those of the lines that show the bytes of the enclave at the end of a part of its life."""
     chance: random.Random
     harts: int
     slot: int
