@@ -46,6 +46,7 @@ def pytest_addoption(parser):
     parser.addoption("--all-mutants", action="store_true", help="compare every mutant of own_monitor, those without an effect over all scripts")
     parser.addoption("--pairs", type=int, default=100, help="run this many pairs of unlike hosts and clocks (default: 100)")
     parser.addoption("--verify-programs", type=int, default=0, help="compare verify with rvbench on N random programs of some 100 steps (default: 500)")
+    parser.addoption("--prove-twice", action="store_true", help="prove and build the program in two clones and compare, which takes half an hour")
     parser.addoption("--fuzz-seconds", type=float, default=0, help="run each fuzzer of tests/rvlook/fuzz for this long (default: a few examples)")
 
 

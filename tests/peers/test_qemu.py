@@ -5,6 +5,7 @@ import pytest
 
 from peers.qemu.actions import instruction
 from peers.qemu.cases import CASES, OPEN, VECTOR, access, below, write
+from peers.qemu.checks import CHECKS
 from peers.qemu.deviations import DEVIATIONS
 from peers.qemu.faulty import FAULTY
 from peers.qemu.harts import Pair, compare_schedules
@@ -32,6 +33,11 @@ def test_random_streams_agree(bench, qemu_version, part):
 @pytest.mark.parametrize("part", range(BLOCKS))
 def test_runs_of_several_steps_agree(bench, qemu_version, part):
     assert run_block(bench, SEED, part).steps > 100
+
+
+@pytest.mark.parametrize("name", CHECKS)
+def test_directed_check_agrees(bench, qemu_version, name):
+    assert run_actions(bench, CHECKS[name]).steps == len(CHECKS[name])
 
 
 @pytest.mark.parametrize("name", [it.name for it in DEVIATIONS])

@@ -115,6 +115,19 @@ def test_another_clone_makes_the_same_bytes_and_verify_notices_others(bench, tar
     assert noticed.returncode == 1 and "files/lib/rvbench/rvbench" in noticed.stdout
 
 
+def test_two_clones_build_the_same_program(tmp_path, request):
+    if not request.config.getoption("--prove-twice"):
+        pytest.skip("two proofs take half an hour; --prove-twice makes them")
+    programs = []
+    others = {"one": {"TZ": "UTC", "LC_ALL": "C"}, "a clone of another name": {"TZ": "Asia/Tokyo", "LC_ALL": "C.UTF-8", "USER": "other"}}
+    for name, other in others.items():
+        clone = copied_clone(tmp_path / name)
+        proved = subprocess.run([clone / "prove"], env={**os.environ, **other}, capture_output=True, text=True, check=False)
+        assert proved.returncode == 0, proved.stderr[-2000:]
+        programs.append((clone / "crates" / "rvbench" / "out" / "rvbench").read_bytes())
+    assert programs[0] == programs[1]
+
+
 def with_another_program(path):
     """Returns the bytes of a tarball whose program differs in its last byte."""
     raw = io.BytesIO()

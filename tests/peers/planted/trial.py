@@ -6,9 +6,10 @@ from dataclasses import dataclass
 from peers.assemblers import comparison
 from peers.assemblers.tools import Llvm, Program, ToolError
 from peers.qemu.cases import CASES
+from peers.qemu.checks import CHECKS
 from peers.qemu.deviations import DEVIATIONS
 from peers.qemu.lockstep import Difference
-from peers.qemu.runner import STREAM, Counts, run_actions, run_block, run_stream
+from peers.qemu.runner import Counts, run_actions, run_block, run_stream
 
 from .errors import PlantedError
 
@@ -17,8 +18,6 @@ SEED, WORDS = "planted", 500
 SHARE = 37
 # The number of programs that are also run several steps at once.
 BLOCKS = 4
-# The steps of streams before the directed cases.
-FIRST = 1500
 
 
 @dataclass(frozen=True)
@@ -46,7 +45,10 @@ def row(error: PlantedError, program: str, most: int) -> Row:
 
 
 def noticed_by_qemu(program: str, most: int) -> str:
-    """Returns how QEMU noticed an error: by streams of FIRST steps, by a directed case, or by streams of at most this number of steps."""
+    """Returns how QEMU noticed an error: by a directed case, or by streams of at most this number of steps."""
+    case = failing_case(program)
+    if case:
+        return "QEMU, case *%s*" % case
     counts, part = Counts(), 0
     while counts.steps < most:
         try:
@@ -55,19 +57,15 @@ def noticed_by_qemu(program: str, most: int) -> str:
                 counts.add(run_block(program, SEED, part))
         except (Difference, RuntimeError):
             return "QEMU, %d steps" % counts.steps
-        if counts.steps >= FIRST > counts.steps - STREAM:
-            case = failing_case(program)
-            if case:
-                return "QEMU, case *%s*" % case
         part += 1
     return ""
 
 
 def failing_case(program: str) -> str:
-    """Returns the first directed case that differs, or an empty text."""
-    for name in (it.name for it in DEVIATIONS):
+    """Returns the first directed check or case that differs, or an empty text."""
+    for name, actions in (*CHECKS.items(), *((it.name, CASES[it.name]) for it in DEVIATIONS)):
         try:
-            run_actions(program, CASES[name])
+            run_actions(program, actions)
         except (Difference, RuntimeError):
             return name
     return ""
