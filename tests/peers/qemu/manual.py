@@ -61,7 +61,7 @@ def zero_counters(step: Step) -> Prediction:
 
 
 def counters(step: Step) -> Prediction:
-    """Requires the values of the counters: mcycle counts steps, and minstret instructions that do not trap (3.1.10, 3.1.13, 3.3.1). A write of a half
+    """Requires the values of the counters: mcycle counts steps, and minstret instructions that do not trap (3.1.10, 3.1.12, 3.3.1). A write of a half
     replaces the count. An instruction reads a counter as it was before the step."""
     found: Prediction = {}
     name = NAMES.get(step.csr, "") if step.is_csr and not step.trap else ""
