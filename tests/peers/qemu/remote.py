@@ -9,6 +9,8 @@ from typing import Iterable
 
 PACKET = re.compile(rb"\$([^#]*)#[0-9a-f]{2}")
 PART = 65536
+# The most packets that are sent ahead of their answers.
+AHEAD = 100
 
 
 class RemoteError(Exception):
@@ -28,10 +30,14 @@ class Remote:
         self.socket.close()
 
     def ask_all(self, packets: Iterable[str]) -> list[str]:
-        """Sends packets at once and returns their answers, in order."""
+        """Sends packets, some at once, and returns their answers, in order."""
         texts = [it.encode("ascii") for it in packets]
-        self.socket.sendall(b"".join(b"$%s#%02x" % (it, sum(it) % 256) for it in texts))
-        return [self._receive() for _ in texts]
+        answers: list[str] = []
+        for at in range(0, len(texts), AHEAD):
+            some = texts[at:at + AHEAD]
+            self.socket.sendall(b"".join(b"$%s#%02x" % (it, sum(it) % 256) for it in some))
+            answers += [self._receive() for _ in some]
+        return answers
 
     def ask(self, packet: str) -> str:
         """Sends a packet and returns its answer."""
