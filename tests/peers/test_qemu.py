@@ -23,7 +23,7 @@ OTHER = re.compile("sched 0")
 
 
 @pytest.mark.parametrize("part", range(4))
-def test_random_streams_agree(bench, qemu_version, part):
+def test_random_streams_agree(bench, qemu_72, part):
     counts = Counts()
     while counts.steps < STEPS:
         counts.add(run_stream(bench, SEED, part + 4 * counts.streams))
@@ -36,7 +36,7 @@ def test_runs_of_several_steps_agree(bench, qemu_version, part):
 
 
 @pytest.mark.parametrize("name", CHECKS)
-def test_directed_check_agrees(bench, qemu_version, name):
+def test_directed_check_agrees(bench, qemu_72, name):
     assert run_actions(bench, CHECKS[name]).steps == len(CHECKS[name])
 
 
@@ -88,7 +88,7 @@ def test_qemu_keeps_the_old_lower_bound_of_a_tor_entry(bench, qemu_72, refreshes
 
 
 @pytest.mark.parametrize("side", FAULTY, ids=lambda it: it.__name__)
-def test_a_false_value_is_noticed(bench, qemu_version, side):
+def test_a_false_value_is_noticed(bench, qemu_72, side):
     with pytest.raises(Difference):
         for part in (1, 2, 4, 5):
             run_stream(bench, SEED, part, side=side)
