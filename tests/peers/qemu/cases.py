@@ -51,6 +51,7 @@ CASES: Dict[str, List[Action]] = {
     "environment": [write("menvcfg", 1)],
     "MPRV of a return": [*OPEN, *below(MPRV)],
     "mret without PMP entries": below(),
+    "write of nothing": [VECTOR, instruction("csrrs", 1, 0xF14, 2)],
     "mhpmcounter": [VECTOR, read(0xB03)],
     "mhpmevent": [write("mhpmevent7", 1)],
     "counter reads": [read(NUMBERS["mcycle"])],
@@ -72,6 +73,7 @@ CASES: Dict[str, List[Action]] = {
     "TOR up to 0": [VECTOR, *OPEN, write("pmpcfg0", 0x8), *below(), NOP],
     "bits 33:32": [VECTOR, write("pmpaddr0", (1 << 30) + (RAM >> 2) + 0x100), write("pmpaddr1", (1 << 30) + (RAM >> 2) + 0x200),
                    write("pmpcfg0", 0x0800), *OPEN, *below(), access("lw", RAM + 0x500)],
+    "MPRV in the page of pc": [VECTOR, write("pmpaddr0", ONES), write("pmpcfg0", 0x18), write("mstatus", MPRV | S << 11), access("lw", RAM + 0x40)],
     "Zicntr": [VECTOR, read(0xC00)],
     "devices": [VECTOR, access("lw", 0x1000)],
 }

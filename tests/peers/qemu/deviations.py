@@ -228,6 +228,19 @@ def satp_with_tvm(step: Step) -> Prediction:
     return completed(step, **({"x%d" % step.rd: 0} if step.rd else {}))
 
 
+def writes_nothing(step: Step) -> bool:
+    """Returns whether M sets or clears no bit of a read-only register by an integer register other than x0."""
+    is_change = step.is_csr and step.funct3 in (2, 3) and step.rs1 != 0 and step.value(step.rs1) == 0
+    return is_change and 0xF11 <= step.csr <= 0xF15 and step.before["mode"] == M and not step.is_interrupt
+
+
+def read_of_read_only(step: Step) -> Prediction:
+    """Predicts that such an instruction reads the register."""
+    if not writes_nothing(step) or not step.trap or step.trap.cause != 2:
+        return {}
+    return completed(step, **({"x%d" % step.rd: 0} if step.rd else {}))
+
+
 def misaligned_outside(step: Step) -> Prediction:
     """Predicts that mtval of a misaligned load outside RAM is aligned."""
     access = step.access
@@ -279,6 +292,8 @@ DEVIATIONS = [
     Deviation("mret without PMP entries", "3.3.2", "mret to a mode below M is illegal while no PMP entry is on", return_without_entries,
               manual.returns),
     Deviation("TVM", "3.1.6.5", "S accesses satp although TVM is set", satp_with_tvm, manual.refused_satp),
+    Deviation("write of nothing", "Unprivileged 9.1", "csrrs and csrrc of a read-only register are legal if rs1 holds 0", read_of_read_only,
+              lambda step: whole(mcause=2) if writes_nothing(step) and not (step.trap and step.trap.cause == 1) else {}),
     Deviation("mhpmcounter", "3.1.10", "mhpmcounter3 to 31 do not exist", absent_counters, manual.zero_counters),
     Deviation("mhpmevent", "3.1.10", "mhpmevent3 to 31 keep bits", kept_bits(ONES, *MHPMEVENT), cleared_bits(ONES, *MHPMEVENT), True),
     Deviation("counter reads", "3.1.10", "a read of mcycle or minstret counts the reading instruction", counted_reads, manual.counters),

@@ -8,7 +8,9 @@ from dataclasses import dataclass
 from typing import Callable, List, Tuple
 
 from .actions import Step
-from .registers import M, ONES, State
+from .registers import M, ONES, State, mode_bits
+
+MPRV = 1 << 17
 
 # The ranges of the devices of QEMU's machine. Here nothing is at these addresses.
 DEVICES = (range(0x1000, 0x10000), range(0x1000000, 0x1001000), range(0x2000000, 0x2010000))
@@ -41,6 +43,13 @@ def high_addresses(step: Step) -> bool:
     return any(address >> 30 and address != ONES for _, address in entries_of(step.before))
 
 
+def mprv_in_page(step: Step) -> bool:
+    """Returns whether M with MPRV accesses the page of the instruction in a lower mode."""
+    status, page = step.before["mstatus"], step.before["pc"] >> 12
+    is_lower = step.before["mode"] == M and bool(status & MPRV) and mode_bits(status) < M
+    return is_lower and step.access is not None and any(address >> 12 == page for address in step.access)
+
+
 def zicntr(step: Step) -> bool:
     """Returns whether M accesses cycle, time or instret."""
     return step.is_csr and step.csr & ~0x80 in (0xC00, 0xC01, 0xC02) and step.before["mode"] == M
@@ -55,6 +64,7 @@ def at_device(step: Step) -> bool:
 STOPS = [
     Stop("TOR up to 0", "3.7.1", "a TOR entry with address 0 matches all addresses from the preceding address on", tor_to_zero),
     Stop("bits 33:32", "3.7.1", "the bits 33:32 of the addresses of PMP entries are ignored", high_addresses),
+    Stop("MPRV in the page of pc", "3.1.6.3", "a load or a store in the page of the instruction has the permissions of M", mprv_in_page),
     Stop("Zicntr", "2.2", "M can read cycle, time and instret; QEMU 7.2 cannot be without them", zicntr, True),
     Stop("devices", "3.6", "a boot ROM, a console and a timer are at 1000, 1000000 and 2000000", at_device, True),
 ]
