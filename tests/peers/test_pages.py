@@ -30,6 +30,16 @@ def test_a_command_of_the_page_finds_no_difference(bench, command):
     assert done.returncode == 0, done.stdout[-2000:] + done.stderr
 
 
+@pytest.mark.parametrize("words, status", [(["library", "/none"], 2), (["arch-test", "/none"], 2), (["planted", "none"], 1), (["none"], 2)],
+                         ids=["no library", "no suite", "no such error", "no such peer"])
+def test_a_comparison_of_nothing_does_not_succeed(bench, words, status):
+    if not shutil.which(NEEDED["arch-test"]):
+        pytest.skip("%s is not installed" % NEEDED["arch-test"])
+    command = [ROOT / "tests" / "peers" / "run", "--program", bench, *words]
+    done = subprocess.run(command, capture_output=True, text=True, timeout=SECONDS, check=False)
+    assert done.returncode == status, done.stdout + done.stderr
+
+
 def test_the_page_has_a_command_for_each_comparison():
     assert {it.split()[1] for it in COMMANDS} == set(NEEDED)
 

@@ -78,6 +78,9 @@ class Bench:
         return int(self.ask(["csr %x" % NUMBERS[name]], 1)[0].partition("=")[2], 16)
 
     def _state(self, shown: list[str]) -> State:
+        wrong = [it for it in shown if "=" not in it]
+        if wrong:
+            raise RuntimeError("the program does not show a register: %s" % wrong[0])
         values = [int(it.partition("=")[2], 16) for it in shown]
         state = {"x%d" % number: values[number] for number in range(1, 32)}
         return {**state, "pc": values[32], **dict(zip(COMPARED, values[33:])), "mode": self.mode}
