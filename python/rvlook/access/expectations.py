@@ -17,7 +17,7 @@ if TYPE_CHECKING:
 
 MOST_SHOWN = 20  # failures that are printed; each of them counts
 CAUSES = [name for cause, name in names.CAUSES.items() if cause[0] == "0" and not name.startswith("ecall")]
-KNOWN = {it.lower(): it for it in (*names.STATUSES.values(), *CAUSES)}
+KNOWN = {it.lower(): it for it in (*names.STATUSES.values(), *CAUSES, *names.MARKS.values())}
 
 
 @dataclass(frozen=True)

@@ -265,7 +265,7 @@ def trap_of(it: Trapped) -> Failure | None:
     """Returns the failure of a step that trapped, or None for a call or an interrupt."""
     assert it.ran.trap is not None
     cause, value = it.ran.trap.cause, it.ran.trap.value
-    return None if cause in ECALLS or cause.startswith("8") else Failure(names.cause_name(cause), it.step, it.hart, it.at, value)
+    return None if cause in ECALLS or cause.startswith("8") else Failure(names.trap_name(cause, value), it.step, it.hart, it.at, value)
 
 
 def refused_call(step: int, hart: int, at: Location, registers: Sequence[int]) -> Failure | None:

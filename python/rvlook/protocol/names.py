@@ -17,6 +17,8 @@ ECALL_FROM_S = "00000009"
 FETCH_FAULTS = ("00000001",)
 ACCESS_FAULTS = ("00000005", "00000007")
 
+ILLEGAL = "00000002"
+MARKS = {"4348000b": "failed check", "4153000b": "failed assumption"}  # instructions of examples/shared/enclave_check.h, which are illegal
 CAUSES = {
     "00000000": "fetch target misaligned", "00000001": "fetch access fault", "00000002": "illegal instruction", "00000003": "ebreak",
     "00000005": "load access fault", "00000007": "store access fault", "00000008": "ecall from U", "00000009": "ecall from S",
@@ -69,6 +71,11 @@ def with_abi_names(text: str) -> str:
     if text.startswith("csr"):
         return CSR_OPERAND.sub(lambda match: CSR_NAMES.get(int(match[1], 16), match[0]), text)
     return text
+
+
+def trap_name(cause: str, value: str) -> str:
+    """Returns the name of a trap, or of the mark of enclave_check.h that trapped."""
+    return MARKS.get(value, cause_name(cause)) if cause == ILLEGAL else cause_name(cause)
 
 
 def cause_name(cause: str) -> str:

@@ -3,6 +3,7 @@ from __future__ import annotations
 
 from typing import Dict, List, Sequence, Set, Tuple, TYPE_CHECKING
 
+from rvlook.protocol.names import MARKS
 from rvlook.symbolic.conditions import all_of, any_of, differ, eq, within
 from rvlook.symbolic.evaluation import evaluate
 from rvlook.symbolic.fields import Ended
@@ -18,6 +19,7 @@ if TYPE_CHECKING:
     from rvlook.symbolic.fields import AnyState as State
 
 Place = Tuple[int, int]  # an instruction and its call context
+ILLEGAL, ASSUMPTION = 2, MARKS["4153000b"]
 CONSOLE_STATE = 16  # bytes before the text of a console (examples/shared/console.h)
 ECALL, WAITS = 8, "one instruction loads a byte again, as a loop that waits does"
 MEETS = "an index of the host may lead to a byte that was loaded before"
@@ -32,6 +34,7 @@ class Judge(Outputs):
         self.code: Dict[int, Step] = {}  # the decoded instructions
         self.written: Set[int] = set()  # the words of the region that any path stores to
         self.saved: Dict[int, Set[int]] = {}  # the addresses at which a call saves registers
+        self.assumptions: Set[int] = set()  # the assumptions of the enclave that some input does not fulfil
         self.usual_objects: Dict[Place, List[Extent]] = {}
         self.usual_moves: Set[Place] = set()
         self.landed: Set[Tuple[int, Tuple[int, int]]] = set()  # an instruction, and an object that it reaches
@@ -111,8 +114,14 @@ class Judge(Outputs):
     # ---- traps and jumps
 
     def note_trap(self, state: State, cause: int, value: Word) -> None:
-        """Takes a trap of the enclave that is no call."""
-        if cause != ECALL:
+        """Takes a trap of the enclave that is no call: a fault, or a mark of enclave_check.h."""
+        mark = MARKS.get("%08x" % value) if cause == ILLEGAL and type(value) is int else None
+        if mark == ASSUMPTION:
+            self.assumptions.add(state.pc)
+            raise Ended("assumed")
+        if mark:
+            self.report("assertion", state, "the check fails", state.model)
+        elif cause != ECALL:
             self.report("fault", state, "traps: cause %d, value %08x" % (cause, state.value(value)), state.model)
 
     def jump(self, state: State, x: Node, is_return: bool) -> int:

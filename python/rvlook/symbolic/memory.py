@@ -6,6 +6,7 @@ from typing import List, Optional, Tuple
 from rvlook.symbolic.accesses import Accesses
 from rvlook.symbolic.conditions import choice8, element, eq
 from rvlook.symbolic.extents import Extent
+from rvlook.symbolic.fields import Ended
 from rvlook.symbolic.nodes import INPUT, M32, Byte, Node, Word, signed, variable
 from rvlook.symbolic.origins import NO_ORIGIN, How, Origin, Tag, known
 from rvlook.symbolic.words import byte, extended, parts_of, plain, word
@@ -138,6 +139,21 @@ class Memory(Accesses):
         self.loads.append((self.steps, place, tuple(names)))
         s.note_fetch(self, place, width, names)
         return found
+
+    def become_any(self, at: int, count: int) -> None:
+        """Makes bytes of the region inputs of their own, with their present values in the model."""
+        low, high = self.search.world.region
+        if not low <= at <= at + count <= high:
+            raise Ended("any_bytes")
+        self.access(at, count, self.tags[10], 0, "store")
+        names = [(n, "a%d_%d" % (len(self.loads), n)) for n in range(count)]
+        values = {name: self.value(plain(self.sym[at + n])) if at + n in self.sym else self.mem[at + n - low] for n, name in names}
+        self.model, self.memo = {**self.model, **values}, {}
+        self.search.note_written(self, at, count)
+        for n, name in names:
+            self.put(at + n, variable(name, INPUT))
+            self.note_origin(at + n, 1, 0, None)
+        self.loads.append((self.steps, at, tuple(names)))
 
     def given(self, at: int, width: int) -> List[Byte]:
         """Returns bytes of the window that the host gives as in the run itself."""

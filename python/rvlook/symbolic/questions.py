@@ -15,6 +15,7 @@ QUESTIONS: Dict[str, Tuple[str, Sequence[str]]] = {
     "memory": ("no access leaves its object, no jump has a target that the host chooses, no saved return address is overwritten",
                ("load", "store", "return", "jump", "value", "branch")),
     "traps": ("no step of the enclave faults", ("fault",)),
+    "assertions": ("each check of the enclave holds", ("assertion",)),
     "returns": ("no path goes on for ever", ("stuck",)),
     "double fetches": ("no byte of the window is loaded twice, unless through a pointer of the host", ("reread",)),
     "time": ("pc, addresses and operands of divisions do not depend on the secret", ("pc", "address", "operand")),
@@ -24,7 +25,8 @@ QUESTIONS: Dict[str, Tuple[str, Sequence[str]]] = {
     "influence": ("what comes out depends on each byte of the secret that must matter", ("influence",)),
     "state": ("no older state is accepted as the latest", ("older",))}
 OWN_PATH = ", in the activations of the run itself; use --each for others"
-REASONS = {"code": "a path reaches code that changes", "outside": "a path leaves the region", "steps": "a path is too long",
+REASONS = {"any_bytes": "any_bytes names bytes outside the region",
+           "code": "a path reaches code that changes", "outside": "a path leaves the region", "steps": "a path is too long",
            "sp": "the stack pointer depends on the host", "bound": ""}
 
 
@@ -42,7 +44,7 @@ def asked(search: Search) -> List[str]:
     """Returns the questions that the options ask."""
     options, has_secret = search.options, bool(search.world.secret)
     left_out = {"checks": not search.world.check, "remains": not (has_secret and options.wiped), "influence": not options.must_matter,
-                "state": search.activations < 3, "time": not has_secret, "outputs": not has_secret}
+                "state": search.activations < 3, "assertions": not search.world.has_checks, "time": not has_secret, "outputs": not has_secret}
     return [name for name in QUESTIONS if not left_out.get(name)]
 
 
@@ -115,4 +117,6 @@ def covered(search: Search) -> str:
     calm = ", for a host that waits while the enclave runs" if search.options.calm else ""
     secrets = ", all secrets" if search.world.secret else ""
     types = "" if search.world.has_types else "; objects are known by symbols alone, without types"
-    return "all paths, all inputs%s%s, %s%s%s" % (secrets, given, number, calm, types)
+    places = ", ".join(search.world.place(pc) for pc in sorted(search.assumptions))
+    assumed = ", if the assumptions hold at %s" % places if places else ""
+    return "all paths, all inputs%s%s, %s%s%s%s" % (secrets, given, number, calm, assumed, types)

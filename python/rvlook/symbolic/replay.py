@@ -45,7 +45,8 @@ class Replayed:
 class Plan:
     """The inputs and the outputs of a path for one model: bytes to poke and bytes that are stored, by step, and the answers."""
 
-    def __init__(self, path: Path, model: Mapping[str, int]) -> None:
+    def __init__(self, path: Path, model: Mapping[str, int], window: Tuple[int, int]) -> None:
+        self.window = window
         memo: Dict[Any, Any] = {}
         self.pokes: Dict[int, List[Tuple[int, int]]] = {}
         self.stored: Dict[int, List[Tuple[int, int]]] = {}
@@ -72,7 +73,7 @@ class Replayer:
     def go(self, pcs: Sequence[int], path: Path, model: Mapping[str, int], is_whole: bool) -> Replayed:
         """Replays the steps of a path with the inputs and the secrets of a model. Stops before the last step unless the path is whole, and then
         executes it alone."""
-        it, plan = Replayed(), Plan(path, model)
+        it, plan = Replayed(), Plan(path, model, self.world.window)
         first, last = 0, len(pcs) - 1
         with self.world.run.replay() as replay:
             replay.go(self.world.visits[0].position)
@@ -117,7 +118,7 @@ def steps(bench: Bench, plan: Plan, it: Replayed, numbers: Sequence[int]) -> Non
         pokes = plan.pokes.get(n, ())
         text += ["poke %x %02x\n" % poke for poke in pokes] + ["step 1\n"]
         count += len(pokes) + 1
-        it.expected.update(pokes)
+        it.expected.update(poke for poke in pokes if plan.window[0] <= poke[0] < plan.window[1])
         it.expected.update(plan.stored.get(n, ()))
     lines = [x for x in bench.block("".join(text).encode(), count).split(b"\n") if x.startswith(b"ran ")] if count else []
     for x in lines:

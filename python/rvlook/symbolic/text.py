@@ -41,7 +41,9 @@ def inputs_of(search: Search, it: Finding) -> List[Tuple[int, int, int, int]]:
         for n, name in names:
             place = evaluate(at, it.one, memo) + n  # type: ignore[arg-type]
             if name in by_name and (by_name[name].mask or 0) & mask:
-                found.append((visit + 1, place, it.one[name], own[place - search.world.window[0]]))
+                is_window = search.world.window[0] <= place < search.world.window[1]
+                old = own[place - search.world.window[0]] if is_window else search.world.memory[place - search.world.region[0]]
+                found.append((visit + 1, place, it.one[name], old))
     return found
 
 

@@ -21,6 +21,7 @@ if TYPE_CHECKING:
     from rvlook.protocol.symbols import Symbols
 
 ROW = 64  # bytes that `mem` shows at once
+CHECK = bytes.fromhex("0b004843")  # the instruction of a failed check
 ANSWER_IS = "@answer="
 
 
@@ -43,6 +44,7 @@ class World:
             raise Unfinished("the enclave in slot %d is never entered" % self.slot)
         self.enclave = self.first_entry()
         self.contexts = Contexts()
+        self.has_checks = any(self.memory[at:at + 4] == CHECK for at in range(0, len(self.memory), 4))
         self.objects = Objects(self.enclave, symbols, variables, self.contexts)
         self.functions = {it.address for it in self.objects.own if it.is_function}
         always, self.public_if = conditional(options.public or (), symbols)

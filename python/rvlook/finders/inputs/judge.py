@@ -9,6 +9,7 @@ from typing import Iterator, Optional, TYPE_CHECKING, Tuple
 from rvlook.finders.inputs.code import ENDS_BLOCK, Code, Kind
 from rvlook.finders.inputs.objects import Place
 from rvlook.finders.inputs.trace import LEFT
+from rvlook.protocol.names import MARKS
 
 if TYPE_CHECKING:
     from rvlook.finders.inputs.objects import Objects
@@ -184,7 +185,8 @@ class Judge:
         if code.kind in (Kind.INDIRECT, Kind.RETURN):
             return self.jump(trace, index, key)
         if trap and trap[0] not in NO_FAULTS and (pc, trap[0]) not in self.seen.traps:
-            return Finding(What.FAULT, trace, index, pc, FAULT, trap[1], note="cause %d" % trap[0], context=key[0])
+            note = "a %s" % MARKS["%08x" % trap[1]] if "%08x" % trap[1] in MARKS else "cause %d" % trap[0]
+            return Finding(What.FAULT, trace, index, pc, FAULT, trap[1], note=note, context=key[0])
         return None
 
     def access(self, trace: Trace, index: int, key: Key) -> Finding | None:
