@@ -1,7 +1,12 @@
-"""`verify`: the examples end COMPLETE, and the leaks of store_leaking are found."""
+"""`verify`: the examples end COMPLETE, and the leaks of store_leaking are found. A result that a replay contradicts is not trusted."""
+import re
+import subprocess
+
 import pytest
 
 from conftest import EXAMPLES
+from rvlook.__main__ import main
+from rvlook.symbolic import confirm, nodes
 
 pytest.importorskip("z3", reason="python3-z3 is not installed")
 KEY = ("--at", "key:32", "--public", "window_base+1c:32")
@@ -42,3 +47,30 @@ def test_public_without_a_secret_is_refused(rvlook):
 def test_time_limit_is_not_complete(results):
     found = results(*words("store"), *KEY, "--seconds", "0", status=3)
     assert not found[-1]["complete"] and found[-1]["reasons"] and "PROVED" not in verdicts(found).values()
+
+
+def test_finding_is_an_input_of_the_simulator(rvlook, bench, tmp_path):
+    done = rvlook(*words("bug"), "--scripts", tmp_path)
+    assert done.returncode == 1 and "  script %s/finding_1\n" % tmp_path in done.stdout
+    pc = re.search(r"  step \d+  (\w{8})  ", done.stdout)[1]
+    lines = subprocess.run([bench, "run", "--monitor"], input=(tmp_path / "finding_1").read_bytes(), capture_output=True, check=True).stdout.decode()
+    assert re.search(r"^%s: \w{8} \w+ " % pc, lines, re.M)
+    assert " pc=%s " % pc in [it for it in lines.splitlines() if it.startswith("ran ")][-2]
+
+
+def test_replay_that_differs_is_not_trusted(bench, monkeypatch, capsys):
+    """With a planted error: the sum of two numbers is one too many."""
+    monkeypatch.setenv("RVBENCH", bench)
+    monkeypatch.setitem(nodes.NUMBERS, "add", lambda x, y: x + y + 1 & nodes.M32)
+    status = main([str(it) for it in words("adds")])
+    output = capsys.readouterr().out
+    assert status == 3 and "NOT TO BE TRUSTED: the replay of path" in output and "COMPLETE" not in output and "PROVED" not in output
+
+
+def test_finding_that_is_not_confirmed_is_none(bench, monkeypatch, capsys):
+    """With a planted error: a replay cannot tell two secrets apart."""
+    monkeypatch.setenv("RVBENCH", bench)
+    monkeypatch.setattr(confirm, "observed", lambda word, regs: (0,))
+    status = main([str(it) for it in (*words("store_leaking"), *KEY)])
+    output = capsys.readouterr().out
+    assert status == 3 and "NOT TO BE TRUSTED: the replay of the finding" in output and "COMPLETE" not in output

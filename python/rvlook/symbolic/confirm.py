@@ -18,6 +18,7 @@ CONFIRMED, DIFFERS = "confirmed", "NOT CONFIRMED: "
 def confirm(search: Search, it: Finding) -> str:
     """Replays a finding; returns what the replay shows."""
     one = search.replayer.go(it.pcs, it, it.one, False)
+    it.log = one.log
     if one.wrong:
         return DIFFERS + one.wrong
     if it.what in PAIRS and it.two is not None:

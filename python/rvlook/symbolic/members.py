@@ -110,8 +110,8 @@ def asked_member(state: Accesses, x: Node, width: int, tag: Origin, offset: int,
 
 
 def ask_flat(state: Accesses, x: Node, width: int, place: Tuple[Member, int], kind: str) -> None:
-    """Takes an access at an expression to an array of arrays, in which no part of the expression chooses the row: whether it leaves a row is not
-    known, unless it stays in the first."""
+    """Takes an access at an expression to an array of arrays, if no part of the expression chooses the row. Only an access to the first row is known
+    to stay in it."""
     member, low = place
     answer, _ = state.search.solver.satisfiable(state.conds, not_(within(x, low, low + member.row - width)), state.model)
     if answer is not False:

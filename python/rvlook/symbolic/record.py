@@ -30,6 +30,7 @@ class Finding:
     address: Any = None
     count: int = 1
     answer: str = ""
+    log: List[str] = field(default_factory=list)  # the commands of its replay, up to its last step
 
     def copy_without_stores(self) -> Finding:
         """Returns the finding without its stores, which differ with another secret."""

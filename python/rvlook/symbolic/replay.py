@@ -35,6 +35,7 @@ class Replayed:
     trap: str = "-"
     wrong: str = ""
     expected: Dict[int, int] = field(default_factory=dict)  # bytes of the window
+    log: List[str] = field(default_factory=list)  # the commands that change the state, and the steps
 
     def note(self, line: str) -> None:
         """Takes the reply to a step."""
@@ -76,11 +77,10 @@ class Replayer:
         it, plan = Replayed(), Plan(path, model, self.world.window)
         first, last = 0, len(pcs) - 1
         with self.world.run.replay() as replay:
-            replay.go(self.world.visits[0].position)
             bench, it.after = replay.bench, self.world.pc
-            if self.world.run.setup.harts > 1:
-                bench.ask("hart %d" % self.world.hart)
-            bench.ask(*self.secrets(model))
+            it.log = replay.lines_to(self.world.visits[0].position)
+            it.log += ["hart %d" % self.world.hart] * (self.world.run.setup.harts > 1) + self.secrets(model)
+            bench.ask(*it.log)
             while first <= last and not it.wrong:
                 end = next((n for n in range(first, last + 1) if n in plan.ends), last)
                 is_open = end == last and not is_whole
@@ -106,8 +106,10 @@ class Replayer:
         check_window(bench, it)
         if it.wrong or is_last:
             return
-        bench.ask(*["poke %x %02x" % (it.after + n, ECALL if n == 0 else 0) for n in range(4)], "setreg 17 %x" % MONITOR_KEY,
-                  "setreg 16 %x" % RESUME, "setreg 10 %x" % self.world.slot)
+        commands = ["poke %x %02x" % (it.after + n, ECALL if n == 0 else 0) for n in range(4)]
+        commands += ["setreg 17 %x" % MONITOR_KEY, "setreg 16 %x" % RESUME, "setreg 10 %x" % self.world.slot]
+        bench.ask(*commands)
+        it.log += commands + ["step 1"]
         it.note(bench.one("step 1"))
 
 
@@ -120,6 +122,7 @@ def steps(bench: Bench, plan: Plan, it: Replayed, numbers: Sequence[int]) -> Non
         count += len(pokes) + 1
         it.expected.update(poke for poke in pokes if plan.window[0] <= poke[0] < plan.window[1])
         it.expected.update(plan.stored.get(n, ()))
+    it.log += [x.rstrip() for x in text]
     lines = [x for x in bench.block("".join(text).encode(), count).split(b"\n") if x.startswith(b"ran ")] if count else []
     for x in lines:
         it.pcs.append(it.after)
@@ -131,7 +134,9 @@ def steps(bench: Bench, plan: Plan, it: Replayed, numbers: Sequence[int]) -> Non
 
 def last_step(bench: Bench, plan: Plan, it: Replayed, number: int) -> None:
     """Executes the last step of a path that is not whole, after its inputs, and shows the registers before it."""
-    bench.ask(*["poke %x %02x" % poke for poke in plan.pokes.get(number, ())])
+    pokes = ["poke %x %02x" % poke for poke in plan.pokes.get(number, ())]
+    bench.ask(*pokes)
+    it.log += pokes
     it.pcs.append(it.after)
     it.regs = [int(x.split("=")[1], 16) for x in bench.ask("regs")[0][:32]]
     it.note(bench.one("step 1"))

@@ -5,7 +5,7 @@ import time
 from typing import Dict, List, Sequence, TYPE_CHECKING, Tuple
 
 from rvlook.output.printer import Style, hex8
-from rvlook.symbolic import questions
+from rvlook.symbolic import questions, scripts
 from rvlook.symbolic.confirm import confirm
 from rvlook.symbolic.evaluation import evaluate
 from rvlook.symbolic.nodes import by_name, mask_of
@@ -78,6 +78,9 @@ def show(search: Search, printer: Printer, options: Namespace) -> None:
     answers = questions.answers(search)
     reasons = questions.gone(search)
     wrong = questions.untrusted(search)
+    findings = [it for answer in answers for it in answer.findings]
+    if options.scripts:
+        scripts.write(options.scripts, search.world.run, findings, [heading_of(search, it) for it in findings])
     if printer.as_json:
         write_objects(search, answers, printer, reasons + wrong)
     else:
@@ -98,6 +101,8 @@ def print_text(search: Search, answers: Sequence[questions.Answer], printer: Pri
         printer.line(printer.styled("finding %d: %s" % (number, heading_of(search, it)), Style.bad))
         for line in details_of(search, it):
             printer.line(line)
+        if search.options.scripts:
+            printer.line("  script %s/finding_%d" % (search.options.scripts, number))
     for answer in answers:
         count = " %d" % len(answer.findings) if answer.findings else ""
         verdict = (answer.verdict + count).ljust(12)

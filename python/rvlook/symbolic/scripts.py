@@ -1,0 +1,41 @@
+"""Writes each finding as an input of rvbench: the image, and the commands by which a replay reaches it."""
+from __future__ import annotations
+
+import os
+from typing import List, Sequence, TYPE_CHECKING
+
+from rvlook.errors import RvlookError
+from rvlook.finders.races.replay import comment
+from rvlook.output.files import replace_file
+from rvlook.protocol.bench_line import ended
+
+if TYPE_CHECKING:
+    from rvlook.protocol.run import Run
+    from rvlook.symbolic.record import Finding
+
+STEP = "step 1"
+
+
+def write(folder: str, run: Run, findings: Sequence[Finding], headings: Sequence[str]) -> None:
+    """Writes a file for each finding. Raises RvlookError."""
+    try:
+        os.makedirs(folder, exist_ok=True)
+        for number, (it, heading) in enumerate(zip(findings, headings), 1):
+            head = [comment(heading), comment("./rvbench %s < this file" % " ".join(run.setup.arguments())),
+                    comment("./rvlook page --monitor this file, or ./rvlook gdb --monitor this file")]
+            lines = [*head, *joined(it.log), "dis %x" % it.pc, "regs", STEP]
+            text = run.setup.image.text + b"--\n" + "".join(map(ended, lines)).encode("latin-1", "replace")
+            replace_file(os.path.join(folder, "finding_%d" % number), text)
+    except OSError as error:
+        raise RvlookError("cannot write to '%s': %s" % (folder, error.strerror)) from None
+
+
+def joined(commands: Sequence[str]) -> List[str]:
+    """Returns commands with single steps put together."""
+    found: List[str] = []
+    for it in commands:
+        if it == STEP and found and found[-1].startswith("step "):
+            found[-1] = "step %d" % (int(found[-1].split()[1]) + 1)
+        else:
+            found.append(it)
+    return found
