@@ -59,16 +59,16 @@ def test_finding_is_an_input_of_the_simulator(rvlook, bench, tmp_path):
 
 
 def test_replay_that_differs_is_not_trusted(bench, monkeypatch, capsys):
-    """With a planted error: the sum of two numbers is one too many."""
+    """With a planted error: a shift to the right forgets the sign of its result."""
     monkeypatch.setenv("RVBENCH", bench)
-    monkeypatch.setitem(nodes.NUMBERS, "add", lambda x, y: x + y + 1 & nodes.M32)
-    status = main([str(it) for it in words("adds")])
+    monkeypatch.setitem(nodes.NUMBERS, "srl", lambda x, y: (x >> (y & 31)) & 0x7FFFFFF)
+    status = main([str(it) for it in (*words("store"), *KEY)])
     output = capsys.readouterr().out
     assert status == 3 and "NOT TO BE TRUSTED: the replay of path" in output and "COMPLETE" not in output and "PROVED" not in output
 
 
 def test_finding_that_is_not_confirmed_is_none(bench, monkeypatch, capsys):
-    """With a planted error: a replay cannot tell two secrets apart."""
+    """With a planted error: a replay shows the same for two secrets."""
     monkeypatch.setenv("RVBENCH", bench)
     monkeypatch.setattr(confirm, "observed", lambda word, regs: (0,))
     status = main([str(it) for it in (*words("store_leaking"), *KEY)])
