@@ -78,7 +78,8 @@ class Findings(List[Finding]):
         if not self:
             what = "did not finish: " + self.unfinished if self.unfinished else "no finding in %d checks" % len(self.checks)
             return "<p>%s</p>" % html.escape(what)
-        rows = "".join("<tr><td>%s<td><pre>%s</pre><td>%s</tr>" % tuple(map(html.escape, (it.title, it.text, it.source or ""))) for it in self)
+        rows = "".join("<tr><td>%s<td><pre>%s</pre><td>%s</tr>" % (html.escape(it.title), html.escape(it.text), html.escape(it.source or ""))
+                       for it in self)
         return "<table><tr><th>check<th>finding<th>source</tr>%s</table>" % rows
 
 

@@ -9,8 +9,9 @@ shared/host.s. An enclave with a runtime.c begins in its runtime.s, else in shar
 for debugging; a relative path in it is relative to DIR. The default compiler is clang with lld, else riscv64-unknown-elf-gcc.
 
 A folder with a monitor.c, or with a link.ld whose entry is monitor_entry, is a monitor in mode M. All its sources in C, C++ and assembly are
-linked. It begins at monitor_entry, and no constructor of C++ is called before it. With --with-monitor the folder MONITOR is such a monitor, and the ELF file has the monitor, the host and the enclave of DIR. It begins in M at monitor_entry. If FILE is given,
-only FILE is written then, and the folder DIR stays as it is.
+linked. It begins at monitor_entry, and no constructor of C++ is called before it. With --with-monitor the folder MONITOR is such a monitor, and
+the ELF file has the monitor, the host and the enclave of DIR. It begins in M at monitor_entry. If FILE is given, only FILE is written then, and
+the folder DIR stays as it is.
 
 Reports how many bytes each stack has, and warns if the host or the application has fewer than BYTES (1024).
 """

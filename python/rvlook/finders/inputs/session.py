@@ -24,8 +24,8 @@ GRACE = 2.0  # seconds after the limit in which the findings are completed, and 
 @dataclass(frozen=True)
 class InputsOptions:
     """The options of a search: the slot of the enclave, the place of its secret (none without one), and the outputs that may depend on it. With
-    `entry` the search begins at the entry. `runs` are done with a seed, for at most `seconds`. `expected` names failures of the run itself that are no findings. `scripts` is the
-    folder for the inputs of findings."""
+    `entry` the search begins at the entry. `runs` are done with a seed, for at most `seconds`. `expected` names failures of the run itself that are
+    no findings. `scripts` is the folder for the inputs of findings."""
     slot: int = 0
     at: Optional[str] = None
     public: Sequence[str] = ()
