@@ -16,9 +16,9 @@ TARGET = ("-march=rv32im_zicsr", "-mabi=ilp32")
 LIBRARY_TARGET = "-march=rv32im"
 # As in GCC's own runs: builtins and warnings as in a hosted program.
 FLAGS = ("-w", "-O2", "-std=gnu17", "-fno-stack-protector", "-fno-pic", "-I", str(HERE / "include"))
-RAM, MILLION, SECONDS = 16777216, 1000000, 300
-# The most million steps of a first and of a second attempt: a test that has ended goes on in a loop.
-ATTEMPTS = (8, 1000)
+RAM, MILLION, SECONDS = 16777216, 1000000, 120
+# The most million steps of a test.
+MOST = 1000
 PASSED = 0
 MEANING = {97: "a call of the monitor was refused", 98: "a trap", 99: "abort"}
 
@@ -86,16 +86,31 @@ def end_of(elf: Path) -> int:
 
 def run(program: str, elf: Path, form: Form) -> str:
     """Runs a test; returns an empty text if it ended with status 0, and else how it ended."""
-    image = "\n".join(re.findall(".{1,120}", elf.read_bytes().hex()))
-    end = end_of(elf)
-    for runs in ATTEMPTS:
-        script = "\n".join([image, "--", "break %x" % end, *["run %d" % MILLION] * runs, "reg 10", ""])
-        done = subprocess.run([program, "run", "--ram", str(RAM), *form.words], input=script, capture_output=True, text=True, timeout=SECONDS,
-                              check=False)
-        lines = done.stdout.splitlines()
-        if done.returncode or len(lines) != runs + 2:
-            return "the program ends with status %d: %s" % (done.returncode, lines[-1:])
-        if any(" why=break " in line for line in lines):
-            status = int(lines[-1].partition("=")[2], 16)
-            return "" if status == PASSED else MEANING.get(status, "status %d" % status)
-    return "needs more than %d million steps" % ATTEMPTS[-1]
+    return run_counted(program, elf, form)[0]
+
+
+def run_counted(program: str, elf: Path, form: Form) -> Tuple[str, int]:
+    """Runs a test; returns an empty text if it ended with status 0, and else how it ended; and the number of its steps."""
+    words = [program, "run", "--ram", str(RAM), *form.words]
+    with subprocess.Popen(words, stdin=subprocess.PIPE, stdout=subprocess.PIPE, text=True) as process:
+        assert process.stdin and process.stdout
+        image = "\n".join(re.findall(".{1,120}", elf.read_bytes().hex()))
+        process.stdin.write("%s\n--\nbreak %x\n" % (image, end_of(elf)))
+        reply, steps, millions = _ask(process, ""), 0, 0
+        while (reply == "ok" or " why=done " in reply) and millions < MOST:
+            reply = _ask(process, "run %d\n" % MILLION)
+            millions += 1
+            steps += int(reply.split()[1]) if reply.startswith("ran ") else 0
+        if " why=break " not in reply:
+            return "needs more than %d million steps" % MOST if millions == MOST else "the program replies '%s'" % reply, steps
+        status = int(_ask(process, "reg 10\n").partition("=")[2], 16)
+        process.stdin.close()
+    return "" if status == PASSED else MEANING.get(status, "status %d" % status), steps
+
+
+def _ask(process: "subprocess.Popen[str]", line: str) -> str:
+    """Sends a line to the program, and returns a line of its output."""
+    assert process.stdin and process.stdout
+    process.stdin.write(line)
+    process.stdin.flush()
+    return process.stdout.readline().rstrip("\n")

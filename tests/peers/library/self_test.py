@@ -7,7 +7,7 @@ from dataclasses import dataclass
 from pathlib import Path
 from typing import List
 
-from peers.gcc.building import FORMS, HERE as SUPPORT, Form, compile_with, link_form, run, support
+from peers.gcc.building import FORMS, HERE as SUPPORT, Form, compile_with, link_form, run_counted, support
 
 HERE = Path(__file__).resolve().parent
 # The sources of the library that the configuration selects; a file that a version lacks is left out.
@@ -18,10 +18,11 @@ FLAGS = ("-w", "-O2", "-std=gnu17", "-fno-pic")
 
 @dataclass(frozen=True)
 class Result:
-    """How the self test ended in a form, an empty text for success, and the seconds of the run."""
+    """How the self test ended in a form, an empty text for success; its steps, and the seconds of the run."""
 
     form: Form
     end: str
+    steps: int
     seconds: float
 
 
@@ -48,5 +49,6 @@ def run_self_test(program: str, library: Path) -> List[Result]:
             elf = folder / form.name
             link_form(form, objects, shared, elf)
             began = time.monotonic()
-            found.append(Result(form, run(program, elf, form), time.monotonic() - began))
+            end, steps = run_counted(program, elf, form)
+            found.append(Result(form, end, steps, time.monotonic() - began))
     return found
