@@ -3,7 +3,7 @@ from __future__ import annotations
 
 from collections import Counter
 from dataclasses import dataclass
-from typing import Dict, List, Sequence, Tuple
+from typing import Dict, List, Optional, Sequence, Tuple
 
 from .actions import WFI, Action, Step, is_in_ram
 from .bench import Bench
@@ -47,7 +47,10 @@ class Lockstep:
         before = self._prepare(action)
         pc = before["pc"]
         word = int.from_bytes(self.bench.read_memory(pc, 4), "little") if is_in_ram(pc) else None
-        self._stop_at(Step(before, word, before, None))
+        begun = Step(before, word, before, None)
+        self._stop_at(begun)
+        window = window_of(begun)
+        old = self.bench.read_memory(*window) if window else b""
         after = self.bench.step()
         step = Step(before, word, after, self.bench.trap)
         if word == WFI and step.trap is None:  # QEMU halts until an interrupt is pending
@@ -58,7 +61,8 @@ class Lockstep:
         self.history.append("%08x: %-30s %s" % (pc, action.text, {"x%d" % key: "%x" % value for key, value in action.registers.items()}))
         self._check_manual(step)
         self._compare(step, self.emulator.state())
-        self._compare_stored(step)
+        if window:
+            self._compare_stored(step, old, *window)
         self.steps += 1
         self.faults = self.faults + 1 if step.trap and step.trap.cause == 1 else 0
         self.before = after
@@ -138,17 +142,13 @@ class Lockstep:
         if kept:
             raise Ended("QEMU cannot be given %s" % kept)
 
-    def _compare_stored(self, step: Step) -> None:
-        """Compares the bytes around a store."""
-        access = step.access
-        if not step.is_store or access is None:
+    def _compare_stored(self, step: Step, old: bytes, start: int, count: int) -> None:
+        """Compares the bytes around a store. A store that traps leaves those of the bench, `old`."""
+        ours, theirs = self.bench.read_memory(start, count), self.emulator.read_memory(start, count)
+        if step.trap and ours != old:
+            raise Difference(self._report(step, {}) + "\nthe store traps, and changes bytes at %08x" % start)
+        if ours == theirs:
             return
-        start, end = max(RAM, access.start - 8), min(RAM_END, access.stop + 8)
-        if start < end and self.bench.read_memory(start, end - start) != self.emulator.read_memory(start, end - start):
-            self._explain_bytes(step, start, end)
-
-    def _explain_bytes(self, step: Step, start: int, end: int) -> None:
-        ours, theirs = self.bench.read_memory(start, end - start), self.emulator.read_memory(start, end - start)
         for it in self.deviations:
             if it.stored and it.stored(step, ours, start) == theirs:
                 self.seen[it.name] += 1
@@ -168,6 +168,15 @@ class Lockstep:
         shown = ("pc", "mode", "mstatus", "mie", "mip", "mtvec", "mepc", "pmpcfg0", "pmpcfg1", "pmpcfg2", "pmpcfg3", "mcountinhibit")
         context = " ".join("%s=%x" % (name, step.before[name]) for name in shown)
         return "\n".join(["after %d steps, at" % self.steps, *self.history[-6:], "trap %s, before: %s" % (step.trap, context), *lines])
+
+
+def window_of(step: Step) -> Optional[Tuple[int, int]]:
+    """Returns the first address and the number of the bytes around a store, if some are in RAM."""
+    access = step.access
+    if not step.is_store or access is None:
+        return None
+    start, end = max(RAM, access.start - 8), min(RAM_END, access.stop + 8)
+    return (start, end - start) if start < end else None
 
 
 class Ended(Exception):
