@@ -14,7 +14,7 @@ import pytest
 from conftest import ROOT
 
 PAGES = ("README.md", "docs/TUTORIAL.md", "docs/OWN_MONITOR.md", "docs/TESTS.md")
-FINDS = re.compile(r"^\./rvlook (?:leak|races|timer|window|inputs|conform|guard) .*$", re.M)  # status 1 is a finding
+FINDS = re.compile(r"^\./rvlook (?:leak|races|timer|window|inputs|verify|conform|guard) .*$", re.M)  # status 1 is a finding
 LEFT_OUT = ("./check", "./prove", "apt-get")
 BLOCK = re.compile(r"(?:^    .*\n|^\n(?=    ))+", re.M)
 SESSION = "(gdb) "

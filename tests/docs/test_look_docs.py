@@ -7,7 +7,7 @@ import pytest
 
 from conftest import ROOT
 
-PAGES = ("docs/LOOK.md", "README.md", "docs/ASK.md", "examples/enclaves/store/README.md", "examples/enclaves/host_inputs/README.md")
+PAGES = ("docs/LOOK.md", "docs/VERIFY.md", "README.md", "docs/ASK.md", "examples/enclaves/store/README.md", "examples/enclaves/host_inputs/README.md")
 PART = re.compile(r"^    \$ (.*\./rvlook.*)\n((?:    (?!\$ ).*\n|\n(?=    (?!\$ )|\n))*)", re.M)
 
 

@@ -16,6 +16,7 @@ SHORT = {
     "trace --format spike": ("trace", SUM, "--format", "spike"), "leak": ("leak", "--monitor", LEAKS, "--at", "80020800", "00", "01"),
     "window": ("window", "--monitor", ADDS), "leak --tries": ("leak", "--monitor", LEAKS, "--at", "80020800:4", "--tries", "1"),
     "races": ("races", "--monitor", ADDS), "timer": ("timer", "--monitor", ADDS),
+    "verify": ("verify", "--monitor", ADDS),
     "conform": ("conform", OWN, "--only", "reset"), "guard": ("guard", PAIR, RANGES, "--timers", "0", "--steps", "99"),
     "measure": ("measure", REGION, "80020000", "1000", "0", "0", "80020000"), "explain": ("explain", SUM), "the prompt": (SUM,)}
 LONG = {  # runs that take a while; LOOP and MANY are files of support.message_files

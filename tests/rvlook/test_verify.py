@@ -59,7 +59,7 @@ def test_finding_is_an_input_of_the_simulator(rvlook, bench, tmp_path):
 
 
 def test_replay_that_differs_is_not_trusted(bench, monkeypatch, capsys):
-    """With a planted error: a shift to the right loses the sign of its result."""
+    """With a planted error: a shift to the right clears the upper bits of its result."""
     monkeypatch.setenv("RVBENCH", bench)
     monkeypatch.setitem(nodes.NUMBERS, "srl", lambda x, y: (x >> (y & 31)) & 0x7FFFFFF)
     status = main([str(it) for it in (*words("store"), *KEY)])
