@@ -1,0 +1,237 @@
+"""No path is lost: random inputs are run on the bench, and each trace is that of an explored path whose conditions they fulfil. States at stops are
+instances of the merged state. A second solver agrees that nothing exists where z3 says so."""
+import random
+import shutil
+import subprocess
+from types import SimpleNamespace
+
+import pytest
+
+pytest.importorskip("z3", reason="python3-z3 is not installed")
+
+from conftest import EXAMPLES
+from rvlook.image.files import image_of, read_file
+from rvlook.image.variables import Variables
+from rvlook.output.progress import Progress
+from rvlook.protocol.run import Setup, run_of
+from rvlook.image.symbols import symbols_of
+from rvlook.symbolic import merge, solver
+from rvlook.symbolic.evaluation import evaluate
+from rvlook.symbolic.fields import Ended
+from rvlook.symbolic.nodes import Node
+from rvlook.symbolic.paths import Paths
+from rvlook.symbolic.search import Search
+from rvlook.symbolic.world import World
+from support.random_steps import OPTIONS
+
+RUNS, STEPS = 60, 4000
+BYTES = (0, 0, 1, 2, 3, 8, 16, 17, 31, 32, 64, 255)
+HOST_INPUTS = EXAMPLES / "enclaves" / "host_inputs"
+
+
+def world_of(bench, monkeypatch, task, corrected):
+    """Returns the world of a function of host_inputs."""
+    monkeypatch.setenv("RVBENCH", bench)
+    symbols = symbols_of("symbols", read_file(str(HOST_INPUTS / "symbols")))
+    image = image_of(str(HOST_INPUTS / "image"), "auto")
+    setup = Setup(image, monitor=True, symbols=symbols).with_script(
+        ["poke %x %02x" % (symbols.by_name[name].address, it) for name, it in (("task", task), ("corrected", corrected))], 100000)
+    return World(run_of(setup), symbols, Variables(), SimpleNamespace(**OPTIONS))
+
+
+class Recorded(Search):
+    """A search that keeps the conditions and the loads of each path of one activation."""
+
+    def explore(self, state, rounds):
+        super().explore(state, rounds)
+        self.kept = getattr(self, "kept", []) + [(state.conds[:], state.loads[:], state.all_pcs())]
+
+
+def explored(world, **more):
+    """Returns the finished search over a world."""
+    search = Recorded(world, SimpleNamespace(**{**OPTIONS, "seconds": 60, **more}))
+    search.go(Progress())
+    assert not search.queue
+    return search
+
+
+def random_window(rng, world):
+    """Returns random bytes of the request, by address."""
+    return {world.window[0] + n: rng.choice((*BYTES, rng.randrange(256))) for n in range(48) if rng.random() < .5}
+
+
+def trace_of(world, changes):
+    """Runs the first activation on the bench with other bytes of the window; returns its pcs."""
+    with world.run.replay() as replay:
+        replay.go(world.visits[0].position)
+        replay.bench.ask(*["poke %x %02x" % it for it in changes.items()])
+        lines = replay.bench.block(b"step 1\n" * STEPS, STEPS).splitlines()
+    pcs = [world.pc]
+    for line in lines:
+        if b"world=host" in line:
+            return pcs
+        pcs.append(int(line[9:17], 16))
+    return pcs
+
+
+def includes(path, window, pcs):
+    """Returns whether the inputs fulfil the conditions of a path, and the path has these pcs."""
+    conds, loads, own = path
+    model, memo = {}, {}
+    for _, at, names in loads:
+        place = evaluate(at, model, {})
+        model.update({name: window.get(place + n, 0) for n, name in names})
+    return all(evaluate(it, model, memo) for it in conds) and own[:len(pcs)] == pcs
+
+
+def missing(world, search, runs=RUNS):
+    """Returns how many random runs no explored path includes."""
+    rng, lost = random.Random(0), 0
+    for _ in range(runs):
+        changes = random_window(rng, world)
+        window = {world.window[0] + n: it for n, it in enumerate(world.windows[0])}
+        window.update(changes)
+        pcs = trace_of(world, changes)
+        lost += not any(includes(it, window, pcs) for it in search.kept)
+    return lost
+
+
+TASKS = (3, 4, 5, 6, 8, 9)
+
+
+@pytest.mark.parametrize("task", TASKS)
+def test_each_random_run_is_an_explored_path(bench, monkeypatch, task):
+    world = world_of(bench, monkeypatch, task, 1)
+    assert missing(world, explored(world, bound=100)) == 0
+
+
+def one_round(self, here, model, other):
+    """Leaves the other side of a branch to another path in its first round only."""
+    key = self.pc, self.context
+    if not self.counts.get(key):
+        LEAVE(self, here, model, other)
+    self.counts[key] = 2
+
+
+LEAVE = Paths.leave_other_side
+PLANTED = {
+    "no question has an answer": (solver.Solver, "answered", lambda self, relevant, question, mask, model: (False, None)),
+    "a branch divides a path only once": (Paths, "leave_other_side", one_round),
+    "no guess holds, and z3 finds nothing": (solver.Solver, "solve", lambda self, asts, names: (False, None))}
+
+
+@pytest.mark.parametrize("name", PLANTED)
+def test_lost_path_is_noticed(bench, monkeypatch, name):
+    monkeypatch.setattr(*PLANTED[name])
+    monkeypatch.setattr(solver.Solver, "guessed", solver.Solver.guessed if not name.startswith("no guess") else lambda *_: None)
+    lost = 0
+    for task in TASKS:
+        world = world_of(bench, monkeypatch, task, 1)
+        try:
+            lost += missing(world, explored(world, bound=100), 30)
+        except (AssertionError, Ended, KeyError):
+            lost += 1
+    assert lost
+
+
+# ---- merged states
+
+class Stops(Search):
+    """A search that keeps the state of each path at its first stop."""
+
+    def take_stop(self, state):
+        super().take_stop(state)
+        if not state.is_merged and not state.visit:
+            self.states = getattr(self, "states", []) + [(state.fork(state.pc), merge.key_of(state))]
+
+
+def outside(search):
+    """Returns the places at which a state of an unmerged path is no instance of the merged state."""
+    found = []
+    for state, key in search.states:
+        it = search.merger.merged[key]
+        for at, x in merge.raw_cells(state, merge.RESULTS):
+            cell = it.cells.get(at, it.mem[at - search.world.region[0]] if isinstance(at, int) else 0)
+            found += [] if is_instance(search, state, at, x, cell) else [at]
+        for at in merge.changed_bytes(bytes(state.mem), it.mem, search.world.region[0]):
+            cell = it.cells.get(at, it.mem[at - search.world.region[0]])
+            found += [] if at in state.sym or is_instance(search, state, at, state.mem[at - search.world.region[0]], cell) else [at]
+    return found
+
+
+def is_instance(search, state, at, x, cell):
+    """Returns whether a byte of a state is among those of a cell, with its taint."""
+    if not isinstance(cell, tuple):
+        return x is cell or x == cell and not isinstance(x, Node) and not isinstance(cell, Node)
+    taint, values = cell
+    own = merge.taint_of(state, x) if isinstance(x, Node) else 0
+    return not own & ~taint and (values is None or not isinstance(x, Node) and x in values)
+
+
+def stops(bench, monkeypatch, task):
+    """Returns the finished search of a function of host_inputs, with its states at stops."""
+    world = world_of(bench, monkeypatch, task, 1)
+    search = Stops(world, SimpleNamespace(**{**OPTIONS, "seconds": 60, "merges": True, "activations": 0, "bound": 100}))
+    search.go(Progress())
+    return search
+
+
+STOPPING = (1, 3, 8, 15)
+
+
+@pytest.mark.parametrize("task", STOPPING)
+def test_state_at_a_stop_is_an_instance_of_the_merged_state(bench, monkeypatch, task):
+    search = stops(bench, monkeypatch, task)
+    assert len(search.states) > 1 and outside(search) == []
+
+
+def forgetful(self, at, x, y):
+    """Joins two cells, and keeps the first."""
+    return x
+
+
+def untainted(x):
+    """Returns the values of a cell without its taint."""
+    return (0, x[1]) if isinstance(x, tuple) else (0, frozenset([x])) if isinstance(x, int) else (0, None)
+
+
+MERGE_ERRORS = {
+    "the first state is kept": (merge.Merger, "joined", forgetful), "a taint is dropped": (merge, "taint_and_values", untainted),
+    "a change is lost": (merge, "changed_bytes", lambda one, two, base: [])}
+
+
+@pytest.mark.parametrize("name", MERGE_ERRORS)
+def test_error_of_a_merge_is_noticed(bench, monkeypatch, name):
+    own = merge.changed_bytes
+    monkeypatch.setattr(*MERGE_ERRORS[name])
+    found = []
+    for task in STOPPING:
+        search = stops(bench, monkeypatch, task)
+        with monkeypatch.context() as patch:
+            patch.setattr(merge, "changed_bytes", own)
+            found += outside(search)
+    assert found
+
+
+# ---- a second solver
+
+def smt_of(search, asts):
+    """Returns conditions as SMT-LIB text."""
+    z = search.solver.z3
+    solver_of_z3 = z.z3.SolverFor("QF_BV")
+    for it in asts:
+        z.c.Z3_solver_assert(z.context, solver_of_z3.solver, it)
+    return "(set-logic QF_BV)\n" + solver_of_z3.to_smt2() + "(exit)\n"
+
+
+@pytest.mark.skipif(not shutil.which("boolector"), reason="boolector is not installed")
+@pytest.mark.parametrize("task", TASKS)
+def test_second_solver_agrees_that_nothing_exists(bench, monkeypatch, task):
+    world = world_of(bench, monkeypatch, task, 1)
+    search = Recorded(world, SimpleNamespace(**{**OPTIONS, "seconds": 60, "bound": 100}))
+    search.solver.proofs = []
+    search.go(Progress())
+    assert search.solver.proofs
+    for asts in search.solver.proofs[:40]:
+        done = subprocess.run(["boolector", "--smt2"], input=smt_of(search, asts), capture_output=True, text=True, check=False, timeout=60)
+        assert done.stdout.split() == ["unsat"], done.stdout + done.stderr
