@@ -75,3 +75,40 @@ def rests_on(contracts, known):
             seen.add(name)
             left += known[name]
     return seen
+
+
+class Scopes:
+    """The definition files as modules: what each defines and imports, so that a name in it leads to one definition."""
+    IMPORT = re.compile(r"^(?:pub |unfoldable )*use Rattle\.([\w.]+)\.\{([^}]*)\}", re.M)
+
+    def __init__(self):
+        self.defined, self.imported = {}, {}
+        for crate, path in files_of("specs", ".antt"):
+            inside = os.path.relpath(path, os.path.join(ROOT, "crates", crate, "specs"))
+            module, text = f"{crate}.specs.{os.path.splitext(inside)[0].replace(os.sep, '.')}", text_of(path)
+            self.imported[module] = {own: (source, name) for source, group in self.IMPORT.findall(text)
+                                     for it in group.split(",") if it.strip() for name, own in [(it.strip().split(" as ") * 2)[:2]]}
+            body = re.sub(r"^(?:pub |unfoldable )*use .*$|^ *--.*$", "", text, flags=re.M)
+            # a record with a name in lower case is an expression, which changes fields
+            heads = [it for it in DEFINITION.finditer(body) if "record " not in it.group(0) or it.group(1)[0].isupper()]
+            self.defined[module] = {}
+            for head, following in zip(heads, [*heads[1:], None]):
+                self.defined[module].setdefault(head.group(1), []).append(body[head.end():following.start() if following else len(body)])
+
+    def place_of(self, module, name):
+        """Returns the module and the name of the definition that a name in a module means; None if it is a variable."""
+        while name not in self.defined.get(module, {}) and name in self.imported.get(module, {}):
+            module, name = self.imported[module][name]
+        return (module, name) if module not in self.defined or name in self.defined[module] else None
+
+    def used_by(self, start, ends):
+        """Returns the definitions that a definition uses, directly or indirectly. It does not follow those in `ends`."""
+        left, seen = [start], set()
+        while left:
+            module, name = place = left.pop()
+            if place not in seen and place not in ends:
+                texts = self.defined.get(module, {}).get(name, [])
+                words = {word for text in texts for word in re.findall(r"[\w◌-]+", text)}
+                left += filter(None, (self.place_of(module, word) for word in words))
+            seen.add(place)
+        return seen

@@ -1,9 +1,9 @@
 #!/usr/bin/env python3
 """python3 -m docs.laws_docs --check: checks that the names in docs/LAWS.md, docs/CALLS.md and docs/PROMISES.md exist where the pages say.
 
-In LAWS and CALLS, each theorem has premises, a definition, a contract and limits. Its files, definitions, functions and clauses exist, and a name before
-a file is in that file. A clause belongs to the functions before it, also in the index. Each definition is part of the contract of one of the
-functions of its theorem.
+In LAWS and CALLS, each theorem has premises, a definition, a contract and limits. Its files, definitions, functions and clauses exist, and a name
+before a file is in that file. A clause belongs to the functions before it, also in the index. Each definition is part of the contract of one of the
+functions of its theorem. Section Limits of LAWS has each function that the laws which determine a step use.
 
 In PROMISES, the definitions in parentheses are part of the contract of some function. In the table of refusals, each clause and definition
 belongs to each call of its row.
@@ -12,9 +12,13 @@ import os
 import re
 import sys
 
-from docs.contracts import ROOT, defined_in, definitions, files_of, functions, rests_on, text_of
+from docs.contracts import ROOT, Scopes, defined_in, definitions, files_of, functions, rests_on, text_of
 
 NAMES = r"(?:`[\w:]+`(?:, and |, | and )?)+"
+# The laws that determine a step, the files with their texts, and the definitions whose own definitions the list does not go into.
+DETERMINED = ("rv_monitor.specs.Determined", "ObeysCases")
+TEXTS = {"rv_enclaves.specs.CallNumbers", *(f"rv_monitor.specs.{it}" for it in ("Determined", "Exits", "NumberedCalls", "PlainSteps"))}
+ENDS = {("rv_hart.specs.Step", "step"), ("rv_enclaves.specs.Layout", "layout"), ("rv_pmp.specs.Verdicts", "verdict")}
 
 
 class Sources:
@@ -94,6 +98,20 @@ def check_table(sources, page):
         sources.ask_clauses("LAWS, table", calls, names[len(calls):])
 
 
+def check_limits(sources, section):
+    """Checks that the table in section Limits of LAWS has each function that the laws which determine a step use, and no other. Types, and the
+    functions of the texts of these laws, are left out."""
+    used = {name for module, name in Scopes().used_by(DETERMINED, ENDS)
+            if not module.startswith("std.") and ".declared." not in module and module not in TEXTS and name[0].islower()}
+    found = set()
+    for names, files in re.findall(r"^\| (.*?) \| (.*?) \|", section, re.M):
+        there = {it for path in names_in(files) for it in defined_in(os.path.join(ROOT, "crates", path))}
+        found |= {it for it in names_in(names) if it in there or not names_in(files)}
+    for name in sorted(used ^ found):
+        sources.ask(name not in used, f"LAWS, Limits: {name} is not in the table, or its file is another")
+        sources.ask(name not in found, f"LAWS, Limits: the laws that determine a step do not use {name}")
+
+
 def check_refusals(sources, page):
     """The table of refusals of PROMISES: each clause, and each definition in parentheses, is of each call of the row."""
     for line in re.findall(r"^\| `.*$", page, re.M):
@@ -125,7 +143,7 @@ def main(arguments):
     for section in re.split(r"^(?=\*\*)", laws + calls, flags=re.M):
         check_law(sources, section)
     check_table(sources, laws)
-    check_places(sources, "", laws.split("\n## Limits of the theorems\n")[1])
+    check_limits(sources, laws.split("\n## Limits of the theorems\n")[1].split("\n## ")[0])
     check_refusals(sources, promises)
     check_promises(sources, promises)
     print("\n".join([*sources.wrong, f"{sources.count} asked, {len(sources.wrong)} wrong"]))

@@ -29,4 +29,5 @@ mod OtherHarts
 mod ScheduleLoop
 mod RunSchedules
 pub mod EffectsInvariant
-mod DeclassifiedRun
+mod SecretRun
+mod HostRun

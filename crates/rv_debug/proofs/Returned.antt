@@ -2,7 +2,7 @@
 use Rattle.std.proofs.Common.{◌≡◌, ℕ, false, List, [], ◌∷◌, ◌++◌, Option, Some, None, refl, sym, ◌∙◌, ap, subst}
 use Rattle.std.specs.Prelude.{IsSomeAnd}
 use Rattle.rv_monitor.specs.Switches.{saved}
-use Rattle.rv_monitor.specs.Refused.{past_ecall}
+use Rattle.rv_monitor.specs.TrapReturns.{past_ecall}
 use Rattle.rv_monitor.specs.Returns.{HostIsRestored}
 use Rattle.rv_monitor.proofs.Switched.{KeptStored}
 use Rattle.rv_monitor.proofs.Returned.{comes_back, entered_is, first_runs, host_on, last_runs, steps_keep}

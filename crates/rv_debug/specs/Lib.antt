@@ -17,3 +17,5 @@ pub mod Stops
 pub mod Targets
 pub mod BothBenches
 pub mod ScheduledSteps
+pub mod SecretRun
+pub mod HostRun

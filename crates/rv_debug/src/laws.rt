@@ -1,11 +1,13 @@
 //! Laws of the commands for every bench that satisfies the invariant, for the crates above to cite. Each is proved about the definitions in
 //! `specs/`. The law of one command is also a clause of `Bench::command`.
 
+ghost use Rattle.rv_debug.specs.HostRun.{HostRunLaw};
 ghost use Rattle.rv_debug.specs.Declassification.{BenchRelationLaw, CommandDeclassificationLaw, EndedLaw, ListDeclassificationLaw};
 ghost use Rattle.rv_debug.specs.Declassification.{LowCommandLaw, ObservationLaw};
 ghost use Rattle.rv_debug.specs.Noninterference.{EquivalenceLaw, NoninterferenceLaw, PokeLaw, RunsOnNoHartLaw};
 ghost use Rattle.rv_debug.specs.Isolation.{IntegrityLaw, RunningLaw};
 ghost use Rattle.rv_debug.specs.Returns.{ReturnLaw};
+ghost use Rattle.rv_debug.specs.SecretRun.{SecretRunLaw};
 
 /// States integrity. A list of commands preserves the record, the region and the saved context of a live enclave under three conditions. No step
 /// is a step of that enclave, none enters or ends it, and no poke writes to its region. The enclave may run on a hart that does not step.
@@ -81,4 +83,12 @@ pub const fn replies_are_observed()
 /// condition on its steps for every slot, even if it runs another enclave in the same slot.
 pub const fn ended_enclaves_have_no_secret()
     ensures { EndedLaw }
+{}
+
+/// States two closed instances of laws about steps. Each machine begins at reset, and the steps are computed. In `secret` an enclave is interrupted
+/// with a secret in a0 and resumed, and the secret is concealed. In `host` an enclave runs under two unlike hosts, which differ in a byte of the
+/// window, in the number of harts and in the schedule. Its steps are the same, and it stores what it loaded.
+pub const fn closed_runs()
+    ensures secret { SecretRunLaw }
+    ensures host { HostRunLaw }
 {}

@@ -18,4 +18,4 @@ pub mod ScrambledTwice
 pub mod Measurement
 pub mod CallNumbers
 pub mod CallExamples
-pub mod CreateSucceeds
+pub mod AcceptedCalls

@@ -216,7 +216,24 @@ pub record AreCallNumbers (shared : Shared) (entries : Entries) (regs : List ℕ
 abbrev pub CallNumbersLaw : Type 0
 CallNumbersLaw = (shared : Shared) (entries : Entries) (regs : List ℕ) → AreCallNumbers shared entries regs
 
--- ---- a create that succeeds, without tests
+-- ---- the calls that are accepted, without tests
+
+-- a7 has the key, and a6 the number of the call
+pub record Requests (number : ℕ) (regs : List ℕ) : Type 0 where
+  pub a7 : register regs 17 ≡ 0x0A454E43
+  pub a6 : register regs 16 ≡ number
+
+-- the slot has an enclave in a state
+pub record HasState (slots : Slots) (k : ℕ) (state : EnclaveState) : Type 0 where
+  pub info : SlotInfo
+  pub held : record_at slots k ≡ Some info
+  pub is : info.state ≡ state
+
+-- the slot has an enclave that does not run
+pub record IsAtRest (slots : Slots) (k : ℕ) : Type 0 where
+  pub info : SlotInfo
+  pub held : record_at slots k ≡ Some info
+  pub not_running : info.state ≢ Running
 
 -- a block that an enclave may have
 pub record IsBlockOf (memory : List ℕ) (block : Block) : Type 0 where
@@ -243,12 +260,29 @@ pub record IsCreatable (shared : Shared) (regs : List ℕ) (slot : ℕ) : Type 0
   pub free : record_at shared.table slot ≡ None
   pub lowest : (j : ℕ) → j < slot → is_some (record_at shared.table j) ≡ true
 
-pub record Creates (shared : Shared) (entries : Entries) (regs : List ℕ) (slot : ℕ) : Type 0 where
-  pub call : call_numbered Host (register regs 17) (register regs 16) ≡ Some Create
-  pub status : call_status Host shared entries regs ≡ 0
-  pub lowest : lowest_free shared.table ≡ Some slot
+-- the enclave of the slot is live, the 32 bytes are in the memory, and S may store each of them
+pub record IsMeasurable (shared : Shared) (entries : Entries) (k address : ℕ) : Type 0 where
+  pub live : is_some (record_at shared.table k) ≡ true
+  pub from : 0x80000000 ≤ address
+  pub to : address + 32 ≤ 0x80000000 + length shared.memory
+  pub storable : (byte : ℕ) → address ≤ byte → byte < address + 32 → permits (verdict entries S Write (bytes_from byte 1)) ≡ true
 
-abbrev pub CreateSucceedsLaw : Type 0
-CreateSucceedsLaw =
-    (shared : Shared) (entries : Entries) (regs : List ℕ) (slot : ℕ) → register regs 17 ≡ 0x0A454E43 → register regs 16 ≡ 1
-    → IsCreatable shared regs slot → Creates shared entries regs slot
+-- the call that the registers request, without a refusal
+pub record IsAccepted (world : World) (shared : Shared) (entries : Entries) (regs : List ℕ) (call : Call) : Type 0 where
+  pub requested : call_numbered world (register regs 17) (register regs 16) ≡ Some call
+  pub status : call_status world shared entries regs ≡ 0
+
+-- of a create, the slot is the lowest that is free
+pub record AcceptsCalls (shared : Shared) (entries : Entries) (regs : List ℕ) : Type 0 where
+  pub create : (slot : ℕ) → Requests 1 regs → IsCreatable shared regs slot
+      → IsAccepted Host shared entries regs Create × (lowest_free shared.table ≡ Some slot)
+  pub destroy : Requests 2 regs → IsAtRest shared.table (register regs 10) → IsAccepted Host shared entries regs Destroy
+  pub run : Requests 3 regs → HasState shared.table (register regs 10) Fresh → IsAccepted Host shared entries regs Run
+  pub resume : Requests 4 regs → HasState shared.table (register regs 10) Stopped → IsAccepted Host shared entries regs Resume
+  pub measure : (world : World) → Requests 5 regs → IsMeasurable shared entries (slot_named world regs) (register regs 11)
+      → IsAccepted world shared entries regs Measure
+  pub stop : (k : ℕ) → Requests 6 regs → IsAccepted (Enclave k) shared entries regs Stop
+  pub exit : (k : ℕ) → Requests 7 regs → IsAccepted (Enclave k) shared entries regs Exit
+
+abbrev pub AcceptsCallsLaw : Type 0
+AcceptsCallsLaw = (shared : Shared) (entries : Entries) (regs : List ℕ) → AcceptsCalls shared entries regs

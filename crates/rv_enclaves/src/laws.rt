@@ -1,7 +1,7 @@
 //! Laws of the table of enclaves and of its PMP entries, for the crates above to cite. Each is proved about the definitions in `specs/`.
 
 ghost use Rattle.rv_enclaves.specs.CallLaws.{CallsAlikeLaw, CallsKeepLaw, ScrambledLaw, ScrambledTwiceLaw};
-ghost use Rattle.rv_enclaves.specs.CallNumbers.{CallNumbersLaw, CreateSucceedsLaw};
+ghost use Rattle.rv_enclaves.specs.CallNumbers.{CallNumbersLaw, AcceptsCallsLaw};
 ghost use Rattle.rv_enclaves.specs.AccessibleMemory.{ApartLaw, LayoutAccessLaw};
 ghost use Rattle.rv_enclaves.specs.Measurement.{MeasurementLaw};
 
@@ -46,7 +46,8 @@ pub const fn call_numbers()
     ensures { CallNumbersLaw }
 {}
 
-/// States that a create with good arguments succeeds if a slot is free, and which slot is the lowest.
-pub const fn create_succeeds()
-    ensures { CreateSucceedsLaw }
+/// States when each call is accepted. A create needs good arguments and a free slot. A destroy needs an enclave that does not run. A run needs a
+/// Fresh one, and a resume a Stopped one. A measure needs a live enclave, and 32 bytes that the caller may store. A stop and an exit need nothing.
+pub const fn accepts_calls()
+    ensures { AcceptsCallsLaw }
 {}

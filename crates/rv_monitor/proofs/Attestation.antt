@@ -13,7 +13,8 @@ use Rattle.rv_enclaves.proofs.EqualMemory.{same_read}
 use Rattle.rv_enclaves.proofs.Measurement.{measurement_law, same_digest, same_measurement, valid_inside}
 use Rattle.rv_monitor.specs.Attestation.{AttestationLaw, IsAsCreated, IsEntry, KeepsAsCreated, BothEnter, ReentryLaw}
 use Rattle.rv_monitor.specs.EnclaveSteps.{Place, SameEnclave, SameSaved, is_beyond, runs_at, step_at}
-use Rattle.rv_monitor.specs.Entering.{HasEntered, entered_hart, entered_machine, entered_shared}
+use Rattle.rv_monitor.specs.Entering.{HasEntered}
+use Rattle.rv_monitor.specs.NumberedCalls.{entered_by_call, slots_with_state, switched_hart}
 use Rattle.rv_monitor.specs.Integrity.{enters}
 use Rattle.rv_monitor.specs.Prelude.{Context, CsrState, Destroy, EnclaveState, EnvironmentCallFromS, EqualOutside, HartState, IsValid, IsValidSlot, Running}
 use Rattle.rv_monitor.specs.Prelude.{Shared, Slots, Trap, byte_at, bytes_of_block, is_inside, context_at, create_args_of, created, destroyed, first_context, has, is_live}
@@ -35,7 +36,7 @@ use Rattle.rv_monitor.specs.Records.{identity_at, identity_of}
 use Rattle.std.specs.Option.{option_map}
 use Rattle.rv_monitor.proofs.StepInvariant.{step_size}
 use Rattle.rv_monitor.proofs.TrapSteps.{hart_state_after, step_cases}
-use Rattle.rv_monitor.specs.Prelude.{Hart, is_world_of}
+use Rattle.rv_monitor.specs.Prelude.{Enclave, Hart, is_world_of}
 use Rattle.rv_hart.specs.GuestView.{below_m_hart}
 
 -- ---- no step changes the size of memory
@@ -189,7 +190,7 @@ plain_csrs timer = record at_reset { timer = timer }
 abbrev entry_hart : CsrState → Slots → ℕ → Context → Hart
 entry_hart c slots k context =
     let trap : Trap = record { cause = causes.Exception EnvironmentCallFromS; tval = 0 } in
-    below_m_hart (entered_hart (record { regs = []; csrs = c; pc = 0; mode = context.mode }) slots trap k context)
+    below_m_hart (switched_hart (record { regs = []; csrs = c; pc = 0; mode = context.mode }) trap context slots (Enclave k))
 
 plain_entry : (hart_state : HartState) (old slots : Slots) (k : ℕ) (context : Context) → HartInvariant old hart_state
     → entry_hart hart_state.hart.csrs slots k context ≡ entry_hart (plain_csrs hart_state.hart.csrs.timer) [] 0 context
@@ -206,11 +207,11 @@ module _ (p : Place) (machine : MonitoredMachine) (context : Context) (kept : In
   entry : HasEntered p.hart p.slot machine (step_at p machine)
   entry = enter_law p.hart machine kept p.slot enters.host enters.world
 
-  entered_is : (step_at p machine).state ≡ entered_machine p.hart machine p.slot entry.trap context
+  entered_is : (step_at p machine).state ≡ entered_by_call p.hart machine p.slot entry.trap context
   entered_is =
-      let both : Some entry.context ≡ Some context = sym entry.held ∙ held in
-      let same : entry.context ≡ context = cc in
-      entry.state ∙ ap (entered_machine p.hart machine p.slot entry.trap) same
+      let both : Some entry.call.context ≡ Some context = sym entry.call.kept ∙ held in
+      let same : entry.call.context ≡ context = cc in
+      entry.call.state ∙ ap (entered_by_call p.hart machine p.slot entry.trap) same
 
   runs_then : runs_at p (step_at p machine).state ≡ true
   runs_then = ap (is_world_of p.slot) enters.world ∙ eq-eqb p.slot p.slot refl
@@ -218,7 +219,7 @@ module _ (p : Place) (machine : MonitoredMachine) (context : Context) (kept : In
   hart_then : below_m_hart (hart_state_of p.hart (step_at p machine).state).hart
       ≡ entry_hart (plain_csrs (hart_state_of p.hart machine).hart.csrs.timer) [] 0 context
   hart_then =
-      let slots = (entered_shared machine.shared p.slot).table in
+      let slots = slots_with_state machine.shared.table p.slot Running in
       let has = (is_trapping p.hart machine entry.trap entry.trapped).has in
       let size = length-map machine.hart_states (reprogrammed slots) in
       ap (λ (m : MonitoredMachine). below_m_hart (hart_state_of p.hart m).hart) entered_is
@@ -239,9 +240,9 @@ same_entry p q one two here too saved both =
     let extent = state_extent one.shared.table i (slot_at one.shared.table i) Running here.shared.valid.count refl in
     let shared_one = ap (λ (m : MonitoredMachine). m.shared) (entered_is p one saved.context here saved.first both.first) in
     let shared_two = ap (λ (m : MonitoredMachine). m.shared) (entered_is q two saved.context too saved.second both.second) in
-    let bytes : EqualOutside (is_beyond (entered_shared one.shared i).table i) one.shared.memory two.shared.memory = record {
+    let bytes : EqualOutside (is_beyond (slots_with_state one.shared.table i Running) i) one.shared.memory two.shared.memory = record {
       size = saved.memory.size;
-      bytes = λ n shown. saved.memory.bytes n (beyond_again i one.shared.table (entered_shared one.shared i).table _ extent shown);
+      bytes = λ n shown. saved.memory.bytes n (beyond_again i one.shared.table (slots_with_state one.shared.table i Running) _ extent shown);
     } in
     record {
       first = runs_then p one saved.context here saved.first both.first;
@@ -253,7 +254,7 @@ same_entry p q one two here too saved both =
           ∙ ap (λ (o : Option SlotInfo). option_case o None (λ info. Some (record info { state = Running }))) saved.slot
           ∙ sym (slot_then q two saved.context too saved.second both.second);
       memory = subst (λ (s : Shared). EqualOutside (is_beyond s.table i) s.memory (step_at q two).state.shared.memory) (sym shared_one)
-          (subst (λ (s : Shared). EqualOutside (is_beyond (entered_shared one.shared i).table i) one.shared.memory s.memory) (sym shared_two) bytes);
+          (subst (λ (s : Shared). EqualOutside (is_beyond (slots_with_state one.shared.table i Running) i) one.shared.memory s.memory) (sym shared_two) bytes);
     }
 
 pub reentry_law : ReentryLaw

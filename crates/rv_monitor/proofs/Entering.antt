@@ -1,12 +1,13 @@
 -- A step of the host continues with the host, or leaves the machine of a step that enters an enclave.
 use Rattle.std.proofs.Common.{◌≡◌, ◌<◌, ℕ, ◌⊎◌, true, false, Option, Some, None, IfSome, refl, sym, ◌∙◌, ap, subst, inl, inr}
-use Rattle.std.specs.Prelude.{is_some, not}
+use Rattle.std.specs.Prelude.{is_some, not, slice_set}
 use Rattle.std.proofs.Math.Bool.{or-false}
 use Rattle.rv_enclaves.specs.SharedInvariant.{SavedContextsInvariant, is_held}
 use Rattle.rv_enclaves.proofs.Refusals.{takes_rests}
-use Rattle.rv_monitor.specs.Entering.{EntersOnly, HasEntered, entered_hart, entered_machine, entered_shared}
-use Rattle.rv_monitor.specs.Prelude.{Call, Context, Enclave, Host, Outcome, S, HartState, StepOutcome, Trap, World, can_go_on, context_at, is_set, step}
-use Rattle.rv_monitor.specs.Refused.{past_ecall}
+use Rattle.rv_monitor.specs.Entering.{EntersOnly, HasEntered}
+use Rattle.rv_monitor.specs.NumberedCalls.{entered_by_call, slots_with_state, switched_hart}
+use Rattle.rv_monitor.specs.Prelude.{Call, Context, Enclave, Host, Outcome, Running, S, HartState, StepOutcome, Trap, World, can_go_on, context_at, is_set, step}
+use Rattle.rv_monitor.specs.TrapReturns.{past_ecall}
 use Rattle.rv_monitor.proofs.Prelude.{Handled, HartViewInvariant, Invariant, IsTaken, MonitoredMachine, MonitoredStepped, HartView, HartViewStepped, a0, bare_machine, cases_lt, count_of, entered_slot, handled, left}
 use Rattle.rv_monitor.proofs.Prelude.{monitored_step, returned, saved, hart_state_of, hart_view, step_of, with_reprogrammed_hart}
 use Rattle.rv_monitor.proofs.InvariantLemmas.{hart_view_invariant}
@@ -43,15 +44,15 @@ module _ (before : HartView) (k : ℕ) (context : Context) (runs : before.hart_s
 
   abbrev entered_state : HartView
   entered_state =
-      let shared = entered_shared before.shared k in
+      let slots = slots_with_state before.shared.table k Running in
       let hart = before.hart_state.hart in
       record {
         hart_state = record {
-          hart = entered_hart hart shared.table trap k context;
+          hart = switched_hart hart trap context slots (Enclave k);
           host_context = Some (saved hart (past_ecall hart) S);
           world = Enclave k;
         };
-        shared = shared;
+        shared = record before.shared { table = slots; contexts = slice_set before.shared.contexts k None };
       }
 
   abbrev Entered : HartViewStepped → Type 0
@@ -126,7 +127,7 @@ module _ (before : HartView) (saves : SavedContextsInvariant before.shared) (run
 enters_from : (hart : ℕ) (machine : MonitoredMachine) → Invariant machine → (k : ℕ) (context : Context) (trap : Trap)
     → (hart_state_of hart machine).world ≡ Host → context_at machine.shared.contexts k ≡ Some context
     → (step_of hart machine).outcome.step.trap ≡ Some trap → (hart_state_of hart (step_of hart machine).state).world ≡ Enclave k
-    → ((step_of hart machine).state ≡ entered_machine hart machine k trap context) × ((step_of hart machine).outcome.entered ≡ Some k)
+    → ((step_of hart machine).state ≡ entered_by_call hart machine k trap context) × ((step_of hart machine).outcome.entered ≡ Some k)
 enters_from hart machine kept k context trap runs kept_one is gone =
     let trapping = is_trapping hart machine trap is in
     let there = sym (ap (λ (after : HartViewStepped). after.state.hart_state.world) (step_seen hart machine trapping.has)) ∙ gone in
@@ -158,7 +159,7 @@ module _ (hart k : ℕ) (machine : MonitoredMachine) (kept : Invariant machine) 
       cc
   entered_with trap is (Some context) held =
       let both = enters_from hart machine kept k context trap runs held is gone in
-      record { trap = trap; context = context; trapped = is; held = held; state = both.0; entered = both.1 }
+      record { trap = trap; trapped = is; call = record { context = context; kept = held; state = both.0; entered = both.1 } }
 
   entered_by : (o : Option Trap) → (step_of hart machine).outcome.step.trap ≡ o → HasEntered hart k machine (step_of hart machine)
   entered_by None none = let never = never_quiet none in cc

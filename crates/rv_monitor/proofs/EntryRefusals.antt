@@ -18,7 +18,7 @@ pub never_enters_new : (hart k : ℕ) (before : MonitoredMachine) (after : Monit
     → slot_at before.shared.table k ≡ None → (hart_state_of hart before).world ≡ Host → (hart_state_of hart after.state).world ≡ Enclave k → ⊥
 never_enters_new hart k before after kept law free host gone =
     let entry = law k host gone in
-    let never : false ≡ true = sym (free_has_none k before kept free) ∙ ap (λ (o : Option Context). is_some o) entry.held in
+    let never : false ≡ true = sym (free_has_none k before kept free) ∙ ap (λ (o : Option Context). is_some o) entry.call.kept in
     cc
 
 -- no step obeys the law and leaves a new enclave Running

@@ -3,7 +3,7 @@ use Rattle.std.proofs.Common.{◌≡◌, ℕ, ◌⊎◌, true, Option, Some, Non
 use Rattle.std.proofs.Math.Bool.{or-false}
 use Rattle.rv_state.specs.declared.cause.Cause.TheVariants as causes
 use Rattle.rv_monitor.specs.Prelude.{Cause, Context, Enclave, Host, Outcome, HartState, StepOutcome, Trap, can_go_on, is_set, step}
-use Rattle.rv_monitor.specs.Leaving.{LeavesOnly, left_machine}
+use Rattle.rv_monitor.proofs.LeftMachine.{left_machine}
 use Rattle.rv_monitor.proofs.Prelude.{Handled, HartViewInvariant, HartView, HartViewStepped, bare_machine, handled, saved_after, left_hart, count_of}
 use Rattle.rv_monitor.proofs.Prelude.{left, left_shared, monitored_step, returned, hart_view, with_reprogrammed_hart, Invariant, MonitoredMachine, step_of}
 use Rattle.rv_monitor.proofs.InvariantLemmas.{hart_view_invariant}
@@ -80,7 +80,11 @@ module _ (before : HartView) (k : ℕ) (host : Context) (runs : before.hart_stat
       let there = subst (λ (after : HartViewStepped). after.state.hart_state.world ≡ Host) step_is gone in
       subst Left (sym step_is) (left_or_not (step (bare_machine before)).outcome _ all work_goes there)
 
-pub leave_law : (hart : ℕ) (machine : MonitoredMachine) → Invariant machine → LeavesOnly hart machine (step_of hart machine)
+-- if the host has a saved context, a trap after which it runs leaves this machine, and enters no slot
+pub leave_law : (hart : ℕ) (machine : MonitoredMachine) → Invariant machine → (k : ℕ) (host : Context) (trap : Trap)
+    → (hart_state_of hart machine).world ≡ Enclave k → (hart_state_of hart machine).host_context ≡ Some host
+    → (step_of hart machine).outcome.step.trap ≡ Some trap → (hart_state_of hart (step_of hart machine).state).world ≡ Host
+    → ((step_of hart machine).state ≡ left_machine hart machine k trap host) × ((step_of hart machine).outcome.entered ≡ None)
 leave_law hart machine kept k host trap runs saved_host is gone =
     let trapping = is_trapping hart machine trap is in
     let there = sym (ap (λ (after : HartViewStepped). after.state.hart_state.world) (step_seen hart machine trapping.has)) ∙ gone in

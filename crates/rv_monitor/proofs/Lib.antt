@@ -21,7 +21,7 @@ pub mod Switched
 pub mod Returned
 pub mod TrapSteps
 pub mod FastSteps
-pub mod Refused
+pub mod LeftMachine
 pub mod Leaving
 pub mod Integrity
 pub mod Changes

@@ -16,7 +16,7 @@ use Rattle.rv_enclaves.proofs.Measurement.{measurement_law, same_digest}
 use Rattle.rv_monitor.specs.Availability.{ExitsByTimer, timer_trap}
 use Rattle.rv_monitor.specs.Debugger.{timer_line_set, with_timer}
 use Rattle.rv_monitor.specs.EnclaveSteps.{Place, SameEnclave, SameEnclaveStep, is_beyond, runs_at, step_at}
-use Rattle.rv_monitor.specs.Entering.{entered_shared}
+use Rattle.rv_monitor.specs.NumberedCalls.{slots_with_state}
 use Rattle.rv_monitor.specs.Events.{Event, LineOf, StepOf, event_of}
 use Rattle.rv_monitor.specs.Life.{AreAtOnePoint, ContinuesWith, InFirst, InSecond, IsForeign, IsOwnStep, LifeBeginsLaw}
 use Rattle.rv_monitor.specs.Life.{LifeLaw, Own, SameOwnStep, at}
@@ -100,7 +100,7 @@ module _ (k : ℕ) (machine : MonitoredMachine) (context : Context) (kept : Inva
   saved_live : is_live machine.shared.table k ≡ true
   saved_live = held_live (slot_at machine.shared.table k) held
 
-  saved_continues : ContinuesWith k context machine
+  pub saved_continues : ContinuesWith k context machine
   saved_continues = record {
     running = λ hart own. absurd (both_ways _ saved_idle (is_running_at k hart machine kept own));
     resting = λ idle. saves;
@@ -275,26 +275,27 @@ module _ (k hart : ℕ) (machine : MonitoredMachine) (context : Context) (kept :
   entered_stays is =
       let both = entered_worlds k hart machine (entered_some k (step_of hart machine).outcome.entered is) in
       let entry = enter_law hart machine kept k both.0 both.1 in
-      let held_one : Some entry.context ≡ Some context =
-      sym entry.held ∙ continues.resting (saved_idle k machine entry.context kept entry.held) in
-      let same : entry.context ≡ context = cc in
-      let legal : IsLegal entry.context.supervisor = subst (λ (o : Option Context). IfSome o (λ c. IsLegal c.supervisor)) entry.held (stored.contexts k) in
-      let slots = (entered_shared machine.shared k).table in
+      let held = entry.call.kept in
+      let found = entry.call.context in
+      let held_one : Some found ≡ Some context = sym held ∙ continues.resting (saved_idle k machine found kept held) in
+      let same : found ≡ context = cc in
+      let legal : IsLegal found.supervisor = subst (λ (o : Option Context). IfSome o (λ c. IsLegal c.supervisor)) held (stored.contexts k) in
+      let slots = slots_with_state machine.shared.table k Running in
       let has = (is_trapping hart machine entry.trap entry.trapped).has in
       let size = length-map machine.hart_states (reprogrammed slots) in
       let there = get_or-set_at (map (reprogrammed slots) machine.hart_states) hart hart _ (hart_state_at_start 0) refl (omega (arith, size, has)) in
       let own : runs_on k hart (step_of hart machine).state ≡ true = ap (is_world_of k) both.1 ∙ eq-eqb k k refl in
       let seen : continuation (hart_state_of hart (step_of hart machine).state).hart
-      ≡ record entry.context { supervisor = s_context (with_s_context (hart_state_of hart machine).hart.csrs entry.context.supervisor) } =
-      ap (λ (m : MonitoredMachine). continuation (hart_state_of hart m).hart) entry.state ∙ ap (λ (s : HartState). continuation s.hart) there in
-      let is_legal = ap (λ (s : SContext). record entry.context { supervisor = s })
-      (legal_again (hart_state_of hart machine).hart.csrs entry.context.supervisor legal) in
+      ≡ record found { supervisor = s_context (with_s_context (hart_state_of hart machine).hart.csrs found.supervisor) } =
+      ap (λ (m : MonitoredMachine). continuation (hart_state_of hart m).hart) entry.call.state ∙ ap (λ (s : HartState). continuation s.hart) there in
+      let is_legal = ap (λ (s : SContext). record found { supervisor = s })
+      (legal_again (hart_state_of hart machine).hart.csrs found.supervisor legal) in
       record {
         continues = running_continues k hart (step_of hart machine).state context after_kept own (seen ∙ is_legal ∙ same);
         live = stays;
         identity = record_law hart machine kept k live stays;
         size = same_size hart machine;
-        bytes = λ i own_byte. ap (λ (m : MonitoredMachine). slice_index m.shared.memory i) entry.state;
+        bytes = λ i own_byte. ap (λ (m : MonitoredMachine). slice_index m.shared.memory i) entry.call.state;
       }
 
   -- the timer interrupt takes it off its hart

@@ -2,25 +2,25 @@
 use Rattle.std.proofs.Common.{◌≡◌, ◌≢◌, ℕ, Bool, true, false, List, [], ◌∷◌, Option, Some, None, refl, sym, ◌∙◌, ap, subst, arith}
 use Rattle.std.proofs.Math.Bool.{or-false}
 use Rattle.std.proofs.lemmas.Bool.Decides.{nat_tests}
-use Rattle.std.specs.Prelude.{◌==◌, if◌then◌else◌, is_some}
+use Rattle.std.specs.Prelude.{◌==◌, if◌then◌else◌}
 use Rattle.rv_state.specs.declared.cause.Cause.TheVariants as causes
-use Rattle.rv_enclaves.specs.CallNumbers.{AreCallNumbers, call_numbered, call_rows, call_status, first_status, in_numbers, lowest_free}
+use Rattle.rv_enclaves.specs.CallNumbers.{AreCallNumbers, IsAccepted, call_numbered, call_rows, call_status, first_status, in_numbers, lowest_free}
 use Rattle.rv_enclaves.specs.CallNumbers.{shared_with_measurement, shared_with_new, shared_without, slot_named}
 use Rattle.rv_enclaves.specs.Table.{free_slot}
 use Rattle.rv_enclaves.proofs.CallNumbers.{call_numbers, no_success}
-use Rattle.rv_enclaves.proofs.CreateSucceeds.{create_succeeds}
-use Rattle.rv_monitor.specs.NumberedCalls.{AnswersCalls, CreateSucceeds, EntersByCall, InterruptsEnclave, Returns, answered_machine, by_exit_call, by_interrupt, by_stop_call}
-use Rattle.rv_monitor.specs.NumberedCalls.{call_at, entered_by_call, handed_over_machine, status_at}
+use Rattle.rv_enclaves.proofs.AcceptedCalls.{accepts_calls}
+use Rattle.rv_monitor.specs.NumberedCalls.{AnswersCalls, CallsSucceed, EntersByCall, InterruptsEnclave, Returns, answered_machine, by_exit_call, by_interrupt, by_stop_call}
+use Rattle.rv_monitor.specs.NumberedCalls.{call_at, handed_over_machine, status_at}
 use Rattle.rv_state.specs.declared.cause.Interrupt.{Interrupt}
 use Rattle.rv_monitor.specs.Exits.{causes_exit, is_exit_call}
-use Rattle.rv_monitor.specs.Leaving.{left_machine}
+use Rattle.rv_monitor.proofs.LeftMachine.{left_machine}
 use Rattle.rv_monitor.specs.Prelude.{Call, Cause, Context, Create, Destroy, Enclave, EnvironmentCallFromS, Exit, Hart, Host, Measure, NotSupported, Outcome}
-use Rattle.rv_monitor.specs.Prelude.{Refusal, Resume, Run, HartState, Shared, StepOutcome, Stop, Trap, World, aligned_to_4, context_at}
+use Rattle.rv_monitor.specs.Prelude.{Refusal, Resume, Run, HartState, Shared, StepOutcome, Stop, Trap, World, aligned_to_4}
 use Rattle.rv_monitor.specs.Prelude.{first_refusal, is_set, measure_refusals, measured, option_case, register}
-use Rattle.rv_monitor.specs.Prelude.{call_number, requested_call, saved_context, state_refusals, step, sum_of}
-use Rattle.rv_monitor.proofs.Prelude.{Handled, HartViewInvariant, Invariant, IsTaken, MonitoredMachine, HartView, HartViewStepped, a0, a1, bare_machine}
-use Rattle.rv_monitor.proofs.Prelude.{call_handled, call_refusals, called, entered_slot, handled, handled_cause, hart_state_of, hart_view, may_take}
-use Rattle.rv_monitor.proofs.Prelude.{performed, refused, returned, returned_to_caller, step_of, takes_rests, with_reprogrammed_hart, past_call}
+use Rattle.rv_monitor.specs.Prelude.{call_number, requested_call, saved_context, step, sum_of}
+use Rattle.rv_monitor.proofs.Prelude.{Handled, HartViewInvariant, Invariant, MonitoredMachine, HartView, HartViewStepped, a0, a1, bare_machine}
+use Rattle.rv_monitor.proofs.Prelude.{call_handled, call_refusals, called, entered_slot, handled, handled_cause, hart_state_of, hart_view}
+use Rattle.rv_monitor.proofs.Prelude.{performed, refused, returned, returned_to_caller, step_of, with_reprogrammed_hart, past_call}
 use Rattle.rv_monitor.proofs.Availability.{host_is}
 use Rattle.rv_monitor.proofs.Entering.{enter_law}
 use Rattle.rv_monitor.proofs.Exits.{exits_law}
@@ -196,12 +196,7 @@ module _ (hart : ℕ) (machine : MonitoredMachine) (kept : Invariant machine) (t
       let law = enter_law hart machine kept k host gone in
       let traps_alike : Some law.trap ≡ Some trap = sym law.trapped ∙ traps in
       let same : law.trap ≡ trap = cc in
-      record {
-        context = law.context;
-        kept = law.held;
-        state = law.state ∙ ap (λ (it : Trap). entered_by_call hart machine k it law.context) same;
-        entered = law.entered;
-      }
+      subst (λ (it : Trap). EntersByCall hart machine (step_of hart machine) it k) same law.call
 
   enters_with : (call : Call) → performed after_trap machine.shared call ≡ entry after_trap machine.shared
       → handled_cause after_trap machine.shared trap trap.cause ≡ performed after_trap machine.shared call → view.hart_state.world ≡ Host
@@ -303,12 +298,26 @@ answers_calls hart machine kept trap traps by_ecall =
           (left.0 ∙ exited_is hart machine k trap host by_ecall test, left.1);
     }
 
-pub create_law : (hart : ℕ) (machine : MonitoredMachine) → Invariant machine → CreateSucceeds hart machine (step_of hart machine)
-create_law hart machine kept trap slot host traps by_ecall key number is =
+pub calls_succeed : (hart : ℕ) (machine : MonitoredMachine) → Invariant machine → CallsSucceed hart machine (step_of hart machine)
+calls_succeed hart machine kept trap traps by_ecall =
     let here = hart_state_of hart machine in
-    let made = create_succeeds machine.shared here.hart.csrs.pmp here.hart.regs slot key number is in
-    let call : call_at hart machine ≡ Some Create =
-    ap (λ (world : World). call_numbered world (register here.hart.regs 17) (register here.hart.regs 16)) host ∙ made.call in
-    let status : status_at hart machine ≡ 0 = ap (λ (world : World). call_status world machine.shared here.hart.csrs.pmp here.hart.regs) host ∙ made.status in
-    subst (λ (o : Option ℕ). Returns hart machine (step_of hart machine) trap (shared_with_new machine.shared here.hart.regs) 0 (option_case o 13 (λ k. k)))
-    made.lowest ((answers_calls hart machine kept trap traps by_ecall).creates call status)
+    let regs = here.hart.regs in
+    let answers = answers_calls hart machine kept trap traps by_ecall in
+    let accepts = accepts_calls machine.shared here.hart.csrs.pmp regs in
+    -- an accepted call, of the world that runs
+    let At : World → Call → Type 0 = λ world call. IsAccepted world machine.shared here.hart.csrs.pmp regs call in
+    let of : (world : World) (call : Call) → here.world ≡ world → At world call → At here.world call =
+    λ world call is. subst (λ (w : World). At w call) (sym is) in
+    record {
+      create = λ slot host asks is.
+          let made = accepts.create slot asks is in
+          let it = of Host Create host made.0 in
+          subst (λ (o : Option ℕ). Returns hart machine (step_of hart machine) trap (shared_with_new machine.shared regs) 0 (option_case o 13 (λ k. k)))
+          made.1 (answers.creates it.requested it.status);
+      destroy = λ host asks is. let it = of Host Destroy host (accepts.destroy asks is) in answers.destroys it.requested it.status;
+      run = λ host asks is. let it = of Host Run host (accepts.run asks is) in answers.runs host it.requested it.status;
+      resume = λ host asks is. let it = of Host Resume host (accepts.resume asks is) in answers.resumes host it.requested it.status;
+      measure = λ asks is. let it = accepts.measure here.world asks is in answers.measures it.requested it.status;
+      stop = λ k host runs waiting asks. let it = of (Enclave k) Stop runs (accepts.stop k asks) in answers.stops k host runs waiting it.requested;
+      exit = λ k host runs waiting asks. let it = of (Enclave k) Exit runs (accepts.exit k asks) in answers.exits k host runs waiting it.requested;
+    }

@@ -20,7 +20,7 @@ pub use Rattle.rv_monitor.specs.Debugger.{changed, reg_set, timer_line_set}
 pub use Rattle.rv_monitor.specs.HartLaws.{EntryLaw, IsUndisturbed, LowStepsLaw, RunningLaw, RunsOnNone, SchedChangeLaw, SchedInvariantLaw}
 pub use Rattle.rv_monitor.specs.HartLaws.{SchedLaw, SchedIntegrityLaw, sched}
 pub use Rattle.rv_monitor.specs.Integrity.{KeepsRunning, IsPreserved, IsUntouched, enters}
-pub use Rattle.rv_monitor.specs.Leaving.{saved_after, left_hart, left_shared, line_after, enclave_state_after}
+pub use Rattle.rv_monitor.proofs.LeftMachine.{saved_after, left_hart, left_shared, line_after, enclave_state_after}
 pub use Rattle.rv_monitor.specs.MonitoredMachine.{HostContextsAreLegal, HasPmpLayout, HostContextIsLegal, Invariant, HartViewInvariant}
 pub use Rattle.rv_monitor.specs.MonitoredMachine.{HartInvariant, HostContextInvariant, MonitoredMachine, HartView}
 pub use Rattle.rv_monitor.specs.MonitoredMachine.{count_of, machine_of_parts, hart_state_at_start, hart_state_of, reprogrammed}

@@ -5,7 +5,7 @@ use Rattle.rv_state.specs.declared.cause.Cause.TheVariants as causes
 use Rattle.rv_platform.specs.declared.block.Block.{Block}
 use Rattle.rv_monitor.specs.Prelude.{Cause, Context, CsrState, EnclaveState, Hart, Host, HartState, Slots, Trap, has, is_host}
 use Rattle.rv_monitor.specs.Prelude.{is_live, option_case, ram_base, slot_at, with_return_values, with_slot, with_state}
-use Rattle.rv_monitor.specs.Leaving.{left_csrs, left_machine}
+use Rattle.rv_monitor.proofs.LeftMachine.{left_csrs, left_machine}
 use Rattle.rv_monitor.specs.Declassification.{SameHandoverBy, SameHost, unswitched}
 use Rattle.rv_monitor.proofs.Prelude.{EquivExcept, Invariant, MonitoredMachine, HartStatesEquivExcept, SlotInfo, at_other, at_same, both_ways, cases_lt, count_of}
 use Rattle.rv_monitor.proofs.Prelude.{enclave_state_after, get_or-map, saved_after, left_hart, length-map, length-set, live_in_range}

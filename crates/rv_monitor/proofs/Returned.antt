@@ -3,7 +3,7 @@
 use Rattle.std.proofs.Common.{◌≡◌, ◌<◌, ℕ, true, false, List, [], ◌∷◌, Option, Some, None, refl, sym, ap, ◌∙◌, subst, inl, inr}
 use Rattle.std.specs.Prelude.{not, is_some}
 use Rattle.rv_monitor.specs.Prelude.{Context, S, HartState, is_host, with_return_values}
-use Rattle.rv_monitor.specs.Refused.{past_ecall}
+use Rattle.rv_monitor.specs.TrapReturns.{past_ecall}
 use Rattle.rv_monitor.specs.Returns.{RunsThrough, HostIsRestored, ReturnLaw}
 use Rattle.rv_monitor.proofs.Prelude.{HostContextIsLegal, Invariant, HostContextInvariant, MonitoredMachine, HartView, HartViewStepped, StaysOrSwitches}
 use Rattle.rv_monitor.proofs.Prelude.{both_ways, cases_eq, cases_lt, count_of, monitored_step, reason, saved, sched, hart_state_of, hart_view}

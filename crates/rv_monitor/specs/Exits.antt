@@ -8,7 +8,7 @@ use Rattle.rv_state.specs.declared.cause.Interrupt.{Interrupt}
 use Rattle.rv_state.specs.declared.cause.Interrupt.TheVariants.{MachineTimer}
 use Rattle.rv_monitor.specs.Prelude.{Call, Cause, CsrState, Enclave, EnvironmentCallFromS, Exit, Hart, HartState, M, Mode, S, Stop, Trap, U, aligned_to_4}
 use Rattle.rv_monitor.specs.Prelude.{is_host, requested_call}
-use Rattle.rv_monitor.specs.Refused.{passed_csrs}
+use Rattle.rv_monitor.specs.TrapReturns.{passed_csrs}
 use Rattle.rv_monitor.specs.MonitoredMachine.{MonitoredMachine, hart_state_of, with_hart_state}
 use Rattle.rv_monitor.specs.Step.{MonitoredStepped}
 

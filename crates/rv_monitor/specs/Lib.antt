@@ -1,6 +1,6 @@
 pub mod Prelude
 pub mod CallRefusals
-pub mod Refused
+pub mod TrapReturns
 pub mod MonitoredMachine
 pub mod HartLaws
 pub mod Events
@@ -10,7 +10,7 @@ pub mod FastSteps
 pub mod Switches
 pub mod SwitchLaws
 pub mod StepLaws
-pub mod Leaving
+pub mod Reset
 pub mod Returns
 pub mod Debugger
 pub mod EquivExcept

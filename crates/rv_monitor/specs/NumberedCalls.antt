@@ -4,13 +4,15 @@
 use Rattle.std.specs.Prelude.{◌≡◌, ◌≢◌, ℕ, Bool, false, List, map, replicate, slice_index_or, slice_set, Option, Some, None}
 use Rattle.rv_state.specs.declared.cause.Cause.TheVariants as causes
 use Rattle.rv_state.specs.declared.cause.Interrupt.{Interrupt}
-use Rattle.rv_enclaves.specs.CallNumbers.{IsCreatable, call_numbered, call_status, lowest_free, shared_with_measurement, shared_with_new, shared_without, slot_named}
+use Rattle.rv_enclaves.specs.CallNumbers.{HasState, IsAtRest, IsCreatable, IsMeasurable, Requests, call_numbered, call_status, lowest_free}
+use Rattle.rv_enclaves.specs.CallNumbers.{shared_with_measurement, shared_with_new, shared_without, slot_named}
+use Rattle.rv_enclaves.specs.declared.slot_info.EnclaveState.TheVariants.{Fresh}
 use Rattle.rv_monitor.specs.Prelude.{Call, Context, Create, Destroy, CsrState, Enclave, EnclaveState, EnvironmentCallFromS, Exit, Exited, Hart, Host}
 use Rattle.rv_monitor.specs.Prelude.{Measure, Resume, Run, Running, S, Shared, Slots, Stop, Stopped, Trap, U, World, aligned_to_4, layout, mie_of}
 use Rattle.rv_monitor.specs.Prelude.{option_case, register, with_register}
 use Rattle.rv_state.specs.CsrTable.{vector_of}
 use Rattle.rv_state.specs.declared.s_context.SContext.{SContext}
-use Rattle.rv_monitor.specs.Refused.{passed_csrs, past_ecall}
+use Rattle.rv_monitor.specs.TrapReturns.{passed_csrs, past_ecall}
 use Rattle.rv_monitor.specs.MonitoredMachine.{MonitoredMachine, hart_state_of, reprogrammed}
 use Rattle.rv_monitor.specs.Step.{MonitoredStepped}
 
@@ -230,10 +232,36 @@ InterruptsEnclave hart before after =
     → (hart_state_of hart before).host_context ≡ Some host → after.outcome.step.trap ≡ Some trap → trap.cause ≡ causes.Interrupt interrupt
     → HandsOver hart before after k trap host (by_interrupt (hart_state_of hart before).hart)
 
--- of a create of the host with good arguments, if this is the lowest free slot
-abbrev pub CreateSucceeds : ℕ → MonitoredMachine → MonitoredStepped → Type 0
-CreateSucceeds hart before after =
-    let regs = regs_at hart before in
-    (trap : Trap) (slot : ℕ) → (hart_state_of hart before).world ≡ Host → after.outcome.step.trap ≡ Some trap
-    → trap.cause ≡ causes.Exception EnvironmentCallFromS → register regs 17 ≡ 0x0A454E43 → register regs 16 ≡ 1
-    → IsCreatable before.shared regs slot → Returns hart before after trap (shared_with_new before.shared regs) 0 slot
+-- ---- the calls that succeed
+
+pub record SucceedsInNumbers (hart : ℕ) (before : MonitoredMachine) (after : MonitoredStepped) (trap : Trap) : Type 0 where
+  -- of the host; this is the lowest free slot
+  pub create : (slot : ℕ) → (hart_state_of hart before).world ≡ Host → Requests 1 (regs_at hart before)
+      → IsCreatable before.shared (regs_at hart before) slot
+      → Returns hart before after trap (shared_with_new before.shared (regs_at hart before)) 0 slot
+  pub destroy : (hart_state_of hart before).world ≡ Host → Requests 2 (regs_at hart before)
+      → IsAtRest before.shared.table (register (regs_at hart before) 10)
+      → Returns hart before after trap (shared_without before.shared (register (regs_at hart before) 10)) 0 0
+  pub run : (hart_state_of hart before).world ≡ Host → Requests 3 (regs_at hart before)
+      → HasState before.shared.table (register (regs_at hart before) 10) Fresh
+      → EntersByCall hart before after trap (register (regs_at hart before) 10)
+  pub resume : (hart_state_of hart before).world ≡ Host → Requests 4 (regs_at hart before)
+      → HasState before.shared.table (register (regs_at hart before) 10) Stopped
+      → EntersByCall hart before after trap (register (regs_at hart before) 10)
+  -- of the host, or of an enclave about itself
+  pub measure : Requests 5 (regs_at hart before)
+      → (let hart_state = hart_state_of hart before in
+      let regs = regs_at hart before in
+      IsMeasurable before.shared hart_state.hart.csrs.pmp (slot_named hart_state.world regs) (register regs 11)
+      → Returns hart before after trap (shared_with_measurement before.shared (slot_named hart_state.world regs) (register regs 11)) 0 0)
+  -- of an enclave, whose host has a saved context
+  pub stop : (k : ℕ) (host : Context) → (hart_state_of hart before).world ≡ Enclave k → (hart_state_of hart before).host_context ≡ Some host
+      → Requests 6 (regs_at hart before) → HandsOver hart before after k trap host (by_stop_call (hart_state_of hart before).hart)
+  pub exit : (k : ℕ) (host : Context) → (hart_state_of hart before).world ≡ Enclave k → (hart_state_of hart before).host_context ≡ Some host
+      → Requests 7 (regs_at hart before) → HandsOver hart before after k trap host (by_exit_call (hart_state_of hart before).hart)
+
+-- of every ecall from S
+abbrev pub CallsSucceed : ℕ → MonitoredMachine → MonitoredStepped → Type 0
+CallsSucceed hart before after =
+    (trap : Trap) → after.outcome.step.trap ≡ Some trap → trap.cause ≡ causes.Exception EnvironmentCallFromS
+    → SucceedsInNumbers hart before after trap

@@ -5,7 +5,7 @@ use Rattle.std.specs.Prelude.{◌≡◌, ℕ, true, false, List, [], ◌∷◌, 
 use Rattle.rv_monitor.specs.Prelude.{S, Trap, is_host, with_return_values}
 use Rattle.rv_monitor.specs.HartLaws.{sched}
 use Rattle.rv_monitor.specs.Switches.{saved}
-use Rattle.rv_monitor.specs.Refused.{past_ecall}
+use Rattle.rv_monitor.specs.TrapReturns.{past_ecall}
 use Rattle.rv_monitor.specs.MonitoredMachine.{MonitoredMachine, HartView, Invariant, HostContextIsLegal, hart_state_of, hart_view}
 use Rattle.rv_monitor.specs.Step.{HartViewStepped, monitored_step, step_of}
 use Rattle.rv_monitor.specs.SwitchLaws.{continuation, reason, value}

@@ -206,17 +206,20 @@ impl MonitoredMachine {
     ghost use Rattle.rv_monitor.specs.EquivExcept.{EquivExcept};
     ghost use Rattle.rv_monitor.specs.Debugger.{with_memory, with_reg, with_timer};
     ghost use Rattle.rv_monitor.specs.FastSteps.{FastSteps};
+    ghost use Rattle.rv_monitor.specs.Reset.{machine_at_reset};
     ghost use Rattle.rv_monitor.specs.Scrambled.{scrambled};
     ghost use Rattle.rv_monitor.specs.MonitoredMachine.{HostContextsAreLegal, Invariant, at_start, count_of, hart_state_of};
     ghost use Rattle.rv_monitor.specs.Step.{step_of};
     ghost use Rattle.rv_monitor.specs.StepLaws.{ObeysStepLaws};
 
     /// Returns the machine at reset with the given memory. On each hart the host runs in mode S with pc at `entry`, and there is no enclave.
-    /// Hart 1, if there are two harts, starts with x10 = 1. `entry` must be a multiple of 4. The machine has no decode cache.
+    /// Hart 1, if there are two harts, starts with x10 = 1. `entry` must be a multiple of 4. The machine has no decode cache. `reset` writes out each
+    /// value.
     #[tactic(auto, unfolding(crate::specs::MonitoredMachine::at_start))]
     pub fn new(ram: Ram, entry: u32, harts: Harts) -> Self
         requires { entry % 4 ≡ 0 }
         ensures start { result ≡ at_start ram entry harts }
+        ensures reset { result ≡ machine_at_reset ram entry harts }
         ensures invariant { Invariant result }
     {
         // gives the prover the invariant of the RAM
@@ -266,11 +269,8 @@ impl MonitoredMachine {
     /// - `keeps_others_running`: an enclave that runs on another hart is not entered, and stays live.
     /// - `noninterference`: take an enclave that is not the world of this hart, wherever it runs. Neither the outcome nor the new state depends
     ///   on its region, its saved context or its hart. If the step enters the enclave, the exception is the hart on which it then runs.
-    /// - `refuses`: a refused call changes only a0, a1, pc, and what every trap and return change.
     /// - `switches`: one of three cases applies. The world continues. Or the host enters an enclave, and its context is saved as it was, to
     ///   continue after its ecall. Or an enclave exits, and the host is restored except for a0 and a1.
-    /// - `leaves`: if an enclave exits, few things change besides the switch. They are the state in its record, the timer line after a timer
-    ///   interrupt, and what every trap and return change.
     /// - `reads`: a step that traps depends, in memory, only on the region that create measures. The only saved context that it depends on is
     ///   the one that is entered.
     /// - `enters`: if an enclave is entered, the hart has exactly its saved context, and the host's is saved. Everything else is as before,
@@ -280,13 +280,13 @@ impl MonitoredMachine {
     ///   mode S, and changes nothing else.
     /// - `enclave_step`: a step of an enclave depends only on its record, its region and window, its registers and its timer line.
     /// - `timer`: if the timer line of an enclave's hart is set, the step exits to the host, and a destroy of the enclave is not refused then.
-    /// - `destroys`: a destroy of a live enclave that does not run succeeds.
     /// - `guest_view`: the step reads no counter, and none of mepc, mcause, mtval, MPIE and MPP.
     /// - `as_created`: a new enclave is Fresh, with its first context and the measurement of its record and region. It stays so until it is
     ///   entered or destroyed.
     /// - `answers`: each ecall from S has the effect and the status that its numbers name, with the key in a7 and the call in a6. The statuses and
     ///   their order, the states that each call accepts, the record of a new enclave and its measurement are written out there.
-    /// - `create`: a create of the host with good arguments succeeds if a slot is free, and returns the lowest one.
+    /// - `succeeds`: a call with good arguments succeeds. A create needs a free slot and returns the lowest one. A destroy needs an enclave that does
+    ///   not run, a run a Fresh one, and a resume a Stopped one.
     /// - `interrupts`: a timer interrupt stops the enclave where it is, hands over 2 and 0, and clears the line.
     /// - `plain`: a step without a trap is that of its hart alone.
     /// - `host`: the host takes no interrupt, even if its timer line is set. An exception of it that is no call goes to its own mode S.

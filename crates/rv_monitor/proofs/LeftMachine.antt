@@ -1,15 +1,12 @@
--- The machine after an enclave exits, by exit, by stop or by the timer. Its registers go into its saved context, and the host's are restored.
--- Everything else is as before, except the state in its record, the timer line after a timer interrupt, and what every trap and its return
--- change. (A law about the monitor's definitions; Keystone, EuroSys 2020, in this project's profile.)
-use Rattle.std.specs.Prelude.{◌≡◌, ℕ, ◌==◌, Bool, false, List, map, slice_set, Some, None, if◌then◌else◌}
+-- The machine after an enclave exits, by exit, by stop or by the timer, as one function of the cause. The laws write out each of the three.
+use Rattle.std.specs.Prelude.{ℕ, ◌==◌, Bool, false, List, map, slice_set, Some, None, if◌then◌else◌}
 use Rattle.rv_state.specs.declared.cause.Cause.TheVariants as causes
-use Rattle.rv_monitor.specs.Prelude.{Cause, Context, CsrState, Enclave, EnclaveState, Exit, Exited, Hart, Host, S, Shared, Slots, Stopped}
+use Rattle.rv_monitor.specs.Prelude.{Cause, Context, CsrState, EnclaveState, Exit, Exited, Hart, Host, S, Shared, Slots, Stopped}
 use Rattle.rv_monitor.specs.Prelude.{Trap, aligned_to_4, call_number, exited_context, layout, mie_of, register, with_return_values, with_context}
 use Rattle.rv_monitor.specs.Prelude.{with_s_context, with_state}
 use Rattle.rv_monitor.specs.Switches.{saved}
-use Rattle.rv_monitor.specs.Refused.{passed_csrs, past_ecall}
+use Rattle.rv_monitor.specs.TrapReturns.{passed_csrs, past_ecall}
 use Rattle.rv_monitor.specs.MonitoredMachine.{MonitoredMachine, hart_state_of, reprogrammed}
-use Rattle.rv_monitor.specs.Step.{MonitoredStepped}
 use Rattle.rv_monitor.specs.SwitchLaws.{reason, value}
 
 -- ---- the saved context of the enclave
@@ -69,11 +66,3 @@ left_machine own before k trap host =
           (record { hart = left_hart hart shared.table trap host; host_context = None; world = Host });
       shared = shared;
     }
-
--- Let an enclave run, the host have a saved context, the step trap, and the host run after it. The step then leaves this state and enters no
--- slot.
-abbrev pub LeavesOnly : ℕ → MonitoredMachine → MonitoredStepped → Type 0
-LeavesOnly hart before after =
-    (k : ℕ) (host : Context) (trap : Trap) → (hart_state_of hart before).world ≡ Enclave k → (hart_state_of hart before).host_context ≡ Some host
-    → after.outcome.step.trap ≡ Some trap → (hart_state_of hart after.state).world ≡ Host
-    → (after.state ≡ left_machine hart before k trap host) × (after.outcome.entered ≡ None)

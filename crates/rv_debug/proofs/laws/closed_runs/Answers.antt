@@ -1,0 +1,9 @@
+use Rattle.rv_debug.proofs.HostRun.{host_run}
+use Rattle.rv_debug.proofs.SecretRun.{secret_run}
+use Rattle.rv_debug.proofs.laws.closed_runs.Goals as goal
+
+pub returns-clause-secret : goal.returns-clause-secret
+returns-clause-secret c = secret_run
+
+pub returns-clause-host : goal.returns-clause-host
+returns-clause-host c = host_run

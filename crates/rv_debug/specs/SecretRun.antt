@@ -1,0 +1,76 @@
+-- A closed instance of the law of declassification. The host of a machine at reset creates an enclave, and two secrets are put into its region. It
+-- runs and loads its secret to a0. The timer interrupts it there, and the host resumes it. (An instance of this project's own law; declassification:
+-- Sabelfeld and Sands, JCS 2009.)
+use Rattle.std.specs.Prelude.{ℕ, ◌≡◌, true, false, List, [], ◌∷◌, ◌++◌, replicate, slice_index}
+use Rattle.rv_platform.specs.declared.harts.Harts.TheVariants.{One}
+use Rattle.rv_monitor.specs.Debugger.{with_memory, with_timer}
+use Rattle.rv_monitor.specs.Declassification.{AreMoves, Both, First, Move, MovedAlike, Second}
+use Rattle.rv_monitor.specs.Events.{LineOf, StepOf}
+use Rattle.rv_monitor.specs.MonitoredMachine.{MonitoredMachine, at_start, hart_state_of, with_hart_state}
+use Rattle.rv_monitor.specs.Step.{step_of}
+
+-- ecall (create); addi a6, zero, 3; ecall (run); addi a0, zero, 0; addi a6, zero, 4; ecall (resume)
+abbrev pub calling_host : List ℕ
+calling_host =
+    0x73 ∷ 0 ∷ 0 ∷ 0 ∷ 0x13 ∷ 0x08 ∷ 0x30 ∷ 0 ∷ 0x73 ∷ 0 ∷ 0 ∷ 0
+    ∷ 0x13 ∷ 0x05 ∷ 0 ∷ 0 ∷ 0x13 ∷ 0x08 ∷ 0x40 ∷ 0 ∷ 0x73 ∷ 0 ∷ 0 ∷ 0 ∷ []
+
+-- lw a0, 256(a0); addi a0, zero, 0
+abbrev pub secret_enclave : List ℕ
+secret_enclave = 0x03 ∷ 0x25 ∷ 0x05 ∷ 0x10 ∷ 0x13 ∷ 0x05 ∷ 0 ∷ 0 ∷ []
+
+abbrev pub before_secret : List ℕ
+before_secret = replicate 65536 0 ++ (calling_host ++ (replicate 32744 0 ++ (secret_enclave ++ replicate 248 0)))
+
+abbrev pub secret_ram : ℕ → List ℕ
+secret_ram secret = before_secret ++ (secret ∷ replicate 32511 0)
+
+-- a create of the page at 80018000, without a window
+abbrev pub secret_asking : List ℕ
+secret_asking = 0 ∷ 0 ∷ 0 ∷ 0 ∷ 0 ∷ 0 ∷ 0 ∷ 0 ∷ 0 ∷ 0 ∷ 0x80018000 ∷ 0x1000 ∷ 0 ∷ 0 ∷ 0x80018000 ∷ 0 ∷ 1 ∷ 0x0A454E43 ∷ replicate 14 0
+
+abbrev pub secret_reset : MonitoredMachine
+secret_reset = at_start (secret_ram 0) 0x80010000 One
+
+abbrev pub secret_start : MonitoredMachine
+secret_start =
+    let hart_state = hart_state_of 0 secret_reset in
+    with_hart_state 0 (record hart_state { hart = record hart_state.hart { regs = secret_asking; csrs = record hart_state.hart.csrs { timer = false } } }) secret_reset
+
+abbrev pub secret_next : MonitoredMachine → MonitoredMachine
+secret_next machine = (step_of 0 machine).state
+
+-- after create, with a secret in the region
+abbrev pub secret_new : ℕ → MonitoredMachine
+secret_new secret = with_memory (secret_next secret_start) (secret_ram secret)
+
+-- after run, and one step later with the timer line set
+abbrev pub secret_entered : ℕ → MonitoredMachine
+secret_entered secret = secret_next (secret_next (secret_new secret))
+
+abbrev pub secret_raised : ℕ → MonitoredMachine
+secret_raised secret = with_timer 0 (secret_next (secret_entered secret)) true
+
+-- after the interrupt, and after resume
+abbrev pub secret_interrupted : ℕ → MonitoredMachine
+secret_interrupted secret = secret_next (secret_raised secret)
+
+abbrev pub secret_resumed : ℕ → MonitoredMachine
+secret_resumed secret = secret_next (secret_next (secret_next (secret_interrupted secret)))
+
+-- ---- the instance
+
+abbrev pub secret_moves : List Move
+secret_moves =
+    Both (StepOf 0) ∷ Both (StepOf 0) ∷ First 0 ∷ Second 0 ∷ Both (LineOf 0 true) ∷ Both (StepOf 0) ∷ Both (StepOf 0) ∷ Both (StepOf 0) ∷ Both (StepOf 0)
+    ∷ First 0 ∷ Second 0 ∷ []
+
+-- for all secrets: these are moves, and every low step has equal outcomes
+pub record IsConcealed (a b : ℕ) : Type 0 where
+  pub are : AreMoves 0 secret_moves (secret_new a) (secret_new b)
+  pub alike : MovedAlike 0 secret_moves (secret_new a) (secret_new b)
+
+-- a secret is in a0 when the timer interrupts the enclave
+pub record SecretRunLaw : Type 0 where
+  pub concealed : (a b : ℕ) → IsConcealed a b
+  pub in_a0 : slice_index (hart_state_of 0 (secret_raised 0x41)).hart.regs 10 ≡ 0x41

@@ -1,0 +1,64 @@
+-- The machine at reset in numbers. The manual leaves most of these values open; this project chooses them. (Reset: RISC-V Privileged Architecture
+-- 20211203, section 3.4; the values of pmpcfg and pmpaddr: section 3.7.1.)
+use Rattle.std.specs.Prelude.{ℕ, false, List, [], ◌∷◌, ◌++◌, replicate, None}
+use Rattle.rv_monitor.specs.Prelude.{HartState, Host, S, U}
+use Rattle.rv_monitor.specs.MonitoredMachine.{MonitoredMachine}
+use Rattle.rv_platform.specs.declared.harts.Harts.{Harts}
+use Rattle.rv_platform.specs.declared.harts.Harts.TheVariants.{One, Two}
+
+-- The host is in S at the entry address, and every register but a0 is 0. Entry 0 of the PMP denies the monitor's range, 80000000 to 8000FFFF, and
+-- entry 15 grants the rest. No interrupt is enabled.
+abbrev pub hart_at_reset : ℕ → ℕ → HartState
+hart_at_reset entry a0 = record {
+  hart = record {
+    regs = replicate 10 0 ++ a0 ∷ replicate 21 0;
+    csrs = record {
+      mstatus = record {
+        sie = false;
+        mie = false;
+        spie = false;
+        mpie = false;
+        spp = false;
+        mpp = U;
+        mprv = false;
+        mxr = false;
+        tvm = false;
+        tw = false;
+        tsr = false;
+      };
+      mie = 0;
+      mtvec = 0;
+      mcountinhibit = 0;
+      mscratch = 0;
+      mepc = 0;
+      mcause = 0;
+      mtval = 0;
+      software_pending = 0;
+      timer = false;
+      pmp = record { cfgs = 0x18 ∷ replicate 14 0 ++ 0x1F ∷ []; addrs = 0x20001FFF ∷ replicate 14 0 ++ 0xFFFFFFFF ∷ [] };
+      mcycle = 0;
+      minstret = 0;
+      stvec = 0;
+      sscratch = 0;
+      sepc = 0;
+      scause = 0;
+      stval = 0;
+    };
+    pc = entry;
+    mode = S;
+  };
+  host_context = None;
+  world = Host;
+}
+
+-- hart 0 has 0 in a0, and hart 1 has 1
+abbrev pub harts_at_reset : Harts → ℕ → List HartState
+harts_at_reset One entry = hart_at_reset entry 0 ∷ []
+harts_at_reset Two entry = hart_at_reset entry 0 ∷ hart_at_reset entry 1 ∷ []
+
+-- there is no enclave, in none of the thirteen slots
+abbrev pub machine_at_reset : List ℕ → ℕ → Harts → MonitoredMachine
+machine_at_reset memory entry harts = record {
+  hart_states = harts_at_reset harts entry;
+  shared = record { memory = memory; table = replicate 13 None; contexts = replicate 13 None };
+}
