@@ -74,3 +74,13 @@ def test_finding_that_is_not_confirmed_is_none(bench, monkeypatch, capsys):
     status = main([str(it) for it in (*words("store_leaking"), *KEY)])
     output = capsys.readouterr().out
     assert status == 3 and "NOT TO BE TRUSTED: the replay of the finding" in output and "COMPLETE" not in output
+
+
+def test_each_byte_of_the_key_matters(results):
+    found = results(*words("store"), *KEY, "--must-matter", "key:32")
+    assert verdicts(found)["influence"] == "PROVED" and found[-1]["complete"]
+
+
+def test_byte_that_does_not_matter_is_not_proved(results):
+    found = results(*words("adds"), "--at", "80020800:4", "--must-matter", "80020800:4", status=3)
+    assert verdicts(found)["influence"] == "NOT DECIDED" and not found[-1]["complete"]

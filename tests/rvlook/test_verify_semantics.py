@@ -1,4 +1,4 @@
-"""The machine of `verify` computes what rvbench does, on random instructions: with numbers, with expressions, and by z3. Planted errors are noticed."""
+"""The machine of `verify` computes what rvbench does, on random instructions: with numbers, with expressions, and by z3. Errors are noticed."""
 import os
 
 import pytest

@@ -92,6 +92,9 @@ def asked_member(state: Accesses, x: Node, width: int, tag: Origin, offset: int,
     if member.is_union:
         s.doubt(kind, state, UNION)
         return
+    whole = s.extents.variable(low)
+    if (low, member.size) == (whole.low, whole.high - whole.low) and not member.row:
+        return  # the variable is the array
     terms, constant = linear(operation("sub", x, low))
     if member.row and not any(factor % member.row == 0 for factor in terms.values()):
         ask_flat(state, x, width, found, kind)

@@ -93,13 +93,13 @@ def answers(search: Search) -> List[Answer]:
                 why = "; ".join(sorted(search.reasons.get((what, pc), ())))
                 it.places.append("%s at %s%s, %d times" % (what, search.world.place(pc), ": " + why if why else "", count))
         it.places += ["the end of the loop at %s" % search.world.place(pc) for pc in search.loops.endless()] if name == "returns" else []
-        it.places += influences(search, is_complete) if name == "influence" else []
+        it.places += influences(search) if name == "influence" else []
         it.verdict = FOUND if it.findings else NOT_DECIDED if it.places else it.verdict
         found.append(it)
     return found
 
 
-def influences(search: Search, _: bool) -> List[str]:
+def influences(search: Search) -> List[str]:
     """Returns the bytes of the secret that no output is known to depend on."""
     missing = [at for at in search.world.must_matter if "k_%08x" % at not in search.matters]
     return ["no output is known to depend on %d bytes, the first at %08x" % (len(missing), missing[0])] if missing else []
@@ -107,7 +107,8 @@ def influences(search: Search, _: bool) -> List[str]:
 
 def is_complete(search: Search) -> bool:
     """Returns whether all questions are answered for all paths."""
-    return not gone(search) and not untrusted(search) and not search.undecided and not search.loops.endless()
+    is_open = search.undecided or search.loops.endless() or search.options.must_matter and influences(search)
+    return not gone(search) and not untrusted(search) and not is_open
 
 
 def covered(search: Search) -> str:
