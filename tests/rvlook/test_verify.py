@@ -84,3 +84,11 @@ def test_each_byte_of_the_key_matters(results):
 def test_byte_that_does_not_matter_is_not_proved(results):
     found = results(*words("adds"), "--at", "80020800:4", "--must-matter", "80020800:4", status=3)
     assert verdicts(found)["influence"] == "NOT DECIDED" and not found[-1]["complete"]
+
+
+def test_missing_z3_is_reported(rvlook, tmp_path):
+    (tmp_path / "z3.py").write_text("raise ImportError\n")
+    done = rvlook(*words("adds"), env={"PYTHONPATH": str(tmp_path)})
+    assert done.returncode == 2
+    assert done.stderr == ("rvlook: error: z3 is not installed, so verify cannot decide which paths exist; "
+                           "install it with 'apt-get install python3-z3'\n")
