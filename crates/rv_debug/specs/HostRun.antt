@@ -1,5 +1,5 @@
 -- A closed instance of the law about the whole life of an enclave. The hosts of two machines differ in a byte of the window, in the number of harts,
--- in the hart that runs the enclave, and in the schedule: one interrupts the enclave and resumes it. (An instance of this project's own law.)
+-- and in the hart that runs the enclave. Only one of them interrupts the enclave, and resumes it. (An instance of this project's own law.)
 use Rattle.std.specs.Prelude.{ℕ, ◌≡◌, true, false, List, [], ◌∷◌, ◌++◌, replicate, slice_index}
 use Rattle.rv_platform.specs.declared.harts.Harts.{Harts}
 use Rattle.rv_platform.specs.declared.harts.Harts.TheVariants.{One, Two}

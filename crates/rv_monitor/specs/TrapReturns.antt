@@ -1,4 +1,4 @@
--- What every trap of a world and the return from it change, whatever the trap handler does. (Trap and return: RISC-V Privileged Architecture
+-- The changes that each trap of a world and the return from it make, whatever the handler does. (Trap and return: RISC-V Privileged Architecture
 -- 20211203, sections 3.1.6.1 and 3.1.14 to 3.1.16. Count of cycles: section 3.1.10.)
 use Rattle.std.specs.Prelude.{ℕ, true}
 use Rattle.rv_state.specs.Causes.{cause_code}
