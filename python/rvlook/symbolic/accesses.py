@@ -163,8 +163,7 @@ class Accesses(Paths):
         s, w = self.search, self.search.world
         window = Extent(*w.window, "the window", True)
         if tag is None or tag.how is How.NONE:
-            usual = s.usual_objects.get((self.context, self.pc), [])
-            return ([window] + [it for it in usual if it[:2] != w.window] if x.taint & INPUT or usual else []), not usual
+            return ([window] if x.taint & INPUT else []), True  # a pointer of the host
         objects = self.objects_of(tag, offset)
         is_sure = tag.how is How.FRAME or any(it.is_start or (self.pc, it[:2]) in s.landed for it in objects)
         if len(objects) == 1 and not is_sure:

@@ -13,7 +13,7 @@ from rvlook.symbolic.outputs import Outputs
 from rvlook.symbolic.words import not_, operation
 
 if TYPE_CHECKING:
-    from rvlook.symbolic.extents import Extent, Extents
+    from rvlook.symbolic.extents import Extents
     from rvlook.symbolic.instructions import Step
     from rvlook.symbolic.origins import Tag
     from rvlook.symbolic.fields import AnyState as State
@@ -35,7 +35,6 @@ class Judge(Outputs):
         self.written: Set[int] = set()  # the words of the region that any path stores to
         self.saved: Dict[int, Set[int]] = {}  # the addresses at which a call saves registers
         self.assumptions: Set[int] = set()  # the assumptions of the enclave that some input does not fulfil
-        self.usual_objects: Dict[Place, List[Extent]] = {}
         self.usual_moves: Set[Place] = set()
         self.landed: Set[Tuple[int, Tuple[int, int]]] = set()  # an instruction, and an object that it reaches
         self.again: Set[Tuple[Place, Place]] = set()

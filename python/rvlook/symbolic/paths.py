@@ -1,8 +1,6 @@
 """Divides a path: at branches, and at words that must be numbers. Asks whether two secrets give different values."""
 from __future__ import annotations
 
-from typing import List
-
 from rvlook.symbolic.conditions import differ, eq
 from rvlook.symbolic.fields import MERGED_LOOP, Ended, Fields
 from rvlook.symbolic.nodes import SECRET, Condition, Node, Word
@@ -129,11 +127,3 @@ class Paths(Fields):
         it.model, it.rejoined = model, (it.before, tried)
         it.conds.append(condition)
         self.search.later(it)
-
-    def addresses_of_calls(self) -> List[int]:
-        """Returns the return addresses of the calls that are open, the innermost first."""
-        found, calls = [], self.calls
-        while calls:
-            calls, _, back, _ = calls
-            found.append(back)
-        return found

@@ -6,7 +6,7 @@ import time
 from collections import Counter
 from typing import Any, Counter as Counts, List, Optional, Set, Tuple, TYPE_CHECKING
 
-from rvlook.symbolic.extents import Extent, Extents
+from rvlook.symbolic.extents import Extents
 from rvlook.symbolic.fields import CSRS, AnyState, Ended
 from rvlook.symbolic.judge import Judge
 from rvlook.symbolic.loops import Loops
@@ -160,12 +160,3 @@ class Search(Judge):
         finally:
             self.is_trial = False
         self.report("stuck", state, "never returns", state.model)
-
-    # ---- objects that the run itself reaches without an origin
-
-    def note_usual(self, state: AnyState, at: int) -> None:
-        """Notes the object that an access without an origin reaches in the run itself."""
-        it: Optional[Extent] = self.extents.at(state, at, None)
-        objects = self.usual_objects.setdefault((state.context, state.pc), [])
-        if it is not None and it not in objects:
-            objects.append(it)
