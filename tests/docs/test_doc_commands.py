@@ -72,7 +72,7 @@ def check_page(clone, page):
                               check=False)
         assert done.returncode == 0, (script, done.stderr[-400:])
         assert wanted is None or matches(done.stdout.rstrip("\n").split("\n"), wanted), (script, done.stdout)
-    assert count > 4
+    assert count > 3
 
 
 pytestmark = pytest.mark.skipif(not shutil.which("clang") and not shutil.which("riscv64-unknown-elf-gcc"), reason="no compiler for RISC-V")

@@ -88,6 +88,16 @@ class Cases:
             "the bytes at ADDRESS are outside the RAM": ("leak", SUM, "--at", "8ffffff0", "00", "01"),
             "--steps COUNT ended the run while it": ("leak", IMAGES + "/leak_bare/image", "--at", "80000300", "00", "01", "--steps", "5")}
 
+    @staticmethod
+    def of_verify():
+        """Messages of `verify`."""
+        first = ("verify", "--monitor", ADDS)
+        return {
+            "--public, --wiped": (*first, "--wiped"), "--at and --must-know": (*first, "--at", "80020000:4", "--must-know", "80020000:4"),
+            "--must-matter names": (*first, "--at", "80020000:4", "--must-matter", "80020010:4"),
+            "verify needs bytes": (*first, "--at", "a0@80020000"),
+            "'TEXT' is no number": (*first, "--at", "80020000:4", "--public", "answer@answer=x")}
+
     def of_races(self):
         """Messages of `races`."""
         files = self.files
@@ -177,7 +187,7 @@ class Cases:
 
     def all(self):
         """Returns the function of each case, by the beginning of its line."""
-        simple = {**self.of_images(), **self.of_finders(), **self.of_races(), **self.of_run(), **self.of_monitors(), **self.of_arguments()}
+        simple = {**self.of_images(), **self.of_finders(), **self.of_verify(), **self.of_races(), **self.of_run(), **self.of_monitors(), **self.of_arguments()}
         return {**{name: lambda words=words: self.runs.run(words) for name, words in simple.items()}, **self.special()}
 
 

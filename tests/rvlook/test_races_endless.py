@@ -8,6 +8,7 @@ import pytest
 
 from models import final_states as model
 
+SLACK = 3  # seconds beyond a limit, on a machine that has other work
 WATCHED = ("80011000:16", "0.t0", "1.t0")
 REGISTERS = ((0, 5), (1, 5))
 NOP = ("addi", 0, 0, 0)
@@ -130,7 +131,7 @@ def test_time_limit_holds(rvlook, tmp_path, first, second, seconds=3):
     path, start = write(tmp_path, model.linked(first, second)), time.monotonic()
     done = rvlook("races", "--monitor", "--harts", "2", "--ram", "131072", path, "--seconds", seconds, "--steps", "1000000000",
                   "--forbid", "80011000 == 70000000", timeout=60)
-    assert time.monotonic() - start < seconds + 1.2
+    assert time.monotonic() - start < seconds + SLACK
     assert "stopped by --seconds" in done.stdout
     assert done.returncode != 0
 

@@ -41,7 +41,7 @@ class World:
         self.windows: List[bytearray] = []
         self.visits = list(self.activations())
         if not self.visits:
-            raise Unfinished("the enclave in slot %d is never entered" % self.slot)
+            raise Unfinished("no enclave in slot %d" % self.slot)
         self.enclave = self.first_entry()
         self.contexts = Contexts()
         self.has_checks = any(self.memory[at:at + 4] == CHECK for at in range(0, len(self.memory), 4))
@@ -63,7 +63,7 @@ class World:
         for text in places:
             it = secret_of(text, self.symbols, self.run, self.slot)
             if it.register or not self.region[0] <= it.at <= it.at + len(it.bytes) <= self.region[1]:
-                raise RvlookError("verify needs bytes in the region of e%d, not '%s'; use PLACE[:BYTES]" % (self.slot, text))
+                raise RvlookError("verify needs bytes in the region of the enclave in slot %d, not '%s'; use PLACE[:BYTES]" % (self.slot, text))
             found.update((it.at + n, self.memory[it.at + n - self.region[0]]) for n in range(len(it.bytes)))
         return found
 
