@@ -78,3 +78,16 @@ def test_guard_shows_a_bar_and_reports_what_it_has(stopped):
     kinds = [it["object"] for it in found]
     assert (status, shown >= TIMES) == (130, True)
     assert TIMES <= kinds.count("guarded_run") < 61 and kinds[-1] == "owner" and "guarded_twins" not in kinds
+
+
+def test_no_progress_is_shown_to_a_caller_that_takes_the_messages():
+    import io
+    from rvlook.errors import heard
+    from rvlook.output.progress import Progress
+
+    class Terminal(io.StringIO):
+        def isatty(self):
+            return True
+    assert Progress(Terminal()).is_shown
+    with heard():
+        assert not Progress(Terminal()).is_shown

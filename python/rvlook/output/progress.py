@@ -1,10 +1,11 @@
-"""Shows the progress of a long task in a line on a terminal. Writes nothing if standard error is no terminal."""
+"""Shows the progress of a long task in a line on a terminal. Writes nothing if standard error is no terminal, or if a caller takes the messages."""
 from __future__ import annotations
 
 import sys
 import time
 from typing import TextIO
 
+from rvlook.errors import HEARD
 from rvlook.escapes import visible
 
 EVERY = 0.2  # seconds
@@ -15,7 +16,7 @@ class Progress:
 
     def __init__(self, stream: TextIO | None = None) -> None:
         self.stream = stream or sys.stderr
-        self.is_shown, self.last, self.width = self.stream.isatty(), time.monotonic(), 0
+        self.is_shown, self.last, self.width = self.stream.isatty() and not HEARD, time.monotonic(), 0
 
     def __enter__(self) -> Progress:
         return self
