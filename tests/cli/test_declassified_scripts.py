@@ -1,8 +1,8 @@
 """Pairs of scripts that run an enclave and differ in a secret of it: others observe the same output.
 
-The clause `declassification` of `run_stream` (docs/LAWS.md, "Scripts that run an enclave") is about all such pairs. Each test takes a script of
-the examples, and pokes two secrets into the region before the enclave is first entered. The steps of the enclave use them. The test checks the
-premises of the theorem on both runs of the built program, step by step. Then it compares what others observe.
+The law `noninterference_with_declassification` of `rv_bench` (docs/LAWS.md, "Scripts that run an enclave") is about all such pairs. Each test
+takes a script of the examples, and pokes two secrets into the region before the enclave is first entered. The steps of the enclave use them. The
+test checks the premises of the theorem on both runs of the built program, step by step. Then it compares what others observe.
 """
 import subprocess
 from typing import NamedTuple

@@ -16,24 +16,20 @@ use Rattle.rv_debug.specs.Targets.{TargetInvariant}
 use Rattle.rv_debug.proofs.Declassification.{declassification, relation_law}
 use Rattle.rv_debug.proofs.Ended.{ended_law}
 use Rattle.rv_debug.proofs.LowCommands.{low_command}
-use Rattle.rv_command_line.specs.declared.job.Job.{Job}
-use Rattle.rv_command_line.specs.declared.job.Job.TheVariants.{Run, Twin, Asm, Dis}
 use Rattle.rv_command_line.specs.declared.setup.Setup.{Setup}
 use Rattle.rv_streams.specs.Separator.{after_separator, has_separator}
 use Rattle.rv_streams.specs.declared.fault.BenchFault.{BenchFault}
 use Rattle.rv_bench.specs.Declassification.{LineIsLow, LinesAreLow}
 use Rattle.rv_bench.specs.Declassification.{LinesAlike, LinesObservedAlike, ParsedAlike, ScriptDeclassification, SecretDeclassification}
 use Rattle.rv_bench.specs.Declassification.{observed_line, observed_output}
-use Rattle.rv_bench.specs.InMemory.{InMemoryNoninterference}
 use Rattle.rv_bench.specs.Loaded.{started}
 use Rattle.rv_bench.specs.Output.{bench_in}
 use Rattle.rv_bench.specs.Replies.{bench_line, replies, state_after}
 use Rattle.rv_bench.proofs.IntegrityLemmas.{keeps_line, keeps_lines}
-use Rattle.rv_bench.proofs.NoninterferenceLemmas.{bench_keeps, secret_noninterference}
+use Rattle.rv_bench.proofs.NoninterferenceLemmas.{bench_keeps}
 use Rattle.rv_bench.proofs.PrefixLines.{bench_in-prefix, script_lines-prefix}
 use Rattle.rv_bench.proofs.RepliesLemmas.{replies-append}
 use Rattle.rv_bench.proofs.Starts.{started_keeps}
-use Rattle.rv_bench.proofs.TwinAlike.{twin_noninterference}
 
 module _ (e : ℕ) where
   -- ---- one line of each bench
@@ -182,11 +178,3 @@ secret_declassification setup input e other differ =
     (bench_keeps setup differ.prefix) differ.alike
     ∙ sym (observed_is setup e differ.prefix differ.whole_prefix differ.separated differ.another)
     ∙ sym (ap (observed_output e setup) differ.other_is)
-
--- ---- jobs
-
-pub in_memory_noninterference : (job : Job) (input : List ℕ) → InMemoryNoninterference job input
-in_memory_noninterference (Run setup) input = (secret_noninterference setup input, secret_declassification setup input)
-in_memory_noninterference (Twin setup slot) input = twin_noninterference setup slot input
-in_memory_noninterference Asm input = tt
-in_memory_noninterference Dis input = tt

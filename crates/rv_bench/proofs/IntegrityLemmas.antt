@@ -21,7 +21,7 @@ use Rattle.rv_bench.proofs.RepliesLemmas.{state_after-append}
 use Rattle.rv_bench.proofs.Starts.{started_keeps}
 
 -- lines have the effect of their commands
-after_lines : (bench : BenchState) (lines : List (List ℕ)) → state_after bench_line bench lines ≡ after_commands bench (commands_of lines)
+pub after_lines : (bench : BenchState) (lines : List (List ℕ)) → state_after bench_line bench lines ≡ after_commands bench (commands_of lines)
 unfolding execute_line
 after_lines bench [] = refl
 after_lines bench (line ∷ lines) = go (λ next. after_lines next lines) (parse_of line) where

@@ -3,10 +3,13 @@ mod NoninterferenceLemmas
 mod Declassified
 mod DeclassificationExample
 mod Entering
+mod HostInfluence
 mod PrefixLines
 mod RepliesLemmas
 mod Runs
 mod SecretExample
+mod SecretScript
+mod SecretImage
 mod IntegrityLemmas
 mod JobResults
 mod ProgramResults

@@ -213,9 +213,6 @@ bench_keeps setup input = go (image_in input) where
   go (Ok bytes) = started_keeps bytes setup
   go (Err fault) = tt
 
-pub stream_noninterference : (setup : Setup) (input : List ℕ) → IfOk (bench_in setup input) ScriptNoninterference
-stream_noninterference setup input = from_start (bench_in setup input) (bench_keeps setup input)
-
 -- ---- inputs
 
 module _ (setup : Setup) (e : ℕ) (prefix secret another rest : List ℕ) (whole : through_last_feed prefix ≡ prefix) (separated : has_separator prefix ≡ true)

@@ -17,6 +17,7 @@ use Rattle.rv_debug.specs.Targets.{TargetInvariant}
 use Rattle.rv_command_line.specs.declared.setup.Setup.{Setup}
 use Rattle.rv_streams.specs.Separator.{after_separator, has_separator}
 use Rattle.rv_streams.specs.declared.fault.BenchFault.{BenchFault}
+use Rattle.rv_bench.specs.Loaded.{started}
 use Rattle.rv_bench.specs.Output.{bench_in}
 use Rattle.rv_bench.specs.Replies.{Replied, bench_line, replies, state_after}
 
@@ -94,3 +95,11 @@ pub record DifferInEnclave (e : ℕ) (setup : Setup) (input other : List ℕ) : 
 abbrev pub SecretDeclassification : Setup → List ℕ → Type 0
 SecretDeclassification setup input =
     (e : ℕ) (other : List ℕ) → DifferInEnclave e setup input other → observed_output e setup input ≡ observed_output e setup other
+
+-- ---- the laws
+
+abbrev pub ScriptDeclassificationLaw : Type 0
+ScriptDeclassificationLaw = (image : List ℕ) (setup : Setup) → IfOk (started image setup) ScriptDeclassification
+
+abbrev pub SecretDeclassificationLaw : Type 0
+SecretDeclassificationLaw = (setup : Setup) (input : List ℕ) → SecretDeclassification setup input

@@ -1,13 +1,9 @@
 -- The result of a job from bytes in memory to bytes in memory. (This project's own jobs.)
-use Rattle.std.specs.Prelude.{◌≡◌, ◌⊎◌, ℕ, ⊤, IsOk, List, Result}
+use Rattle.std.specs.Prelude.{◌≡◌, ◌⊎◌, ℕ, IsOk, List, Result}
 use Rattle.clap.specs.Words.{Text}
 use Rattle.rv_command_line.specs.declared.job.Job.{Job}
-use Rattle.rv_command_line.specs.declared.job.Job.TheVariants.{Run, Twin}
 use Rattle.rv_streams.specs.declared.fault.BenchFault.{BenchFault}
 use Rattle.rv_streams.specs.declared.fault.BenchFault.TheVariants.{Read, Write, NoMemory}
-use Rattle.rv_bench.specs.Declassification.{SecretDeclassification}
-use Rattle.rv_bench.specs.Noninterference.{SecretNoninterference}
-use Rattle.rv_bench.specs.TwinLaws.{TwinNoninterference}
 use Rattle.rv_command_line.specs.declared.words_fault.WordsFault.{WordsFault}
 use Rattle.rv_bench.specs.ProgramOutput.{FailsBy, Means, ProgramOutput, StopsOutOfMemory, job_output, program_output}
 
@@ -17,13 +13,6 @@ FailsInMemory job input Read = ⊥
 FailsInMemory job input Write = ⊥
 FailsInMemory job input NoMemory = FailsBy job input NoMemory ⊎ IsOk (job_output job input)
 FailsInMemory job input fault = FailsBy job input fault
-
--- The output of a run reveals no secret of an enclave, except for what it hands over. The two benches of a twin run reply the same until the
--- enclave is entered.
-abbrev pub InMemoryNoninterference : Job → List ℕ → Type 0
-InMemoryNoninterference (Run setup) input = SecretNoninterference setup input × SecretDeclassification setup input
-InMemoryNoninterference (Twin setup slot) input = TwinNoninterference setup slot input
-InMemoryNoninterference job input = ⊤
 
 -- The text and the status are the output of the program for its arguments and the input. Or memory was refused, and they report this.
 pub record RunsInMemory (given : List Text) (input text : List ℕ) (status : ℕ) : Type 0 where

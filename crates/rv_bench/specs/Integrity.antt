@@ -1,11 +1,13 @@
 -- Integrity over scripts: every part of a script preserves each enclave that it leaves undisturbed. (A law of this project's own monitor and
 -- debugger.)
-use Rattle.std.specs.Prelude.{ℕ, List, [], ◌∷◌, ◌++◌}
+use Rattle.std.specs.Prelude.{ℕ, List, [], ◌∷◌, ◌++◌, IfOk}
 use Rattle.rv_word.specs.Cases.{result_case}
 use Rattle.rv_debug.specs.BenchState.{BenchState}
 use Rattle.rv_script.specs.Command.{parse_of}
 use Rattle.rv_debug.specs.Isolation.{UndisturbedByAll, IsPreservedIn}
 use Rattle.rv_script.specs.declared.command.Command.{Command}
+use Rattle.rv_command_line.specs.declared.setup.Setup.{Setup}
+use Rattle.rv_bench.specs.Loaded.{started}
 use Rattle.rv_bench.specs.Replies.{bench_line, state_after}
 
 -- the commands of lines; a line with an error has none, and changes nothing
@@ -19,3 +21,7 @@ abbrev pub PreservesThrough : BenchState → Type 0
 PreservesThrough bench =
     (k : ℕ) (before part : List (List ℕ)) → UndisturbedByAll k (state_after bench_line bench before) (commands_of part)
     → IsPreservedIn k (state_after bench_line bench before).target (state_after bench_line bench (before ++ part)).target
+
+-- the same for the bench that an image starts
+abbrev pub ScriptIntegrityLaw : Type 0
+ScriptIntegrityLaw = (image : List ℕ) (setup : Setup) → IfOk (started image setup) PreservesThrough

@@ -1,5 +1,5 @@
 -- Jobs: the effect of each job is that of its call. (This project's own jobs.)
-use Rattle.std.specs.Prelude.{◌≡◌, false, [], IfOk}
+use Rattle.std.specs.Prelude.{◌≡◌, false, []}
 use Rattle.rv_command_line.specs.declared.job.Job.{Job}
 use Rattle.rv_command_line.specs.declared.job.Job.TheVariants.{Run, Twin, Asm, Dis}
 use Rattle.rv_streams.specs.declared.device.Sink.{Ghosts as SinkGhosts}
@@ -8,13 +8,9 @@ use Rattle.rv_streams.specs.declared.lines.Lines.{Lines}
 use Rattle.rv_streams.specs.Assemble.{RunsAsm}
 use Rattle.rv_streams.specs.Disassemble.{RunsDis}
 use Rattle.rv_streams.specs.Faults.{Outcome}
-use Rattle.rv_streams.specs.Unread.{held, unread, EndsWithSource}
-use Rattle.rv_bench.specs.Noninterference.{SecretNoninterference, ScriptNoninterference}
-use Rattle.rv_bench.specs.Integrity.{PreservesThrough}
-use Rattle.rv_bench.specs.Output.{bench_in}
+use Rattle.rv_streams.specs.Unread.{held, EndsWithSource}
 use Rattle.rv_bench.specs.Stream.{RunsStream}
 use Rattle.rv_bench.specs.Twin.{RunsTwin}
-use Rattle.rv_bench.specs.TwinLaws.{TwinNoninterference, TwinIntegrity}
 
 module _ {S : Type 0} (g : SourceGhosts S) where
   -- New lines of a source, as far as they were read, when the source is returned.
@@ -30,11 +26,8 @@ module _ {S W : Type 0} (g : SourceGhosts S) (h : SinkGhosts W) (source left : S
   abbrev pub DoesJob : Job → Outcome → Type 0
   DoesJob (Run setup) outcome =
       (old : Lines S g) × (new : Lines S g) × ReadsByLines g source left old new × RunsStream h setup old new before after outcome
-      × IfOk (bench_in setup (unread old)) PreservesThrough × IfOk (bench_in setup (unread old)) ScriptNoninterference
-      × SecretNoninterference setup (unread old)
   DoesJob (Twin setup slot) outcome =
       (old : Lines S g) × (new : Lines S g) × ReadsByLines g source left old new × RunsTwin h setup slot old new before after outcome
-      × TwinNoninterference setup slot (unread old) × TwinIntegrity setup slot (unread old)
   DoesJob Asm outcome = RunsAsm g h source left before after outcome
   DoesJob Dis outcome =
       (old : Lines S g) × (new : Lines S g) × ReadsByLines g source left old new × RunsDis h old new before after outcome

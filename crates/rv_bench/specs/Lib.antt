@@ -3,6 +3,7 @@ pub mod Pair
 pub mod Noninterference
 pub mod Declassification
 pub mod FaultText
+pub mod HostInfluence
 pub mod InMemory
 pub mod Integrity
 pub mod Jobs
@@ -12,6 +13,7 @@ pub mod Performing
 pub mod ProgramOutput
 pub mod Replies
 pub mod Run
+pub mod SecretScript
 pub mod Standard
 pub mod Stream
 pub mod Twin

@@ -9,6 +9,7 @@ use Rattle.rv_debug.specs.Targets.{TargetInvariant, is_live_in}
 use Rattle.rv_debug.specs.BothBenches.{BenchesEquivExcept, AvoidsHart, RunsOnNoHart, can_scramble}
 use Rattle.rv_command_line.specs.declared.setup.Setup.{Setup}
 use Rattle.rv_streams.specs.Separator.{after_separator, has_separator}
+use Rattle.rv_bench.specs.Loaded.{started}
 use Rattle.rv_bench.specs.Output.{bench_in, output}
 use Rattle.rv_bench.specs.Replies.{bench_line, replies, state_after}
 
@@ -94,3 +95,11 @@ pub record DifferInSecret (e : ℕ) (setup : Setup) (input other : List ℕ) : T
 -- the output for an input equals that for every other input that differs only in what is poked into an enclave
 abbrev pub SecretNoninterference : Setup → List ℕ → Type 0
 SecretNoninterference setup input = (e : ℕ) (other : List ℕ) → DifferInSecret e setup input other → output setup input ≡ output setup other
+
+-- ---- the laws
+
+abbrev pub ScriptNoninterferenceLaw : Type 0
+ScriptNoninterferenceLaw = (image : List ℕ) (setup : Setup) → IfOk (started image setup) ScriptNoninterference
+
+abbrev pub SecretNoninterferenceLaw : Type 0
+SecretNoninterferenceLaw = (setup : Setup) (input : List ℕ) → SecretNoninterference setup input

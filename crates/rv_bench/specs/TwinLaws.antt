@@ -77,3 +77,9 @@ TwinNoninterference setup slot input = OfPair setup slot input (StayTogether slo
 pub record TwinIntegrity (setup : Setup) (slot : ℕ) (input : List ℕ) : Type 0 where
   pub first : IfOk (bench_in (monitored_setup setup) input) PreservesThrough
   pub second : OfPair setup slot input (BothPreserve slot)
+
+-- ---- the laws
+
+pub record TwinLaw : Type 0 where
+  pub noninterference : (setup : Setup) (slot : ℕ) (input : List ℕ) → TwinNoninterference setup slot input
+  pub integrity : (setup : Setup) (slot : ℕ) (input : List ℕ) → TwinIntegrity setup slot input

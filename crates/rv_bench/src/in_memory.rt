@@ -2,7 +2,7 @@
 
 ghost use Rattle.std.specs.Prelude.{◌≡◌, IfOk, IfErr, Ok};
 ghost use Rattle.clap.specs.Walk.{texts};
-ghost use Rattle.rv_bench.specs.InMemory.{FailsInMemory, InMemoryNoninterference, RunsInMemory};
+ghost use Rattle.rv_bench.specs.InMemory.{FailsInMemory, RunsInMemory};
 ghost use Rattle.rv_bench.specs.ProgramOutput.{job_output};
 
 use crate::job::run_job;
@@ -11,8 +11,8 @@ use rv_command_line::Job;
 use rv_streams::{BenchFault, MemorySource, VecSink};
 use std::alloc::{AllocError, Global};
 
-/// Returns the output of a job for an input. It calls `run_job` over a slice and a vector. `secret` has the clauses `secret` and `declassification`
-/// of `run_stream` for a run, and the clause `noninterference` of `run_twin` for a twin run.
+/// Returns the output of a job for an input. It calls `run_job` over a slice and a vector. [`laws`](crate::laws) has the isolation theorems about this
+/// output.
 ///
 /// # Errors
 ///
@@ -20,7 +20,6 @@ use std::alloc::{AllocError, Global};
 pub fn run_in_memory(alloc: Global, job: &Job, input: &[u8]) -> Result<Vec<u8>, BenchFault>
     ensures ok { IfOk result (λ written. job_output job.now input.now ≡ Ok written.items) }
     ensures fault { IfErr result (FailsInMemory job.now input.now) }
-    ensures secret { InMemoryNoninterference job.now input.now }
 {
     let mut sink = VecSink::new(alloc);
     let (_, outcome) = run_job(alloc, job, MemorySource::new(input), &mut sink);

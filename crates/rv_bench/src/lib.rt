@@ -17,6 +17,7 @@
 mod equal;
 mod in_memory;
 mod job;
+pub mod laws;
 mod pair;
 mod program;
 mod responder;

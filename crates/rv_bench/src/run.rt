@@ -1,15 +1,10 @@
 //! The run of a script, from the lines that are read to the replies that are written.
 
-ghost use Rattle.std.specs.Prelude.{◌≡◌, IfOk, false};
+ghost use Rattle.std.specs.Prelude.{◌≡◌, false};
 ghost use Rattle.rv_bench.specs.Responses.{RespondsToScript};
-ghost use Rattle.rv_bench.specs.Declassification.{ScriptDeclassification, SecretDeclassification};
-ghost use Rattle.rv_bench.specs.Noninterference.{SecretNoninterference, ScriptNoninterference};
-ghost use Rattle.rv_bench.specs.Integrity.{PreservesThrough};
-ghost use Rattle.rv_bench.specs.Loaded.{started};
-ghost use Rattle.rv_bench.specs.Output.{bench_in};
 ghost use Rattle.rv_bench.specs.Run.{RunsBench, RunsLines};
 ghost use Rattle.rv_bench.specs.Stream.{RunsStream};
-ghost use Rattle.rv_streams.specs.Unread.{unread, EndsWithSource};
+ghost use Rattle.rv_streams.specs.Unread.{EndsWithSource};
 
 use crate::responder::Responder;
 use crate::start::start;
@@ -59,12 +54,7 @@ fn run_script<S: Source, W: Sink>(
 /// Loads an image into the RAM of a new machine, and writes the reply to each line until the source reports its end. A monitored bench has as
 /// many harts as the setup specifies; any other bench has one. Once the RAM exists, no memory is allocated.
 ///
-/// For a monitored bench there are three laws:
-/// - `integrity`: every part of a script preserves each enclave that it leaves undisturbed.
-/// - `noninterference`: take a part of a script that avoids an enclave, and neither steps nor shows its hart. Every bench that is equivalent
-///   except for that enclave replies the same to it, byte for byte, and is equivalent again after it.
-/// - `declassification`: the rest of a script may run an enclave, and another script may poke and set other secrets of it. If the enclave hands
-///   over the same in both, what others observe of the replies is equal.
+/// [`laws`](crate::laws) has the isolation theorems about the replies.
 ///
 /// # Errors
 ///
@@ -83,22 +73,12 @@ pub fn run_bench<S: Source, W: Sink>(
 ) -> Result<(), BenchFault>
     ensures outcome { RunsBench W.Sink image.now setup.now lines.old lines.new sink.old sink.new result }
     ensures end { EndsWithSource lines.old lines.new }
-    ensures integrity { IfOk (started image.now setup.now) PreservesThrough }
-    ensures noninterference { IfOk (started image.now setup.now) ScriptNoninterference }
-    ensures declassification { IfOk (started image.now setup.now) ScriptDeclassification }
 {
     let mut bench = start(alloc, image, setup)?;
     run_script(&mut bench, lines, sink)
 }
 
-/// Reads an image, and then runs the lines after it as `run_bench` does, with the same laws of integrity and noninterference.
-///
-/// `secret` is noninterference from bytes to bytes. It is about two inputs that differ only in what lines of the script poke into the region of
-/// an enclave. From there on, all other lines must avoid the enclave and the hart on which it runs. The outputs are then equal. The contents of
-/// the region when the enclave was created are not protected, since the measurement reveals them.
-///
-/// `declassification` is about two such inputs whose scripts run the enclave. If it hands over the same in both, what others observe of the outputs
-/// is equal. This leaves out the number of its steps, the state of its hart, and the registers that no world reads.
+/// Reads an image, and then runs the lines after it as `run_bench` does. [`laws`](crate::laws) has the isolation theorems about the output.
 ///
 /// # Errors
 ///
@@ -115,10 +95,6 @@ pub fn run_stream<S: Source, W: Sink>(
 ) -> Result<(), BenchFault>
     ensures outcome { RunsStream W.Sink setup.now lines.old lines.new sink.old sink.new result }
     ensures end { EndsWithSource lines.old lines.new }
-    ensures integrity { IfOk (bench_in setup.now (unread lines.old)) PreservesThrough }
-    ensures noninterference { IfOk (bench_in setup.now (unread lines.old)) ScriptNoninterference }
-    ensures secret { SecretNoninterference setup.now (unread lines.old) }
-    ensures declassification { SecretDeclassification setup.now (unread lines.old) }
 {
     let image = read_image(alloc, lines)?;
     run_bench(alloc, image.as_slice(), setup, lines, sink)

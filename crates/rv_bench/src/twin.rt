@@ -4,8 +4,7 @@ ghost use Rattle.std.specs.Prelude.{◌≡◌, Ok, Err, Some, None, MatchOption,
 ghost use Rattle.rv_bench.specs.Pair.{make_pair as make_pair_of, no_slot_text};
 ghost use Rattle.rv_bench.specs.Loaded.{Starts, started};
 ghost use Rattle.rv_bench.specs.Twin.{RunsSecond, RunsTwin, monitored_setup};
-ghost use Rattle.rv_bench.specs.TwinLaws.{TwinNoninterference, TwinIntegrity};
-ghost use Rattle.rv_streams.specs.Unread.{held, unread, EndsWithSource};
+ghost use Rattle.rv_streams.specs.Unread.{held, EndsWithSource};
 
 use crate::equal::EqualBenches;
 use crate::pair::{Pair, PairOnSlot};
@@ -106,9 +105,7 @@ fn run_second<S: Source, W: Sink>(
 /// - Ends with `twin entered N` after a command that enters the slot, and that line is the last that is read. Otherwise ends with `twin end N`
 ///   at the end of the input. N is the number of executed commands; it stays at 2^64 - 1.
 ///
-/// `outcome` specifies the run completely. `noninterference` states that the two benches are equivalent except for the slot until it is entered.
-/// The two replies to each line that both benches executed are then equal. `integrity` is about the first script, and about both benches in the
-/// second. It states that every part of what is executed preserves each enclave that it leaves undisturbed.
+/// `outcome` specifies the run completely. [`laws::twin_benches`](crate::laws::twin_benches) has the isolation theorems about the two benches.
 ///
 /// # Errors
 ///
@@ -126,8 +123,6 @@ pub fn run_twin<S: Source, W: Sink>(
 ) -> Result<(), BenchFault>
     ensures outcome { RunsTwin W.Sink setup.now slot lines.old lines.new sink.old sink.new result }
     ensures end { EndsWithSource lines.old lines.new }
-    ensures noninterference { TwinNoninterference setup.now slot (unread lines.old) }
-    ensures integrity { TwinIntegrity setup.now slot (unread lines.old) }
 {
     let image = read_image(alloc, lines)?;
     let mut benches = start_two(alloc, image.as_slice(), setup)?;

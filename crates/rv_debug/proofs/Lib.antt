@@ -29,5 +29,9 @@ mod OtherHarts
 mod ScheduleLoop
 mod RunSchedules
 pub mod EffectsInvariant
-mod SecretRun
+pub mod SecretRun
+pub mod SecretCommands
 mod HostRun
+pub mod CommandEvents
+pub mod HostInfluence
+mod Permissions

@@ -13,7 +13,7 @@ use Rattle.rv_hart.specs.CsrInstructions.{csr_changed, written_csr}
 use Rattle.rv_enclaves.specs.Layout.{entry_at, layout}
 use Rattle.rv_platform.specs.Blocks.{has, no_block}
 use Rattle.rv_platform.specs.declared.block.Block.{Block}
-use Rattle.rv_enclaves.specs.Table.{free_slot, is_live, is_window, runs, window}
+use Rattle.rv_enclaves.specs.Table.{free_slot, is_live, is_window, region, runs, window}
 use Rattle.rv_enclaves.specs.declared.world.World.TheVariants.{Host}
 use Rattle.rv_enclaves.specs.Create.{create_refusals, created, is_entry, overlaps}
 use Rattle.rv_enclaves.specs.Refusals.{state_refusals}
@@ -32,13 +32,13 @@ use Rattle.rv_monitor.proofs.InvariantLemmas.{invariant_by_size, invariant_law, 
 use Rattle.rv_monitor.proofs.RelatedChanges.{memory_related, related_itself}
 use Rattle.rv_monitor.proofs.Start.{start_invariant}
 use Rattle.rv_debug.proofs.Prelude.{both_ways, cases_eq, nat_tests}
-use Rattle.rv_debug.specs.SecretRun.{SecretRunLaw, secret_asking, before_secret, secret_entered, secret_interrupted, secret_moves, secret_new, secret_next, secret_raised, secret_ram, secret_reset, secret_resumed, secret_start}
+use Rattle.rv_debug.specs.SecretRun.{IsConcealed, secret_asking, before_secret, secret_entered, secret_interrupted, secret_moves, secret_new, secret_next, secret_raised, secret_ram, secret_reset, secret_resumed, secret_start}
 
 -- ---- what is computed
 
-record IsIdle (machine : MonitoredMachine) : Type 0 where
-  low : runs_on 0 0 machine ≡ false
-  idle : runs machine.shared.table 0 ≡ false
+pub record IsIdle (machine : MonitoredMachine) : Type 0 where
+  pub low : runs_on 0 0 machine ≡ false
+  pub idle : runs machine.shared.table 0 ≡ false
 
 -- for every secret
 record Computed (secret : ℕ) : Type 0 where
@@ -84,15 +84,33 @@ computed secret = record {
   last = refl;
 }
 
-is_in_a0 : slice_index (hart_state_of 0 (secret_raised 0x41)).hart.regs 10 ≡ 0x41
+pub is_in_a0 : slice_index (hart_state_of 0 (secret_raised 0x41)).hart.regs 10 ≡ 0x41
 unfolding at_start step_of monitored_step handled call_handled called performed created create_refusals is_valid_block is_window overlaps is_entry
     free_slot call_requested first_context layout entry_at step request executed retired_or_trapped from_access from_decode from_fetch written_csr csr_changed
     decoded by_bits read verdict matching_entry covers ones_at_end kept_bits state_refusals entered_slot left timer_stopped
 is_in_a0 = refl
 
+-- ---- create, and the byte that the secret replaces
+
+pub created_memory : (secret_next secret_start).shared.memory ≡ secret_ram 0
+unfolding at_start step_of monitored_step handled call_handled called performed created create_refusals is_valid_block is_window overlaps is_entry
+    free_slot call_requested first_context layout entry_at step request executed retired_or_trapped from_access from_decode from_fetch written_csr csr_changed
+    decoded by_bits read verdict matching_entry covers ones_at_end kept_bits
+created_memory = refl
+
+pub region_has : has (region (secret_next secret_start).shared.table 0) 0x80018100 ≡ true
+unfolding at_start step_of monitored_step handled call_handled called performed created create_refusals is_valid_block is_window overlaps is_entry
+    free_slot call_requested first_context layout entry_at step request executed retired_or_trapped from_access from_decode from_fetch written_csr csr_changed
+    decoded by_bits read verdict matching_entry covers ones_at_end kept_bits
+region_has = refl
+
+pub start_idle : IsIdle secret_start
+unfolding at_start
+start_idle = record { low = refl; idle = refl }
+
 -- ---- the two machines
 
-start_kept : Invariant secret_start
+pub start_kept : Invariant secret_start
 start_kept = written_invariant 0 secret_asking false secret_reset (start_invariant (secret_ram 0) 0x80010000 One refl)
 
 kept : (secret : ℕ) → Invariant (secret_new secret)
@@ -104,7 +122,7 @@ other_byte [] ys a b (suc i) other = refl
 other_byte (x ∷ xs) ys a b zero other = refl
 other_byte (x ∷ xs) ys a b (suc i) other = other_byte xs ys a b i (λ same. other (ap suc same))
 
-place : length before_secret ≡ 98560
+pub place : length before_secret ≡ 98560
 place = refl
 
 related : (a b : ℕ) → AreRelated 0 (secret_new a) (secret_new b)
@@ -141,7 +159,7 @@ exit a b = record {
   second_exits = (computed b).exits;
 }
 
-are : (a b : ℕ) → AreMoves 0 secret_moves (secret_new a) (secret_new b)
+pub are : (a b : ℕ) → AreMoves 0 secret_moves (secret_new a) (secret_new b)
 are a b =
     let c = computed a in
     let d = computed b in (
@@ -179,8 +197,6 @@ are a b =
       ),
     )
 
-pub secret_run : SecretRunLaw
-secret_run = record {
-  concealed = λ a b. record { are = are a b; alike = declassification_law 0 secret_moves (secret_new a) (secret_new b) (kept a) (kept b) (related a b) (are a b) };
-  in_a0 = is_in_a0;
-}
+pub steps_concealed : (a b : ℕ) → IsConcealed a b
+steps_concealed a b =
+    record { are = are a b; alike = declassification_law 0 secret_moves (secret_new a) (secret_new b) (kept a) (kept b) (related a b) (are a b) }

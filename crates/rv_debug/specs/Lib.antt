@@ -16,6 +16,9 @@ pub mod Steps
 pub mod Stops
 pub mod Targets
 pub mod BothBenches
+pub mod CommandEvents
+pub mod HostInfluence
+pub mod Permissions
 pub mod ScheduledSteps
 pub mod SecretRun
 pub mod HostRun

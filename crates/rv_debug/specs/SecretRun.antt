@@ -1,6 +1,6 @@
 -- A closed instance of the law of declassification. The host of a machine at reset creates an enclave, and two secrets are put into its region. It
--- runs and loads its secret to a0. The timer interrupts it there, and the host resumes it. (An instance of this project's own law; declassification:
--- Sabelfeld and Sands, JCS 2009.)
+-- runs and loads its secret to a0. The timer interrupts it there, and the host resumes it. The same run is also one of commands. (An instance of this
+-- project's own law; declassification: Sabelfeld and Sands, JCS 2009.)
 use Rattle.std.specs.Prelude.{ℕ, ◌≡◌, true, false, List, [], ◌∷◌, ◌++◌, replicate, slice_index}
 use Rattle.rv_platform.specs.declared.harts.Harts.TheVariants.{One}
 use Rattle.rv_monitor.specs.Debugger.{with_memory, with_timer}
@@ -8,6 +8,9 @@ use Rattle.rv_monitor.specs.Declassification.{AreMoves, Both, First, Move, Moved
 use Rattle.rv_monitor.specs.Events.{LineOf, StepOf}
 use Rattle.rv_monitor.specs.MonitoredMachine.{MonitoredMachine, at_start, hart_state_of, with_hart_state}
 use Rattle.rv_monitor.specs.Step.{step_of}
+use Rattle.rv_debug.specs.Prelude.{Command, Poke, Regs, Step, Timer}
+use Rattle.rv_debug.specs.BenchState.{BenchState, monitored}
+use Rattle.rv_debug.specs.Declassification.{AllCommandsAlike, AllObservedAlike}
 
 -- ecall (create); addi a6, zero, 3; ecall (run); addi a0, zero, 0; addi a6, zero, 4; ecall (resume)
 abbrev pub calling_host : List ℕ
@@ -70,7 +73,23 @@ pub record IsConcealed (a b : ℕ) : Type 0 where
   pub are : AreMoves 0 secret_moves (secret_new a) (secret_new b)
   pub alike : MovedAlike 0 secret_moves (secret_new a) (secret_new b)
 
+-- ---- the same by commands
+
+abbrev pub secret_bench : BenchState
+secret_bench = monitored secret_start
+
+-- create; the secret; run; the load to a0; the interrupt; the registers of the host; resume, and one step
+abbrev pub secret_commands : ℕ → List Command
+secret_commands secret =
+    Step 1 ∷ Poke 0x80018100 secret ∷ Step 2 ∷ Step 1 ∷ Timer true ∷ Step 1 ∷ Regs ∷ Step 3 ∷ Step 1 ∷ []
+
+-- for all secrets: the commands satisfy the premise of the law, and what others observe of the replies is equal
+pub record AreConcealed (a b : ℕ) : Type 0 where
+  pub are : AllCommandsAlike 0 secret_bench secret_bench (secret_commands a) (secret_commands b)
+  pub alike : AllObservedAlike 0 secret_bench secret_bench (secret_commands a) (secret_commands b)
+
 -- a secret is in a0 when the timer interrupts the enclave
 pub record SecretRunLaw : Type 0 where
   pub concealed : (a b : ℕ) → IsConcealed a b
+  pub commands : (a b : ℕ) → AreConcealed a b
   pub in_a0 : slice_index (hart_state_of 0 (secret_raised 0x41)).hart.regs 10 ≡ 0x41

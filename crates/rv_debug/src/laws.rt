@@ -1,11 +1,14 @@
 //! Laws of the commands for every bench that satisfies the invariant, for the crates above to cite. Each is proved about the definitions in
 //! `specs/`. The law of one command is also a clause of `Bench::command`.
 
+ghost use Rattle.rv_debug.specs.CommandEvents.{CommandEventsLaw};
+ghost use Rattle.rv_debug.specs.HostInfluence.{HostInfluenceLaw};
 ghost use Rattle.rv_debug.specs.HostRun.{HostRunLaw};
 ghost use Rattle.rv_debug.specs.Declassification.{BenchRelationLaw, CommandDeclassificationLaw, EndedLaw, ListDeclassificationLaw};
 ghost use Rattle.rv_debug.specs.Declassification.{LowCommandLaw, ObservationLaw};
 ghost use Rattle.rv_debug.specs.Noninterference.{EquivalenceLaw, NoninterferenceLaw, PokeLaw, RunsOnNoHartLaw};
 ghost use Rattle.rv_debug.specs.Isolation.{IntegrityLaw, RunningLaw};
+ghost use Rattle.rv_debug.specs.Permissions.{StorePermissionLaw};
 ghost use Rattle.rv_debug.specs.Returns.{ReturnLaw};
 ghost use Rattle.rv_debug.specs.SecretRun.{SecretRunLaw};
 
@@ -86,9 +89,28 @@ pub const fn ended_enclaves_have_no_secret()
 {}
 
 /// States two closed instances of laws about steps. Each machine begins at reset, and the steps are computed. In `secret` an enclave is interrupted
-/// with a secret in a0 and resumed, and the secret is concealed. In `host` an enclave runs under two unlike hosts, which differ in a byte of the
-/// window, in the number of harts and in the schedule. Its steps are the same, and it stores what it loaded.
+/// with a secret in a0 and resumed, and the secret is concealed; so it is from commands that execute these steps. In `host` an enclave runs under two
+/// unlike hosts, which differ in a byte of the window, in the number of harts and in the schedule. Its steps are the same, and it stores what it loaded.
 pub const fn closed_runs()
     ensures secret { SecretRunLaw }
     ensures host { HostRunLaw }
+{}
+
+/// States that commands are lists of actions: events, and writes of a register or a byte. Every list of events is that of commands. A law about lists
+/// of events is therefore one about commands: an attacker that chooses the commands also chooses the schedule and every change of a timer line.
+pub const fn any_events_are_commands()
+    ensures { CommandEventsLaw }
+{}
+
+/// States how the host influences an enclave. Two benches have an enclave at the same point of its life, and execute unlike commands. These may enter
+/// and interrupt it, change any timer line, set registers of other harts, and poke any byte outside its region. The enclave's own steps are the same in
+/// both, as long as the bytes of its window that they read are equal. `legal` states that each command keeps the premise on pc and the S-mode registers.
+pub const fn host_influences_through_window()
+    ensures { HostInfluenceLaw }
+{}
+
+/// States in numbers which bytes of the memory S may store on a hart, and so to which bytes a measure may write. The host may store outside the monitor's
+/// range and the regions of the live enclaves. An enclave may store in its region and its window.
+pub const fn stores_are_permitted_in_numbers()
+    ensures { StorePermissionLaw }
 {}

@@ -1,10 +1,8 @@
 use Rattle.std.proofs.Common.{◌∙◌, refl, sym, ap, Ok}
-use Rattle.rv_streams.specs.Unread.{unread}
 use Rattle.rv_streams.proofs.Ends.{EndsWithSource-more}
 use Rattle.rv_streams.proofs.Mapped.{passed_on}
 use Rattle.rv_bench.specs.Twin.{RunsTwin}
 use Rattle.rv_bench.proofs.Runs.{one_bench-runs, one_bench-state}
-use Rattle.rv_bench.proofs.TwinAlike.{twin_noninterference, twin_integrity}
 use Rattle.rv_bench.proofs.Twins.{first_fails, not_started, second_part}
 use Rattle.rv_bench.proofs.twin.run_twin.Goals as goal
 
@@ -56,27 +54,3 @@ returns-in_err-run_lines-clause-end g c = EndsWithSource-more _ _ _ c.in_ok-imag
 
 pub returns-clause-end : goal.returns-clause-end
 returns-clause-end g c = EndsWithSource-more _ _ _ c.in_ok-image.ensures.end (EndsWithSource-more _ _ _ c.run_lines.ensures.end c.run_second.ensures.end)
-
-pub returns-in_err-image-clause-noninterference : goal.returns-in_err-image-clause-noninterference
-returns-in_err-image-clause-noninterference g c = twin_noninterference c.args.setup.now c.args.slot (unread c.args.lines.now)
-
-pub returns-in_err-benches-clause-noninterference : goal.returns-in_err-benches-clause-noninterference
-returns-in_err-benches-clause-noninterference g c = twin_noninterference c.args.setup.now c.args.slot (unread c.args.lines.now)
-
-pub returns-in_err-run_lines-clause-noninterference : goal.returns-in_err-run_lines-clause-noninterference
-returns-in_err-run_lines-clause-noninterference g c = twin_noninterference c.args.setup.now c.args.slot (unread c.args.lines.now)
-
-pub returns-clause-noninterference : goal.returns-clause-noninterference
-returns-clause-noninterference g c = twin_noninterference c.args.setup.now c.args.slot (unread c.args.lines.now)
-
-pub returns-in_err-image-clause-integrity : goal.returns-in_err-image-clause-integrity
-returns-in_err-image-clause-integrity g c = twin_integrity c.args.setup.now c.args.slot (unread c.args.lines.now)
-
-pub returns-in_err-benches-clause-integrity : goal.returns-in_err-benches-clause-integrity
-returns-in_err-benches-clause-integrity g c = twin_integrity c.args.setup.now c.args.slot (unread c.args.lines.now)
-
-pub returns-in_err-run_lines-clause-integrity : goal.returns-in_err-run_lines-clause-integrity
-returns-in_err-run_lines-clause-integrity g c = twin_integrity c.args.setup.now c.args.slot (unread c.args.lines.now)
-
-pub returns-clause-integrity : goal.returns-clause-integrity
-returns-clause-integrity g c = twin_integrity c.args.setup.now c.args.slot (unread c.args.lines.now)

@@ -1,5 +1,5 @@
 use Rattle.rv_debug.proofs.HostRun.{host_run}
-use Rattle.rv_debug.proofs.SecretRun.{secret_run}
+use Rattle.rv_debug.proofs.SecretCommands.{secret_run}
 use Rattle.rv_debug.proofs.laws.closed_runs.Goals as goal
 
 pub returns-clause-secret : goal.returns-clause-secret

@@ -1,0 +1,5 @@
+use Rattle.rv_bench.proofs.TwinAlike.{twin_integrity, twin_noninterference}
+use Rattle.rv_bench.proofs.laws.twin_benches.Goals as goal
+
+pub returns : goal.returns
+returns c = record { noninterference = twin_noninterference; integrity = twin_integrity }

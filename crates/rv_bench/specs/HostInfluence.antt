@@ -1,0 +1,52 @@
+-- The host's influence on an enclave, over two scripts with unlike images, setups and lines; and the lines of a script that are a list of events.
+-- (Laws of this project's own monitor and debugger.)
+use Rattle.std.specs.Prelude.{◌≡◌, ◌==◌, ℕ, Bool, true, false, List, [], ◌∷◌, codes, Some, IfOk, IfSome, if◌then◌else◌}
+use Rattle.rv_monitor.specs.Events.{Event, LineOf, StepOf, events}
+use Rattle.rv_monitor.specs.MonitoredMachine.{count_of}
+use Rattle.rv_debug.specs.BenchState.{BenchState}
+use Rattle.rv_debug.specs.CommandEvents.{are_of_harts}
+use Rattle.rv_debug.specs.HostInfluence.{HasSameLife, IsSameLife}
+use Rattle.rv_debug.specs.Targets.{machine_in}
+use Rattle.rv_command_line.specs.declared.setup.Setup.{Setup}
+use Rattle.rv_bench.specs.Integrity.{commands_of}
+use Rattle.rv_bench.specs.Loaded.{started}
+use Rattle.rv_bench.specs.Replies.{bench_line, state_after}
+
+-- ---- the host's influence
+
+-- Two benches execute the rest of a script each. If an enclave has the same life in both, its steps are the same.
+abbrev pub RestsAreSame : ℕ → ℕ → BenchState → BenchState → List (List ℕ) → List (List ℕ) → Type 0
+RestsAreSame i j first second lines others =
+    IfSome (machine_in first.target) (λ one. IfSome (machine_in second.target) (λ other.
+    (life : IsSameLife i j first second (commands_of lines) (commands_of others) one other)
+    → HasSameLife i j life.moves one other (state_after bench_line first lines).target (state_after bench_line second others).target))
+
+-- Two images start two benches. From any line of each script on, the law of commands holds. Nothing else is assumed of the benches.
+abbrev pub ScriptInfluenceLaw : Type 0
+ScriptInfluenceLaw =
+    (i j : ℕ) (image image_too : List ℕ) (setup setup_too : Setup) (before before_too lines others : List (List ℕ))
+    → IfOk (started image setup) (λ first. IfOk (started image_too setup_too) (λ second.
+    RestsAreSame i j (state_after bench_line first before) (state_after bench_line second before_too) lines others))
+
+-- ---- events
+
+abbrev pub hart_line : ℕ → List ℕ
+hart_line hart = if hart == 0 then codes "hart 0" else codes "hart 1"
+
+abbrev pub timer_line : Bool → List ℕ
+timer_line raised = if raised then codes "timer on" else codes "timer off"
+
+-- two lines for each event
+abbrev pub lines_for : List Event → List (List ℕ)
+lines_for [] = []
+lines_for (StepOf hart ∷ more) = hart_line hart ∷ codes "step 1" ∷ lines_for more
+lines_for (LineOf hart raised ∷ more) = hart_line hart ∷ timer_line raised ∷ lines_for more
+
+-- After any lines, every list of events of harts 0 and 1, as far as they exist, is that of lines.
+abbrev pub ScriptEventsLaw : Type 0
+ScriptEventsLaw =
+    (image : List ℕ) (setup : Setup) (before : List (List ℕ)) (list : List Event) → are_of_harts 2 list ≡ true
+    → IfOk (started image setup) (λ bench.
+    let start = state_after bench_line bench before in
+    IfSome (machine_in start.target) (λ machine. are_of_harts (count_of machine) list ≡ true
+    → machine_in (state_after bench_line start (lines_for list)).target ≡ Some (events list machine).state))

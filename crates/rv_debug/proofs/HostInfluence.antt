@@ -1,0 +1,255 @@
+-- The steps of an enclave are the same under two lists of commands, by the law of one event or step, and by the debugger's writes.
+use Rattle.std.proofs.Common.{◌≡◌, ℕ, ◌+◌, ◌-◌, ◌≤◌, Bool, true, false, List, [], ◌∷◌, length, Option, Some, None, IfSome, refl, sym, ◌∙◌, ap, subst}
+use Rattle.std.proofs.Common.{inl, inr, arith}
+use Rattle.std.specs.Prelude.{IsSomeAnd, not, slice_index}
+use Rattle.std.specs.Option.{option_map}
+use Rattle.rv_enclaves.specs.Table.{region_of}
+use Rattle.rv_enclaves.specs.declared.context.Context.{Context}
+use Rattle.rv_enclaves.specs.declared.slot_info.SlotInfo.{SlotInfo}
+use Rattle.rv_state.specs.Bits.{aligned_to_4}
+use Rattle.rv_enclaves.specs.Contexts.{IsLegal}
+use Rattle.rv_state.specs.SContexts.{s_context}
+use Rattle.rv_monitor.specs.Events.{StepOf}
+use Rattle.rv_monitor.specs.LegalMachine.{IsLegalMachine}
+use Rattle.rv_monitor.specs.Life.{AreAtOnePoint, ContinuesWith, InFirst as LifeInFirst, InSecond as LifeInSecond, IsLifeMove, LifeMove, LiveAlike, Own}
+use Rattle.rv_monitor.specs.Records.{identity_at, identity_of}
+use Rattle.rv_monitor.specs.SwitchLaws.{continuation}
+use Rattle.rv_monitor.proofs.Events.{event_invariant}
+use Rattle.rv_monitor.proofs.LegalMachine.{event_stored}
+use Rattle.rv_monitor.proofs.Life.{life_law}
+use Rattle.rv_debug.specs.Prelude.{Bare, Block, Command, HartState, Invariant, Monitored, MonitoredMachine, Slots, Target, has, hart_state_at_start, hart_state_of}
+use Rattle.rv_debug.specs.Prelude.{is_live, is_world_of, option_case, ram_base, reg_set, region, runs_on, slot_at, step_of, with_memory, with_reg, with_register, write}
+use Rattle.rv_debug.specs.CommandEvents.{Action, Occurs, SetsByte, SetsRegister, actions_by, actions_of, after_action, after_actions}
+use Rattle.rv_debug.specs.HostInfluence.{AreBenchMoves, BenchMove, EnclaveStepsAreSame, HasSameLife, HostInfluenceLaw, InBoth, InFirst, InSecond}
+use Rattle.rv_debug.specs.HostInfluence.{IsForeignAction, IsLegalTarget, IsSameLife, first_actions, second_actions}
+use Rattle.rv_debug.proofs.Prelude.{BenchState, Effect, TargetInvariant, after_commands, both_ways, cases_eq, cases_lt, done, effect, execute, get_or-set_other}
+use Rattle.rv_debug.proofs.Prelude.{changed_of, index-above, index-below, invariant_by_size, length-write, machine_in, write-is, written_invariant}
+use Rattle.rv_debug.proofs.CommandEvents.{acts, effect_acts}
+use Rattle.rv_debug.proofs.EffectsInvariant.{bare_done}
+use Rattle.rv_debug.proofs.ScheduledSteps.{by_bare}
+
+-- ---- a machine whose state is valid
+
+record IsSound (machine : MonitoredMachine) : Type 0 where
+  kept : Invariant machine
+  legal : IsLegalMachine machine
+
+-- a write of a byte changes nothing, or the memory
+by_write : (P : MonitoredMachine → Type 0) (machine : MonitoredMachine) (address byte : ℕ) → P machine
+    → ((memory : List ℕ) → write machine.shared.memory address (byte ∷ []) ≡ Some memory → P (with_memory machine memory))
+    → P (after_action (SetsByte address byte) machine)
+by_write P machine address byte same writes = go (write machine.shared.memory address (byte ∷ [])) refl where
+  go : (o : Option (List ℕ)) → write machine.shared.memory address (byte ∷ []) ≡ o → P (option_case o machine (with_memory machine))
+  go None is = same
+  go (Some memory) is = writes memory is
+
+action_sound : (action : Action) (machine : MonitoredMachine) → IsSound machine → IsSound (after_action action machine)
+action_sound (Occurs event) machine is =
+    record { kept = event_invariant event machine is.kept; legal = event_stored event machine is.kept is.legal }
+action_sound (SetsRegister hart number value) machine is =
+    let own = (hart_state_of hart machine).hart in
+    record {
+      kept = written_invariant hart (with_register own.regs number value) own.csrs.timer machine is.kept;
+      legal = record {
+        harts = λ j.
+            let pc = changed_of (λ (s : HartState). s.hart.pc) (reg_set number value) (λ s. refl) hart j machine in
+            let supervisor = changed_of (λ (s : HartState). s_context s.hart.csrs) (reg_set number value) (λ s. refl) hart j machine in
+            record {
+              pc = ap aligned_to_4 pc ∙ (is.legal.harts j).pc ∙ sym pc;
+              supervisor = subst IsLegal (sym supervisor) (is.legal.harts j).supervisor;
+            };
+        contexts = is.legal.contexts;
+      };
+    }
+action_sound (SetsByte address byte) machine is =
+    by_write IsSound machine address byte is (λ memory written. record {
+      kept = invariant_by_size machine memory is.kept (sym (length-write machine.shared.memory address (byte ∷ []) memory written));
+      legal = record { harts = is.legal.harts; contexts = is.legal.contexts };
+    })
+
+actions_sound : (actions : List Action) (machine : MonitoredMachine) → IsSound machine → IsSound (after_actions actions machine)
+actions_sound [] machine is = is
+actions_sound (action ∷ more) machine is = actions_sound more (after_action action machine) (action_sound action machine is)
+
+-- ---- what the debugger's writes leave
+
+record Stays (k : ℕ) (context : Context) (before after : MonitoredMachine) : Type 0 where
+  continues : ContinuesWith k context after
+  table : after.shared.table ≡ before.shared.table
+  size : length after.shared.memory ≡ length before.shared.memory
+  bytes : (i : ℕ) → not (has (region before.shared.table k) (ram_base + i)) ≡ false
+      → slice_index after.shared.memory i ≡ slice_index before.shared.memory i
+
+register_stays : (k hart number value : ℕ) (context : Context) (machine : MonitoredMachine) → ContinuesWith k context machine
+    → runs_on k hart machine ≡ false → Stays k context machine (with_reg hart machine number value)
+register_stays k hart number value context machine continues none =
+    let same : (j : ℕ) → runs_on k j (with_reg hart machine number value) ≡ runs_on k j machine = λ j.
+    changed_of (λ (s : HartState). is_world_of k s.world) (reg_set number value) (λ s. refl) hart j machine in
+    record {
+      continues = record {
+        running = λ j own. elim (cases_eq j hart) [
+          | inl at ↦ absurd (both_ways _ none (ap (λ (h : ℕ). runs_on k h machine) (sym at) ∙ sym (same j) ∙ own))
+          | inr apart ↦
+              ap (λ (s : HartState). continuation s.hart)
+              (get_or-set_other machine.hart_states hart j (reg_set number value (hart_state_of hart machine)) (hart_state_at_start 0) apart)
+              ∙ continues.running j (sym (same j) ∙ own)
+        ];
+        resting = continues.resting;
+      };
+      table = refl;
+      size = refl;
+      bytes = λ i own. refl;
+    }
+
+byte_stays : (k address byte : ℕ) (context : Context) (machine : MonitoredMachine) → ContinuesWith k context machine
+    → has (region machine.shared.table k) address ≡ false → Stays k context machine (after_action (SetsByte address byte) machine)
+byte_stays k address byte context machine continues out =
+    by_write (Stays k context machine) machine address byte
+    (record { continues = continues; table = refl; size = refl; bytes = λ i own. refl })
+    (λ memory written.
+    let old = machine.shared.memory in
+    let is = write-is old address (byte ∷ []) memory written in
+    let index = address - ram_base in
+    let within : index + 1 ≤ length old = omega (arith, is.0, is.1) in
+    record {
+      continues = record { running = continues.running; resting = continues.resting };
+      table = refl;
+      size = length-write old address (byte ∷ []) memory written;
+      bytes = λ i own. rw is.2 (elim (cases_lt i index) [
+        | inl below ↦ index-below old index (byte ∷ []) i within below
+        | inr above ↦ elim (cases_lt i (index + 1)) [
+          | inl here ↦
+              let place : ram_base + i ≡ address = omega (arith, is.0) in
+              let never : true ≡ false = sym (ap not (ap (has (region machine.shared.table k)) place ∙ out)) ∙ own in
+              cc
+          | inr past ↦ index-above old index (byte ∷ []) i within past
+        ]
+      ]);
+    })
+
+-- ---- two enclaves stay at one point
+
+region_by : (o : Option SlotInfo) → region_of (option_map identity_of o) ≡ region_of o
+region_by None = refl
+region_by (Some info) = refl
+
+module _ (i j : ℕ) (one other : MonitoredMachine) (point : AreAtOnePoint i j one other) where
+  first_stays : (after : MonitoredMachine) → Stays i point.context one after → AreAtOnePoint i j after other
+  first_stays after is = record {
+    context = point.context;
+    first = is.continues;
+    second = point.second;
+    live = ap (λ (t : Slots). is_live t i) is.table ∙ point.live;
+    identity = ap (λ (t : Slots). identity_at t i) is.table ∙ point.identity;
+    memory = record {
+      size = is.size ∙ point.memory.size;
+      bytes = λ n shown.
+          let before = ap (λ (t : Slots). not (has (region t i) (ram_base + n))) (sym is.table) ∙ shown in
+          is.bytes n before ∙ point.memory.bytes n before;
+    };
+  }
+
+  same_region : region one.shared.table i ≡ region other.shared.table j
+  same_region = sym (region_by (slot_at one.shared.table i)) ∙ ap region_of point.identity ∙ region_by (slot_at other.shared.table j)
+
+  second_stays : (after : MonitoredMachine) → Stays j point.context other after → AreAtOnePoint i j one after
+  second_stays after is = record {
+    context = point.context;
+    first = point.first;
+    second = is.continues;
+    live = point.live;
+    identity = point.identity ∙ ap (λ (t : Slots). identity_at t j) (sym is.table);
+    memory = record {
+      size = point.memory.size ∙ sym is.size;
+      bytes = λ n shown.
+          point.memory.bytes n shown ∙ sym (is.bytes n (ap (λ (b : Block). not (has b (ram_base + n))) (sym same_region) ∙ shown));
+    };
+  }
+
+  module _ (here : IsSound one) (there : IsSound other) where
+    lives : (move : LifeMove) → IsLifeMove i j move one other → LiveAlike i j (move ∷ []) one other
+    lives move is = life_law i j (move ∷ []) one other here.kept there.kept here.legal there.legal point (is, tt)
+
+    first_point : (action : Action) → IsForeignAction i action one → AreAtOnePoint i j (after_action action one) other
+    first_point (Occurs event) foreign = (lives (LifeInFirst event) foreign).point
+    first_point (SetsRegister hart number value) none =
+        first_stays _ (register_stays i hart number value point.context one point.first none)
+    first_point (SetsByte address byte) out = first_stays _ (byte_stays i address byte point.context one point.first out)
+
+    second_point : (action : Action) → IsForeignAction j action other → AreAtOnePoint i j one (after_action action other)
+    second_point (Occurs event) foreign = (lives (LifeInSecond event) foreign).point
+    second_point (SetsRegister hart number value) none =
+        second_stays _ (register_stays j hart number value point.context other point.second none)
+    second_point (SetsByte address byte) out = second_stays _ (byte_stays j address byte point.context other point.second out)
+
+-- ---- moves
+
+record MovedAlike (i j : ℕ) (moves : List BenchMove) (one other : MonitoredMachine) : Type 0 where
+  steps : EnclaveStepsAreSame i j moves one other
+  point : AreAtOnePoint i j (after_actions (first_actions moves) one) (after_actions (second_actions moves) other)
+
+moved : (i j : ℕ) (moves : List BenchMove) (one other : MonitoredMachine) → IsSound one → IsSound other → AreAtOnePoint i j one other
+    → AreBenchMoves i j moves one other → MovedAlike i j moves one other
+moved i j [] one other here there point are = record { steps = tt; point = point }
+moved i j (InFirst action ∷ more) one other here there point are =
+    let rest = moved i j more (after_action action one) other (action_sound action one here) there (first_point i j one other point here there action are.0) are.1 in
+    record { steps = rest.steps; point = rest.point }
+moved i j (InSecond action ∷ more) one other here there point are =
+    let rest = moved i j more one (after_action action other) here (action_sound action other there) (second_point i j one other point here there action are.0) are.1 in
+    record { steps = rest.steps; point = rest.point }
+moved i j (InBoth h g ∷ more) one other here there point are =
+    let own = lives i j one other point here there (Own h g) are.0 in
+    let rest = moved i j more (step_of h one).state (step_of g other).state (action_sound (Occurs (StepOf h)) one here) (action_sound (Occurs (StepOf g)) other there)
+    own.point are.1 in
+    record { steps = (own.steps.0, rest.steps); point = rest.point }
+
+-- ---- commands
+
+module _ (i j : ℕ) (first second : BenchState) (commands others : List Command) where
+  abbrev leads : BenchState → List Command → MonitoredMachine → Type 0
+  leads bench list machine = machine_in (after_commands bench list).target ≡ Some (after_actions (actions_of bench list) machine)
+
+  by_machines : (one other : MonitoredMachine) → IsSound one → IsSound other → leads first commands one → leads second others other
+      → (life : IsSameLife i j first second commands others one other)
+      → HasSameLife i j life.moves one other (after_commands first commands).target (after_commands second others).target
+  by_machines one other here there ends ends_too life =
+      let all = moved i j life.moves one other here there life.point life.are in
+      let some : MonitoredMachine → Option MonitoredMachine = λ machine. Some machine in
+      record {
+        steps = all.steps;
+        point =
+            let end = ends ∙ ap (λ (actions : List Action). some (after_actions actions one)) (sym life.here) in
+            let end_too = ends_too ∙ ap (λ (actions : List Action). some (after_actions actions other)) (sym life.there) in
+            subst (λ (o : Option MonitoredMachine). IsSomeAnd o (λ a. IsSomeAnd (machine_in (after_commands second others).target) (AreAtOnePoint i j a))) (sym end)
+            (subst (λ (o : Option MonitoredMachine). IsSomeAnd o (AreAtOnePoint i j (after_actions (first_actions life.moves) one))) (sym end_too) all.point);
+      }
+
+  by_options : (a b : Option MonitoredMachine) → IfSome a Invariant → IfSome b Invariant → IfSome a IsLegalMachine → IfSome b IsLegalMachine
+      → IfSome a (leads first commands) → IfSome b (leads second others) → IfSome a (λ one. IfSome b (λ other.
+      (life : IsSameLife i j first second commands others one other)
+      → HasSameLife i j life.moves one other (after_commands first commands).target (after_commands second others).target))
+  by_options None b kept kept_too legal legal_too ends ends_too = tt
+  by_options (Some one) None kept kept_too legal legal_too ends ends_too = tt
+  by_options (Some one) (Some other) kept kept_too legal legal_too ends ends_too =
+      by_machines one other (record { kept = kept; legal = legal }) (record { kept = kept_too; legal = legal_too }) ends ends_too
+
+-- ---- commands keep the registers legal
+
+legal_effect : (target : Target) (d : Effect) → TargetInvariant target → IsLegalTarget target → IsLegalTarget (done target d)
+legal_effect (Bare machine) d kept legal = by_bare IsLegalTarget (λ alone. tt) _ (bare_done machine d)
+legal_effect (Monitored selected) d kept legal =
+    subst (λ (o : Option MonitoredMachine). IfSome o IsLegalMachine) (sym (effect_acts selected d))
+    (actions_sound (actions_by (Monitored selected) d) selected.state (record { kept = kept; legal = legal })).legal
+
+pub keeps_legal : (bench : BenchState) (command : Command) → TargetInvariant bench.target → IsLegalTarget bench.target
+    → IsLegalTarget (execute bench command).state.target
+unfolding execute
+keeps_legal bench command = legal_effect bench.target (effect bench command)
+
+pub host_influence : HostInfluenceLaw
+host_influence = record {
+  same = λ i j first second commands others kept kept_too legal legal_too.
+      by_options i j first second commands others (machine_in first.target) (machine_in second.target) kept kept_too legal legal_too (acts first commands)
+      (acts second others);
+  legal = keeps_legal;
+}

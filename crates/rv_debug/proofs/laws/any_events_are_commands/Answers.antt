@@ -1,0 +1,5 @@
+use Rattle.rv_debug.proofs.CommandEvents.{command_events}
+use Rattle.rv_debug.proofs.laws.any_events_are_commands.Goals as goal
+
+pub returns : goal.returns
+returns c = command_events

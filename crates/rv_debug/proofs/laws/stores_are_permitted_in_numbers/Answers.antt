@@ -1,0 +1,5 @@
+use Rattle.rv_debug.proofs.Permissions.{store_permission}
+use Rattle.rv_debug.proofs.laws.stores_are_permitted_in_numbers.Goals as goal
+
+pub returns : goal.returns
+returns c = store_permission

@@ -1,0 +1,35 @@
+-- The bytes that S may store in numbers, by the records of the enclaves. A measure succeeds only if S may store each of the 32 bytes. (A law about this
+-- project's own monitor; physical memory protection: RISC-V Privileged Architecture 20211203, section 3.7.1.)
+use Rattle.std.specs.List.{list_any, range_with_len}
+use Rattle.std.specs.Prelude.{ℕ, ◌≡◌, ◌<◌, ◌≤◌, ◌+◌, Bool, false, not, ◌&&◌, ◌||◌, nat_le, nat_lt, length}
+use Rattle.rv_pmp.specs.Verdicts.{bytes_from, permits, verdict}
+use Rattle.rv_pmp.specs.declared.access.Access.TheVariants.{Write}
+use Rattle.rv_enclaves.specs.CallNumbers.{record_at}
+use Rattle.rv_enclaves.specs.declared.world.World.TheVariants.{Enclave, Host}
+use Rattle.rv_debug.specs.Prelude.{Block, Invariant, MonitoredMachine, S, Slots, count_of, hart_state_of, option_case}
+
+abbrev pub is_within : Block → ℕ → Bool
+is_within block byte = nat_le block.base byte && nat_lt byte (block.base + block.size)
+
+-- the host: above the monitor's range, and outside the region of each of the 13 slots
+abbrev pub host_stores : Slots → ℕ → Bool
+host_stores slots byte =
+    nat_le 0x80010000 byte
+    && not (list_any (λ k. option_case (record_at slots k) false (λ info. is_within info.region byte)) (range_with_len 0 13))
+
+-- the enclave of slot k: in its region or its window
+abbrev pub enclave_stores : Slots → ℕ → ℕ → Bool
+enclave_stores slots k byte = option_case (record_at slots k) false (λ info. is_within info.region byte || is_within info.window byte)
+
+-- the PMP of a hart permits S to store a byte of the memory
+abbrev pub permits_store : ℕ → MonitoredMachine → ℕ → Bool
+permits_store hart machine byte = permits (verdict (hart_state_of hart machine).hart.csrs.pmp S Write (bytes_from byte 1))
+
+-- in every reachable state, for each byte of the memory
+pub record StorePermissionLaw : Type 0 where
+  pub host : (hart byte : ℕ) (machine : MonitoredMachine) → Invariant machine → hart < count_of machine → 0x80000000 ≤ byte
+      → byte + 1 ≤ 0x80000000 + length machine.shared.memory → (hart_state_of hart machine).world ≡ Host
+      → permits_store hart machine byte ≡ host_stores machine.shared.table byte
+  pub enclave : (hart byte k : ℕ) (machine : MonitoredMachine) → Invariant machine → hart < count_of machine → 0x80000000 ≤ byte
+      → byte + 1 ≤ 0x80000000 + length machine.shared.memory → (hart_state_of hart machine).world ≡ Enclave k
+      → permits_store hart machine byte ≡ enclave_stores machine.shared.table k byte
