@@ -3,7 +3,6 @@ instances of the merged state. A second solver agrees that nothing exists where 
 import random
 import shutil
 import subprocess
-from types import SimpleNamespace
 
 import pytest
 
@@ -15,12 +14,19 @@ from rvlook.image.variables import Variables
 from rvlook.output.progress import Progress
 from rvlook.protocol.run import Setup, run_of
 from rvlook.image.symbols import symbols_of
-from rvlook.symbolic import merge, solver
+from rvlook.symbolic import bounds, joins, merge, solver
+from rvlook.symbolic.bounds import words_of
+from rvlook.symbolic.conditions import all_of, differ
 from rvlook.symbolic.evaluation import evaluate
 from rvlook.symbolic.fields import Ended
+from rvlook.symbolic.facts import active, condition_of
+from rvlook.symbolic.history import part_of
+from rvlook.symbolic.means import Means
 from rvlook.symbolic.nodes import Node
+from rvlook.symbolic.options import VerifyOptions
 from rvlook.symbolic.paths import Paths
 from rvlook.symbolic.search import Search
+from rvlook.symbolic.words import word
 from rvlook.symbolic.world import World
 from support.random_steps import OPTIONS
 
@@ -36,20 +42,22 @@ def world_of(bench, monkeypatch, task, corrected):
     image = image_of(str(HOST_INPUTS / "image"), "auto")
     setup = Setup(image, monitor=True, symbols=symbols).with_script(
         ["poke %x %02x" % (symbols.by_name[name].address, it) for name, it in (("task", task), ("corrected", corrected))], 100000)
-    return World(run_of(setup), symbols, Variables(), SimpleNamespace(**OPTIONS))
+    return World(run_of(setup), symbols, Variables(), VerifyOptions(**OPTIONS))
 
 
 class Recorded(Search):
-    """A search that keeps the conditions and the loads of each path of one activation."""
+    """A search that keeps the conditions of each path of one activation, and what it did."""
 
-    def explore(self, state, rounds):
-        super().explore(state, rounds)
-        self.kept = getattr(self, "kept", []) + [(state.conds[:], state.loads[:], state.all_pcs())]
+    def explore(self, state):
+        paths = self.paths
+        super().explore(state)
+        if self.paths > paths:
+            self.kept = getattr(self, "kept", []) + [(state.conds[:], part_of(state))]
 
 
 def explored(world, **more):
     """Returns the finished search over a world."""
-    search = Recorded(world, SimpleNamespace(**{**OPTIONS, "seconds": 60, **more}))
+    search = Recorded(world, VerifyOptions(**{**OPTIONS, "seconds": 60, **more}))
     search.go(Progress())
     assert not search.queue
     return search
@@ -74,14 +82,31 @@ def trace_of(world, changes):
     return pcs
 
 
-def includes(path, window, pcs):
-    """Returns whether the inputs fulfil the conditions of a path, and the path has these pcs."""
-    conds, loads, own = path
-    model, memo = {}, {}
+def runs_of(part, window, known):
+    """Returns what a part of a path and those before it do with a window: the values of the inputs and the pcs. There is one pair for each of the
+    joined paths that the inputs may take. `known` has the results for parts."""
+    if id(part) not in known:
+        before = [({}, [])]
+        if part.past:
+            sides = ((part.past.one, True), (part.past.two, False))
+            before = [it for side, holds in sides for it in runs_of(side, window, known) if bool(evaluate(part.past.condition, it[0], {})) == holds]
+        known[id(part)] = [(loaded(model, part.loads, window), pcs + part.pcs) for model, pcs in before]
+    return known[id(part)]
+
+
+def loaded(model, loads, window):
+    """Returns the values of the inputs, with those of loads."""
+    model = dict(model)
     for _, at, names in loads:
         place = evaluate(at, model, {})
         model.update({name: window.get(place + n, 0) for n, name in names})
-    return all(evaluate(it, model, memo) for it in conds) and own[:len(pcs)] == pcs
+    return model
+
+
+def includes(path, window, pcs, known):
+    """Returns whether the inputs fulfil the conditions of a path, and the path has these pcs."""
+    conds, part = path
+    return any(own[:len(pcs)] == pcs and all(evaluate(it, model, {}) for it in conds) for model, own in runs_of(part, window, known))
 
 
 def missing(world, search, runs=RUNS):
@@ -91,8 +116,8 @@ def missing(world, search, runs=RUNS):
         changes = random_window(rng, world)
         window = {world.window[0] + n: it for n, it in enumerate(world.windows[0])}
         window.update(changes)
-        pcs = trace_of(world, changes)
-        lost += not any(includes(it, window, pcs) for it in search.kept)
+        pcs, known = trace_of(world, changes), {}
+        lost += not any(includes(it, window, pcs, known) for it in search.kept)
     return lost
 
 
@@ -117,7 +142,9 @@ LEAVE = Paths.leave_other_side
 PLANTED = {
     "no question has an answer": (solver.Solver, "answered", lambda self, relevant, question, mask, model: (False, None)),
     "a branch divides a path only once": (Paths, "leave_other_side", one_round),
-    "no guess holds, and z3 finds nothing": (solver.Solver, "solve", lambda self, asts, names: (False, None))}
+    "no guess holds, and z3 finds nothing": (solver.Solver, "solve", lambda self, asts, names: (False, None)),
+    "a join keeps one path": (joins.Joins, "pair", lambda self, one, two: one),
+    "a join loses conditions": (joins, "rest_of", lambda c, a, b: [c])}
 
 
 @pytest.mark.parametrize("name", PLANTED)
@@ -165,13 +192,19 @@ def is_instance(search, state, at, x, cell):
         return x is cell or x == cell and not isinstance(x, Node) and not isinstance(cell, Node)
     taint, values = cell
     own = merge.taint_of(state, x) if isinstance(x, Node) else 0
-    return not own & ~taint and (values is None or not isinstance(x, Node) and x in values)
+    if own & ~taint:
+        return False
+    if values is None or not isinstance(x, Node):
+        return values is None or x in values
+    others = all_of(*(differ(word(x, 0, 0, 0), it) for it in values))
+    return search.solver.satisfiable(state.conds, others, state.model)[0] is False
 
 
-def stops(bench, monkeypatch, task):
-    """Returns the finished search of a function of host_inputs, with its states at stops."""
+def stops(bench, monkeypatch, task, is_joined=True):
+    """Returns the finished search of a function of host_inputs, with its states at stops. Paths are joined before, or not."""
     world = world_of(bench, monkeypatch, task, 1)
-    search = Stops(world, SimpleNamespace(**{**OPTIONS, "seconds": 60, "merges": True, "activations": 0, "bound": 100}))
+    search = Stops(world, VerifyOptions(**{**OPTIONS, "seconds": 60, "merges": True, "activations": 0, "bound": 100}))
+    search.joins = search.joins if is_joined else None
     search.go(Progress())
     return search
 
@@ -206,11 +239,37 @@ def test_error_of_a_merge_is_noticed(bench, monkeypatch, name):
     monkeypatch.setattr(*MERGE_ERRORS[name])
     found = []
     for task in STOPPING:
-        search = stops(bench, monkeypatch, task)
+        search = stops(bench, monkeypatch, task, False)
         with monkeypatch.context() as patch:
             patch.setattr(merge, "changed_bytes", own)
             found += outside(search)
     assert found
+
+
+def doubtful_facts(bench, monkeypatch, task):
+    """Returns the facts of a merged state that some path does not fulfil at its first stop."""
+    world = world_of(bench, monkeypatch, task, 1)
+    options = VerifyOptions(**{**OPTIONS, "seconds": 60, "merges": True, "activations": 0, "bound": 100})
+    search = Stops(world, options, Means(loops_from=3))
+    search.joins, search.wanted = None, set(range(*world.region)) | {"x%d" % n for n in range(32)}
+    search.go(Progress())
+    assert any(it.facts for it in search.merger.merged.values())
+    found = []
+    for state, key in search.states:
+        own = active(search.merger.merged[key].facts)
+        found += [it for it in own if not evaluate(condition_of(it, words_of(state)), state.model, {})]
+    return found
+
+
+@pytest.mark.parametrize("task", (3, 8))
+def test_fact_of_a_merged_state_holds_at_each_stop(bench, monkeypatch, task):
+    assert doubtful_facts(bench, monkeypatch, task) == []
+
+
+def test_fact_that_is_not_asked_is_noticed(bench, monkeypatch):
+    """With a planted error: each candidate is taken for a fact."""
+    monkeypatch.setattr(bounds, "holding", lambda solver, conds, model, facts, words, is_late: list(facts))
+    assert doubtful_facts(bench, monkeypatch, 3)
 
 
 # ---- a second solver
@@ -228,7 +287,7 @@ def smt_of(search, asts):
 @pytest.mark.parametrize("task", TASKS)
 def test_second_solver_agrees_that_nothing_exists(bench, monkeypatch, task):
     world = world_of(bench, monkeypatch, task, 1)
-    search = Recorded(world, SimpleNamespace(**{**OPTIONS, "seconds": 60, "bound": 100}))
+    search = Recorded(world, VerifyOptions(**{**OPTIONS, "seconds": 60, "bound": 100}))
     search.solver.proofs = []
     search.go(Progress())
     assert search.solver.proofs

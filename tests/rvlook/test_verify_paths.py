@@ -17,7 +17,7 @@ BUGS = {  # of each task: the question that it violates, the answer, and further
     18: ("double fetches", FOUND), 19: ("time", FOUND, *KEY), 20: ("checks", FOUND, *PIN), 21: ("checks", FOUND, *PIN),
     22: ("remains", FOUND, *KEY, "--wiped"), 23: ("time", FOUND, *KEY), 24: ("outputs", FOUND, *KEY, *REPLY), 25: ("outputs", OPEN, *KEY),
     26: ("returns", FOUND), 27: ("returns", FOUND), 28: ("traps", FOUND), 29: ("memory", FOUND), 30: ("memory", FOUND), 31: ("memory", FOUND),
-    32: ("memory", OPEN)}
+    32: ("memory", FOUND)}
 APPLICATION = PROGRAMS / "verify_paths" / "application.c"
 
 

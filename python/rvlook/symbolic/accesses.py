@@ -10,7 +10,7 @@ from rvlook.symbolic.extents import Extent
 from rvlook.symbolic.fields import Ended
 from rvlook.symbolic.members import asked_member, member_leaves
 from rvlook.symbolic.nodes import INPUT, M32, SECRET, Condition, Node, Word
-from rvlook.symbolic.origins import How, Origin, Tag
+from rvlook.symbolic.origins import MIXED, How, Origin, Tag
 from rvlook.symbolic.paths import MOST_VALUES, Paths
 from rvlook.symbolic.words import not_
 
@@ -29,7 +29,7 @@ class Accesses(Paths):
             return True
         calls = self.calls
         while calls:
-            calls, number, _, _ = calls
+            calls, number, _, _, _ = calls
             if number == call:
                 return True
         return False
@@ -86,7 +86,7 @@ class Accesses(Paths):
         s, w = self.search, self.search.world
         if w.window[0] <= at and at + width <= w.window[1] and (tag is None or w.window[0] <= tag.base < w.window[1]):
             return
-        if tag is None or tag.how is How.NONE:
+        if tag is None or tag.how in (How.NONE, How.MIXED):
             s.doubt(kind, self, UNKNOWN)
             return
         if tag.how in (How.FRAME, How.STACK) and not self.is_open(tag.call):
@@ -162,6 +162,8 @@ class Accesses(Paths):
         """Returns the objects of an access at an expression, and whether leaving them is an error for sure."""
         s, w = self.search, self.search.world
         window = Extent(*w.window, "the window", True)
+        if tag is MIXED:
+            return [], True
         if tag is None or tag.how is How.NONE:
             return ([window] if x.taint & INPUT else []), True  # a pointer of the host
         objects = self.objects_of(tag, offset)

@@ -19,12 +19,15 @@ class Traps(Memory):
     """A state that calls, returns and traps."""
     __slots__ = ()
 
-    def called(self, pc: int, is_trap: bool = False) -> None:
-        """Takes a call, or a trap."""
+    def called(self, pc: int, target: int, is_trap: bool = False) -> None:
+        """Takes a call of a function, or a trap."""
         s = self.search
         self.context = s.world.contexts.called(self.context, pc, is_trap)
         s.calls += 1
-        self.calls, self.call = (self.calls, self.call, pc + 4, self.regs[2]), s.calls
+        self.calls, self.call = (self.calls, self.call, pc + 4, self.regs[2], self.entry), s.calls
+        self.entry = target
+        if target not in s.flows.known:
+            s.note_flow(target)
 
     def returned(self, target: int) -> None:
         """Takes a return. The host must not choose where it goes."""
@@ -42,9 +45,9 @@ class Traps(Memory):
         """Ends the innermost call that returns to an address, and those inside it."""
         calls = self.calls
         while calls:
-            calls, call, back, _ = calls
+            calls, call, back, _, entry = calls
             if back == target:
-                self.calls, self.call = calls, call
+                self.calls, self.call, self.entry = calls, call, entry
                 self.areas = tuple(it for it in self.areas if self.is_open(it[0]))
                 return
 
@@ -78,7 +81,7 @@ class Traps(Memory):
         csr[SEPC], csr[SCAUSE], csr[STVAL] = self.pc & -4, cause, value
         csr[SSTATUS] = status & ~(SIE | SPIE | SPP) | (SPP if self.mode else 0) | (SPIE if status & SIE else 0)
         self.mode = 1
-        self.called(self.pc, True)
+        self.called(self.pc, target, True)
         return target
 
     def sret(self) -> int:

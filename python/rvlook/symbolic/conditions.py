@@ -1,7 +1,7 @@
 """Conditions: equality with inverses of bijections, conjunctions, tables that are read at an index, and choices."""
 from __future__ import annotations
 
-from typing import Dict, Tuple
+from typing import Any, Callable, Dict, List, Optional, Tuple
 
 from rvlook.symbolic.nodes import M32, Byte, Condition, Node, Word, make, signed
 from rvlook.symbolic.words import RULES, bool_, may_of, not_
@@ -25,6 +25,9 @@ def equals_number(x: Node, y: int) -> Condition:
     op, last = x.op, x.args[-1]
     if op == "bool":
         return x.args[0] if y else not_(x.args[0])
+    if op == "ite":
+        it = divided(x.args[0], eq(x.args[1], y), eq(x.args[2], y))
+        return make("eq", (x, y), 1) if it is None else it
     if op in ("add", "xor") and type(last) is int:
         return eq(x.args[0], y - last & M32 if op == "add" else y ^ last)
     if y == 0 and op in ("xor", "sub"):
@@ -34,6 +37,17 @@ def equals_number(x: Node, y: int) -> Condition:
     if is_shifted(x):
         return eq(x.args[0], unshifted(y, last.args[1]))
     return word_equals(x, y) if op == "word" else make("eq", (x, y), 1)
+
+
+def divided(c: Node, one: Condition, two: Condition) -> Optional[Condition]:
+    """Returns whether one condition holds, or another if `c` does not hold; None if neither of them is known."""
+    if type(one) is bool and type(two) is bool:
+        return one if one == two else c if one else not_(c)
+    if type(one) is bool:
+        return any_of(c, two) if one else all_of(not_(c), two)
+    if type(two) is bool:
+        return any_of(not_(c), one) if two else all_of(c, one)
+    return None
 
 
 def word_equals(x: Node, y: int) -> Condition:
@@ -103,7 +117,17 @@ def ult(x: Word, y: Word) -> Condition:
             return False
         if x == 0:
             return not_(eq(y, 0))
-    return make("ult", (x, y), 1)
+    it = by_choice(ult, x, y)
+    return make("ult", (x, y), 1) if it is None else it
+
+
+def by_choice(compare: Callable[[Word, Word], Condition], x: Word, y: Word) -> Optional[Condition]:
+    """Returns a comparison of a choice with a number, if at least one of the two cases is known; else None."""
+    if type(y) is int and x.op == "ite":
+        return divided(x.args[0], compare(x.args[1], y), compare(x.args[2], y))
+    if type(x) is int and y.op == "ite":
+        return divided(y.args[0], compare(x, y.args[1]), compare(x, y.args[2]))
+    return None
 
 
 def lt(x: Word, y: Word) -> Condition:
@@ -114,7 +138,8 @@ def lt(x: Word, y: Word) -> Condition:
         return False
     if may_of(x) < 1 << 31 and may_of(y) < 1 << 31:
         return ult(x, y)
-    return make("lt", (x, y), 1)
+    it = by_choice(lt, x, y)
+    return make("lt", (x, y), 1) if it is None else it
 
 
 RULES.update({"slt": lambda x, y: bool_(lt(x, y)), "sltu": lambda x, y: bool_(ult(x, y))})
@@ -125,9 +150,33 @@ def all_of(*conditions: Condition) -> Condition:
     left = [c for c in conditions if c is not True]
     if any(c is False for c in left):
         return False
+    if len(left) > 1:
+        left = distinct(left)
     if not left:
         return True
     return left[0] if len(left) == 1 else make("and1", tuple(left), 1)
+
+
+def distinct(conditions: List[Node]) -> List[Node]:
+    """Returns the parts of conditions, each once. A looser bound of a word by a number is left out."""
+    found: Dict[Any, Node] = {}
+    for c in conditions:
+        for it in c.args if c.op == "and1" else (c,):
+            key, n = bound_of(it)
+            old = found.get(key)
+            if old is None or n > bound_of(old)[1]:
+                found[key] = it
+    return list(found.values())
+
+
+def bound_of(c: Node) -> Tuple[Any, int]:
+    """Returns what a condition bounds, and a number that is the greater the stricter it is."""
+    it, is_not = (c.args[0], True) if c.op == "not" else (c, False)
+    if it.op == "ult" and type(it.args[0]) is int:  # a < x, or x <= a
+        return (it.args[1], is_not), -it.args[0] if is_not else it.args[0]
+    if it.op == "ult" and type(it.args[1]) is int:  # x < a, or a <= x
+        return (it.args[0], not is_not), it.args[1] - 1 if is_not else 1 - it.args[1]
+    return c, 0
 
 
 def any_of(*conditions: Condition) -> Condition:
@@ -175,10 +224,19 @@ def element(at: Word, low: int, content: Tuple[Byte, ...]) -> Byte:
     return node
 
 
+def is_same(x: Byte, y: Byte) -> bool:
+    """Returns whether two bytes are the same number or the same node."""
+    return x is y or type(x) is int and type(y) is int and x == y
+
+
 def choice8(c: Condition, x: Byte, y: Byte) -> Byte:
     """Returns one byte or another."""
     if type(c) is bool:
         return x if c else y
-    if x is y or type(x) is int and type(y) is int and x == y:
+    if is_same(x, y):
         return x
+    if type(y) is Node and y.op == "ite8" and is_same(y.args[1], x):
+        return choice8(any_of(c, y.args[0]), x, y.args[2])
+    if type(x) is Node and x.op == "ite8" and is_same(x.args[2], y):
+        return choice8(all_of(c, x.args[0]), x.args[1], y)
     return make("ite8", (c, x, y), may_of(x) | may_of(y))

@@ -5,7 +5,7 @@ from typing import Any, Dict, List, Mapping, Optional, Sequence, Tuple
 
 from rvlook.symbolic.conditions import all_of, choice8, element, eq, lt, ult
 from rvlook.symbolic.nodes import M32, Condition, Node, Word, concrete, make, operands, signed
-from rvlook.symbolic.words import bool_, byte, extended, not_, operation, word
+from rvlook.symbolic.words import bool_, byte, choice, extended, not_, operation, word
 
 Model = Mapping[str, int]  # values of variables, by name
 
@@ -77,7 +77,7 @@ VALUES: Dict[str, Any] = {
     "word": lambda v: v[0] | v[1] << 8 | v[2] << 16 | v[3] << 24, "byte": lambda v: v[0] >> 8 * v[1] & 255, "eq": lambda v: v[0] == v[1],
     "eq8": lambda v: v[0] == v[1], "ult": lambda v: v[0] < v[1], "lt": lambda v: signed(v[0]) < signed(v[1]), "not": lambda v: not v[0],
     "and1": all, "bool": lambda v: int(v[0]), "sx8": lambda v: signed(v[0], 8) & M32, "sx16": lambda v: signed(v[0] | v[1] << 8, 16) & M32,
-    "ite8": lambda v: v[1] if v[0] else v[2]}
+    "ite8": lambda v: v[1] if v[0] else v[2], "ite": lambda v: v[1] if v[0] else v[2]}
 
 
 # ---- known values
@@ -120,7 +120,8 @@ MAKERS: Dict[str, Any] = {
     "word": lambda a: word(*a), "byte": lambda a: byte(*a), "eq": lambda a: eq(*a), "ult": lambda a: ult(*a), "lt": lambda a: lt(*a),
     "eq8": lambda a: a[0] == a[1] if type(a[0]) is int else make("eq8", tuple(a), 1), "not": lambda a: not_(a[0]),
     "and1": lambda a: all_of(*a), "bool": lambda a: bool_(a[0]), "sx8": lambda a: extended(a[0], 0, 1),
-    "sx16": lambda a: extended(a[0], a[1], 2), "ite8": lambda a: choice8(*a)}
+    "sx16": lambda a: extended(a[0], a[1], 2), "ite8": lambda a: choice8(*a),
+    "ite": lambda a: choice(*a)}
 
 
 def note_known(condition: Node, found: Dict[Node, int]) -> None:

@@ -79,7 +79,7 @@ class Extents:
         """Yields the frames of a state, the innermost first."""
         call, sp, pc, calls = state.call, state.regs[2], state.pc, state.calls
         while calls:
-            rest, caller, back, entry = calls
+            rest, caller, back, entry, _ = calls
             yield Frame(call, sp, self.top_of(sp, entry), pc)
             call, sp, pc, calls = caller, entry, back - 4, rest
         yield Frame(call, sp, self.stack_of(sp)[1], pc)

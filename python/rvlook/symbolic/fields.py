@@ -15,9 +15,10 @@ CSRS = {0x100: 0x00080122, 0x104: 0, 0x105: 0xFFFFFFFD, 0x106: 0, 0x10A: 0, 0x14
 SSTATUS, STVEC, SSCRATCH, SEPC, SCAUSE, STVAL = 0x100, 0x105, 0x140, 0x141, 0x142, 0x143
 MERGED_STOPS, MERGED_LOOP = -1, -2  # in `first_visit`: the path begins in a state that was merged
 AnyState = Any  # a State; its bases call functions that take one
-Calls = Optional[Tuple[Any, int, int, int]]  # the calls that are open: the outer ones, their number, the return address, and sp at the call
+Calls = Optional[Tuple[Any, int, int, int, int]]  # the calls that are open: the outer ones, their number, the return address, sp, and the entry
 Load = Tuple[int, Word, Tuple[Tuple[int, str], ...]]  # the step, the address, and the offset and the variable of each byte
 Store = Tuple[int, Word, int, Word]  # the step, the address, the width and the value
+FetchedAt = Tuple[Word, int, int, int, Tuple[Node, ...]]  # the address, the width, the instruction, its context, and conditions of joined paths
 Answer = Tuple[int, int, Word, int, int]  # the step, the call, the value, and the numbers of loads and stores before
 
 
@@ -30,7 +31,8 @@ class Fields:
     the window that were loaded in this activation, each with its instruction and call context, and `fetched_at` the loads at expressions."""
     __slots__ = ("search", "regs", "mem", "sym", "pc", "mode", "csr", "conds", "public", "model", "memo", "context", "calls", "call", "visit",
                  "loads", "stores", "answers", "trail", "pcs", "before", "counts", "winmem", "win", "inside", "is_base", "first_visit", "fetched",
-                 "fetched_at", "number", "rejoined", "head", "round", "tags", "mem_tags", "csr_tags", "areas", "bottom", "pending", "released")
+                 "fetched_at", "number", "rejoined", "head", "round", "tags", "mem_tags", "csr_tags", "areas", "bottom", "pending", "released",
+                 "past", "earlier", "inputs", "rounds", "entry", "opening", "resumed")
     search: Search
     regs: List[Word]
     mem: bytearray
@@ -59,7 +61,7 @@ class Fields:
     is_base: bool  # whether the path is that of the run itself
     first_visit: int
     fetched: Dict[int, Tuple[int, int]]
-    fetched_at: List[Tuple[Word, int, int, int]]
+    fetched_at: List[FetchedAt]
     number: int
     rejoined: Optional[Tuple[int, int]]
     head: Optional[int]
@@ -71,6 +73,13 @@ class Fields:
     bottom: int  # of the stack to which sp belongs
     pending: Tuple[Tuple[int, Word, int], ...]  # outputs that are public only with an answer: the answer, the word, the instruction
     released: bool  # whether the secret has come out in this activation
+    past: Any  # what the path did before paths were joined, a Join or None; trail, pcs, loads, stores and answers are those since then
+    earlier: int  # the number of steps before, at most
+    inputs: int  # the number of loads of inputs so far
+    rounds: Dict[Tuple[int, int], int]  # of loops, by call and head
+    entry: int  # of the present function
+    opening: int  # the number of the merged state in which the path begins
+    resumed: Optional[int]  # the place at which the path has waited
 
     def fork(self, pc: int, is_again: bool = False) -> Any:
         """Returns a copy that goes on at a pc. The present step belongs to it unless it is done again."""
@@ -80,13 +89,14 @@ class Fields:
             self.pcs = []
         it = type(self).__new__(type(self))
         for name in ("search", "mode", "model", "context", "calls", "call", "visit", "trail", "before", "first_visit", "rejoined", "areas", "bottom",
-                     "pending", "released", "round"):
+                     "pending", "released", "round", "past", "earlier", "inputs", "entry", "opening"):
             setattr(it, name, getattr(self, name))
         for name in ("loads", "stores", "answers", "conds", "regs", "tags", "fetched_at"):
             setattr(it, name, getattr(self, name)[:])
-        for name in ("sym", "csr", "counts", "win", "inside", "fetched", "mem_tags", "csr_tags", "public"):
+        for name in ("sym", "csr", "counts", "win", "inside", "fetched", "mem_tags", "csr_tags", "public", "rounds"):
             setattr(it, name, getattr(self, name).copy())
         it.mem, it.winmem, it.memo, it.is_base, it.number, it.head = bytearray(self.mem), bytearray(self.winmem), {}, False, 0, None
+        it.resumed = None
         it.pcs, it.pc = [] if is_again else [self.pc], pc
         return it
 

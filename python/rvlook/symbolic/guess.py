@@ -5,9 +5,12 @@ from typing import Any, Dict, Iterator, List, Optional, Tuple
 
 from rvlook.symbolic.evaluation import Model, evaluate
 from rvlook.symbolic.nodes import M32, Node, Word, signed
+from rvlook.symbolic.words import may_of, not_
 
 Part = Dict[str, int]  # values of some variables
 COMPARISONS = ("eq", "eq8", "ult", "lt")
+FLIPPED = 0x55555555  # bits of a value that are changed for another one
+DEEPEST = 60  # operations that are inverted one after another
 
 
 def solutions(question: Node, model: Model, memo: Dict[Node, Any]) -> Iterator[Part]:
@@ -23,19 +26,23 @@ def solutions(question: Node, model: Model, memo: Dict[Node, Any]) -> Iterator[P
             yield zeros(x, model, memo)
         for one, two in ((x, y), (y, x)):
             if type(one) is Node:
-                v = evaluate(two, model, memo)
-                yield from (part for part in (inverse(one, target & M32) for target in (v, v + 1, v - 1)) if part)
+                v, step = evaluate(two, model, memo), may_of(one) & -may_of(one)
+                targets = (v, v + step, v - step, v ^ FLIPPED & may_of(one))
+                yield from (part for part in (inverse(one, target & M32, model, memo) for target in targets) if part)
 
 
 def parts_of_conjunction(it: Node, is_not: bool, model: Model, memo: Dict[Node, Any]) -> Iterator[Part]:
     """Yields values for which all parts of a conjunction may hold, or for which one may not."""
     if is_not:
         for a in it.args:
-            yield from solutions(a.args[0] if a.op == "not" else a, model, memo)
+            yield from solutions(a.args[0] if a.op == "not" else not_(a), model, memo)
         return
     chosen: Part = {}
     for a in it.args:
-        chosen.update(next(solutions(a, {**model, **chosen}, {}), {}))
+        values = {**model, **chosen} if chosen else model
+        known = {} if chosen else memo
+        if not evaluate(a, values, known):
+            chosen.update(next(solutions(a, values, known), {}))
     yield chosen
 
 
@@ -52,37 +59,74 @@ def zeros(x: Node, model: Model, memo: Dict[Node, Any]) -> Part:
             continue
         values = {**model, **chosen}
         pairs = ((leaf.args[0], leaf.args[1]), (leaf.args[1], leaf.args[0])) if leaf.op == "xor" else ((leaf, 0),)
-        found = (inverse(one, evaluate(two, values, {} if chosen else memo)) for one, two in pairs if type(one) is Node)
+        known = {} if chosen else memo
+        found = (inverse(one, evaluate(two, values, known), values, known) for one, two in pairs if type(one) is Node)
         chosen.update(next((it for it in found if it), {}))
     return chosen
 
 
-def inverse(node: Word, value: int) -> Optional[Part]:
-    """Returns values of variables for which a node has a value, or None if it is not that simple."""
-    if type(node) is int:
-        return {} if node == value else None
-    op, args = node.op, node.args
-    if op == "var":
-        return {args[0]: value} if value < 256 else None
-    if op == "word":
-        return inverse_of_bytes(args, value)
-    if op == "sx8":
-        return inverse(args[0], value & 255) if signed(value & 255, 8) & M32 == value else None
-    if op == "sx16":
-        return inverse_of_bytes(args, value & 0xFFFF) if signed(value & 0xFFFF, 16) & M32 == value else None
-    if op in ("add", "xor") and type(args[1]) is int:
-        return inverse(args[0], value - args[1] & M32 if op == "add" else value ^ args[1])
-    if op == "sll" and type(args[1]) is int and not value & (1 << args[1]) - 1:
-        return inverse(args[0], value >> args[1])
+def inverse(node: Word, value: int, model: Model, memo: Dict[Node, Any]) -> Optional[Part]:
+    """Returns values of variables for which a node has a value, or None if it is not that simple. A choice keeps to its side, and an index to its
+    value."""
+    for _ in range(DEEPEST):
+        if type(node) is int:
+            return {} if node == value else None
+        if node.op == "var":
+            return {node.args[0]: value} if value < 256 else None
+        if node.op == "word":
+            return inverse_of_bytes(node.args, value, model, memo)
+        if node.op == "sx16":
+            return inverse_of_bytes(node.args, value & 0xFFFF, model, memo) if signed(value & 0xFFFF, 16) & M32 == value else None
+        if node.op == "or" and not may_of(node.args[0]) & may_of(node.args[1]):
+            one, two = node.args
+            return joined(inverse(one, value & may_of(one), model, memo), inverse(two, value & may_of(two), model, memo))
+        found = inner(node, value, model, memo)
+        if found is None:
+            return None
+        node, value = found
     return None
 
 
-def inverse_of_bytes(parts: Tuple[Any, ...], value: int) -> Optional[Part]:
+def inner(node: Node, value: int, model: Model, memo: Dict[Node, Any]) -> Optional[Tuple[Word, int]]:
+    """Returns an operand and its value for which a node has a value, with the present values of the other operands; or None."""
+    op, args = node.op, node.args
+    if op in ("ite8", "ite"):
+        return args[1] if evaluate(args[0], model, memo) else args[2], value
+    if op == "table":
+        index = evaluate(args[0], model, memo) - args[1] & M32
+        return (args[2].content[index], value) if index < len(args[2].content) and value < 256 else None
+    if op == "byte":
+        n = 8 * args[1]
+        return args[0], evaluate(args[0], model, memo) & ~(255 << n) | value << n
+    if op == "sx8":
+        return (args[0], value & 255) if signed(value & 255, 8) & M32 == value else None
+    if op == "bool":
+        return None
+    one, two = args[0], args[1]
+    if type(one) is not Node:
+        return (two, one - value & M32) if op == "sub" else None
+    v = evaluate(two, model, memo)
+    if op in ("add", "sub", "xor"):
+        return one, value - v & M32 if op == "add" else value + v & M32 if op == "sub" else value ^ v
+    if op == "and" and not value & ~v:
+        return one, value | evaluate(one, model, memo) & ~v
+    if op == "sll" and not value & (1 << (v & 31)) - 1:
+        return one, value >> (v & 31)
+    if op == "srl" and value << (v & 31) <= M32:
+        return one, value << (v & 31) | evaluate(one, model, memo) & (1 << (v & 31)) - 1
+    return None
+
+
+def joined(one: Optional[Part], two: Optional[Part]) -> Optional[Part]:
+    """Returns the values of two parts, or None if they contradict each other."""
+    if one is None or two is None or any(one.get(k, v) != v for k, v in two.items()):
+        return None
+    return {**one, **two}
+
+
+def inverse_of_bytes(parts: Tuple[Any, ...], value: int, model: Model, memo: Dict[Node, Any]) -> Optional[Part]:
     """Returns values of variables for which bytes have a value together, or None."""
-    found: Part = {}
+    found: Optional[Part] = {}
     for n, b in enumerate(parts):
-        part = inverse(b, value >> 8 * n & 255)
-        if part is None or any(found.get(k, v) != v for k, v in part.items()):
-            return None
-        found.update(part)
+        found = joined(found, inverse(b, value >> 8 * n & 255, model, memo))
     return found

@@ -19,6 +19,7 @@ if TYPE_CHECKING:
     from rvlook.symbolic.fields import AnyState as State
 
 Place = Tuple[int, int]  # an instruction and its call context
+Earlier = Tuple[Condition, Place, Tuple[Node, ...]]  # whether a load meets an earlier one, that one, and the conditions of joined paths
 ILLEGAL, ASSUMPTION = 2, MARKS["4153000b"]
 CONSOLE_STATE = 16  # bytes before the text of a console (examples/shared/console.h)
 ECALL, WAITS = 8, "one instruction loads a byte again, as a loop that waits does"
@@ -74,7 +75,7 @@ class Judge(Outputs):
         if (type(place) is not int or state.fetched_at) and ("reread", state.pc) not in self.found:
             self.ask_overlap(state, place, width)
         if type(place) is not int:
-            state.fetched_at.append((place, width, *here))
+            state.fetched_at.append((place, width, *here, ()))
 
     def fetched_again(self, state: State, first: Place, at: int, model: Dict[str, int]) -> None:
         """Takes a byte of the window that is loaded a second time in an activation."""
@@ -91,20 +92,26 @@ class Judge(Outputs):
     def ask_overlap(self, state: State, place: Word, width: int) -> None:
         """Asks whether a load has a byte that an earlier one had, where one of them is at an expression. If it must have one, it is a double fetch.
         If it only can, that is not decided, unless the place is a pointer of the host, which may meet any other place."""
-        here = state.pc, state.context
-        earlier = [(overlap(place, width, x, size), (pc, context)) for x, size, pc, context in state.fetched_at]
+        earlier: List[Earlier] = [(overlap(place, width, x, size), (pc, context), it) for x, size, pc, context, it in state.fetched_at]
         if type(place) is not int:
-            earlier += [(within(place, low - width + 1, high - 1), first) for low, high, first in ranges_of(state.fetched)]
-        question = any_of(*(condition for condition, _ in earlier))
-        can, model = self.solver.satisfiable(state.conds, question, state.model)
-        if can is False:
+            earlier += [(within(place, low - width + 1, high - 1), first, ()) for low, high, first in ranges_of(state.fetched)]
+        earlier = [it for it in earlier if it[0] is not False]
+        for joined in sorted({it[2] for it in earlier}, key=len):
+            own = [it for it in earlier if set(it[2]) <= set(joined)]
+            self.ask_overlap_of(state, place, own, all_of(*joined))
+
+    def ask_overlap_of(self, state: State, place: Word, earlier: List[Earlier], joined: Condition) -> None:
+        """Asks the same for one of the paths that were joined: that of a condition."""
+        here, question = (state.pc, state.context), any_of(*(it[0] for it in earlier))
+        can, model = self.solver.satisfiable(state.conds, all_of(joined, question), state.model)
+        if can is False or ("reread", state.pc) in self.found:
             return
-        must_not, _ = self.solver.satisfiable(state.conds, not_(question), state.model)
+        must_not, _ = self.solver.satisfiable(state.conds, all_of(joined, not_(question)), state.model)
         if can is None or must_not is None:
             self.undecided["reread", state.pc] += 1
         elif must_not is False:
             memo: Dict[Node, object] = {}
-            hits = [first for condition, first in earlier if evaluate(condition, model, memo)]
+            hits = [first for condition, first, _ in earlier if evaluate(condition, model, memo)]
             first = next((it for it in hits if it != here), hits[0])
             self.fetched_again(state, first, evaluate(place, model, memo), model)
         elif state.has_origin():

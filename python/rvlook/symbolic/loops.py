@@ -1,23 +1,25 @@
 """Merges paths at the heads of loops, for any number of rounds.
 
 Nodes and conditions that all paths at a head have are kept. A byte that differs becomes an unknown of this loop. It has another value in each round,
-so no other node and no condition with it is kept. A merged loop is shown to end if a word of it only grows, or only falls, in each round."""
+so no other node and no condition with it is kept."""
 from __future__ import annotations
 
 from typing import Dict, List, Optional, Set, Tuple, TYPE_CHECKING
 
 from rvlook.symbolic.conditions import ult
-from rvlook.symbolic.evaluation import evaluate
-from rvlook.symbolic.fields import MERGED_LOOP
+from rvlook.symbolic.fields import MERGED_LOOP, FetchedAt
 from rvlook.symbolic.merge import Cell, Key, Merged, Merger, Place, begin, join_tags, key_of, raw_cells, tags_of, taint_of
-from rvlook.symbolic.nodes import Byte, Node, Word, mask_of, variable
+from rvlook.symbolic.nodes import Byte, Condition, Node, Word, mask_of, variable
 from rvlook.symbolic.words import not_, word
 
 if TYPE_CHECKING:
+    from rvlook.symbolic.bounds import Assumed
     from rvlook.symbolic.search import Search
     from rvlook.symbolic.state import State
 
 MOST_RANKS = 40  # words that are tried as the measure of a loop
+Measure = Tuple[Place, bool]  # a register or a word of memory, and whether it grows
+Arrival = Tuple[str, Set[Measure], Set[Measure]]  # the head from which a path came, the words that changed, and those that did or are the same
 
 
 class Head(Merged):
@@ -29,11 +31,9 @@ class Head(Merged):
         self.conds: List[Node] = []
         self.public: Set[Node] = set()
         self.fetched: Dict[int, Tuple[int, int]] = {}
-        self.fetched_at: List[Tuple[Word, int, int, int]] = []
-        self.now: Dict[Place, int] = {}
+        self.fetched_at: List[FetchedAt] = []
         self.model: Dict[str, int] = {}
-        self.ranks: Optional[Set[Tuple[Place, bool]]] = None  # words that change in one direction in each round: the place, and whether it grows
-        self.generation = 0  # the number of changes
+        self.arrivals: List[Arrival] = []  # of paths from merged heads, in the last pass
 
 
 class Loops:
@@ -42,6 +42,7 @@ class Loops:
     def __init__(self, search: Search) -> None:
         self.search = search
         self.heads: Dict[Key, Tuple[LoopMerger, Head]] = {}
+        self.is_final = False  # whether each head is explored for the last time
 
     def take(self, state: State) -> Optional[Tuple[LoopMerger, Head]]:
         """Takes a path at the head of a loop; returns what has to be explored again."""
@@ -60,9 +61,42 @@ class Loops:
         head.is_queued = True
         return merger, head
 
+    def last_pass(self) -> List[Tuple[LoopMerger, Head]]:
+        """Returns all heads once nothing changes any more, to explore each of them again and see whether the loops end; none after that."""
+        if self.is_final:
+            return []
+        self.is_final = True
+        for _, head in self.heads.values():
+            head.arrivals, head.is_queued = [], True
+        return list(self.heads.values())
+
+    @property
+    def is_examined(self) -> bool:
+        """Returns whether no head has changed since the last pass began, which explores each head again. Without heads there is no pass."""
+        return self.is_final or not self.heads
+
     def endless(self) -> List[int]:
-        """Returns the heads of the loops whose end is not shown."""
-        return sorted({head.state.pc for _, head in self.heads.values() if head.ranks is not None and not head.ranks})
+        """Returns the heads of the loops whose end is not shown. A head is passed a finite number of times if a word grows, or falls, each time it is
+        passed again. Such heads are left out before the others are looked at."""
+        left = {merger.prefix: head for merger, head in self.heads.values()}
+        while True:
+            ended = [name for name, head in left.items() if is_ranked([it[1:] for it in head.arrivals if it[0] in left])]
+            if not ended:
+                return sorted({head.state.pc for head in left.values()})
+            for name in ended:
+                del left[name]
+
+
+def is_ranked(rounds: List[Tuple[Set[Measure], Set[Measure]]]) -> bool:
+    """Returns whether the rounds of a loop end. In some rounds a word changes in one direction, and in the others it is the same or does so too.
+    These others are ranked in turn."""
+    while rounds:
+        common = set.intersection(*(weak for _, weak in rounds))
+        left = [it for it in rounds if not it[0] & common]
+        if len(left) == len(rounds):
+            return False
+        rounds = left
+    return True
 
 
 class LoopMerger(Merger):
@@ -70,26 +104,34 @@ class LoopMerger(Merger):
 
     def __init__(self, search: Search, prefix: str) -> None:
         super().__init__(search)
-        self.prefix = prefix
+        self.prefix, self.zeros = prefix, ()
 
     def first(self, it: Head, state: State) -> None:
         """Takes the first path at a head."""
         it.cells, it.mem, it.tags = dict(raw_cells(state)), bytes(state.mem), tags_of(state)
         it.conds, it.public = state.conds[:], set(state.public)
         self.note(it, state)
+        self.learn(it, state, None, {}, 0)
+
+    def assumed(self, it: Merged) -> Assumed:
+        """Returns the conditions of a merged state, and values for which they hold."""
+        assert isinstance(it, Head)
+        conds, model = super().assumed(it)
+        return it.conds + conds, {**it.model, **model}
 
     def note(self, it: Head, state: State) -> bool:
         """Takes what a path has loaded, and its values; returns whether the loads are new."""
         grown = {**it.fetched, **state.fetched}
-        new = [x for x in state.fetched_at if x not in it.fetched_at and not mask_of(x[0]) & it.own]
-        is_changed = len(grown) > len(it.fetched) or bool(new) or len(state.loads) > it.loads and not it.loads
-        it.fetched, it.loads = grown, max(it.loads, len(state.loads))
+        new = [x for x in state.fetched_at if x not in it.fetched_at and not any(mask_of(y) & it.own for y in (x[0], *x[4]))]
+        is_changed = len(grown) > len(it.fetched) or bool(new) or state.inputs > it.loads and not it.loads
+        it.fetched, it.loads = grown, max(it.loads, state.inputs)
         it.fetched_at = it.fetched_at + new
-        it.model, it.now = dict(state.model), {at: evaluate(x, state.model, state.memo) for at, x in raw_cells(state)}
+        it.model = dict(state.model)
         return is_changed
 
     def next(self, it: Head, state: State) -> bool:
         """Takes a further path at a head; returns whether the merged state changed."""
+        assumed, old = self.assumed(it), dict(it.cells)
         new = {at: self.loop_cell(it, state, at, x) for at, x in raw_cells(state)}
         is_changed = self.join(it, new, bytes(state.mem))
         is_changed = join_tags(it.tags, tags_of(state)) or is_changed
@@ -100,10 +142,11 @@ class LoopMerger(Merger):
         public = {n for n in it.public & state.public if not mask_of(n) & it.own}
         is_changed = is_changed or len(conds) < len(it.conds) or len(public) < len(it.public)
         it.conds, it.public = conds, public
+        is_changed = self.learn(it, state, assumed, old, it.own) or is_changed
         is_changed = self.note(it, state) or is_changed
         if is_changed:
-            it.generation, it.ranks = it.generation + 1, None
-        else:
+            self.search.loops.is_final = False
+        elif self.search.loops.is_final:
             self.rank(it, state)
         return is_changed
 
@@ -138,28 +181,36 @@ class LoopMerger(Merger):
         state = it.state.fork(it.state.pc, True)
         begin(state, MERGED_LOOP)
         state.conds, state.public, state.model = list(it.conds), set(it.public), dict(it.model)
-        state.loads, state.fetched, state.head = [(0, 0, ())] * it.loads, dict(it.fetched), state.pc
+        state.inputs, state.fetched, state.head = it.loads, dict(it.fetched), state.pc
         state.fetched_at = list(it.fetched_at)
-        state.round = self.prefix, it.generation
-        self.fill(state, it, it.now)
+        state.round = self.prefix, 0
+        self.fill(state, it)
         self.note_unknowns(it)
         return state
 
     # ---- whether the loop ends
 
     def rank(self, it: Head, state: State) -> None:
-        """Notes which words change in one direction in a round: in all paths that began at this head in its last form, and came back."""
-        if state.round is None or state.round[0] == self.prefix and state.round[1] < it.generation:
+        """Notes which words change in one direction since the paths were at this head before. They are the unknowns of its state."""
+        if state.round is None:
             return
-        found: Set[Tuple[Place, bool]] = set()
-        for at in self.candidates(it) if it.ranks is None else sorted({at for at, _ in it.ranks}, key=str):
+        strict, weak = set(), set()  # type: Set[Measure], Set[Measure]
+        for at in self.candidates(it):
             before, after = self.word_at(it, at), self.present(state, at)
             for grows in (True, False):
-                if it.ranks is None or (at, grows) in it.ranks:
-                    question = not_(ult(before, after) if grows else ult(after, before))
-                    answer, _ = self.search.solver.satisfiable(state.conds, question, state.model)
-                    found |= {(at, grows)} if answer is False else set()
-        it.ranks = found
+                less, more = (before, after) if grows else (after, before)
+                if self.implied(state, ult(less, more)):
+                    strict.add((at, grows))
+                    weak.add((at, grows))
+                elif self.implied(state, not_(ult(more, less))):
+                    weak.add((at, grows))
+        it.arrivals.append((state.round[0], strict, weak))
+
+    def implied(self, state: State, condition: Condition) -> bool:
+        """Returns whether the conditions of a path imply another one."""
+        if not state.holds(condition):
+            return False
+        return self.search.solver.satisfiable(state.conds, not_(condition), state.model)[0] is False
 
     def candidates(self, it: Head) -> List[Place]:
         """Returns the registers and words of memory that have an unknown byte."""

@@ -4,12 +4,13 @@ from __future__ import annotations
 from typing import List, Optional, Tuple
 
 from rvlook.symbolic.accesses import Accesses
-from rvlook.symbolic.conditions import choice8, element, eq
+from rvlook.errors import RvlookError
+from rvlook.symbolic.conditions import choice8, element, eq, ult
 from rvlook.symbolic.extents import Extent
 from rvlook.symbolic.fields import Ended
 from rvlook.symbolic.nodes import INPUT, M32, Byte, Node, Word, signed, variable
 from rvlook.symbolic.origins import NO_ORIGIN, How, Origin, Tag, known
-from rvlook.symbolic.words import byte, extended, parts_of, plain, word
+from rvlook.symbolic.words import byte, extended, not_, parts_of, plain, word
 
 MOST_TABLE, MOST_STORED = 4096, 256  # bytes of an object that is read or written at an index as a whole
 
@@ -122,7 +123,7 @@ class Memory(Accesses):
             return [self.win[at + n] for n in range(width)]
         if is_number and s.is_given(at, width):
             return self.given(at, width)
-        number, found, names = len(self.loads), [], []  # type: int, List[Byte], List[Tuple[int, str]]
+        number, found, names = self.inputs, [], []  # type: int, List[Byte], List[Tuple[int, str]]
         for n in range(width):
             if is_number and s.options.calm and at + n in self.win:
                 found.append(self.win[at + n])
@@ -137,8 +138,19 @@ class Memory(Accesses):
             if is_number and s.options.calm:
                 self.win[at + n] = it
         self.loads.append((self.steps, place, tuple(names)))
+        self.inputs += 1
         s.note_fetch(self, place, width, names)
+        if is_number and at in s.world.lengths:
+            self.limit(at, assembled(found, width, False))
         return found
+
+    def limit(self, at: int, value: Word) -> None:
+        """Takes a length of --length: leaves out inputs with a greater one. Raises RvlookError if the run itself has one."""
+        s, most = self.search, self.search.world.lengths[at]
+        if self.is_base and self.value(value) > most:
+            raise RvlookError("--length leaves out the run itself, which has %d at %s" % (self.value(value), s.world.symbols.name(at) or "%08x" % at))
+        s.limited.add(at)
+        self.move_to(not_(ult(most, value)))
 
     def become_any(self, at: int, count: int) -> None:
         """Makes bytes of the region inputs of their own, with their present values in the model."""
@@ -146,7 +158,8 @@ class Memory(Accesses):
         if not low <= at <= at + count <= high:
             raise Ended("any_bytes")
         self.access(at, count, self.tags[10], 0, "store")
-        names = [(n, "a%d_%d" % (len(self.loads), n)) for n in range(count)]
+        names = [(n, "a%d_%d" % (self.inputs, n)) for n in range(count)]
+        self.inputs += 1
         values = {name: self.value(plain(self.sym[at + n])) if at + n in self.sym else self.mem[at + n - low] for n, name in names}
         self.model, self.memo = {**self.model, **values}, {}
         self.search.note_written(self, at, count)
@@ -158,10 +171,11 @@ class Memory(Accesses):
     def given(self, at: int, width: int) -> List[Byte]:
         """Returns bytes of the window that the host gives as in the run itself."""
         own = self.search.world.window[0]
-        names = tuple((n, "g%d_%d" % (self.steps, n)) for n in range(width))
-        self.model = {**self.model, **{name: self.winmem[at + n - own] for n, name in names}}
+        values = list(self.winmem[at - own:at - own + width])
+        names = tuple((n, "g%02x" % v) for n, v in enumerate(values))
+        self.model = {**self.model, **{name: v for (_, name), v in zip(names, values)}}
         self.loads.append((self.steps, at, names))
-        return list(self.winmem[at - own:at - own + width])
+        return values
 
     def sent(self, at: int, width: int, value: Word, place: Word) -> None:
         """Stores to the window. Asks about bytes that depend on a secret, unless they are public."""

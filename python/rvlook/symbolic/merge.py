@@ -5,19 +5,27 @@ numbers. The conditions of the paths are dropped. A merged state includes all st
 of them, while a finding in it may be none."""
 from __future__ import annotations
 
-from typing import Any, Dict, FrozenSet, Iterator, List, Optional, Tuple, TYPE_CHECKING, Union
+from collections import Counter
+from typing import Any, Counter as Counts, Dict, FrozenSet, Iterator, List, Optional, Set, Tuple, TYPE_CHECKING, Union
 
+from rvlook.symbolic.bounds import words_of, words_of_cells
 from rvlook.symbolic.conditions import any_of, eq
+from rvlook.symbolic.evaluation import evaluate
+from rvlook.symbolic.facts import MOST, SUM, active
 from rvlook.symbolic.fields import MERGED_STOPS
-from rvlook.symbolic.nodes import CHECK, INPUT, SECRET, Byte, Node, mask_of, variable
+from rvlook.symbolic.nodes import CHECK, INPUT, SECRET, Byte, Node, mask_of, names_of, variable
 from rvlook.symbolic.origins import NO_ORIGIN, Tag
+from rvlook.symbolic.record import merged_place
 from rvlook.symbolic.words import byte, plain, word
 
 if TYPE_CHECKING:
+    from rvlook.symbolic.bounds import Assumed
+    from rvlook.symbolic.facts import Fact, Words
     from rvlook.symbolic.search import Search
     from rvlook.symbolic.state import State
 
 MOST_VALUES, MOST_CHANGES = 16, 2  # of an unknown, before it may have any value
+MOST_DROPS = {MOST: 6, SUM: 2}  # times that the bound of a word, or of a sum, changes before it may have any value
 Place = Union[int, str]  # an address, or a byte of a register
 Cell = Any  # an int, a node that depends on secrets alone, or an unknown: its taint, and the set of its values or None
 Key = Tuple[Any, ...]
@@ -32,13 +40,18 @@ class Merged:
         self.cells: Dict[Place, Cell] = {}
         self.mem = b""
         self.tags: Dict[Place, Tag] = {}
+        self.facts: List[Fact] = []
+        self.drops: Counts[Any] = Counter()  # how often the bound of a word has changed
+        self.considered: Set[Place] = set()  # unknown bytes about which facts were learned
+        self.now: Dict[Place, int] = {}  # values of the bytes of one state
+        self.now_mem = b""
 
 
 def key_of(state: State) -> Key:
     """Returns what paths must have in common to be merged: the pc, the mode, the calls that are open, and sp in each of them."""
     calls, found = state.calls, []
     while calls:
-        calls, _, back, sp = calls
+        calls, _, back, sp, _ = calls
         found.append((back, sp))
     areas = tuple(it[1:] for it in state.areas)
     return state.pc, state.mode, state.context, state.regs[2], state.csr[0x100], tuple(found), state.bottom, areas
@@ -47,9 +60,11 @@ def key_of(state: State) -> Key:
 class Merger:
     """The merged states of a search, by what their paths have in common."""
     prefix = "u"
+    zeros: Tuple[int, ...] = RESULTS
 
     def __init__(self, search: Search) -> None:
         self.search, self.merged, self.rounds = search, {}, 0  # type: Search, Dict[Key, Merged], int
+        self.bounds = search.bounds
         self.constant = 0  # the variables of secrets, which are the same in all activations
         for at in search.world.secret:
             self.constant |= variable("k_%08x" % at, SECRET).mask or 0
@@ -65,9 +80,12 @@ class Merger:
         if it is None:
             it = self.merged[key] = Merged(state.fork(state.pc + 4))
             it.cells, it.mem, it.tags = self.cells_of(state), bytes(state.mem), tags
+            self.learn(it, state, None, {})
         else:
+            assumed, old = self.assumed(it), dict(it.cells)
             is_changed = self.join(it, self.cells_of(state), bytes(state.mem))
             is_changed = join_tags(it.tags, tags) or is_changed
+            is_changed = self.learn(it, state, assumed, old) or is_changed
         if not is_changed or it.is_queued:
             return None
         it.is_queued = True
@@ -81,7 +99,7 @@ class Merger:
         """Returns a byte as a cell. The unknown of another place is a new unknown here: that place may have another value now."""
         if type(node) is int or self.is_unknown_of(at, node) or not mask_of(node) & ~self.constant:
             return node
-        return taint_of(state, node), None
+        return taint_of(state, node), values_of(node)
 
     def is_unknown_of(self, at: Place, node: Node) -> bool:
         """Returns whether a node is the unknown of a place."""
@@ -119,6 +137,82 @@ class Merger:
         values = v | w if v is not None and w is not None and len(v | w) <= MOST_VALUES else None
         return m | n, values
 
+    # ---- facts
+
+    def assumed(self, it: Merged) -> Assumed:
+        """Returns the conditions of a merged state on its unknowns, and values for which they hold."""
+        conds = [c for at, cell in it.cells.items() for c in self.value_conditions(at, cell)]
+        return conds + self.bounds.conditions(it.facts, self.words(it, it.cells)), self.model_of(it)
+
+    def model_of(self, it: Merged) -> Dict[str, int]:
+        """Returns the values of one of the states that were merged."""
+        found = {n: v for n, v in it.state.model.items() if n.startswith(("k_", "c_"))}
+        for at, cell in it.cells.items():
+            if type(cell) is tuple:
+                found[self.name_of(at, cell[0])] = self.now_at(it, at)
+        return found
+
+    def now_at(self, it: Merged, at: Place) -> int:
+        """Returns the value of a byte in one of the states that were merged."""
+        return it.now[at] if at in it.now else it.now_mem[at - self.search.world.region[0]] if isinstance(at, int) else 0
+
+    def value_conditions(self, at: Place, cell: Cell) -> List[Node]:
+        """Returns the condition that an unknown has one of its values."""
+        if type(cell) is not tuple or not cell[1]:
+            return []
+        it = variable(self.name_of(at, cell[0]), cell[0])
+        return [c for c in (any_of(*(eq(word(it, 0, 0, 0), v) for v in sorted(cell[1]))),) if type(c) is Node]
+
+    def words(self, it: Merged, cells: Dict[Place, Cell]) -> Words:
+        """Returns the function that gives the words of a merged state, with cells in place of its own."""
+        base = self.search.world.region[0]
+
+        def byte_at(at: Place) -> Byte:
+            cell = cells.get(at, it.mem[at - base] if isinstance(at, int) else 0)
+            return variable(self.name_of(at, cell[0]), cell[0]) if type(cell) is tuple else cell
+        return words_of_cells(byte_at)
+
+    def learn(self, it: Merged, state: State, assumed: Optional[Assumed], old: Dict[Place, Cell], own: Optional[int] = None) -> bool:
+        """Drops the facts that a state does not imply, and adds some about words that became unknown with it. `assumed` has the conditions of the
+        merged state before, with the cells `old`; returns whether a fact was dropped."""
+        it.now = {at: evaluate(x, state.model, state.memo) for at, x in raw_cells(state, self.zeros)}
+        it.now_mem = bytes(state.mem)
+        if not self.search.means.loops_from:
+            return False
+        unknown = [at for at, cell in it.cells.items() if type(cell) is tuple]
+        if own is None:
+            wanted = self.wanted(state)
+            unknown = [at for at in unknown if (at.split("_")[0] if isinstance(at, str) else at) in wanted]
+        was = {at for at in unknown if type(old.get(at)) is tuple}
+        self.search.is_outgrown |= own is None and not was <= it.considered
+        it.considered |= set(unknown)
+        now, before = self.bounds.places(unknown), set(self.bounds.places([at for at in unknown if at in was]))
+        new, kept = [at for at in now if at not in before], active(it.facts)
+        others = now if own is None else now + self.bounds.places([at for at, cell in it.cells.items() if type(cell) is Node])
+        words = self.words(it, old) if assumed else words_of(state)
+        found = self.bounds.candidates(new, others, words, it.tags, own)
+        if assumed:
+            found = self.bounds.holding(assumed, found, words)
+        it.facts = self.bounds.holding((state.conds, state.model), it.facts + found, words_of(state))
+        dropped = set(kept) - set(it.facts)
+        it.drops.update({(fact.kind, fact.x, fact.y) for fact in dropped})
+        it.facts = [fact for fact in it.facts if it.drops[fact.kind, fact.x, fact.y] <= MOST_DROPS.get(fact.kind, 0)]
+        return bool(dropped)
+
+    def wanted(self, state: State) -> Set[Union[int, str]]:
+        """Returns the places whose bounds decide something, and those from which their values in a state come."""
+        found: Set[Union[int, str]] = set()
+        new = set(self.search.wanted)
+        while new:
+            found |= new
+            mask = 0
+            for at in new:
+                mask |= mask_of(state.regs[int(at[1:])]) if isinstance(at, str) and at.startswith("x") else 0
+                mask |= mask_of(plain(state.sym[at])) if isinstance(at, int) and at in state.sym else 0
+            new = {it for it in map(merged_place, names_of(mask)) if it is not None} - found
+        self.search.wanted |= found
+        return found
+
     # ---- states to explore
 
     def opened(self, it: Merged) -> State:
@@ -129,16 +223,15 @@ class Merger:
         state.conds, state.public = [], set()
         state.model = {n: v for n, v in it.state.model.items() if n.startswith(("k_", "c_"))}
         begin(state, MERGED_STOPS)
-        self.fill(state, it, {})
+        self.fill(state, it)
         return state
 
-    def fill(self, state: State, it: Merged, now: Dict[Place, int]) -> None:
-        """Sets the bytes of a state to the cells of a merged one. `now` has values for the model."""
-        base = self.search.world.region[0]
+    def fill(self, state: State, it: Merged) -> None:
+        """Sets the bytes of a state to the cells of a merged one, with its facts as conditions."""
         state.mem, state.sym = bytearray(it.mem), {}
         found: Dict[Place, Byte] = {}
         for at, cell in it.cells.items():
-            found[at] = self.content(state, at, cell, now.get(at, it.mem[at - base] if type(at) is int else 0))
+            found[at] = self.content(state, at, cell, self.now_at(it, at))
             if type(at) is int:
                 state.put(at, found[at])
         for n in range(1, 32):
@@ -146,16 +239,16 @@ class Merger:
         for n in state.csr:
             state.csr[n] = word(*(found["c%x_%d" % (n, k)] for k in range(4)))
         set_tags(state, it.tags)
+        state.conds += self.bounds.conditions(it.facts, self.words(it, it.cells))
 
     def content(self, state: State, at: Place, cell: Cell, value: int) -> Byte:
         """Returns the byte of a cell."""
         if type(cell) is not tuple:
             return cell
-        taint, values = cell
+        taint = cell[0]
         it = variable(self.name_of(at, taint), taint)
-        state.model[it.args[0]] = value if values is None or value in values else min(values)
-        if values:
-            state.conds.append(any_of(*(eq(word(it, 0, 0, 0), v) for v in sorted(values))))
+        state.model[it.args[0]] = value
+        state.conds += self.value_conditions(at, cell)
         return it
 
 
@@ -164,6 +257,9 @@ def begin(state: State, first_visit: int) -> None:
     state.memo, state.loads, state.stores, state.answers, state.trail, state.pcs, state.before = {}, [], [], [], None, [], 0
     state.counts, state.fetched, state.fetched_at, state.inside, state.win, state.pending = {}, {}, [], {}, {}, ()
     state.visit, state.first_visit, state.released, state.rejoined, state.round = 1, first_visit, False, None, None
+    state.search.openings += 1
+    state.opening = state.search.openings
+    state.past, state.earlier, state.inputs, state.rounds, state.resumed = None, 0, 0, {}, None
 
 
 def raw_cells(state: State, zeros: Tuple[int, ...] = ()) -> Iterator[Tuple[Place, Byte]]:
@@ -185,6 +281,22 @@ def changed_bytes(one: bytes, two: bytes, base: int) -> List[int]:
         if one[n:n + 64] != two[n:n + 64]:
             found += [base + k for k in range(n, n + 64) if one[k] != two[k]]
     return found
+
+
+def values_of(node: Byte) -> Optional[FrozenSet[int]]:
+    """Returns the values that a choice of numbers has, or None."""
+    found, stack = set(), [node]  # type: Set[int], List[Byte]
+    while stack and len(found) <= MOST_VALUES:
+        it = stack.pop()
+        if type(it) is int:
+            found.add(it)
+        elif it.op == "ite8":
+            stack += it.args[1:]
+        elif it.op == "byte" and it.args[0].op == "ite":
+            stack += [byte(x, it.args[1]) for x in it.args[0].args[1:]]
+        else:
+            return None
+    return frozenset(found) if len(found) <= MOST_VALUES else None
 
 
 def taint_of(state: State, node: Node) -> int:
@@ -215,7 +327,7 @@ def open_calls(state: State) -> List[int]:
     """Returns the numbers of the calls that are open, the innermost first."""
     found, calls = [state.call], state.calls
     while calls:
-        calls, call, _, _ = calls
+        calls, call, _, _, _ = calls
         found.append(call)
     return found
 

@@ -7,6 +7,7 @@ from typing import Any, Dict, List, Optional, Tuple
 
 M32 = 0xFFFFFFFF
 INPUT, SECRET, CHECK = 1, 2, 4  # taints: given by the host; of the secret; of what the host must know
+HEAVIEST, HEAVY = 1 << 24, 1 << 16  # operations; more than HEAVY are those of a hash
 Word = Any  # an int of 32 bits, or a Node
 Byte = Any  # an int of 8 bits, or a Node
 Condition = Any  # a bool, or a Node
@@ -14,11 +15,11 @@ Condition = Any  # a bool, or a Node
 
 class Node:
     """An operation with its operands: nodes, numbers, or what the operation takes. `taint` says on what it depends, `may` has the bits that may be
-    set, and `mask` has the variables as bits once it is known."""
-    __slots__ = ("op", "args", "taint", "may", "number", "parts", "mask")
+    set, and `mask` has the variables as bits once it is known. `weight` is the number of operations in it, with repetitions, at most HEAVIEST."""
+    __slots__ = ("op", "args", "taint", "may", "number", "parts", "mask", "weight")
 
     def __init__(self, op: str, args: Tuple[Any, ...], taint: int, may: int, number: int) -> None:
-        self.op, self.args, self.taint, self.may, self.number = op, args, taint, may, number
+        self.op, self.args, self.taint, self.may, self.number, self.weight = op, args, taint, may, number, 1
         self.parts: Optional[Tuple[Any, ...]] = None
         self.mask: Optional[int] = None
 
@@ -43,11 +44,13 @@ def make(op: str, args: Tuple[Any, ...], may: int = M32) -> Node:
     key = (op, args)
     it = known.get(key)
     if it is None:
-        taint = 0
+        taint, weight = 0, 1
         for a in args:
             if type(a) is Node:
                 taint |= a.taint
+                weight += a.weight
         it = known[key] = Node(op, args, taint, may, len(known))
+        it.weight = weight if weight < HEAVIEST else HEAVIEST
     return it
 
 

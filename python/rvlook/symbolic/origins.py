@@ -18,6 +18,7 @@ class How(Enum):
     FRAME = "frame"  # sp and an offset
     MEMORY = "memory"  # a pointer that the image has in its data
     NONE = "none"  # a word in memory that is no pointer, although its value looks like one
+    MIXED = "mixed"  # a word that has another origin on another of the paths that were joined
 
 
 class Origin(NamedTuple):
@@ -30,7 +31,7 @@ class Origin(NamedTuple):
     more: int = 0
 
 
-NO_ORIGIN = Origin(How.NONE, 0)
+NO_ORIGIN, MIXED = Origin(How.NONE, 0), Origin(How.MIXED, 0)
 Tag = Optional[Origin]
 
 

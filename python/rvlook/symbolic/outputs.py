@@ -10,9 +10,10 @@ from rvlook.symbolic.record import Record
 from rvlook.symbolic.words import byte, plain, word
 
 if TYPE_CHECKING:
-    from argparse import Namespace
+    from rvlook.symbolic.means import Means
     from rvlook.symbolic.solver import Solver
     from rvlook.symbolic.fields import AnyState as State
+    from rvlook.symbolic.options import VerifyOptions
     from rvlook.symbolic.world import World
 
 COMPARISONS = ("eq", "eq8", "ult", "lt")
@@ -22,7 +23,8 @@ BYTES = 256  # values of a byte
 class Outputs(Record):
     """A search that asks about outputs."""
     world: World
-    options: Namespace
+    options: VerifyOptions
+    means: Means
     solver: Solver
 
     def __init__(self) -> None:
@@ -137,7 +139,8 @@ class Outputs(Record):
         """Takes an activation that leaves: older states, and what remains in the region."""
         for it in state.conds if self.options.must_matter else ():
             self.appears |= mask_of(it)
-        if state.visit >= 2 and (state.is_base or not self.options.merges) and ("older", state.pc) not in self.found:
+        is_asked = self.means.is_whole and (state.is_base or not self.options.merges)
+        if state.visit >= 2 and is_asked and ("older", state.pc) not in self.found:
             self.older(state)
         if self.world.secret and self.options.wiped:
             self.remains(state)

@@ -7,6 +7,7 @@ from rvlook.symbolic.nodes import SECRET, Condition, Node, Word
 from rvlook.symbolic.words import not_
 
 MOST_VALUES = 48  # of a word that is followed value by value
+NESTED = 16  # times as many rounds of a loop are followed in all rounds of the loops around it
 
 
 class Paths(Fields):
@@ -82,12 +83,13 @@ class Paths(Fields):
     def leave_other_side(self, here: Node, model: dict[str, int], other: int) -> None:
         """Leaves the other side of a branch to a path of its own, unless this is one round of a loop too many. A misaligned target traps at the
         branch, which that path executes again."""
-        s, key = self.search, (self.pc, self.context)
+        s, key, whole = self.search, (self.pc, self.context), (self.pc, ~self.context)
         count = self.counts[key] = self.counts.get(key, 0) + 1
-        if count <= s.options.bound:
+        total = self.counts[whole] = self.counts.get(whole, 0) + 1
+        if count <= s.options.bound and total <= s.options.bound * NESTED:
             is_trap = bool(other & 3)
             it = self.fork(self.pc if is_trap else other, is_trap)
-            it.model = model
+            it.model, it.head = model, self.pc if is_trap and key in s.heads else None
             it.conds.append(not_(here))
             s.later(it)
         elif s.options.loops and s.merger:
@@ -124,6 +126,6 @@ class Paths(Fields):
     def again(self, condition: Node, model: dict[str, int], tried: int) -> None:
         """Leaves this step to another path, with another condition."""
         it = self.fork(self.pc, True)
-        it.model, it.rejoined = model, (it.before, tried)
+        it.model, it.rejoined, it.head = model, (it.before, tried), self.head
         it.conds.append(condition)
         self.search.later(it)

@@ -50,11 +50,13 @@ def asked(search: Search) -> List[str]:
 
 def gone(search: Search) -> List[str]:
     """Returns why not all paths were covered."""
-    place, found = search.world.place, []
+    place, found = search.world.place, ["Ctrl-C ended the search"] if search.is_cut else []
     if search.merge_queue:
         found.append("%d merged states are left" % len(search.merge_queue))
     if search.queue:
-        found.append("%d paths are left, all with at most %d rounds of each loop done" % (len(search.queue), max(0, (search.rest or 1) - 1)))
+        found.append("%d paths are left" % len(search.queue))
+    if search.has_begun and (search.is_outgrown or not search.loops.is_examined):
+        found.append("the time is over before the ends of loops were examined")
     for pc in search.cut_loops:
         found.append("the loop at %s is followed for %d rounds" % (place(pc), search.options.bound))
     for pc in search.left_after_leak:
@@ -120,4 +122,11 @@ def covered(search: Search) -> str:
     types = "" if search.world.has_types else "; objects are known by symbols alone, without types"
     places = ", ".join(search.world.place(pc) for pc in sorted(search.assumptions))
     assumed = ", if the assumptions hold at %s" % places if places else ""
-    return "all paths, all inputs%s%s, %s%s%s%s" % (secrets, given, number, calm, assumed, types)
+    return "%sall paths, all inputs%s%s, %s%s%s%s" % (limits(search), secrets, given, number, calm, assumed, types)
+
+
+def limits(search: Search) -> str:
+    """Returns up to which lengths a search has gone, or nothing."""
+    w = search.world
+    places = ["%d at %s" % (w.lengths[at], w.symbols.name(at) or "%08x" % at) for at in sorted(search.limited)]
+    return "up to %s: " % " and ".join(places) if places else ""

@@ -3,14 +3,26 @@ from __future__ import annotations
 
 from collections import Counter
 from dataclasses import dataclass, field, replace
-from typing import Any, Counter as Counts, Dict, List, Optional, Set, Tuple, TYPE_CHECKING
+from typing import Any, Counter as Counts, Dict, List, Optional, Set, Tuple, TYPE_CHECKING, Union
+
+from rvlook.symbolic.history import history_of
+from rvlook.symbolic.nodes import mask_of, names_of
 
 if TYPE_CHECKING:
     from rvlook.symbolic.fields import AnyState as State, Answer, Load, Store
     from rvlook.symbolic.nodes import Node
 
+LAST = 8  # conditions of a path on which a finding without an address depends
 IN_MERGED = "only in a merged state: no sequence of activations is known that reaches it"
 Key = Tuple[str, int]  # a kind and an instruction
+
+
+def merged_place(name: str) -> Optional[Union[int, str]]:
+    """Returns the address or the register of an unknown of a state that was merged at a stop, by its name; None for another variable."""
+    kind, _, place = name.partition("_")
+    if not kind.startswith("u"):
+        return None
+    return place.partition("_")[0] if "_" in place else int(place, 16)
 
 
 @dataclass
@@ -56,7 +68,9 @@ class Record:
         self.ends: Counts[str] = Counter()
         self.changed_code: Set[int] = set()
         self.given_written: Set[int] = set()
+        self.limited: Set[int] = set()  # the places of --length that were loaded
         self.is_trial = False
+        self.wanted: Set[Union[int, str]] = set()  # places of merged states whose bounds decide something
 
     def report(self, what: str, state: State, text: str, one: Dict[str, int], two: Optional[Dict[str, int]] = None) -> None:
         """Adds a finding, once for each kind and instruction. In a merged state it is none: it is not decided."""
@@ -64,6 +78,7 @@ class Record:
         if self.is_trial:
             return
         if state.is_merged:
+            self.note_wanted(state, what)
             if key not in self.found:
                 self.note(key, "%s: %s" % (text, IN_MERGED) if text else IN_MERGED)
             return
@@ -72,8 +87,19 @@ class Record:
             old.count += 1
             return
         address = state.access_address() if what in ("load", "store") else None
-        self.found[key] = Finding(what, state.pc, text, state.all_pcs() + [state.pc], state.loads[:], state.stores[:], state.answers[:], dict(one),
+        it = history_of(state, one)
+        self.found[key] = Finding(what, state.pc, text, it.pcs + [state.pc], it.loads, it.stores, it.answers, dict(one),
                                   dict(two) if two else None, state.conds[:], address)
+
+    def note_wanted(self, state: State, what: str) -> None:
+        """Notes the places of a merged state on which a finding depends: those of the address, and of conditions that share a variable with it."""
+        address = state.access_address() if what in ("load", "store") else None
+        mask = mask_of(address) if address is not None else 0
+        for it in state.conds[-LAST:] if not mask else ():
+            mask |= mask_of(it)
+        for it in [it for it in state.conds if mask_of(it) & mask]:
+            mask |= mask_of(it)
+        self.wanted |= {place for place in map(merged_place, names_of(mask)) if place is not None}
 
     def doubt(self, what: str, state: State, reason: str) -> None:
         """Notes that a question is not decided at an instruction, and why."""

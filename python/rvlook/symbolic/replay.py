@@ -4,7 +4,7 @@ from __future__ import annotations
 from dataclasses import dataclass, field
 from typing import Any, Dict, List, Mapping, Protocol, Sequence, TYPE_CHECKING, Tuple
 
-from rvlook.protocol.replies import step_of
+from rvlook.protocol.replies import register_values, step_of
 from rvlook.symbolic.calls import MONITOR_KEY, STOP
 from rvlook.symbolic.decode import decode
 from rvlook.symbolic.evaluation import evaluate
@@ -100,7 +100,7 @@ class Replayer:
     def leave(self, bench: Bench, it: Replayed, end: Tuple[int, int], is_last: bool) -> None:
         """Compares the answer and the window after the enclave has left, and resumes it unless this was the last step."""
         call, answer = end
-        a0, a1 = (int(bench.one("reg %d" % n).split("=")[1], 16) for n in (10, 11))
+        a0, a1 = bench.register(10), bench.register(11)
         if it.world != "host" or (a0, a1) != (1 if call == STOP else 0, answer):
             it.wrong = "answer %d %08x, predicted %08x" % (a0, a1, answer)
         check_window(bench, it)
@@ -138,7 +138,7 @@ def last_step(bench: Bench, plan: Plan, it: Replayed, number: int) -> None:
     bench.ask(*pokes)
     it.log += pokes
     it.pcs.append(it.after)
-    it.regs = [int(x.split("=")[1], 16) for x in bench.ask("regs")[0][:32]]
+    it.regs = register_values(bench.ask("regs")[0][:32])
     it.note(bench.one("step 1"))
 
 

@@ -21,13 +21,17 @@ def write(folder: str, run: Run, findings: Sequence[Finding], headings: Sequence
     try:
         os.makedirs(folder, exist_ok=True)
         for number, (it, heading) in enumerate(zip(findings, headings), 1):
-            head = [comment(heading), comment("./rvbench %s < this file" % " ".join(run.setup.arguments())),
-                    comment("./rvlook page --monitor this file, or ./rvlook gdb --monitor this file")]
-            lines = [*head, *joined(it.log), "dis %x" % it.pc, "regs", STEP]
-            text = run.setup.image.text + b"--\n" + "".join(map(ended, lines)).encode("latin-1", "replace")
-            replace_file(os.path.join(folder, "finding_%d" % number), text)
+            replace_file(os.path.join(folder, "finding_%d" % number), input_of(run, it, heading))
     except OSError as error:
         raise RvlookError("cannot write to '%s': %s" % (folder, error.strerror)) from None
+
+
+def input_of(run: Run, it: Finding, heading: str) -> bytes:
+    """Returns a finding as an input of rvbench."""
+    head = [comment(heading), comment("./rvbench %s < this file" % " ".join(run.setup.arguments())),
+            comment("./rvlook page --monitor this file, or ./rvlook gdb --monitor this file")]
+    lines = [*head, *joined(it.log), "dis %x" % it.pc, "regs", STEP]
+    return run.setup.image.text + b"--\n" + "".join(map(ended, lines)).encode("latin-1", "replace")
 
 
 def joined(commands: Sequence[str]) -> List[str]:

@@ -1,43 +1,52 @@
 """The search over all paths."""
 from __future__ import annotations
 
-import heapq
 import time
 from collections import Counter
-from typing import Any, Counter as Counts, List, Optional, Set, Tuple, TYPE_CHECKING
+from typing import Any, Counter as Counts, List, Set, Tuple, TYPE_CHECKING
 
+from rvlook.symbolic.bounds import Bounds
 from rvlook.symbolic.extents import Extents
 from rvlook.symbolic.fields import CSRS, AnyState, Ended
+from rvlook.symbolic.flow import Flows
+from rvlook.symbolic.history import history_of
+from rvlook.symbolic.joins import Joins
 from rvlook.symbolic.judge import Judge
 from rvlook.symbolic.loops import Loops
+from rvlook.symbolic.means import Means
 from rvlook.symbolic.merge import Merged, Merger
 from rvlook.symbolic.nodes import CHECK, SECRET, forget, variable
 from rvlook.symbolic.origins import How, Origin
 from rvlook.symbolic.replay import Replayer
+from rvlook.symbolic.schedule import WAITS, Schedule, waiting
 from rvlook.symbolic.solver import Solver
 from rvlook.symbolic.state import State
 from rvlook.symbolic.words import plain
 
 if TYPE_CHECKING:
-    from argparse import Namespace
     from rvlook.output.progress import Progress
+    from rvlook.symbolic.options import VerifyOptions
     from rvlook.symbolic.world import World
 
 NEAR = 4096  # bytes around region and window to which lui and auipc may point
 FIRST_REPLAYS = 10  # paths that are all replayed
 TRIALS, TRIAL_STEPS = 4, 20000  # of a loop with numbers, to see whether it ends
+ASKS_STATE = 3  # activations from which on older states are asked about, for which a path must have one history
 WINDOW_BASE = 12  # a2, which has the base of the window at the first entry
 
 
 class Search(Judge):
     """The search over all paths of an enclave."""
 
-    def __init__(self, world: World, options: Namespace) -> None:
+    def __init__(self, world: World, options: VerifyOptions, means: Means = Means()) -> None:
         super().__init__()
-        forget()
-        self.world, self.options = world, options
+        if means == Means():
+            forget()
+        self.world, self.options, self.means = world, means.options(options), means
+        options = self.options
         self.solver, self.extents, self.replayer = Solver(options.timeout), Extents(world), Replayer(world)
-        self.queue: List[Tuple[int, int, int, State]] = []
+        self.flows = Flows(world.memory, world.region[0])
+        self.queue, self.meets, self.openings = Schedule(self.flows, means.is_rare_first), set(), 0  # type: Schedule, Set[int], int
         self.merge_queue: List[Tuple[Any, Merged]] = []
         self.heads: Set[Tuple[int, int]] = set()
         self.sides: Set[Tuple[int, bool]] = set()
@@ -46,17 +55,19 @@ class Search(Judge):
         self.high_pointer = max(world.region[1], world.window[1]) + NEAR
         self.patience = 20000 + 2 * sum(len(it.pcs) for it in world.visits)
         self.activations = options.activations or len(world.visits)
+        self.joins = Joins(self) if not means.is_rare_first and (options.merges or not means.is_whole or self.activations < ASKS_STATE) else None
         self.began = time.perf_counter()
+        self.until = self.began + options.seconds
         self.replays: Counts[str] = Counter()
         self.wrong: List[str] = []
+        self.bounds = Bounds(self)
         self.merger = Merger(self) if options.merges else None
-        self.loops = Loops(self)
-        self.rest: Optional[int] = None
-        self.is_cut = False
+        self.loops, self.loops_from, self.has_begun = Loops(self), means.loops_from, False
+        self.is_cut = self.is_outgrown = False  # is_outgrown: facts are needed about a word that is unknown for long
 
     def is_late(self) -> bool:
         """Returns whether the time is over."""
-        return time.perf_counter() - self.began > self.options.seconds
+        return self.is_outgrown or time.perf_counter() > self.until
 
     # ---- paths
 
@@ -70,6 +81,7 @@ class Search(Judge):
         it.winmem, it.win, it.inside, it.is_base, it.first_visit = bytearray(w.windows[0]), {}, {}, True, 0
         it.fetched, it.fetched_at, it.mem_tags, it.csr_tags, it.areas, it.pending, it.released = {}, [], {}, {}, (), (), False
         it.tags, it.bottom = [None] * 32, w.objects.stack
+        it.past, it.earlier, it.inputs, it.rounds, it.entry, it.opening, it.resumed = None, 0, 0, {}, w.pc, 0, None
         if w.window[0] < w.window[1] and it.regs[WINDOW_BASE] == w.window[0]:
             it.tags[WINDOW_BASE] = Origin(How.SYMBOL, w.window[0])
         for places, name, taint in ((w.secret, "k_%08x", SECRET), (w.check, "c_%08x", CHECK)):
@@ -79,10 +91,17 @@ class Search(Judge):
         return it
 
     def later(self, state: State) -> None:
-        """Adds a path. Those with fewer rounds of loops come first."""
+        """Adds a path."""
         if not self.is_trial:
-            rounds = max((n for (pc, _), n in state.counts.items() if pc > 0), default=0)
-            heapq.heappush(self.queue, (rounds, self.paths + len(self.queue), id(state), state))
+            self.queue.add(state)
+
+    def note_flow(self, entry: int) -> None:
+        """Takes a function that is called: finds the places at which its paths meet."""
+        flow = self.flows.of(entry)
+        for pc in flow.meets - self.meets if flow else ():
+            self.meets.add(pc)
+            if pc in self.code:
+                self.code[pc] = waiting(self.code[pc])
 
     def take_stop(self, state: AnyState) -> None:
         """Takes a path that stops, to merge it."""
@@ -98,35 +117,41 @@ class Search(Judge):
 
     def go(self, progress: Progress) -> None:
         """Explores paths until none is left, or the time is over."""
-        self.later(self.first())
-        while (self.queue or self.merge_queue) and not self.is_late():
+        if not self.has_begun:
+            self.has_begun = True
+            self.later(self.first())
+        while not self.is_late():
+            if not self.queue and not self.merge_queue:
+                self.merge_queue += self.loops.last_pass()
+            if not self.queue and not self.merge_queue:
+                break
             if not self.queue:
                 merger, it = self.merge_queue.pop(0)
                 self.later(merger.opened(it))
-            rounds, _, _, state = heapq.heappop(self.queue)
-            self.paths += 1
-            state.number = self.paths
-            progress.show("%d paths, %d left, %d findings, %d steps", self.paths, len(self.queue), len(self.found), self.steps)
-            self.explore(state, rounds)
-        self.rest = min((it[0] for it in self.queue), default=None)
+            states = self.queue.take()
+            for state in self.joins.joined(states) if self.joins and len(states) > 1 else states:
+                state.resumed = state.pc if state.pc in self.meets else None
+                progress.show("%d paths, %d left, %d findings, %d steps", self.paths, len(self.queue), len(self.found), self.steps)
+                self.explore(state)
 
-    def explore(self, state: State, rounds: int) -> None:
-        """Explores one path to its end, and replays it if its turn has come."""
+    def explore(self, state: State) -> None:
+        """Explores one path until it ends or waits for others, and replays it if its turn has come."""
         before = state.steps
         why = state.go()
-        self.ends[why] += 1
         self.steps += state.steps - before
-        if why == "late":
-            heapq.heappush(self.queue, (rounds, 0, id(state), state))
-        elif self.options.replay and (self.paths <= FIRST_REPLAYS or self.paths % self.options.replay == 0) and not state.is_merged:
+        if why in ("late", WAITS):
+            self.later(state)
+            return
+        self.ends[why] += 1
+        self.paths += 1
+        if self.options.replay and (self.paths <= FIRST_REPLAYS or self.paths % self.options.replay == 0) and not state.is_merged:
             self.replay(state, why)
 
     def replay(self, state: State, why: str) -> None:
         """Replays a path on rvbench."""
-        pcs = state.all_pcs()
-        if why not in ("exit", "stop"):
-            pcs = pcs[:-1]
-        it = self.replayer.go(pcs, state, state.model, True)
+        path = history_of(state, state.model)
+        pcs = path.pcs if why in ("exit", "stop") else path.pcs[:-1]
+        it = self.replayer.go(pcs, path, state.model, True)
         self.replays["other" if it.wrong else "same"] += 1
         if it.wrong:
             self.wrong.append("path %d (%s, %d steps): %s" % (self.paths, why, len(pcs), it.wrong))

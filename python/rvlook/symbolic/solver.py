@@ -5,14 +5,17 @@ from __future__ import annotations
 
 import random
 import time
+from copy import copy
 from typing import Any, Dict, FrozenSet, List, Optional, Sequence, Set, Tuple
 
 from rvlook.symbolic.evaluation import Model, evaluate, reduced
 from rvlook.symbolic.guess import Part, solutions
-from rvlook.symbolic.nodes import CHECK, SECRET, Condition, Node, Word, by_name, mask_of, names_of
+from rvlook.symbolic.nodes import CHECK, HEAVY, SECRET, Condition, Node, Word, by_name, mask_of, names_of
+from rvlook.symbolic.opaque import Opaque
 from rvlook.symbolic.translate import Primed, Translator
 
 CORNERS = (0, 1, 255, 128, 127, 65, 4, 16)
+OPAQUE_TIMEOUT = 500  # milliseconds
 MOST_NAMES, TRIES, REPAIRS = 64, 6, 4  # variables of a question that is guessed; guesses; repaired conditions of a guess
 Answer = Optional[bool]  # None if it is not decided
 Pair = Tuple[Answer, Optional[Part], Optional[Part]]
@@ -24,12 +27,18 @@ class Solver:
 
     def __init__(self, timeout: int, seed: int = 0) -> None:
         self.timeout, self.rng, self.plain = timeout, random.Random(seed), Translator()
-        self.z3 = self.plain.z3
+        self.z3, self.opaque = self.plain.z3, Opaque()
         self.cache: Dict[Any, Any] = {}
         self.primed: Dict[FrozenSet[Node], Primed] = {}
         self.queries = self.guesses = self.cached = 0
         self.seconds = 0.0
         self.proofs: Optional[List[List[Any]]] = None
+
+    def within(self, timeout: int) -> Solver:
+        """Returns the same solver with at most so many milliseconds for a query."""
+        it = copy(self)
+        it.timeout, it.cache = min(timeout, self.timeout), {}
+        return it
 
     # ---- one run
 
@@ -67,6 +76,8 @@ class Solver:
         if part is not None:
             self.guesses += 1
             return True, part
+        if self.is_impossible(relevant, question):
+            return False, None
         left, values = reduced([*relevant, question])
         if left is None:
             self.note_proof([self.plain(it) for it in (*relevant, question)])
@@ -80,13 +91,27 @@ class Solver:
                 return None, None
         return answer, part
 
+    def is_impossible(self, relevant: List[Node], question: Node) -> bool:
+        """Returns whether it is known already without the contents of tables and of choices that conditions and a question do not hold together."""
+        asked = self.opaque.relevant(relevant, question)
+        if asked is None:
+            return False
+        self.queries += 1
+        began = time.perf_counter()
+        asts = [self.opaque(it) for it in asked]
+        answer, _ = self.z3.checked(asts, min(self.timeout, OPAQUE_TIMEOUT))
+        self.seconds += time.perf_counter() - began
+        if answer is False:
+            self.note_proof(asts)
+        return answer is False
+
     def guessed(self, conditions: Sequence[Node], question: Node, mask: int, model: Part) -> Optional[Part]:
         """Returns values of the variables of a question for which it holds and so do the conditions; or None."""
-        names = names_of(mask)
-        if len(names) > MOST_NAMES:
+        names, memo = names_of(mask), {}  # type: List[str], Dict[Node, Any]
+        if len(names) > MOST_NAMES and question.weight > HEAVY:
             return None
-        parts = [it for it, _ in zip(solutions(question, model, {}), range(8))]
-        for turn in range(TRIES):
+        parts = [it for it, _ in zip(solutions(question, model, memo), range(8))]
+        for turn in range(TRIES if len(names) <= MOST_NAMES else 0):
             parts.append({n: CORNERS[turn] if turn < 3 else self.rng.randrange(256) if turn < 5 else self.rng.choice(CORNERS) for n in names})
         for part in parts:
             found = self.repaired(part, conditions, question, model)

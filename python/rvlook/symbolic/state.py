@@ -8,6 +8,7 @@ from rvlook.symbolic.decode import decode
 from rvlook.symbolic.fields import STVEC, Ended
 from rvlook.symbolic.instructions import Step, compiled
 from rvlook.symbolic.nodes import M32, Word
+from rvlook.symbolic.schedule import WAITS, passes_head, waiting
 from rvlook.symbolic.words import operation
 
 SLICE = 256  # steps between two looks at the time
@@ -38,13 +39,26 @@ class State(Traps):
                     self.pcs.append(pc)
                 if s.is_late():
                     raise Ended("late")
-                if self.steps > limit:
+                if self.earlier + self.steps > limit:
                     raise Ended("steps")
-                if self.steps > s.patience and not self.is_base:
+                if self.earlier + self.steps > s.patience and not self.is_base:
                     self.repeats()
         except Ended as end:
-            self.pcs.append(self.pc)
+            if str(end) not in (WAITS, "late"):
+                self.pcs.append(self.pc)
             return str(end)
+
+    def meet_head(self, pc: int) -> None:
+        """Merges paths at the head of a loop in which this one has divided several times."""
+        s, key = self.search, (pc, self.context)
+        flow = s.flows.known.get(self.entry)
+        if self.is_base or s.is_trial or flow is None or flow.heads.get(pc, ())[-1:] != (pc,):
+            return
+        own = [n for (at, context), n in self.counts.items() if context == self.context and flow.heads.get(at, ())[-1:] == (pc,)]
+        if key in s.heads or max(own, default=0) >= s.loops_from:
+            s.heads.add(key)
+            s.take_loop(self)
+            raise Ended("merged")
 
     def step(self) -> None:
         """Executes one step."""
@@ -63,8 +77,16 @@ class State(Traps):
         if pc in s.written or any(pc + n in self.sym for n in range(4)):
             s.changed_code.add(pc)
             raise Ended("code")
-        s.code[pc] = compiled(decode(int.from_bytes(s.world.memory[pc - low:pc - low + 4], "little")))
+        it = compiled(decode(int.from_bytes(s.world.memory[pc - low:pc - low + 4], "little")))
+        s.code[pc] = waiting(it) if pc in s.meets else it
         return s.code[pc]
+
+    def meet(self, pc: int) -> None:
+        """Waits at a place where paths meet, unless there is no other path."""
+        s = self.search
+        if len(s.queue) and not self.is_base and not s.is_trial and s.joins:
+            passes_head(s.flows, self, pc)
+            raise Ended(WAITS)
 
     def repeats(self) -> None:
         """Reports the path if it is in a loop without inputs in which nothing changes."""

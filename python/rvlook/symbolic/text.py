@@ -6,12 +6,11 @@ from typing import Dict, List, Sequence, TYPE_CHECKING, Tuple
 
 from rvlook.output.printer import Style, hex8
 from rvlook.symbolic import questions, scripts
-from rvlook.symbolic.confirm import confirm
 from rvlook.symbolic.evaluation import evaluate
 from rvlook.symbolic.nodes import by_name, mask_of
 
 if TYPE_CHECKING:
-    from argparse import Namespace
+    from rvlook.output.findings import Findings
     from rvlook.output.printer import Printer
     from rvlook.symbolic.record import Finding
     from rvlook.symbolic.search import Search
@@ -71,31 +70,39 @@ def details_of(search: Search, it: Finding) -> List[str]:
     return lines + input_rows(search, it)
 
 
-def show(search: Search, printer: Printer, options: Namespace) -> None:
-    """Confirms and prints what a search found and covered, and notes it for the exit status."""
-    for it in search.found.values():
-        it.answer = confirm(search, it)
+def show(search: Search, printer: Printer, findings: Findings) -> None:
+    """Prints what a search found and covered, and notes it for the exit status."""
     answers = questions.answers(search)
-    reasons = questions.gone(search)
-    wrong = questions.untrusted(search)
-    findings = [it for answer in answers for it in answer.findings]
-    if options.scripts:
-        scripts.write(options.scripts, search.world.run, findings, [heading_of(search, it) for it in findings])
+    if search.options.scripts:
+        found = [it for answer in answers for it in answer.findings]
+        scripts.write(search.options.scripts, search.world.run, found, [heading_of(search, it) for it in found])
     if printer.as_json:
-        write_objects(search, answers, printer, reasons + wrong)
+        write_objects(search, answers, printer)
     else:
-        print_text(search, answers, printer, reasons, wrong)
+        print_text(search, answers, printer)
     for answer in answers:
-        options.findings.add(answer.name, "\n".join("\n".join([heading_of(search, it), *details_of(search, it)]) for it in answer.findings))
+        findings.add(answer.name, "\n".join(text_of(search, it) for it in answer.findings))
+    unfinished = unfinished_text(search)
+    if unfinished:
+        findings.leave_open(unfinished, bool(questions.untrusted(search)))
+
+
+def text_of(search: Search, it: Finding) -> str:
+    """Returns a finding with its inputs."""
+    return "\n".join([heading_of(search, it), *details_of(search, it)])
+
+
+def unfinished_text(search: Search) -> str:
+    """Returns why a search is not complete, or is not to be trusted; empty if it is complete."""
+    wrong = questions.untrusted(search)
     if wrong:
-        options.findings.leave_open("NOT TO BE TRUSTED: " + wrong[0], True)
-    elif not questions.is_complete(search):
-        options.findings.leave_open("not complete: " + "; ".join(reasons or ["places are not decided"]))
+        return "NOT TO BE TRUSTED: " + wrong[0]
+    return "" if questions.is_complete(search) else "not complete: " + "; ".join(questions.gone(search) or ["places are not decided"])
 
 
-def print_text(search: Search, answers: Sequence[questions.Answer], printer: Printer, reasons: Sequence[str], wrong: Sequence[str]) -> None:
+def print_text(search: Search, answers: Sequence[questions.Answer], printer: Printer) -> None:
     """Prints the findings, the answers, and what was covered."""
-    number = 0
+    number, reasons, wrong = 0, questions.gone(search), questions.untrusted(search)
     for it in (it for answer in answers for it in answer.findings):
         number += 1
         printer.line(printer.styled("finding %d: %s" % (number, heading_of(search, it)), Style.bad))
@@ -115,7 +122,8 @@ def print_text(search: Search, answers: Sequence[questions.Answer], printer: Pri
         printer.line(printer.styled("NOT TO BE TRUSTED: %s" % text, Style.bad))
     printer.line(covered_text(search))
     if questions.is_complete(search):
-        printer.line(printer.styled("COMPLETE: %s" % questions.covered(search), Style.good if not number else Style.heading))
+        mark = "COMPLETE " if search.limited else "COMPLETE: "
+        printer.line(printer.styled(mark + questions.covered(search), Style.good if not number else Style.heading))
     else:
         printer.line("not complete: %s" % "; ".join([*reasons, *wrong] or ["places are not decided"]))
 
@@ -128,7 +136,7 @@ def covered_text(search: Search) -> str:
         sum(search.replays.values()), time.perf_counter() - search.began)
 
 
-def write_objects(search: Search, answers: Sequence[questions.Answer], printer: Printer, reasons: Sequence[str]) -> None:
+def write_objects(search: Search, answers: Sequence[questions.Answer], printer: Printer) -> None:
     """Writes the findings, the answers, and what was covered as objects."""
     number = 0
     for answer in answers:
@@ -143,5 +151,5 @@ def write_objects(search: Search, answers: Sequence[questions.Answer], printer: 
         printer.object("question", name=answer.name, title=answer.title, verdict=answer.verdict, findings=len(answer.findings),
                        undecided=answer.places)
     printer.object("verify", slot=search.options.slot, complete=questions.is_complete(search), covered=questions.covered(search),
-                   reasons=list(reasons), paths=search.paths, steps=search.steps, instructions=len(search.code), replays=sum(search.replays.values()),
-                   queries=search.solver.queries)
+                   reasons=[*questions.gone(search), *questions.untrusted(search)], paths=search.paths, steps=search.steps,
+                   instructions=len(search.code), replays=sum(search.replays.values()), queries=search.solver.queries)

@@ -78,7 +78,7 @@ class Z3:
             return self.joined(c.Z3_mk_and, a)
         if op == "bool":
             return self.kept(c.Z3_mk_ite(context, a[0], self.number(1, 32), self.number(0, 32)))
-        if op == "ite8":
+        if op in ("ite8", "ite"):
             return self.kept(c.Z3_mk_ite(context, a[0], a[1], a[2]))
         return self.wide(op, a)
 

@@ -5,31 +5,44 @@ from typing import TYPE_CHECKING
 
 from rvlook.output.printer import run_object
 from rvlook.output.progress import Progress
-from rvlook.symbolic.search import Search
+from rvlook.symbolic.confirm import confirm
+from rvlook.symbolic.strategy import Strategy
 from rvlook.symbolic.text import show
 from rvlook.symbolic.world import World
 
 if TYPE_CHECKING:
-    from argparse import Namespace
     from rvlook.image.variables import Variables
+    from rvlook.output.findings import Findings
     from rvlook.output.printer import Printer
     from rvlook.protocol.run import Run
     from rvlook.protocol.symbols import Symbols
+    from rvlook.symbolic.options import VerifyOptions
+    from rvlook.symbolic.search import Search
 
 
-def show_verify(run: Run, symbols: Symbols, variables: Variables, printer: Printer, options: Namespace) -> None:
+def find_verify(run: Run, symbols: Symbols, variables: Variables, options: VerifyOptions) -> Search:
+    """Explores the paths of an enclave, and replays what it found; returns the search that knows most. Its `is_cut` says whether Ctrl-C ended it.
+    Raises Unfinished if no enclave runs in the slot."""
+    strategy, is_cut = Strategy(World(run, symbols, variables, options), options), False
+    try:
+        with Progress() as progress:
+            strategy.go(progress)
+    except KeyboardInterrupt:
+        is_cut = True
+    search = strategy.result()
+    search.is_cut = is_cut
+    for it in search.found.values():
+        it.answer = confirm(search, it)
+    return search
+
+
+def show_verify(run: Run, symbols: Symbols, variables: Variables, printer: Printer, options: VerifyOptions, findings: Findings) -> None:
     """Explores the paths of an enclave, and prints what was found and covered. After Ctrl-C it prints what is known, and raises
     KeyboardInterrupt."""
     if printer.as_json:
         run_object(printer, run, symbols)
-    search = Search(World(run, symbols, variables, options), options)
-    is_cut = False
-    try:
-        with Progress() as progress:
-            search.go(progress)
-    except KeyboardInterrupt:
-        is_cut = search.is_cut = True
-    show(search, printer, options)
-    if is_cut:
+    search = find_verify(run, symbols, variables, options)
+    show(search, printer, findings)
+    if search.is_cut:
         printer.stream.flush()
         raise KeyboardInterrupt

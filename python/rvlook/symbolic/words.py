@@ -42,6 +42,9 @@ def byte(x: Word, n: int) -> Byte:
         return x >> 8 * n & 255
     if x.op == "word":
         return x.args[n]
+    if x.op == "ite" and type(x.args[1]) is int and type(x.args[2]) is int:
+        one, two = byte(x.args[1], n), byte(x.args[2], n)
+        return one if one == two else make("ite8", (x.args[0], one, two), one | two)
     may = x.may >> 8 * n & 255
     return make("byte", (x, n), may) if may else 0
 
@@ -76,8 +79,15 @@ def operation(op: str, x: Word, y: Word) -> Word:
             return concrete(op, x, y)
         if op in COMMUTES:
             x, y = y, x
+    if type(y) is int and x.op == "ite" and is_number_choice(x):
+        return choice(x.args[0], concrete(op, x.args[1], y), concrete(op, x.args[2], y))
     rule = RULES.get(op)
     return rule(x, y) if rule else make(op, (x, y))
+
+
+def is_number_choice(x: Node) -> bool:
+    """Returns whether a choice is one of two numbers."""
+    return type(x.args[1]) is int and type(x.args[2]) is int
 
 
 def add(x: Word, y: Word) -> Word:
@@ -87,6 +97,8 @@ def add(x: Word, y: Word) -> Word:
             return x
         if x.op == "add" and type(x.args[1]) is int:
             return add(x.args[0], x.args[1] + y & M32)
+        if x.op == "ite" and is_number_choice(x):
+            return choice(x.args[0], x.args[1] + y & M32, x.args[2] + y & M32)
     else:
         if type(x) is Node and x.op == "add" and type(x.args[1]) is int:
             return add(add(x.args[0], y), x.args[1])
@@ -258,6 +270,23 @@ def not_(c: Condition) -> Condition:
     if type(c) is bool:
         return not c
     return c.args[0] if c.op == "not" else make("not", (c,), 1)
+
+
+def choice(c: Condition, x: Word, y: Word) -> Word:
+    """Returns one word or another."""
+    if type(c) is bool:
+        return x if c else y
+    if c.op == "not":
+        c, x, y = c.args[0], y, x
+    if type(x) is Node and x.op == "ite" and x.args[0] is c:
+        x = x.args[1]
+    if type(y) is Node and y.op == "ite" and y.args[0] is c:
+        y = y.args[2]
+    if x is y or type(x) is int and type(y) is int and x == y:
+        return x
+    if type(x) is int and type(y) is int and x | y == 1:
+        return bool_(c if x else not_(c))
+    return make("ite", (c, x, y), may_of(x) | may_of(y))
 
 
 RULES: Dict[str, Callable[[Word, Word], Word]] = {  # conditions.py adds the comparisons

@@ -9,18 +9,17 @@ from rvlook.finders.inputs.contexts import Contexts
 from rvlook.finders.inputs.objects import Objects
 from rvlook.finders.leak import Public, public_of
 from rvlook.finders.secrets import secret_of
-from rvlook.protocol.replies import enclave_of
-from rvlook.protocol.run import Stretch
+from rvlook.protocol.replies import enclave_of, register_values
+from rvlook.protocol.stretch import Stretch
 
 if TYPE_CHECKING:
-    from argparse import Namespace
     from rvlook.image.variables import Variables
     from rvlook.protocol.bench import Bench
     from rvlook.protocol.replies import Enclave
     from rvlook.protocol.run import Run
     from rvlook.protocol.symbols import Symbols
+    from rvlook.symbolic.options import VerifyOptions
 
-ROW = 64  # bytes that `mem` shows at once
 CHECK = bytes.fromhex("0b004843")  # the instruction of a failed check
 ANSWER_IS = "@answer="
 
@@ -36,7 +35,7 @@ class Visit:
 class World:
     """The enclave in a slot, as it is right before its first step."""
 
-    def __init__(self, run: Run, symbols: Symbols, variables: Variables, options: Namespace) -> None:
+    def __init__(self, run: Run, symbols: Symbols, variables: Variables, options: VerifyOptions) -> None:
         self.run, self.symbols, self.slot, self.has_types = run, symbols, options.slot, bool(variables.fixed or variables.locals)
         self.windows: List[bytearray] = []
         self.visits = list(self.activations())
@@ -47,7 +46,7 @@ class World:
         self.has_checks = any(self.memory[at:at + 4] == CHECK for at in range(0, len(self.memory), 4))
         self.objects = Objects(self.enclave, symbols, variables, self.contexts)
         self.functions = {it.address for it in self.objects.own if it.is_function}
-        always, self.public_if = conditional(options.public or (), symbols)
+        always, self.public_if = conditional(options.public, symbols)
         self.public = public_of(always, symbols)
         self.secret, self.check = self.bytes_of(options.at), self.bytes_of(options.must_know)
         if self.secret.keys() & self.check.keys():
@@ -56,6 +55,7 @@ class World:
         if self.must_matter.keys() - self.secret.keys():
             raise RvlookError("--must-matter names bytes that --at does not")
         self.given = public_of(options.given, symbols) if options.given else None
+        self.lengths = lengths_of(options.length, symbols)
 
     def bytes_of(self, places: Sequence[str]) -> Dict[int, int]:
         """Returns the addresses of bytes of the region, each with its value at the first entry. Raises RvlookError."""
@@ -104,7 +104,7 @@ class World:
         """Reads the registers of the hart that enters the enclave, and the region."""
         self.hart, has_more = hart, self.run.setup.harts > 1
         bench.ask(*["hart %d" % hart] if has_more else [])
-        values = [int(line.split("=")[1], 16) for line in bench.ask("regs")[0]]
+        values = register_values(bench.ask("regs")[0])
         bench.ask(*["hart %d" % chosen] if has_more else [])
         self.regs, self.pc = values[:32], values[32]
         self.memory = bytes_at(bench, *self.region)
@@ -125,8 +125,19 @@ class World:
 
 def bytes_at(bench: Bench, low: int, high: int) -> bytearray:
     """Reads memory."""
-    asked = ["mem %x %d" % (at, min(ROW, high - at)) for at in range(low, high, ROW)]
-    return bytearray(b"".join(bytes.fromhex("".join(it[0].split()[1:])) for it in bench.ask(*asked))) if asked else bytearray()
+    return bytearray(bench.memory(low, high - low))
+
+
+def lengths_of(texts: Sequence[str], symbols: Symbols) -> Dict[int, int]:
+    """Returns the greatest values of lengths in the window, by their addresses: PLACE:N. Raises RvlookError."""
+    found: Dict[int, int] = {}
+    for text in texts:
+        name, _, most = text.partition(":")
+        at = symbols.address(name)
+        if at is None or not (most.isascii() and most.isdigit()):
+            raise RvlookError("'%s' is no length; use --length PLACE:N, with a hexadecimal address or a symbol" % text)
+        found[at] = int(most)
+    return found
 
 
 def conditional(texts: Sequence[str], symbols: Symbols) -> Tuple[List[str], List[Tuple[Public, int]]]:

@@ -1,0 +1,10 @@
+/* The window of the program. */
+#ifndef REQUEST_H
+#define REQUEST_H
+
+typedef volatile struct {
+    unsigned command, a, b, c;
+    unsigned reply;
+} *window;
+
+#endif
