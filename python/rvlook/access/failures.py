@@ -14,7 +14,7 @@ from typing import Iterable, Iterator, NamedTuple, Sequence, TYPE_CHECKING
 from rvlook.image.lacking import PAGE, extension_of
 from rvlook.output.printer import Json, place_text
 from rvlook.protocol import names
-from rvlook.protocol.replies import Location, step_of
+from rvlook.protocol.replies import Location, register_values, step_of
 from rvlook.protocol.run import Steps
 from rvlook.protocol.schedule import turns_of
 
@@ -218,7 +218,7 @@ class Scan:
         for turn in part:
             commands += [*turn.commands, *reading(turn, position, wanted)]
             position += turn.steps
-        values = [int(it.split(b"=")[1], 16) for it in self.reader.ask(commands) if it.startswith(b"x")]
+        values = register_values(it for it in self.reader.ask(commands) if it.startswith(b"x"))
         registers = [dict(zip(READ, values[at:])) for at in range(0, len(values), len(READ))]
         return [refused_call(it.step, it.hart, it.at, [values.get(n, 0) for n in range(REGISTERS)]) for it, values in zip(calls, registers)]
 

@@ -3,6 +3,8 @@ from __future__ import annotations
 
 from typing import Sequence, TYPE_CHECKING
 
+from rvlook.protocol.replies import value_of
+
 if TYPE_CHECKING:
     from rvlook.access.activations import Activation
     from rvlook.image.variables import Member, Parameter
@@ -70,6 +72,6 @@ class FieldReader:
                 replay.go(step - 1)
                 choose = ["hart %d" % activation.hart] if self.run.setup.harts > 1 else ["reg 0"]
                 for it in (it for it in self.parameters if it.function == function):
-                    value = int(replay.bench.ask(*choose, "reg %d" % (A0 + it.number))[-1][0].split("=")[1], 16)
+                    value = value_of(replay.bench.ask(*choose, "reg %d" % (A0 + it.number))[-1][0])
                     if activation.enclave.window <= value < activation.enclave.window + activation.enclave.window_size:
                         self.fields.add(value, it.members)

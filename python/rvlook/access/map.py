@@ -11,10 +11,13 @@ from typing import Iterator, Optional, Sequence, TYPE_CHECKING
 from rvlook.protocol import names
 from rvlook.access.failures import Failure, refused_call
 from rvlook.access.ranges import Range, derived_rights, meaning, table_boundaries, verdicts_of
+from rvlook.protocol.reader import Reader
 from rvlook.protocol.replies import Location, enclave_of, register_values, step_of
-from rvlook.protocol.run import End, Stretch
+from rvlook.protocol.run import End
+from rvlook.protocol.stretch import Stretch
 
 if TYPE_CHECKING:
+    from rvlook.protocol.reader import Need
     from rvlook.protocol.replies import Enclave, Ran
     from rvlook.protocol.run import Replay, Run
     from rvlook.protocol.timeline import Timeline
@@ -22,8 +25,6 @@ if TYPE_CHECKING:
 
 CALLED = re.compile(rb"trap=(?:00000009|80000007):")
 ENTRY_WRITTEN = re.compile(rb" csrr\w+ x\d+, 0x3[ab][0-9a-f],")  # pmpcfg0 to pmpaddr15, by the text of dis
-CSR_TEXT = b" csrr"  # of each instruction on such a register: most parts of a run have none
-PC = re.compile(rb"pc=(\w+)")
 
 
 @dataclass(frozen=True)
@@ -114,21 +115,18 @@ def changed_steps(run: Run) -> Iterator[tuple[int, int] | End]:
 
 
 def changed_entries(run: Run) -> Iterator[tuple[int, int] | End]:
-    """Yields the number and the hart of each step of a bare run that may have written a PMP entry, and then the End. A second bench follows the
-    first, and decodes each instruction before its step."""
-    pc = run.pc.encode()
-    with run.replay() as replay:
+    """Yields the number and the hart of each step of a bare run that may have written a PMP entry, and then the End."""
+    with Reader(run, written_entry) as reader:
         for item in run.stretches():
             if isinstance(item, End):
                 yield item
             elif isinstance(item, Stretch):
-                pcs = [pc, *PC.findall(item.data)]
-                pc = pcs.pop()
-                replay.bench.ask(*(replay.lines_to(item.first - 1) + replay.lines_up_to_next() or ["reg 0"]))
-                replay.lines_to(item.first - 1 + item.count)
-                block = replay.bench.block(b"".join([b"dis %s\nstep 1\n" % it for it in pcs]), 2 * item.count)
-                for number in matching_lines(ENTRY_WRITTEN, block) if CSR_TEXT in block else ():
-                    yield item.first + number // 2, item.hart
+                yield from ((item.first + number, item.hart) for number in reader.read(item).indices)
+
+
+def written_entry(line: bytes) -> Need[bytes] | None:
+    """Returns the reply of `dis` if its instruction accesses a PMP register, else None. It needs no register."""
+    return (line, (), False) if ENTRY_WRITTEN.search(line) else None
 
 
 def matching_lines(pattern: re.Pattern[bytes], block: bytes) -> Iterator[int]:

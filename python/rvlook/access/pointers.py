@@ -4,7 +4,6 @@ Each register has a coefficient: how often the stack pointer is a summand of its
 any other pointer, and for the difference of two pointers into the stack."""
 from __future__ import annotations
 
-import re
 from dataclasses import dataclass, field
 from enum import Enum
 from typing import NamedTuple, Optional, TYPE_CHECKING
@@ -16,8 +15,6 @@ if TYPE_CHECKING:
 
 SP, A0, A1 = 2, 10, 11
 WORD = 4  # bytes of a pointer
-BINARY = re.compile(r"(\w+) x(\d+), x(\d+), x(\d+)\Z")
-IMMEDIATE = re.compile(r"(\w+) x(\d+), x(\d+), (-?\d+)\Z")
 REGISTERS = 32
 
 
@@ -61,14 +58,11 @@ def operation_of(line: bytes) -> Operation | None:
 
 def computation_of(it: Instruction) -> Operation:
     """Decodes an instruction that writes a register and accesses no memory."""
-    binary, immediate = BINARY.match(it.text), IMMEDIATE.match(it.text)
-    if binary:
-        return Operation(SUMS.get(binary[1], Kind.NUMBER), it.writes, (int(binary[3]), int(binary[4])))
-    if immediate:
-        is_aligned = immediate[1] == "andi" and int(immediate[4]) < 0
-        kind = Kind.COPY if immediate[1] in ("addi", "ori") or is_aligned else Kind.NUMBER
-        return Operation(kind, it.writes, (int(immediate[3]), 0))
-    return Operation(Kind.BUILD if it.text.startswith(("lui", "auipc")) else Kind.NUMBER, it.writes)
+    if it.name in SUMS:
+        return Operation(SUMS[it.name], it.writes, (it.operands[1], it.operands[2]))
+    if it.name in ("addi", "ori") or it.name == "andi" and it.operands[2] < 0:
+        return Operation(Kind.COPY, it.writes, (it.operands[1], 0))
+    return Operation(Kind.BUILD if it.name in ("lui", "auipc") else Kind.NUMBER, it.writes)
 
 
 @dataclass

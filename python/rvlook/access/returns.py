@@ -3,7 +3,6 @@
 A trap inside M, an access under MPRV or an early return would meet such a state."""
 from __future__ import annotations
 
-import re
 from dataclasses import dataclass
 from typing import Iterator, Optional, Sequence, TYPE_CHECKING
 
@@ -13,17 +12,14 @@ from rvlook.access.ranges import Range
 from rvlook.errors import warn
 from rvlook.output.printer import end_object, end_text, hex8, place_text, run_object
 from rvlook.protocol import names
-from rvlook.protocol.replies import step_of
-from rvlook.protocol.run import End, Stretch
+from rvlook.protocol.run import End
+from rvlook.protocol.stretch import Stretch
 
 if TYPE_CHECKING:
     from rvlook.output.findings import Findings
     from rvlook.output.printer import Printer
     from rvlook.protocol.run import Run
     from rvlook.protocol.symbols import Symbols
-
-MODE = re.compile(rb"mode=(\w)")
-RETURN = re.compile(rb"M[SU]")
 
 
 @dataclass(frozen=True)
@@ -46,17 +42,14 @@ class Return:
 
 def mode_returns(run: Run) -> Iterator[tuple[int, str, str] | End]:
     """Yields the step, pc and mode of each return from M, and then the End."""
-    last = run.mode.encode()
     for item in run.stretches():
         if isinstance(item, End):
             yield item
-        elif isinstance(item, Stretch) and item.count:
-            modes = last + b"".join(MODE.findall(item.data))
-            lines = item.data.splitlines() if RETURN.search(modes) else []
-            for match in RETURN.finditer(modes):
-                ran = step_of(lines[match.start()].decode())
-                yield item.first + match.start(), ran.pc, ran.mode
-            last = modes[-1:]
+        elif isinstance(item, Stretch):
+            columns, last = item.columns, item.last
+            after = zip([*columns.pcs[1:], last[0]], [*columns.modes[1:], last[1]])
+            yield from ((step, pc.decode(), mode.decode()) for step, (was, (pc, mode)) in enumerate(zip(columns.modes, after), item.first)
+                        if was == b"M" != mode)
 
 
 def returns(run: Run) -> Iterator[Return | End]:

@@ -8,25 +8,27 @@ checked if the image has an enclave. All of this is derived from the instruction
 from __future__ import annotations
 
 import re
-from typing import Container, NamedTuple, Optional, Sequence, TYPE_CHECKING
+from functools import lru_cache
+from typing import Container, NamedTuple, Sequence, TYPE_CHECKING
 
-from rvlook.access.accesses import begin
 from rvlook.access.pointers import SP, Kind, Pointers, operation_of
 from rvlook.output.printer import hex8
 from rvlook.protocol import names
-from rvlook.protocol.replies import NO_TRAP, step_fields
-from rvlook.protocol.run import Stretch
+from rvlook.protocol.reader import Reader
+from rvlook.protocol.replies import NO_TRAP
+from rvlook.protocol.stretch import Stretch
 
 if TYPE_CHECKING:
     from rvlook.access.pointers import Operation
-    from rvlook.protocol.replies import RanFields
-    from rvlook.protocol.run import Replay, Run
+    from rvlook.protocol.reader import Need, Reads
+    from rvlook.protocol.run import Run
     from rvlook.protocol.symbols import Symbols
 
 NAME = re.compile(r"(.*(host|runtime|application|monitor))_stack_bottom\Z")
 KINDS = {"host": ("host",), "runtime": ("runtime", "application"), "application": ("runtime", "application")}  # the stacks of a world, by one of them
 POINTED = {"host": ("host",), "runtime": ("runtime", "application"), "application": ("application",)}  # the stacks that a store may reach
 MASK = 0xFFFFFFFF
+TIMER, CALL = names.TIMER.encode(), names.ECALL_FROM_S.encode()
 
 
 class Stack(NamedTuple):
@@ -80,36 +82,36 @@ def kind_of(world: str, mode: str, kinds: Container[str] = ()) -> str | None:
 
 
 class Finder:
-    """Finds the first overflow of each kind of stack. The instruction at each pc is read once, before the steps in which it is first met."""
+    """Finds the first overflow of each kind of stack."""
 
-    def __init__(self, run: Run, stacks: dict[str, list[Stack]]) -> None:
+    def __init__(self, stacks: dict[str, list[Stack]]) -> None:
         self.stacks = stacks
-        self.operations: dict[bytes, Optional[Operation]] = {}
         self.found: dict[str, Overflow] = {}
-        self.locations: list[RanFields] = [(run.pc.encode(), run.mode.encode(), run.world.encode(), NO_TRAP)] * run.setup.harts
         self.pointers: dict[str, Pointers] = {}
         self.left_at: dict[str, int] = {}  # the pc at which an enclave left
 
-    def take(self, replay: Replay, stretch: Stretch) -> None:
+    def take(self, stretch: Stretch, reads: Reads[Operation]) -> None:
         """Checks steps of one hart, one after another."""
-        after = step_fields(stretch.data)
-        before = [self.locations[stretch.hart], *after[:-1]]
-        self.locations[stretch.hart] = after[-1]
-        begin(replay, stretch)
-        self.read_instructions(replay, {it[0] for it in before})
-        operations = [self.operations[it[0]] for it in before]
-        queries = [(at + (it.memory is None), it.register) for at, it in enumerate(operations) if it and it.register is not None]
-        values = iter(register_values(replay, stretch, queries))
-        world = b""
-        for at, (location, operation) in enumerate(zip(before, operations)):
-            if location[2] != world:
-                world = location[2]
-                pointers = self.enter(stretch.hart, world.decode(), int(location[0], 16))
-            if operation:
-                self.step(Place(stretch.first + at, stretch.hart, *(it.decode() for it in location[:3])), operation, pointers,
-                          next(values) if operation.register is not None else 0, after[at][3])
-            elif after[at][3] != NO_TRAP:
-                self.trap(pointers, location, after[at])
+        columns, world = stretch.columns, b""
+        values = dict(zip(reads.indices, map(reads.values.__getitem__, reads.starts)))
+        operations = {line: operation_of(line) for line in set(reads.lines)}
+        steps = zip(columns.pcs, columns.modes, columns.worlds, columns.traps, columns.after, reads.lines)
+        for at, (pc, mode, now, trap, after, line) in enumerate(steps):
+            if now != world:
+                world = now
+                pointers = self.enter(stretch.hart, world.decode(), int(pc, 16))
+            it = operations[line]
+            if trap != NO_TRAP and (trap.startswith(TIMER) if it else after != world):
+                self.left_at[world.decode()] = int(pc, 16)
+            if it and not trap.startswith(TIMER):
+                value = values.get(at, 0)
+                address = (value + it.memory.offset) & MASK if it.memory else value
+                if it.kind is Kind.STORE or it.writes == SP:
+                    self.check(Place(stretch.first + at, stretch.hart, pc.decode(), mode.decode(), world.decode()), it, pointers, address)
+                if trap == NO_TRAP:
+                    pointers.execute(it, address)
+            elif not it and trap.startswith(CALL):
+                pointers.answer()
 
     def enter(self, hart: int, world: str, pc: int) -> Pointers:
         """Returns the pointers of a world that continues at pc. An enclave that is entered elsewhere than where it left has none."""
@@ -119,27 +121,11 @@ class Finder:
             self.pointers[key] = Pointers()
         return self.pointers[key]
 
-    def trap(self, pointers: Pointers, before: RanFields, after: RanFields) -> None:
-        """Takes a trap at an instruction without operands, such as a call of the monitor."""
-        if after[3].startswith(names.ECALL_FROM_S.encode()):
-            pointers.answer()
-        if after[2] != before[2]:
-            self.left_at[before[2].decode()] = int(before[0], 16)
-
-    def step(self, place: Place, it: Operation, pointers: Pointers, value: int, trap: bytes) -> None:
-        """Checks a step, and takes its effect on pointers. `value` is the base of its access, or sp after it."""
-        if trap.startswith(names.TIMER.encode()):
-            self.left_at[place.world] = int(place.pc, 16)
-            return
-        kind = kind_of(place.world, place.mode, self.stacks)
-        address = (value + it.memory.offset) & MASK if it.memory else value
-        if kind is not None and kind not in self.found and kind in self.stacks:
-            self.check(place, kind, it, pointers, address)
-        if trap == NO_TRAP:
-            pointers.execute(it, address)
-
-    def check(self, place: Place, kind: str, it: Operation, pointers: Pointers, address: int) -> None:
+    def check(self, place: Place, it: Operation, pointers: Pointers, address: int) -> None:
         """Checks the use of a stack by a step."""
+        kind = kind_of(place.world, place.mode, self.stacks)
+        if kind is None or kind in self.found or kind not in self.stacks:
+            return
         if it.kind is Kind.STORE and it.memory:
             wanted: Sequence[str] = (kind,) if it.memory.base == SP else POINTED.get(kind, ()) if pointers.is_pointer(it.memory.base) else ()
         elif it.writes == SP and it.kind not in (Kind.BUILD, Kind.LOAD) and address:  # 0 is no stack: a handler exchanges sp with sscratch
@@ -157,24 +143,13 @@ class Finder:
         kinds = KINDS.get(kind, ())
         return kinds if all(it in self.stacks for it in kinds) else ()
 
-    def read_instructions(self, replay: Replay, pcs: set[bytes]) -> None:
-        """Reads the instructions that were not met before."""
-        new = sorted(pcs - self.operations.keys())
-        if new:
-            lines = replay.bench.block(b"".join(b"dis %s\n" % pc for pc in new), len(new)).split(b"\n")
-            self.operations.update(zip(new, map(operation_of, lines)))
 
-
-def register_values(replay: Replay, stretch: Stretch, queries: Sequence[tuple[int, int]]) -> list[int]:
-    """Returns the values of registers of a stretch, each before the step with an index. The bench is then at the end of the stretch."""
-    text, done = [], 0
-    for at, register in queries:
-        text.append((b"step %d\n" % (at - done) if at > done else b"") + b"reg %d\n" % register)
-        done = at
-    text += [b"step %d\n" % (stretch.count - done)] if stretch.count > done else []
-    block = b"".join(text)
-    lines = replay.bench.block(block, block.count(b"\n")).split(b"\n") if block else []
-    return [int(line.split(b"=")[1], 16) for line in lines if line.startswith(b"x")]
+@lru_cache(maxsize=65536)
+def need_of(line: bytes) -> Need[Operation] | None:
+    """Returns the operation of the instruction in a reply of `dis`, and the register that it needs: the base of its access, or sp after a write of
+    it; None if it needs none."""
+    it = operation_of(line)
+    return (it, (it.register,), it.memory is None) if it and it.register is not None else None
 
 
 def overflows(run: Run, symbols: Symbols) -> list[Overflow]:
@@ -182,11 +157,11 @@ def overflows(run: Run, symbols: Symbols) -> list[Overflow]:
     stacks = stacks_of(symbols)
     if not stacks:
         return []
-    finder = Finder(run, stacks)
-    with run.replay() as replay:
+    finder = Finder(stacks)
+    with Reader(run, need_of) as reader:
         for item in run.stretches():
             if isinstance(item, Stretch):
-                finder.take(replay, item)
+                finder.take(item, reader.read(item))
     return sorted(finder.found.values(), key=lambda it: it.step)
 
 

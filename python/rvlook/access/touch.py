@@ -12,7 +12,7 @@ from rvlook.access.accesses import accesses
 from rvlook.access.map import Event, events
 from rvlook.access.ranges import NOTHING, Range
 from rvlook.access.returns import Return, returns_of
-from rvlook.protocol.run import Stretch
+from rvlook.protocol.stretch import Stretch
 from rvlook.output.printer import Style, end_object, end_text, hex8, run_object
 
 if TYPE_CHECKING:

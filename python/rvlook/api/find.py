@@ -35,6 +35,11 @@ from rvlook.output.printer import Printer, place_text
 from rvlook.output.progress import Progress
 from rvlook.protocol.run import run_of
 from rvlook.protocol.schedule import TURN, alternating
+from rvlook.symbolic.options import VerifyOptions
+from rvlook.symbolic.questions import answers
+from rvlook.symbolic.scripts import input_of
+from rvlook.symbolic.text import details_of as details_of_path, heading_of, print_text as print_answers, unfinished_text
+from rvlook.symbolic.verify import find_verify
 
 if TYPE_CHECKING:
     from rvlook.access.failures import Failure
@@ -131,7 +136,7 @@ def ordered(program: Program, finder: str) -> Run:
     setup = program.setup
     if setup.harts == 1 or sets_order(setup.lines):
         return program.run
-    if finder != "window":
+    if finder not in ("window", "verify"):
         raise UsageError("%s has no schedule for two harts; set the order of the harts in the script" % finder)
     return run_of(replace(setup, schedule=alternating(TURN)))
 
@@ -228,12 +233,14 @@ def races(program: Program, *, forbid: Names = (), outcome: Names = (), timers: 
 
 
 def conform(monitor: Path, *, only: str = "", tries: int = 60, items: int = 120, jobs: int = 1, exact: bool = False, seed: int = 1,
-            deep: bool = False, ram: Optional[int] = None, boot: Optional[str] = None, seconds: Optional[float] = None) -> Findings:
+            deep: bool = False, ram: Optional[int] = None, boot: Optional[str] = None, memory: Optional[str] = None,
+            seconds: Optional[float] = None) -> Findings:
     """Compares a monitor of your own with the proved one, call by call (docs/OWN_MONITOR.md). `script` of the finding is the shrunk script for it."""
     words = option_arguments(dict(only=only or None, tries=tries, items=items, jobs=jobs, exact=exact, seed=seed, deep=deep, ram=ram, boot=boot,
-                                  seconds=seconds))
-    files = MonitorFiles(os.fspath(monitor), ram=LEAST_RAM if ram is None else ram, boot=boot, exact=exact)
-    plan = Plan(tries, items, str(seed), only, seconds, jobs, deep, ram is not None or boot is not None)
+                                  memory=memory, seconds=seconds))
+    files = MonitorFiles(os.fspath(monitor), ram=LEAST_RAM if ram is None else ram, boot=boot, exact=exact, memory=memory)
+    has_ram = any(it is not None for it in (ram, boot, memory))
+    plan = Plan(tries, items, str(seed), only, seconds, jobs, deep, has_ram)
     with searching(["conform", os.fspath(monitor), *words]) as (found, printer):
         result = find_conform(files, plan, lambda it: show_counts(it, printer))
         if result.shrunk:
@@ -282,6 +289,30 @@ def timer(program: Program, *, slot: int = 0, every: int = 1) -> Findings:
     return found
 
 
+def verify(program: Program, secret: Names = (), *, public: Names = (), must_know: Names = (), must_matter: Names = (), wiped: bool = False,
+           given: Names = (), length: Names = (), calm: bool = False, each: bool = False, activations: Optional[int] = None,
+           bound: int = VerifyOptions.bound, loops: bool = False, seconds: float = VerifyOptions.seconds, slot: int = 0) -> Findings:
+    """Explores all paths of an enclave, for all inputs and secrets (docs/VERIFY.md). Findings whose replay differs are left out. `unfinished` is
+    empty only if the result is COMPLETE. Raises Unfinished if no enclave runs in the slot, or z3 is missing."""
+    words = option_arguments(dict(at=secret, public=public, must_know=must_know, must_matter=must_matter, wiped=wiped, given=given, length=length,
+                                  calm=calm, each=each, activations=activations, bound=bound, loops=loops, seconds=seconds, slot=slot))
+    options = VerifyOptions(slot, several(secret), several(public), several(must_know), several(must_matter), wiped, several(given),
+                            several(length), calm, not each, activations, bound, loops, seconds)
+    with searching(["verify", *words], program) as (found, printer):
+        run = ordered(program, "verify")
+        search = find_verify(run, program.symbols, variables_of(None, run.setup.image), options)
+        asked = answers(search)
+        for it in (it for answer in asked for it in answer.findings):
+            heading = heading_of(search, it)
+            script = input_of(run, it, heading).decode("latin-1")
+            found.append(Finding(heading, "\n".join(details_of_path(search, it)), script, step=len(it.pcs), **at_place(program, it.pc)))
+        print_answers(search, asked, printer)
+        found.checks, found.unfinished = tuple(it.name for it in asked), unfinished_text(search)
+    if search.is_cut:
+        raise KeyboardInterrupt
+    return found
+
+
 def overflows(program: Program) -> Findings:
     """Finds stack overflows in the run of the program (docs/AUTHORS.md, Stacks)."""
     found = Findings([overflow_finding(it, program) for it in overflows_of(program.run, program.symbols)],
@@ -297,4 +328,4 @@ def overflow_finding(it: Overflow, program: Program) -> Finding:
 
 FINDERS: Dict[str, Callable[..., Findings]] = {
     "overflows": overflows, "leaks": leaks, "window": window, "inputs": inputs, "timer": timer, "races": races, "conform": conform,
-    "guard": guard}
+    "guard": guard, "verify": verify}

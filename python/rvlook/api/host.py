@@ -14,7 +14,7 @@ from rvlook.monitors.encodings import BACK, ECALL, MRET
 from rvlook.monitors.sides import words_in
 from rvlook.protocol import names
 from rvlook.protocol.memory_map import MONITOR_END, RAM_BASE
-from rvlook.protocol.replies import Enclave, Ran, bytes_of, register_values, step_of
+from rvlook.protocol.replies import Enclave, Ran, bytes_of, memory_commands, register_values, step_of
 
 if TYPE_CHECKING:
     from rvlook.api.machine import Machine
@@ -23,7 +23,6 @@ if TYPE_CHECKING:
 
 A0, A1, A6, A7 = 10, 11, 16, 17
 WORD = 4  # bytes of an instruction
-ROW = 64  # bytes that `mem` shows at once
 MOST_BREAKS = 31  # breakpoints that a search may use
 MOST_WATCHED = 24  # watchpoints of one place; the consoles have the others
 
@@ -46,8 +45,8 @@ class HostStepper(Stepper):
         """Searches the image for an instruction. Raises RvlookError if there are too many for breakpoints."""
         image, found = self.setup.image, []
         start = MONITOR_END if self.setup.monitor else RAM_BASE
-        for address, size in list(image.segments()) or [(start, len(image.data or b""))]:
-            rows = self.ask(*["mem %x %d" % (address + n, min(ROW, size - n)) for n in range(0, size, ROW)])
+        for address, size in [(it.address, it.in_memory) for it in image.segments()] or [(start, len(image.data or b""))]:
+            rows = self.ask(*memory_commands(address, size))
             found += words_in(b"".join(bytes_of(it[0]) for it in rows), address, word)
         if len(found) > MOST_BREAKS:
             raise RvlookError("the image has %d copies of one instruction, and the simulator %d breakpoints; run to a place instead" % (
@@ -137,7 +136,7 @@ class HostStepper(Stepper):
 
     def read_bytes(self, address: int, size: int) -> bytes:
         """Reads bytes, whatever the access rights are. Raises RvlookError outside the RAM."""
-        rows = self.ask(*["mem %x %d" % (address + n, min(ROW, size - n)) for n in range(0, size, ROW)])
+        rows = self.ask(*memory_commands(address, size))
         return b"".join(bytes_of(it[0]) for it in rows)
 
     def is_inside(self) -> bool:

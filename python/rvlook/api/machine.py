@@ -14,7 +14,7 @@ from rvlook.image.types import Type
 from rvlook.protocol import names
 from rvlook.protocol.bench_line import ended
 from rvlook.protocol.nearest import nearest
-from rvlook.protocol.replies import Enclave, Location, enclave_of
+from rvlook.protocol.replies import Enclave, Location, enclave_of, register_values
 from rvlook.protocol.timeline import Timeline, commands_of
 
 if TYPE_CHECKING:
@@ -35,7 +35,7 @@ class Registers:
         if name == "pc":
             return self.machine.pc
         command = "reg %d" % names.NUMBER_OF[name] if name in names.NUMBER_OF else "csr %x" % csr_number(name)
-        return int(self.machine.ask(command)[0][0].split("=")[1], 16)
+        return register_values(self.machine.ask(command)[0])[0]
 
     def __setitem__(self, name: str, value: int) -> None:
         self.machine.do("setreg %d %x" % (number_of(name), value & 0xFFFFFFFF))
@@ -71,9 +71,9 @@ class Machine(HostStepper):
         """Does steps of the selected hart, or of the schedule."""
         self.trap = None
         self.ask()
-        for _ in range(count) if self.schedule else ():
-            self.turn(1)
-        if not self.schedule:
+        if self.schedule:
+            self.step_by(self.next_harts(count))
+        else:
             self.timeline.set_stops(())
             while count > 0:
                 count -= self.turn(count).steps

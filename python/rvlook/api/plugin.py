@@ -1,5 +1,5 @@
-"""The pytest plugin (docs/TESTS.md): the fixtures `program`, `machine`, `enclave` and `constants`, the markers `program`, `schedules`, `interrupts`
-and `finds_nothing`, and the texts of failures."""
+"""The pytest plugin (docs/TESTS.md): the fixtures `program`, `machine`, `enclave` and `constants`, the markers `program`, `schedules`, `interrupts`,
+`finds_nothing` and `verified`, and the texts of failures."""
 from __future__ import annotations
 
 import os
@@ -20,7 +20,9 @@ MARKERS = (
     "program(path, **options): run the test over this program, an ELF file or a folder that examples/build builds; the options are those of load()",
     "schedules(*schedules): run the test once with each schedule of two harts: steps of a turn, digits, or 'seed N'",
     "interrupts(*every): run the test once with each number N: the timer interrupts the enclave before every Nth of its steps, None for never",
-    "finds_nothing(finder, *arguments, **options): search instead of running the body; the test fails if the finder finds something")
+    "finds_nothing(finder, *arguments, **options): search instead of running the body; the test fails if the finder finds something",
+    "verified(*secrets, **options): verify instead of running the body; the test fails unless the result is COMPLETE without findings")
+SEARCHES = ("finds_nothing", "verified")  # markers that replace the body of a test
 REPEATED = {"schedules": "schedule %s", "interrupts": "interrupt every %s"}  # markers that repeat a test, with the name of each repetition
 FILES = {"conform": 1, "guard": 2}  # finders without a program, and how many arguments are files
 SECTION = "rvbench"  # the heading of the state of a machine
@@ -49,7 +51,7 @@ def pytest_generate_tests(metafunc: pytest.Metafunc) -> None:
     """Passes the marker `program` of a function or class to the fixture, which otherwise has that of the module. Repeats a test for each argument of
     the markers `schedules` and `interrupts`."""
     definition = metafunc.definition
-    if definition.get_closest_marker("finds_nothing") and "program" not in metafunc.fixturenames:
+    if any(map(definition.get_closest_marker, SEARCHES)) and "program" not in metafunc.fixturenames:
         metafunc.fixturenames.append("program")
     own, module = definition.get_closest_marker("program"), definition.getparent(pytest.Module)
     if own and "program" in metafunc.fixturenames and not (module and module.get_closest_marker("program") is own):
@@ -118,12 +120,14 @@ def constants(program: Program) -> Constants:
 
 @pytest.hookimpl(tryfirst=True)
 def pytest_pyfunc_call(pyfuncitem: pytest.Function) -> Optional[bool]:
-    """Searches in place of the body of a test with the marker `finds_nothing`. Raises Found."""
-    marker = pyfuncitem.get_closest_marker("finds_nothing")
-    if marker is None:
-        return None
-    search(pyfuncitem, *marker.args, **marker.kwargs)
-    return True
+    """Searches in place of the body of a test with the marker `finds_nothing` or `verified`. Raises Found."""
+    searches = [pyfuncitem.get_closest_marker(it) for it in SEARCHES]
+    for marker in filter(None, searches):
+        if marker.name == "verified":
+            search(pyfuncitem, "verify", marker.args, **marker.kwargs)
+        else:
+            search(pyfuncitem, *marker.args, **marker.kwargs)
+    return True if any(searches) else None
 
 
 def search(item: Any, finder: str, *arguments: Any, **options: Any) -> None:

@@ -109,7 +109,7 @@ class Program:
         return self.types.structures[name]
 
     def page(self) -> Page:
-        """Returns the page of the run of the whole program (docs/PAGE.md). Raises Unfinished without jinja2."""
+        """Returns the page of the run of the whole program (docs/LOOK.md, page). Raises Unfinished without jinja2."""
         return Page(self.run)
 
 

@@ -9,9 +9,9 @@ from rvlook.errors import RvlookError
 from rvlook.output.printer import place_text
 from rvlook.protocol.console import ENDED, WRITTEN, Console, consoles_of
 from rvlook.protocol.messages import line_error
-from rvlook.protocol.replies import Ran, step_of
+from rvlook.protocol.replies import Ran, Trap as RanTrap, step_of
 from rvlook.protocol.run import EQUAL
-from rvlook.protocol.schedule import turns_of
+from rvlook.protocol.schedule import LONGEST, turns_of
 from rvlook.protocol.timeline import Action, Timeline
 
 if TYPE_CHECKING:
@@ -188,6 +188,16 @@ class Stepper:
             self.turns = chain([(hart, count - ran.steps)], self.turns)
         return self.took(ran)
 
+    def next_harts(self, count: int) -> str:
+        """Returns the harts of the next steps of the schedule as digits, and goes on in the schedule."""
+        digits = ""
+        while len(digits) < count:
+            hart, steps = next(self.turns)
+            digits += str(hart) * steps
+        if len(digits) > count:
+            self.turns = chain([(int(digits[-1]), len(digits) - count)], self.turns)
+        return digits[:count]
+
     def leap(self, places: Iterable[int], most: int) -> int:
         """Does turns of the schedule in long exchanges, up to the turn that leads to a stop; another machine finds it. Returns the number of
         steps, which is at most `most`."""
@@ -197,18 +207,39 @@ class Stepper:
             ahead.set_stops(list(self.timeline.stops))
             while True:
                 batch = list(islice(self.turns, LONG_BATCH))
-                lines = [line for hart, steps in batch for line in ("hart %d" % hart, "run %d" % steps)]
-                rans = [step_of(it[0]) for it in ahead.bench.ask(*lines)[1::2]]
+                rans = runs_of(ahead, batch)
                 stop = next((n for n, it in enumerate(rans) if it.why != "done" or int(it.pc, 16) in places), len(batch))
                 stop = stop if done + sum(it.steps for it in rans) <= most else 0
                 self.turns = chain(batch[stop:], self.turns)
-                self.do(*lines[:2 * stop])
-                count = sum(it.steps for it in rans[:stop])
-                done, self.scheduled = done + count, self.scheduled + count
+                self.step_by("".join(str(hart) * steps for hart, steps in batch[:stop]))
+                done += sum(it.steps for it in rans[:stop])
                 if stop < len(batch) or self.are_all_in_loops():
                     return done
         finally:
             ahead.close()
+
+    def step_by(self, digits: str) -> None:
+        """Does a step of the hart that each digit names, as the schedule has it, and keeps the last trap."""
+        parts = [digits[n:n + LONGEST] for n in range(0, len(digits), LONGEST)]
+        for n in range(0, len(parts), LONG_BATCH):
+            begin, batch = self.timeline.position, parts[n:n + LONG_BATCH]
+            replies = self.do(*["sched " + it for it in batch])
+            last = max((k for k, it in enumerate(replies) if not all(line.endswith("trap=-") for line in it)), default=None)
+            if last is not None:
+                self.trap = self.last_trap(begin + LONGEST * last, batch[last])
+        if digits:
+            self.do("hart " + digits[-1])
+        self.scheduled += len(digits)
+
+    def last_trap(self, position: int, digits: str) -> Optional[Trap]:
+        """Returns the last trap in the steps after a position. Another machine does them one by one, since the reply of `sched` has no order."""
+        ahead = self.timeline.again(position)
+        try:
+            replies = ahead.do_all([line for it in digits for line in ("hart " + it, "step 1")])
+        finally:
+            ahead.close()
+        traps = [it.trap for it in (step_of(reply[0]) for reply in replies[1::2]) if it.trap]
+        return trap_from(traps[-1])
 
     def copied(self) -> Timeline:
         """Returns another simulator at this point, without breakpoints and watchpoints."""
@@ -217,7 +248,7 @@ class Stepper:
     def took(self, ran: Ran) -> Ran:
         """Keeps the trap of steps that were done."""
         if ran.trap:
-            self.trap = Trap(int(ran.trap.cause, 16), int(ran.trap.value, 16))
+            self.trap = trap_from(ran.trap)
         return ran
 
     def is_halted(self, ran: Ran, is_due: bool) -> bool:
@@ -270,6 +301,17 @@ def checked(commands: Iterable[str], replies: List[List[str]]) -> List[List[str]
         if reply and reply[0].startswith("error "):
             raise RvlookError("%s: %s" % (command, line_error(reply[0], command.split())[0]))
     return replies
+
+
+def runs_of(timeline: Timeline, turns: Sequence[Tuple[int, int]]) -> List[Ran]:
+    """Does turns of a schedule; returns the result of each. They are not kept in the timeline."""
+    text = "".join("hart %d\nrun %d\n" % it for it in turns)
+    return [step_of(it.decode()) for it in timeline.bench.block(text.encode(), 2 * len(turns)).splitlines()[1::2]]
+
+
+def trap_from(it: RanTrap) -> Trap:
+    """Returns the trap of a reply, as numbers."""
+    return Trap(int(it.cause, 16), int(it.value, 16))
 
 
 def ran_with(ran: Ran, why: str) -> Ran:

@@ -9,7 +9,7 @@ from bisect import bisect_left
 from collections import defaultdict
 from contextlib import closing
 from dataclasses import dataclass
-from typing import Any, Mapping, Optional, Sequence, TYPE_CHECKING
+from typing import Any, Iterator, Mapping, Optional, Sequence, TYPE_CHECKING
 
 from rvlook.errors import RvlookError, Unfinished
 from rvlook.finders.secrets import place_and_size
@@ -116,7 +116,7 @@ class Comparison:
             same = common_length(one, x, two, y)
             for index in range(bisect_left(one.operations_at, x), bisect_left(one.operations_at, x + same)):
                 other = theirs.get(one.operations_at[index] - x + y)
-                if other is not None:
+                if other is not None and other != one.operations[index]:
                     self.access(one.operations[index], other, one.enclave)
             x, y = x + same, y + same
             if x == len(one.pcs) and y == len(two.pcs):
@@ -173,13 +173,21 @@ def operation_at(activation: Activation, index: int) -> Operation | None:
 
 
 def writers_of(one: Activation, two: Activation) -> dict[int, int]:
-    """Returns the instruction that stored each byte last, in either run, by address."""
+    """Returns the instruction that stored each byte of the window last, in either run, by address."""
     found: dict[int, int] = {}
     for activation in (two, one):
-        for it in activation.operations:
-            if it.kind == "w" and it.done:
-                found.update((it.address + n, it.pc) for n in range(it.width))
+        for it in stores_to_window(activation):
+            found.update((it.address + n, it.pc) for n in range(it.width))
     return found
+
+
+def stores_to_window(activation: Activation) -> Iterator[Operation]:
+    """Yields the stores of an activation to bytes of its window."""
+    first, end = activation.enclave.window, activation.enclave.window + activation.enclave.window_size
+    for it in activation.operations:
+        _, _, kind, address, width, _, done = it
+        if kind == "w" and done and address < end and first < address + width:
+            yield it
 
 
 def common_length(one: Activation, x: int, two: Activation, y: int) -> int:

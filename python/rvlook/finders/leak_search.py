@@ -2,13 +2,15 @@
 from __future__ import annotations
 
 import time
-from dataclasses import dataclass, field
+from dataclasses import dataclass, field, replace
+from functools import partial
 from typing import Callable, List, Optional, Sequence, TYPE_CHECKING
 
 from rvlook.errors import RvlookError
 from rvlook.finders.leak import CHANNELS, Comparison, check_values, observe, public_of
 from rvlook.finders.secrets import WORD, drawn_pairs, secret_of
 from rvlook.output.progress import Progress
+from rvlook.protocol.jobs import results_of
 
 if TYPE_CHECKING:
     from rvlook.finders.leak import Observation
@@ -21,7 +23,8 @@ MOST_GUESSES = 8  # values of the host near which secrets are drawn
 @dataclass(frozen=True)
 class LeakOptions:
     """The options of a comparison: the place of the secret, the slot of its enclave, what may differ, and whether operands of divisions count.
-    `values` has two secrets. Without them `tries` pairs are drawn with a seed. Those from `first` to `last` are run, for at most `seconds`."""
+    `values` has two secrets. Without them `tries` pairs are drawn with a seed. Those from `first` to `last` are run, `jobs` at the same time, for at
+    most `seconds`."""
     at: str
     slot: int = 0
     public: Sequence[str] = ()
@@ -32,6 +35,7 @@ class LeakOptions:
     last: Optional[int] = None
     seed: int = 0
     seconds: Optional[float] = None
+    jobs: int = 1
 
 
 class Leak:
@@ -59,17 +63,11 @@ class Leak:
         """Compares the observations of two runs."""
         return Comparison(one, two, secret, self.public, self.is_strict)
 
-    def reply(self, run: Run, step: int) -> str:
-        """Returns the reply of the bench to a step."""
-        with run.replay() as replay:
-            replay.go(step - 1)
-            return (replay.go(step) or "")[len("ran 1 "):]
-
 
 @dataclass(frozen=True)
 class Compared:
     """A pair of secrets by number, whether the first one is that of the program, the answers with both, and the channels in which they differ.
-    `found` and `both` are the comparison and the observations; a drawn pair without a difference has none."""
+    `found` and `both` are the comparison and the observations. A drawn pair has none if it does not differ, or was compared by another process."""
     number: int
     secrets: Sequence[Secret]
     is_own: bool
@@ -81,8 +79,9 @@ class Compared:
 
 @dataclass
 class Tried:
-    """The result of drawn pairs: each pair, why some were left out, and whether Ctrl-C ended the search."""
+    """The result of drawn pairs: each pair, why some were left out, and whether Ctrl-C ended the search. `again` compares a pair once more."""
     pairs: List[Compared] = field(default_factory=list)
+    again: Callable[[Compared], Compared] = lambda it: it
     cut: str = ""
     is_interrupted: bool = False
 
@@ -122,9 +121,11 @@ def compare_drawn(leak: Leak, heard: Callable[[Compared], None] = lambda it: Non
             base = leak.observe(own)
             count = options.tries or 0
             pairs = drawn_pairs(own.bytes, guesses_of(base, len(own.bytes)), options.seed, options.first, min(count, options.last or count))
-            for pair in pairs:
-                tried.pairs.append(try_pair(leak, own, base, pair))
-                heard(tried.pairs[-1])
+            tried.again = lambda it: it if it.found else try_pair(leak, own, base, pairs[it.number - pairs[0].number])
+            for it, cut in results_of(partial(task, leak, own, base, pairs), len(pairs), options.jobs):
+                leak.cut = leak.cut or cut
+                tried.pairs.append(it)
+                heard(it)
                 progress.bar(len(tried.pairs), len(pairs), "%d differ" % sum(bool(it.channels) for it in tried.pairs))
                 if until is not None and time.monotonic() > until and len(tried.pairs) < len(pairs):
                     tried.cut = "--seconds ended leak after %d of %s" % (len(tried.pairs), pairs_text(len(pairs)))
@@ -132,6 +133,12 @@ def compare_drawn(leak: Leak, heard: Callable[[Compared], None] = lambda it: Non
     except KeyboardInterrupt:
         tried.is_interrupted = True
     return tried
+
+
+def task(leak: Leak, own: Secret, base: Observation, pairs: Sequence[Pair], number: int) -> tuple[Compared, str]:
+    """Compares a pair, by its index; returns it, and why an observation ended too early. With several jobs leaves out the runs, which are large."""
+    it = try_pair(leak, own, base, pairs[number])
+    return (it if leak.options.jobs == 1 else replace(it, found=None, both=())), leak.cut
 
 
 def verdicts_of(tried: Sequence[Compared]) -> set[int]:

@@ -71,7 +71,7 @@ def finish(leak: Leak, printer: Printer, tried: Tried, findings: Findings) -> No
         printer.object("leak", channels=channels, pairs=len(tried.pairs), differing=sorted(differing), with_answer=sorted(verdicts),
                        compared=leak.channels)
     else:
-        print_result(leak, printer, tried.pairs, differing, verdicts)
+        print_result(leak, printer, tried, differing, verdicts)
     if verdicts and len(verdicts) == len(tried.pairs):
         findings.cut_short(ONLY_VERDICTS)
 
@@ -81,12 +81,12 @@ def text_of_pair(it: Compared) -> str:
     return "%s and %s differ in %s" % (*(secret.bytes.hex() for secret in it.secrets), ", ".join(it.channels))
 
 
-def print_result(leak: Leak, printer: Printer, tried: Sequence[Compared], differing: Mapping[int, Compared], verdicts: set[int]) -> None:
+def print_result(leak: Leak, printer: Printer, tried: Tried, differing: Mapping[int, Compared], verdicts: set[int]) -> None:
     """Prints the result of all pairs in words."""
     line = printer.line
     verdict = "%s differ with the answer: the program answers its own secret in one way, and each other secret in another" % pairs_text(len(verdicts))
     if not differing:
-        others = len(tried) - len(verdicts)
+        others = len(tried.pairs) - len(verdicts)
         lines = [verdict] if verdicts else []
         lines += ["no difference in %s%s: %s" % ("the other " if verdicts else "", pairs_text(others), ", ".join(leak.channels))] if others else []
         line("\n".join(lines))
@@ -95,11 +95,11 @@ def print_result(leak: Leak, printer: Printer, tried: Sequence[Compared], differ
     number = min(same or differing)
     it = differing[number]
     is_picked = bool(same) and (min(differing) != number or bool(verdicts))
-    line("pair %d of %d, the first that differs%s" % (number, len(tried), " with the same answer" if is_picked else ""))
-    pair_text(leak, printer, it)
+    line("pair %d of %d, the first that differs%s" % (number, len(tried.pairs), " with the same answer" if is_picked else ""))
+    pair_text(leak, printer, tried.again(it))
     numbers = ", ".join(map(str, sorted(differing)[:MOST_NUMBERS])) + (", ..." if len(differing) > MOST_NUMBERS else "")
     channels = sorted({channel for it in differing.values() for channel in it.channels}, key=CHANNELS.index)
-    line("%d of %s differ, in %s: %s" % (len(differing), pairs_text(len(tried)), ", ".join(channels), numbers))
+    line("%d of %s differ, in %s: %s" % (len(differing), pairs_text(len(tried.pairs)), ", ".join(channels), numbers))
     if same and len(same) < len(differing):
         line("%d of them differ in the answer too, and may show no more than that" % (len(differing) - len(same)))
     if verdicts:
@@ -119,7 +119,7 @@ def place_text(pc: int, symbols: Symbols) -> str:
 def values_of(leak: Leak, it: Difference, both: Sequence[Observation]) -> list[str]:
     """Returns the two values of a difference in words."""
     if it.what == "pc":
-        return [leak.reply(one.run, step) for one, step in zip(both, it.steps)]
+        return [one.run.reply(step)[len("ran 1 "):] for one, step in zip(both, it.steps)]
     if it.what == "address":
         return ["%s %08x  %s" % (kind, at, leak.symbols.name(at) or "") for kind, at in it.values]
     if it.what == "window":

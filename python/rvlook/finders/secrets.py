@@ -12,7 +12,6 @@ from rvlook.protocol import names
 from rvlook.errors import RvlookError, Unfinished
 from rvlook.access.map import events
 from rvlook.protocol.memory_map import RAM_BASE
-from rvlook.protocol.replies import bytes_of
 from rvlook.protocol.run import End
 from rvlook.access.activations import Activations
 
@@ -21,7 +20,6 @@ if TYPE_CHECKING:
     from rvlook.protocol.run import Run
     from rvlook.protocol.symbols import Symbols
 
-ROW = 64
 REGISTER_AT = re.compile(r"(\w+)@(.+)\Z")
 COUNT = re.compile(r"[0-9]{1,8}\Z")  # a number of bytes
 CORNERS = (b"\0", b"\xff", b"\x7f", b"\x80", b"\x01", b"\x55", b"\xaa")  # of each byte
@@ -55,10 +53,8 @@ class Secret:
         with run.replay() as replay:
             replay.go(self.step)
             if self.register:
-                number = replay.bench.one("reg %d" % self.register).split("=")[1]
-                return int(number, 16).to_bytes(WORD, "little")
-            reads = ["mem %x %d" % (self.at + at, min(ROW, len(self.bytes) - at)) for at in range(0, len(self.bytes), ROW)]
-            return b"".join(bytes_of(reply[0]) for reply in replay.bench.ask(*reads))
+                return replay.bench.register(self.register).to_bytes(WORD, "little")
+            return replay.bench.memory(self.at, len(self.bytes))
 
     def text(self) -> str:
         """Returns the location of the secret: a register or an address."""

@@ -4,14 +4,16 @@ from __future__ import annotations
 
 import itertools
 from dataclasses import dataclass
-from typing import Iterable, Iterator, Optional, Sequence, TYPE_CHECKING
+from functools import lru_cache
+from typing import Iterable, Iterator, NamedTuple, Optional, Sequence, TYPE_CHECKING
 
 from rvlook.protocol import names
 from rvlook.errors import Unfinished
 from rvlook.access.map import events
 from rvlook.output.progress import Progress
-from rvlook.protocol.replies import step_of, register_values
-from rvlook.protocol.run import End, Stretch
+from rvlook.protocol.replies import memory_commands, register_values, step_of
+from rvlook.protocol.run import End
+from rvlook.protocol.stretch import Stretch
 from rvlook.output.printer import Style, place_text, run_object
 
 if TYPE_CHECKING:
@@ -24,18 +26,17 @@ if TYPE_CHECKING:
 
 MOST_STEPS = 200  # of the enclave in one exchange
 PATIENCE = 1000000  # steps in which the host must enter the enclave
-ROW = 64  # bytes that `mem` shows at once
+TIMER = names.TIMER.encode()
 ANSWER = ["reg 10", "reg 11"]
 ENDED = ("Exited", "Stopped")  # states after which steps of the host are not compared
 
 
-@dataclass(frozen=True)
-class Inside:
+class Inside(NamedTuple):
     """A step of the enclave: pc, reply, whether the host ran before it, and a0 and a1 of the host if it leaves."""
-    pc: str
-    reply: str
+    pc: bytes
+    reply: bytes
     is_entered: bool
-    answer: tuple[str, ...] = ()
+    answer: tuple[bytes, ...] = ()
 
 
 @dataclass(frozen=True)
@@ -82,34 +83,32 @@ def last_of(run: Run, slot: int) -> Last:
 
 def inside_steps(run: Run, slot: int, last: Last, reader: Replay) -> Iterator[Inside]:
     """Yields the steps of the enclave after the script, without a timer. `reader` is a replay that reads the results of the host."""
-    pc, world, own, entered = run.pc, run.world, "e%d" % slot, True
+    own, entered = b"e%d" % slot, True
     for item in run.stretches():
         if isinstance(item, Stretch) and item.first <= last.step:
-            for offset, line in enumerate(item.data.decode().splitlines()):
-                step, was, ran = item.first + offset, world, step_of(line)
-                if was == own and run.length < step <= last.step:
-                    yield Inside(pc, line, entered, () if ran.world == own else answer_after(reader, step))
+            columns = item.columns
+            for step, (pc, line, was, now) in enumerate(zip(columns.pcs, item.data.splitlines(), columns.worlds, columns.after), item.first):
+                if was != own:
+                    entered = True
+                elif run.length < step <= last.step:
+                    yield Inside(pc, line, entered, () if now == own else answer_after(reader, step))
                     entered = False
-                entered = entered or was != own
-                pc, world = ran.pc, ran.world
 
 
-def answer_after(reader: Replay, step: int) -> tuple[str, ...]:
+def answer_after(reader: Replay, step: int) -> tuple[bytes, ...]:
     """Returns a0 and a1 of the host after a step, as replies."""
-    return tuple(reply[0] for reply in reader.bench.ask(*reader.lines_to(step), *ANSWER)[-len(ANSWER):])
+    lines = [*reader.lines_to(step), *ANSWER]
+    return tuple(reader.bench.block("\n".join([*lines, ""]).encode(), len(lines)).splitlines()[-len(ANSWER):])
 
 
-def enter(pc: str) -> list[str]:
-    """Returns the commands that run the host until the enclave is at pc."""
-    return ["break " + pc, "run %d" % PATIENCE, "clear " + pc]
-
-
-def commands_for(step: Inside, is_stopped: bool, is_first: bool) -> list[str]:
-    """Returns the commands for one step of the enclave. The last one does the step, or reads the result after it."""
-    commands = enter(step.pc) if step.is_entered and not is_first else []
-    if is_stopped:
-        commands += ["timer on", "step 1", *enter(step.pc)]
-    return commands + ["step 1"] + (ANSWER if step.answer else [])
+@lru_cache(maxsize=65536)
+def commands_for(pc: bytes, is_entered: bool, is_stopped: bool, is_left: bool) -> tuple[bytes, int]:
+    """Returns the commands for one step of the enclave, and their number. The host runs until the enclave is at pc before it, if it is entered, and
+    after each stop. The last command does the step, or reads the result after it."""
+    enter = [b"break %s\n" % pc, b"run %d\n" % PATIENCE, b"clear %s\n" % pc]
+    commands = [*(enter if is_entered else []), *([b"timer on\n", b"step 1\n", *enter] if is_stopped else []), b"step 1\n"]
+    commands += [b"%s\n" % it.encode() for it in ANSWER if is_left]
+    return b"".join(commands), len(commands)
 
 
 def interrupted(replay: Replay, steps: Iterable[Inside], every: int) -> Outcome:
@@ -134,41 +133,45 @@ def batches_of(steps: Iterator[tuple[int, Inside]]) -> Iterator[list[tuple[int, 
 
 def compare(replay: Replay, batch: Sequence[tuple[int, Inside]], every: int, outcome: Outcome) -> None:
     """Compares some steps of the enclave, up to the first difference."""
-    lists = [commands_for(step, number % every == 0, number == 0 and not step.is_entered) for number, step in batch]
-    replies = iter(replay.bench.ask(*(command for it in lists for command in it)))
-    for (number, step), commands in zip(batch, lists):
-        lines = [next(replies)[0] for _ in commands]
-        answer = tuple(lines.pop() for _ in step.answer)[::-1]
-        outcome.interrupts += sum(names.TIMER in line for line in lines)
-        outcome.not_resumed = not_entered(number + 1, step, commands, lines)
+    texts = [commands_for(it.pc, it.is_entered, number % every == 0, bool(it.answer)) for number, it in batch]
+    replies, end = replay.bench.block(b"".join([text for text, _ in texts]), sum(count for _, count in texts)).splitlines(), 0
+    for (number, step), (_, count) in zip(batch, texts):
+        begin, end = end, end + count
+        lines, answer = replies[begin:end - len(step.answer)], tuple(replies[end - len(step.answer):end])
+        outcome.interrupts += sum([TIMER in line for line in lines])
+        outcome.not_resumed = not_entered(number + 1, step, lines)
         if not outcome.not_resumed:
             outcome.difference = compare_step(number + 1, step, number % every == 0, lines, answer)
         if outcome.difference or outcome.not_resumed:
             return
 
 
-def not_entered(number: int, step: Inside, commands: Sequence[str], lines: Sequence[str]) -> Difference | None:
-    """Returns the first time that the host did not enter the enclave before a step, or None."""
-    for command, reply in zip(commands, lines):
-        if command.startswith("run") and step_of(reply).why != "break":
-            return Difference(number, step.pc, "the host resumes the enclave", reply)
+def difference_at(number: int, step: Inside, expected: bytes, actual: bytes) -> Difference:
+    """Returns a difference in one step of the enclave."""
+    return Difference(number, step.pc.decode(), expected.decode(), actual.decode())
+
+
+def not_entered(number: int, step: Inside, lines: Sequence[bytes]) -> Difference | None:
+    """Returns the first time that the host did not enter the enclave before a step, or None. The reply to each of its runs is the third one before
+    the end, or before that of a timer interrupt."""
+    for reply in lines[-3::-5][::-1]:
+        if b" why=break " not in reply:
+            return difference_at(number, step, b"the host resumes the enclave", reply)
     return None
 
 
-def compare_step(number: int, step: Inside, is_stopped: bool, lines: Sequence[str], answer: tuple[str, ...]) -> Difference | None:
+def compare_step(number: int, step: Inside, is_stopped: bool, lines: Sequence[bytes], answer: tuple[bytes, ...]) -> Difference | None:
     """Returns the difference in one step of the enclave, or None."""
-    if is_stopped:
-        stop = step_of(lines[-5])
-        if stop.trap is None or stop.trap.cause != names.TIMER:
-            return Difference(number, step.pc, "a timer interrupt", lines[-5])
-    if visible_part(lines[-1]) != visible_part(step.reply):
-        return Difference(number, step.pc, step.reply, lines[-1])
-    return None if answer == step.answer else Difference(number, step.pc, " ".join(step.answer), " ".join(answer))
+    if is_stopped and b" trap=%s:" % TIMER not in lines[-5]:
+        return difference_at(number, step, b"a timer interrupt", lines[-5])
+    if lines[-1] != step.reply and visible_part(lines[-1]) != visible_part(step.reply):
+        return difference_at(number, step, step.reply, lines[-1])
+    return None if answer == step.answer else difference_at(number, step, b" ".join(step.answer), b" ".join(answer))
 
 
-def visible_part(reply: str) -> object:
+def visible_part(reply: bytes) -> object:
     """Returns the part of a reply that must be equal: all of it in the enclave, else only world and trap, since the host may be elsewhere."""
-    ran = step_of(reply)
+    ran = step_of(reply.decode())
     return (ran.world, ran.trap) if ran.world == "host" else reply
 
 
@@ -176,7 +179,7 @@ def finish_of(bench: Bench, enclave: Enclave) -> list[str]:
     """Reads the final state: a0 and a1 of the host, the region and the window."""
     values = register_values(bench.ask("regs")[0])
     ranges = [(enclave.base, enclave.size), (enclave.window, enclave.window_size)]
-    reads = ["mem %x %d" % (base + at, ROW) for base, size in ranges for at in range(0, size, ROW)]
+    reads = [it for base, size in ranges for it in memory_commands(base, size)]
     return ["a0=%08x" % values[10], "a1=%08x" % values[11]] + [reply[0] for reply in bench.ask(*reads)]
 
 

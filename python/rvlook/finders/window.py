@@ -87,25 +87,32 @@ class Byte:
 def bytes_of(activation: Activation) -> dict[int, Byte]:
     """Returns what the activation did with each byte of its window, by offset."""
     found: dict[int, Byte] = defaultdict(Byte)
-    base, size = activation.enclave.window, activation.enclave.window_size
-    for it in activation.operations:
-        if it.done and it.kind in "rw" and it.address < base + size and base < it.address + it.width:
-            for n in range(it.width):
-                if it.kind == "r":
-                    read(found[it.address + n - base], it.pc)
-                else:
-                    stored(found[it.address + n - base], it.pc, it.values[n])
+    base, end = activation.enclave.window, activation.enclave.window + activation.enclave.window_size
+    known: set[tuple[int, int]] = set()  # loads that change nothing, by instruction and address
+    for _, pc, kind, address, width, values, done in activation.operations:
+        if not done or address >= end or address + width <= base or (pc, address) in known or kind not in "rw":
+            continue
+        several = [found[at - base] for at in range(address, address + width)]
+        if kind == "w":
+            for byte, value in zip(several, values):
+                stored(byte, pc, value)
+        if kind == "w" or any([read(byte, pc) for byte in several]):
+            known.clear()
+        else:
+            known.add((pc, address))
     return found
 
 
-def read(byte: Byte, pc: int) -> None:
-    """Records a load of a byte that the host may have written: the enclave has not stored to it in this activation."""
-    if byte.stored_at is None:
-        if byte.input_at is None:
-            byte.input_at = pc
-        elif byte.read_at is not None:
-            byte.again[byte.read_at, pc] = True
-        byte.read_at = pc
+def read(byte: Byte, pc: int) -> bool:
+    """Records a load of a byte that the host may have written: the enclave has not stored to it in this activation. Returns whether that is new."""
+    if byte.stored_at is not None or byte.read_at == pc and (pc, pc) in byte.again:
+        return False
+    if byte.input_at is None:
+        byte.input_at = pc
+    elif byte.read_at is not None:
+        byte.again[byte.read_at, pc] = True
+    byte.read_at = pc
+    return True
 
 
 def stored(byte: Byte, pc: int, value: int) -> None:

@@ -68,7 +68,7 @@ class Entry:
         with contextlib.closing(timeline.again(step - 1)) as before:
             before.settle()
             before.choose(hart)
-            values = [line.split("=")[1] for line in before.ask("regs")[0]]
+            values = [line[-8:] for line in before.ask("regs")[0]]
         return Entered(step, values[PC], tuple(values[:PC]))
 
 

@@ -9,6 +9,7 @@ from typing import Any, Callable, Mapping, TYPE_CHECKING
 from rvlook.protocol import names
 from rvlook.gdb.conditions import holds
 from rvlook.protocol.instructions import instruction_of
+from rvlook.protocol.replies import value_of
 
 if TYPE_CHECKING:
     from rvlook.protocol.replies import Ran, Trap
@@ -163,7 +164,7 @@ class Stops:
             return True
 
         def register(number: int) -> int:
-            return pc if number == PC else int(reply_to("reg %d" % number).split("=")[1], 16)
+            return pc if number == PC else value_of(reply_to("reg %d" % number))
 
         def memory(at: int, count: int) -> bytes:
             reply = reply_to("mem %x %d" % (at, count))
@@ -216,5 +217,5 @@ def access_before(timeline: Timeline, hart: int, ran: Ran) -> tuple[str, int, in
             earlier.settle()
             earlier.choose(hart)
             registers = earlier.ask("regs")[0]
-    first = (int(registers[memory.base].split("=")[1], 16) + memory.offset) & 0xFFFFFFFF
+    first = (value_of(registers[memory.base]) + memory.offset) & 0xFFFFFFFF
     return memory.kind, first, memory.width

@@ -28,7 +28,7 @@ def has_compressed(image: Image) -> bool:
 def reason_for_monitor(image: Image, script: Iterable[ScriptLine]) -> str | None:
     """Returns why an image seems to be made for the monitor, or None."""
     if image.is_elf_32:
-        first = min((address for address, _ in image.segments()), default=0)
+        first = min((it.address for it in image.segments()), default=0)
         return "its first address is %08x" % first if first == MONITOR_END else None
     if has_key(image.data or b"") or any(KEY_SET.match(line.given) for line in script):
         return "it calls the monitor (a7 = 0a454e43)"

@@ -6,7 +6,7 @@ from bisect import bisect_right
 from typing import Iterator, Mapping, NamedTuple
 
 from rvlook.escapes import name_of
-from rvlook.protocol.inputs import AT_SEGMENTS, AT_SIZES, LOAD, SEGMENT, Image
+from rvlook.protocol.inputs import Image, segments_of
 
 SECTIONS_AT, SECTIONS, SECTION = 32, 46, struct.Struct("<10I")  # where an ELF32 header has the place and the size and number of section headers
 KIND, OFFSET, LENGTH, LINK = 1, 4, 5, 6  # fields of a section header
@@ -40,7 +40,7 @@ def lacking_in(image: Image) -> Mapping[str, list[str]]:
     """Returns the functions that have such instructions, by their kind. Looks only at symbols of functions with a size."""
     found: dict[str, dict[str, None]] = {}
     data = image.data if image.is_elf_32 and image.data else b""
-    words = [it for first, code in segments_of(data) for it in candidates_in(first, code)] if data else []
+    words = [word for it in segments_of(data) for word in candidates_in(it.address, data[it.offset:it.offset + it.in_file])] if data else []
     functions = sorted(functions_of(data), key=lambda it: it.address) if words else []
     starts = [it.address for it in functions]
     for address, word in words:
@@ -57,17 +57,6 @@ def candidates_in(first: int, code: bytes) -> Iterator[tuple[int, int]]:
     while at >= 0:
         yield first + WORD * at, int.from_bytes(code[WORD * at:WORD * at + WORD], "little")
         at = marks.find(1, at + 1)
-
-
-def segments_of(data: bytes) -> Iterator[tuple[int, bytes]]:
-    """Yields the address and the bytes of each loaded segment of an ELF32 file."""
-    start = struct.unpack_from("<I", data, AT_SEGMENTS)[0]
-    size, count = struct.unpack_from("<HH", data, AT_SIZES)
-    for at in (start + size * it for it in range(count)):
-        if at + SEGMENT.size <= len(data):
-            kind, offset, _, address, length, *_ = SEGMENT.unpack_from(data, at)
-            if kind == LOAD:
-                yield address, data[offset:offset + length]
 
 
 def functions_of(data: bytes) -> Iterator[Function]:

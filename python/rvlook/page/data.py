@@ -88,7 +88,7 @@ class Collector:
         self.run: dict[str, Any] = {}
         self.end: dict[str, Any] = {}
         self.sites, self.places, self.traps, self.names = Table(), Table(), Table(), Table()
-        self.site_numbers: dict[tuple[str, str | None, bool, bool], int] = {}  # by pc, word, and whether the word was fetched or an interrupt came
+        self.site_numbers: dict[tuple[object, ...], int] = {}  # by pc, word, and whether the word was fetched or an interrupt came
         self.name_numbers: dict[int, int] = {}  # by address
         self.site, self.place, self.trap = array("I"), array("B"), array("I")
         self.changes, self.registers, self.values = array("B"), array("B"), array("I")
@@ -143,23 +143,23 @@ class Collector:
         """Takes a step."""
         self.site.append(self.site_of(step))
         self.place.append(self.places.number((step.hart, step.at.world, step.at.mode)))
-        trap = step.trap
+        trap, changed = step.trap, step.changed
         self.trap.append(self.traps.number((trap.cause, trap.value, names.cause_name(trap.cause))) + 1 if trap else 0)
-        self.changes.append(len(step.changed))
-        for number, value in step.changed.items():
+        self.changes.append(len(changed))
+        for number, value in changed.items():
             self.registers.append(number)
             self.values.append(int(value, 16))
         if step.call:
             call = self.objects.call(step.call) or {}
             self.calls.append({"step": step.number, **call, "to": step.next.world, "refused": refusal(step)})
-        if not step.is_interrupt:
+        if not (trap and step.is_interrupt):
             self.points += 1
         if step.touch:
             self.take_touch(step.number, step.touch)
 
     def site_of(self, step: Step) -> int:
         """Returns the number of the site of a step: its pc and instruction. A new site is drawn, unless an interrupt came in its place."""
-        key = step.at.pc, step.word, step.is_executed, step.is_interrupt
+        key = step.at.pc, step.instruction and step.instruction.word, step.trap and (step.is_executed, step.is_interrupt)
         if key not in self.site_numbers:
             it, target, pc = self.objects.site(step), step.target, int(step.at.pc, 16)
             text = it["abi"]

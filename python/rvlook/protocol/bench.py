@@ -17,6 +17,7 @@ from functools import lru_cache
 from typing import IO, Sequence
 
 from rvlook.protocol.bench_line import ended, has_reply, is_malformed, tokens_of
+from rvlook.protocol.replies import bytes_of, memory_commands, value_of
 from rvlook.errors import BenchEnded, RvlookError, Unfinished
 
 # The script that finds or builds the program, if this package is in a clone of the repository.
@@ -25,8 +26,8 @@ FINDER = os.path.join(os.path.dirname(os.path.abspath(__file__)), "..", "..", ".
 BESIDE = os.path.join(os.path.dirname(os.path.abspath(__file__)), "..", "..", "..", "rvbench")
 PIPE = 1 << 20
 SET_PIPE_SIZE = 1031  # F_SETPIPE_SZ of Linux
-MANY = 500  # lines of reply that are worth a pause, so that they are read together
-PAUSE = 0.001
+MANY = 20  # lines of reply that are worth a pause, so that they are read together
+LINE, PAUSE = 2e-6, 0.001  # seconds in which the program writes a line, and the longest pause
 COUNTS = {"regs": 33, "pmp": 16}  # lines of reply; one for every other command
 MARK = "reg 0"  # sent after `enclaves`, whose reply may have no line
 MARKED = b"x0=00000000"
@@ -157,7 +158,7 @@ class Bench:
             self.parts.append(part)
             found += part.count(b"\n")
             if count - found > MANY and not self.pending:
-                time.sleep(PAUSE)
+                time.sleep(min(PAUSE, (count - found) * LINE))
         block, self.parts = b"".join(self.parts), []
         return block
 
@@ -213,3 +214,12 @@ class Bench:
     def one(self, command: str) -> str:
         """Sends a command; returns the one line of its reply."""
         return self.ask(command)[0][0]
+
+    def register(self, number: int) -> int:
+        """Returns the value of a register of the selected hart."""
+        return value_of(self.one("reg %d" % number))
+
+    def memory(self, address: int, size: int) -> bytes:
+        """Returns bytes of memory, which must be in RAM."""
+        commands = memory_commands(address, size)
+        return b"".join(map(bytes_of, self.block("\n".join([*commands, ""]).encode(), len(commands)).decode().splitlines())) if commands else b""

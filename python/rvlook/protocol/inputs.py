@@ -3,13 +3,36 @@ from __future__ import annotations
 
 import struct
 from dataclasses import dataclass
-from typing import Iterator, Optional
+from typing import Iterator, NamedTuple, Optional
 
 ELF_MAGIC = b"\x7fELF"
 HEADER = 52  # bytes of the header of a 32-bit ELF file
 AT_SEGMENTS, AT_SIZES = 28, 42  # in that header
 SEGMENT = struct.Struct("<8I")
 LOAD = 1
+
+
+class Segment(NamedTuple):
+    """A program header (ELF, Program Header): an offset in the file, addresses, and sizes in the file and in memory, in bytes."""
+    kind: int
+    offset: int
+    virtual: int
+    address: int
+    in_file: int
+    in_memory: int
+    flags: int
+    alignment: int
+
+
+def segments_of(data: bytes) -> Iterator[Segment]:
+    """Yields the loaded segments of an ELF32 file that are not empty, and whose program headers are in the file."""
+    start = struct.unpack_from("<I", data, AT_SEGMENTS)[0]
+    size, count = struct.unpack_from("<HH", data, AT_SIZES)
+    for at in range(start, start + size * count, size) if size else ():
+        if at + SEGMENT.size <= len(data):
+            found = Segment(*SEGMENT.unpack_from(data, at))
+            if found.kind == LOAD and found.in_memory:
+                yield found
 
 
 @dataclass(frozen=True)
@@ -40,13 +63,6 @@ class Image:
         """Returns whether the image is a 32-bit little-endian ELF file with a complete header."""
         return self.is_elf and self.data is not None and len(self.data) >= HEADER and self.data[4:6] == b"\x01\x01"
 
-    def segments(self) -> Iterator[tuple[int, int]]:
-        """Yields the address and the size in memory, in bytes, of each loaded segment of a 32-bit ELF file."""
-        data = self.data if self.is_elf_32 and self.data else bytes(HEADER)
-        offset = struct.unpack_from("<I", data, AT_SEGMENTS)[0]
-        size, count = struct.unpack_from("<HH", data, AT_SIZES)
-        for number in range(count):
-            if offset + number * size + SEGMENT.size <= len(data):
-                kind, _, _, address, _, length, *_ = SEGMENT.unpack_from(data, offset + number * size)
-                if kind == LOAD and length:
-                    yield address, length
+    def segments(self) -> Iterator[Segment]:
+        """Yields the loaded segments of a 32-bit ELF file; none of another image."""
+        return segments_of(self.data) if self.is_elf_32 and self.data else iter(())

@@ -4,20 +4,18 @@ from __future__ import annotations
 
 import re
 from dataclasses import dataclass
-from functools import lru_cache
-from typing import Optional
+from functools import cached_property, lru_cache
+from typing import NamedTuple, Optional
 
 from rvlook.protocol import names
 
-MEMORY = re.compile(r"(l[bhw]u?|s[bhw]) x(\d+), (-?\d+)\(x(\d+)\)")
-WIDTHS = {"b": 1, "h": 2, "w": 4}
-BRANCH = re.compile(r"(?:beq|bne|bltu?|bgeu?|jal) .*, (-?\d+)\Z")
-WRITES = re.compile(r"(?!s[bhw] |b|ecall|ebreak|fence|mret|sret|wfi)\S+ x(\d+),")
-SET_CSR = re.compile(r"csrr([wsc])i? x\d+, 0x([0-9a-f]+), x?(\d+)")
+OPERAND = re.compile(r"(?:\bx)?(-?(?:0x[0-9a-f]+|\d+))")
+LOADS = {"lb": 1, "lh": 2, "lw": 4, "lbu": 1, "lhu": 2}  # the number of bytes
+STORES = {"sb": 1, "sh": 2, "sw": 4}
+BRANCHES = ("beq", "bne", "blt", "bge", "bltu", "bgeu")
 
 
-@dataclass(frozen=True)
-class Memory:
+class Memory(NamedTuple):
     """The operand of a load (`r`) or store (`w`): `width` bytes at a base register and an offset, from or to another register."""
     kind: str
     width: int
@@ -28,20 +26,38 @@ class Memory:
 
 @dataclass(frozen=True)
 class Instruction:
-    """A word of memory, as a reply of `dis` has it."""
+    """A word of memory, as a reply of `dis` has it. `operands` are the numbers of its registers and its immediates, in the order of the text."""
     word: str
     text: str
-    abi: str
+    name: str
+    operands: tuple[int, ...]
     writes: int  # the register, 0 where there is none
-    memory: Optional[Memory]
-    offset: Optional[int]  # of a branch or jal
-    is_jalr: bool
-    csr: Optional[int]  # that it writes
+
+    @property
+    def abi(self) -> str:
+        """Returns the text with ABI names."""
+        return names.with_abi_names(self.text)
 
     @property
     def short(self) -> str:
         """Returns the manual's short form."""
         return short_form(self.abi)
+
+    @cached_property
+    def memory(self) -> Optional[Memory]:
+        """Returns the operand of a load or a store, else None."""
+        width = LOADS.get(self.name) or STORES.get(self.name)
+        return Memory("r" if self.name in LOADS else "w", width, self.operands[2], self.operands[1], self.operands[0]) if width else None
+
+    @property
+    def offset(self) -> int | None:
+        """Returns the offset of a branch or of `jal`, else None."""
+        return self.operands[-1] if self.name in BRANCHES or self.name == "jal" else None
+
+    @property
+    def csr(self) -> int | None:
+        """Returns the control and status register that it writes, or None."""
+        return self.operands[1] if self.name.startswith("csrr") and (self.name[4] == "w" or self.operands[2]) else None
 
 
 @lru_cache(maxsize=65536)
@@ -50,16 +66,10 @@ def instruction_of(line: bytes) -> Instruction | None:
     if line.startswith(b"error"):
         return None
     word, text = line.decode().split(": ")[1].split(" ", 1)
-    memory, branch, writes, csr = (it.match(text) for it in (MEMORY, BRANCH, WRITES, SET_CSR))
-    is_csr = csr and (csr[1] == "w" or csr[3] != "0")
-    return Instruction(word, text, names.with_abi_names(text), int(writes[1]) if writes else 0, memory_of(memory) if memory else None,
-                       int(branch[1]) if branch else None, text.startswith("jalr "), int(csr[2], 16) if csr and is_csr else None)
-
-
-def memory_of(match: re.Match[str]) -> Memory:
-    """Returns the operand of a load or a store."""
-    kind = "r" if match[1][0] == "l" else "w"
-    return Memory(kind, WIDTHS[match[1][1]], int(match[4]), int(match[3]), int(match[2]))
+    name, _, rest = text.partition(" ")
+    operands = tuple(int(it, 0) for it in OPERAND.findall(rest))
+    is_written = rest.startswith("x") and name not in STORES and name not in BRANCHES
+    return Instruction(word, text, name, operands, operands[0] if is_written else 0)
 
 
 # The manual's table of assembler pseudoinstructions: a text with ABI names, and the short form of it, in the order of preference.

@@ -4,10 +4,11 @@ from __future__ import annotations
 import re
 from dataclasses import dataclass
 from functools import lru_cache
-from typing import NamedTuple, Optional, Tuple
+from typing import AnyStr, Iterable, NamedTuple, Optional, Tuple
 
 RAN = re.compile(r"ran (\d+) pc=(\w+) mode=(\w) world=(\w+) why=(\S+) trap=(\S+)")
 RAN_FIELDS = re.compile(rb"ran 1 pc=(\w+) mode=(\w) world=(\w+) why=\S+ trap=(\S+)")  # of one step: pc, mode, world and trap
+ROW = 64  # bytes that `mem` shows at once
 NO_TRAP = b"-"  # the trap of a step that has none
 STOPS = ("watch", "break")
 RanFields = Tuple[bytes, bytes, bytes, bytes]  # of RAN_FIELDS: pc, mode, world and trap
@@ -95,14 +96,24 @@ def entry_of(line: str) -> Entry:
     return Entry(int(cfg[4:], 16), int(addr[5:], 16))
 
 
-def register_values(lines: list[str]) -> list[int]:
+def value_of(line: AnyStr) -> int:
+    """Decodes the reply of `reg` or `csr`, or a line of `regs`: a name and eight digits."""
+    return int(line[-8:], 16)
+
+
+def register_values(lines: Iterable[AnyStr]) -> list[int]:
     """Decodes the reply of `regs`: the values of x0 to x31 and pc."""
-    return [int(line.split("=")[1], 16) for line in lines]
+    return [int(line[-8:], 16) for line in lines]
 
 
 def bytes_of(line: str) -> bytes:
     """Decodes a reply of `mem`."""
     return bytes.fromhex(line.split(":")[1])
+
+
+def memory_commands(address: int, size: int) -> list[str]:
+    """Returns the commands that show a range of memory."""
+    return ["mem %x %d" % (address + at, min(ROW, size - at)) for at in range(0, size, ROW)]
 
 
 def step_fields(data: bytes) -> list[RanFields]:

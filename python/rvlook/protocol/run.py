@@ -6,6 +6,7 @@ from __future__ import annotations
 import copy
 import re
 from dataclasses import dataclass, field, replace
+from functools import cached_property
 from typing import AnyStr, Generator, Iterable, Iterator, Sequence
 
 from rvlook.protocol.bench import Bench
@@ -14,12 +15,14 @@ from rvlook.protocol.messages import INPUT_REPLIES, input_error
 from rvlook.errors import BenchEnded, RvlookError, Unfinished
 from rvlook.protocol.inputs import Image, ScriptLine
 from rvlook.protocol.memory_map import MONITOR_END, RAM_BASE
-from rvlook.protocol.replies import ran_of, step_of
+from rvlook.protocol.replies import NO_TRAP, RanFields, ran_of, step_of
 from rvlook.protocol.schedule import turns_of
+from rvlook.protocol.stretch import Stretch
 from rvlook.protocol.symbols import Symbols
 
 CHUNK = 16384  # single steps in one exchange
 MOST_STEPS = 1000000  # of one command
+MOST_KEPT = 2000000  # steps of a run whose replies are kept, some 60 bytes each
 STATE_COMMANDS = ("poke", "setreg", "timer", "hart")  # commands that change the state without a step
 EQUAL = 3  # equal replies (pc, mode, world and trap) after which a hart counts as halted
 SINGLE = b"step 1\n"
@@ -78,7 +81,7 @@ class Line:
         """Returns whether the bench refused the line."""
         return bool(self.replies) and self.replies[0].startswith("error ")
 
-    @property
+    @cached_property
     def command(self) -> str:
         """Returns the command; empty if it was refused."""
         return "" if self.is_refused else tokens_of(self.text)[0]
@@ -110,15 +113,6 @@ class End:
     world: str
 
 
-@dataclass
-class Stretch:
-    """`count` single steps of one hart with their replies; the first has the number `first`."""
-    first: int
-    hart: int
-    data: bytes
-    count: int
-
-
 class Run:
     """A configuration with the plan of its script. `hart` is the chosen hart after the script, `errors` the lines that rvbench rejected, each
     with its reply."""
@@ -128,6 +122,8 @@ class Run:
         self.plan: list[Line | Steps] = []
         self.errors: list[tuple[ScriptLine, str]] = []
         self.mode, self.world = ("S", "host") if setup.monitor else ("M", "bare")
+        self.kept: list[Line | Stretch | End] = []  # what `stretches` has yielded
+        self.is_known = False  # all of it
         self.ended: str | None = None  # why the run ended, if the plan has its steps after the script
         with setup.bench() as bench:
             self.pc = bench.ask("regs")[0][32][3:]
@@ -187,7 +183,7 @@ class Run:
         """Returns the run with more lines after a step; the lines of the script stay at their steps."""
         other = copy.copy(self)
         inserted = [Line(line, hidden=True) for line in lines]
-        other.plan, position = [], 0
+        other.plan, other.kept, other.is_known, position = [], [], False, 0
         for item in self.plan:
             if isinstance(item, Steps) and inserted and position < step <= position + item.count:
                 rest = position + item.count - step
@@ -205,7 +201,33 @@ class Run:
         return other
 
     def stretches(self) -> Iterator[Line | Stretch | End]:
-        """Runs everything in single steps; yields Line for a line of the script, Stretch for steps, and End."""
+        """Yields what the run does in single steps: Line for a line of the script, Stretch for steps, and End. A run that is not too long is run
+        once."""
+        if self.is_known:
+            yield from self.kept
+            return
+        is_kept = self.length + self.setup.limit <= MOST_KEPT
+        kept = self.kept = []
+        locations: list[RanFields] = [(self.pc.encode(), self.mode.encode(), self.world.encode(), NO_TRAP)] * self.setup.harts
+        for item in self.single_steps():
+            if isinstance(item, Stretch):
+                item.before, locations[item.hart] = locations[item.hart], item.last
+            if is_kept:
+                kept.append(item)
+            yield item
+        self.kept, self.is_known = kept, is_kept
+
+    def reply(self, step: int) -> str:
+        """Returns the reply to a single step."""
+        for item in self.kept:
+            if isinstance(item, Stretch) and item.first <= step < item.first + item.count:
+                return item.data.splitlines()[step - item.first].decode()
+        with self.replay() as replay:
+            replay.go(step - 1)
+            return replay.go(step) or ""
+
+    def single_steps(self) -> Iterator[Line | Stretch | End]:
+        """Runs everything in single steps."""
         with self.setup.bench() as bench:
             position, hart = 0, 0
             last = ("ran 0 pc=%s mode=%s world=%s why=done trap=-" % (self.pc, self.mode, self.world)).encode()
@@ -347,8 +369,8 @@ def error_of(setup: Setup, error: BenchEnded) -> RvlookError:
 def segment_outside(setup: Setup, message: str) -> str | None:
     """Returns the text about the first segment of an ELF file that is not in RAM, if that is the error."""
     first, end = MONITOR_END if setup.monitor else RAM_BASE, RAM_BASE + setup.ram
-    outside = next(((at, size) for at, size in setup.image.segments() if at < first or at + size > end), None)
+    outside = next((it for it in setup.image.segments() if it.address < first or it.address + it.in_memory > end), None)
     if message != OUTSIDE or outside is None or first >= end:
         return None
     return ("the segment %08x-%08x is outside the memory of programs, %08x-%08x; link it there, or use a larger --ram"
-            % (outside[0], outside[0] + outside[1] - 1, first, end - 1))
+            % (outside.address, outside.address + outside.in_memory - 1, first, end - 1))

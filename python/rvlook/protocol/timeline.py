@@ -217,7 +217,7 @@ class Timeline:
             self.reach(hart, ran.mode, ran.world, ran.trap and ran.steps > 1)
         elif line.startswith("sched"):
             for number, reply in enumerate(replies):
-                mode, world, trap = (it.split("=")[1] for it in reply.split()[4:7])
+                mode, world, trap = (it.partition("=")[2] for it in reply.split()[4:7])
                 self.reach(number, mode, world, trap != "-")
 
     def reach(self, hart: int, mode: str, world: str, trapped: object) -> None:

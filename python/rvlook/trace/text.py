@@ -218,7 +218,7 @@ class Lines:
             changed = [value, "and %d more" % (len(changed) - 1)]
         if step.touch:
             changed.append(touch_text(step.touch, self.symbols))
-        elif step.instruction and step.instruction.is_jalr and step.target is not None:
+        elif step.instruction and step.instruction.name == "jalr" and step.target is not None:
             changed.append("to " + self.address_text(step.target))
         return changed
 

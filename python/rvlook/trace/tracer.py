@@ -2,17 +2,19 @@
 read. All registers are read after a trap and at the end of each part of the run, where the values so far must agree."""
 from __future__ import annotations
 
-from typing import Iterator, NamedTuple, Optional, Sequence, TYPE_CHECKING
+from typing import Iterator, NamedTuple, Optional, Sequence, TYPE_CHECKING, Tuple
 
 from rvlook.protocol import names
 from rvlook.errors import Unfinished
 from rvlook.protocol.instructions import Instruction, instruction_of
+from rvlook.protocol.reader import Reader
 from rvlook.protocol.replies import NO_TRAP, Location, RanFields, Trap, step_fields
 from rvlook.protocol.run import End, Line
 
 if TYPE_CHECKING:
     from rvlook.protocol.instructions import Memory
-    from rvlook.protocol.run import Replay, Run, Stretch
+    from rvlook.protocol.run import Replay, Run
+    from rvlook.protocol.stretch import Stretch
 
 REGISTERS = 33  # lines of `regs`
 STEP = b"step 1\n"
@@ -80,7 +82,7 @@ class Step(NamedTuple):
             return None
         if self.instruction.offset is not None:
             return (int(self.at.pc, 16) + self.instruction.offset) & 0xFFFFFFFF
-        return int(self.next.pc, 16) if self.instruction.is_jalr and self.trap is None else None
+        return int(self.next.pc, 16) if self.instruction.name == "jalr" and self.trap is None else None
 
 
 class Command(NamedTuple):
@@ -92,10 +94,7 @@ class Command(NamedTuple):
     given: str  # as in the script
 
 
-class Done(NamedTuple):
-    """A step as the first two benches show it: the fields of its reply, and the instruction at pc before it."""
-    ran: RanFields
-    instruction: Optional[Instruction]
+Done = Tuple[RanFields, Optional[Instruction]]  # a step: the fields of its reply, and the instruction at pc before it
 
 
 class Hart:
@@ -123,9 +122,9 @@ class Tracer:
         self.traps: dict[bytes, Trap | None] = {NO_TRAP: None}
 
     def events(self) -> Iterator[Command | Step | End]:
-        """Yields Command, Step and End in the order of the run. Two benches follow the first one, which reports each pc: one decodes the next
-        instruction, the other reads the register that it writes."""
-        with self.run.replay() as decoder, self.run.replay() as reader:
+        """Yields Command, Step and End in the order of the run. Two benches follow the first one, which reports each pc: one decodes the
+        instructions, the other reads the register that each writes."""
+        with Reader[None](self.run, lambda line: None) as decoder, self.run.replay() as reader:
             for item in self.run.stretches():
                 if isinstance(item, Line):
                     if item.command == "setreg":
@@ -146,46 +145,32 @@ class Tracer:
         location = self.harts[self.hart].location
         return End(self.position if self.last is None else self.last, "limit", location.pc, location.mode, location.world)
 
-    def steps(self, decoder: Replay, reader: Replay, stretch: Stretch) -> Iterator[Step]:
+    def steps(self, decoder: Reader[None], reader: Replay, stretch: Stretch) -> Iterator[Step]:
         """Yields the wanted steps of a stretch; raises Unfinished if the registers do not agree."""
-        rans = step_fields(stretch.data)
-        end = stretch.first + stretch.count - 1
+        hart, end = self.harts[stretch.hart], stretch.first + stretch.count - 1
         begin, stop = max(self.first, stretch.first), min(end, self.last or end)
-        hart = self.harts[stretch.hart]
         if begin > end:
-            hart.location, hart.registers, self.position = self.location_of(rans[-1]), None, end
+            hart.location, hart.registers, self.position = self.location_of(stretch.last), None, end
             return
+        rans = step_fields(stretch.data)
         if begin > stretch.first:
             hart.location, hart.registers = self.location_of(rans[begin - stretch.first - 1]), None
-        rans = rans[begin - stretch.first:stop - stretch.first + 1]
-        instructions = self.instructions(decoder, hart, begin, rans)
+        part = slice(begin - stretch.first, stop - stretch.first + 1)
+        rans, instructions = rans[part], list(map(instruction_of, decoder.read(stretch).lines[part]))
         replies = self.registers(reader, hart, begin, rans, instructions)
-        for number, done in enumerate(map(Done, rans, instructions), begin):
+        for number, done in enumerate(zip(rans, instructions), begin):
             yield self.step(number, stretch.hart, hart, done, replies)
-        kept = [line.split(b"=")[1].decode() for line in (next(replies) for _ in range(REGISTERS - 1))]
+        kept = [line[-8:].decode() for line in (next(replies) for _ in range(REGISTERS - 1))]
         if kept != hart.registers:
             raise Unfinished("the registers after step %d differ from those derived from its steps" % stop)
         self.position = stop
 
-    @staticmethod
-    def begin(replay: Replay, begin: int) -> None:
-        """Brings a replay to before a step."""
-        replay.bench.ask(*(replay.lines_to(begin - 1) + replay.lines_up_to_next() or ["reg 0"]))
-
-    def instructions(self, decoder: Replay, hart: Hart, begin: int, rans: Sequence[RanFields]) -> list[Instruction | None]:
-        """Returns the instruction at pc before each of these steps."""
-        self.begin(decoder, begin)
-        pcs = [hart.location.pc.encode()] + [ran[0] for ran in rans[:-1]]
-        block = decoder.bench.block(b"".join([b"dis %s\nstep 1\n" % pc for pc in pcs]), 2 * len(rans))
-        decoder.lines_to(begin - 1 + len(rans))
-        return [instruction_of(line) for line in block.split(b"\n")[:-1:2]]
-
     def registers(self, reader: Replay, hart: Hart, begin: int, rans: Sequence[RanFields],
                   instructions: Sequence[Instruction | None]) -> Iterator[bytes]:
         """Returns the replies of these steps: each with what it may have changed, and all registers after the last."""
-        self.begin(reader, begin)
+        reader.bench.ask(*(reader.lines_to(begin - 1) + reader.lines_up_to_next() or ["reg 0"]))
         if hart.registers is None:
-            hart.registers = [line.split("=")[1] for line in reader.bench.ask("regs")[0][:32]]
+            hart.registers = [line[-8:] for line in reader.bench.ask("regs")[0][:32]]
         queries, count = [], REGISTERS
         for ran, instruction in zip(rans, instructions):
             if ran[3] != NO_TRAP:
@@ -212,7 +197,7 @@ class Tracer:
                 registers, memory = hart.known(), instruction.memory
                 address = (int(registers[memory.base], 16) + memory.offset) & 0xFFFFFFFF if memory else 0
                 if instruction.writes:
-                    value = next(replies).split(b"=")[1].decode()
+                    value = next(replies)[-8:].decode()
                     if value != registers[instruction.writes]:
                         registers[instruction.writes] = value
                         changed = {instruction.writes: value}
@@ -232,7 +217,7 @@ class Tracer:
         """Returns a step that trapped, with what it changed: any register may have another value after it, as another world may continue."""
         before, trap, instruction, at = hart.known(), step.trap, step.instruction, step.at
         assert trap is not None
-        after = [line.split(b"=")[1].decode() for line in (next(replies) for _ in range(REGISTERS))][:32]
+        after = [line[-8:].decode() for line in (next(replies) for _ in range(REGISTERS))][:32]
         hart.registers = after
         changed = {n: after[n] for n in range(1, 32) if after[n] != before[n]}
         memory = instruction.memory if instruction and trap.cause in names.ACCESS_FAULTS else None

@@ -6,16 +6,12 @@ from enum import Enum
 from functools import lru_cache
 from typing import NamedTuple, Tuple
 
-from rvlook.protocol.instructions import instruction_of
+from rvlook.protocol.instructions import BRANCHES, Instruction, instruction_of
 
 RA, SP, A0, A1, A6 = 1, 2, 10, 11, 16
 LINKS = (1, 5)  # registers that hold a return address (Unprivileged ISA, section 2.5)
 SAVED = {1, 8, 9, *range(18, 28)}  # ra and the callee-saved registers
-JALR = re.compile(r"jalr x(\d+), (-?\d+)\(x(\d+)\)")
-JAL = re.compile(r"jal x(\d+), ")
-BRANCH = re.compile(r"(?:beq|bne|blt|bge|bltu|bgeu) x(\d+), x(\d+), ")
-SOURCES = re.compile(r"x(\d+)")
-MOVE_SP = re.compile(r"addi x2, x2, (-\d+)\Z")
+SOURCES = re.compile(r"\bx(\d+)")
 
 
 class Kind(Enum):
@@ -64,6 +60,11 @@ class Code(NamedTuple):
         """Returns whether the address of a load or store is relative to sp."""
         return bool(self.probes) and self.probes[0] == SP
 
+    @property
+    def is_saving(self) -> bool:
+        """Returns whether the instruction may save a register of the caller in the frame."""
+        return self.kind is Kind.STORE and self.probes[0] == SP and self.probes[1] in SAVED
+
 
 OUTSIDE = Code(Kind.OTHER, "")  # an address that cannot be fetched
 
@@ -79,27 +80,25 @@ def code_of(line: bytes) -> Code:
         if memory.kind == "r":
             return Code(Kind.LOAD, it.text, (memory.base,), memory.width, memory.offset, 0, memory.register, (memory.base,))
         return Code(Kind.STORE, it.text, (memory.base, memory.register), memory.width, memory.offset, 0, 0, (memory.base, memory.register))
-    return transfer_of(it.text) or other_of(it.text, it.writes)
+    return transfer_of(it) or other_of(it)
 
 
-def transfer_of(text: str) -> Code | None:
+def transfer_of(it: Instruction) -> Code | None:
     """Decodes a branch, jump, call or return; returns None for any other instruction."""
-    branch, jal, jalr = BRANCH.match(text), JAL.match(text), JALR.match(text)
-    if branch:
-        return Code(Kind.BRANCH, text, sources=(int(branch[1]), int(branch[2])))
-    if jal:
-        return Code(Kind.CALL if int(jal[1]) else Kind.OTHER, text, link=int(jal[1]), writes=int(jal[1]))
-    if jalr:
-        link, base = int(jalr[1]), int(jalr[3])
-        is_return = not link and base in LINKS
-        return Code(Kind.RETURN if is_return else Kind.INDIRECT, text, link=link, writes=link, sources=(base,))
-    if text == "ecall":
-        return Code(Kind.ECALL, text, (A6, A1))
-    return Code(Kind.TRAP_RETURN, text) if text == "sret" else None
+    if it.name in BRANCHES:
+        return Code(Kind.BRANCH, it.text, sources=it.operands[:2])
+    if it.name == "jal":
+        return Code(Kind.CALL if it.writes else Kind.OTHER, it.text, link=it.writes, writes=it.writes)
+    if it.name == "jalr":
+        base = it.operands[2]
+        return Code(Kind.RETURN if not it.writes and base in LINKS else Kind.INDIRECT, it.text, link=it.writes, writes=it.writes, sources=(base,))
+    if it.name == "ecall":
+        return Code(Kind.ECALL, it.text, (A6, A1))
+    return Code(Kind.TRAP_RETURN, it.text) if it.name == "sret" else None
 
 
-def other_of(text: str, writes: int) -> Code:
+def other_of(it: Instruction) -> Code:
     """Decodes an instruction that neither accesses memory nor jumps."""
-    move = MOVE_SP.match(text)
-    operands = text.partition(", ")[2]
-    return Code(Kind.OTHER, text, writes=writes, sources=tuple(int(it) for it in SOURCES.findall(operands)), moves_sp=int(move[1]) if move else 0)
+    moves_sp = it.operands[2] if it.name == "addi" and it.operands[:2] == (SP, SP) and it.operands[2] < 0 else 0
+    sources = tuple(int(number) for number in SOURCES.findall(it.text.partition(", ")[2]))
+    return Code(Kind.OTHER, it.text, writes=it.writes, sources=sources, moves_sp=moves_sp)

@@ -3,7 +3,7 @@ from __future__ import annotations
 
 from typing import Iterator
 
-from rvlook.finders.inputs.code import LINKS, SAVED, Code, Kind
+from rvlook.finders.inputs.code import LINKS, Code, Kind
 from rvlook.finders.inputs.trace import ROOT
 
 MONITOR_CALL = 9  # the cause of an ecall from S
@@ -17,6 +17,7 @@ class Contexts:
         self.numbers: dict[tuple[int, int], int] = {}
         self.parents, self.calls, self.depths, self.traps = [ROOT], [0], [0], [False]
         self.frames: dict[int, int] = {}  # sp of each context
+        self.version = 0  # counts the changes of frames and saved registers
         self.saved: dict[int, set[int]] = {}  # the addresses at which a context saves registers of its caller
 
     def after(self, context: int, code: Code, pc: int, following: int, trap: tuple[int, int] | None) -> int:
@@ -60,11 +61,14 @@ class Contexts:
 
     def note_frame(self, context: int, code: Code, address: int) -> None:
         """Notes where the frame of a context is, from an access relative to sp or from a move of sp."""
+        sp = address - code.offset
         if code.moves_sp:
             caller = self.frames.get(self.parents[context]) if context else None
-            if caller is not None:
-                self.frames.setdefault(context, caller + code.moves_sp)
-            return
-        self.frames[context] = address - code.offset
-        if code.kind is Kind.STORE and code.probes[1] in SAVED:
-            self.saved.setdefault(context, set()).update(range(address, address + 4))
+            sp = self.frames.get(context, -1) if caller is None or context in self.frames else caller + code.moves_sp
+        if sp != self.frames.get(context, -1):
+            self.frames[context] = sp
+            self.version += 1
+        new = set(range(address, address + 4)) - self.saved.get(context, set()) if code.is_saving else ()
+        if new:
+            self.saved.setdefault(context, set()).update(new)
+            self.version += 1

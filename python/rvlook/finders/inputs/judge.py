@@ -21,7 +21,9 @@ NO_FAULTS = (3, 8, 9)  # causes: ebreak and ecall
 STRIDE = 64  # bytes between two accesses of a loop
 DISTINCT = 3  # addresses of an access, of which the host chooses one
 FAULT = Place("a fault")
+JUMPS = (Kind.BRANCH, Kind.CALL, Kind.RETURN)  # whose findings do not depend on the changes of a trace
 Key = Tuple[int, int]  # a call context and a pc
+Way = Tuple[int, int, int]  # a pc, a call context, and an address
 
 
 class What(Enum):
@@ -79,6 +81,8 @@ class Judge:
     def __init__(self, tracer: Tracer, objects: Objects, base: Trace) -> None:
         self.tracer, self.objects, self.base, self.seen = tracer, objects, base, Seen()
         self.findings: dict[tuple[object, ...], Finding] = {}
+        self.usual: set[Way] = set()  # steps without a trap that are no finding
+        self.version = 0  # of the contexts then
         for index in range(len(base)):
             self.learn(base, index)
 
@@ -101,12 +105,8 @@ class Judge:
         """Takes a trace; returns whether it reached something new, and found nothing after which further steps mean nothing."""
         is_new, found = False, None
         unsure: list[Key] = []
-        code_of, seen = self.tracer.code, self.seen.pcs
-        for index in trace.differences():
+        for index in self.unusual(trace):
             pc = trace.pcs[index]
-            if code_of[pc].is_plain and index not in trace.traps:
-                seen.add(pc)
-                continue
             is_new = self.covers(trace, index) or is_new
             if found and found.pc != pc:  # a consequence
                 continue
@@ -128,6 +128,25 @@ class Judge:
             self.add(Finding(What.STUCK, trace, len(trace) - 1, pc, place, after=tuple(unsure)))
             return False
         return is_new
+
+    def unusual(self, trace: Trace) -> Iterator[int]:
+        """Yields the indices of the steps that differ from those of the parent, and are neither plain nor equal to one that is no finding."""
+        if self.version != self.tracer.contexts.version:
+            self.version = self.tracer.contexts.version
+            self.usual.clear()
+        plain, pcs, traps = self.tracer.plain, trace.pcs, trace.traps
+        for index in trace.differences():
+            if index in traps:
+                yield index
+            elif pcs[index] in plain:
+                self.seen.pcs.add(pcs[index])
+            elif self.way_of(trace, index) not in self.usual:
+                yield index
+
+    def way_of(self, trace: Trace, index: int) -> Way:
+        """Returns the pc and the context of a step, and its address or the pc after it. For some kinds they decide whether it is a finding."""
+        pc = trace.pcs[index]
+        return pc, trace.contexts[index], trace.following(index) if self.tracer.code[pc].kind in JUMPS else trace.addresses[index]
 
     def add(self, found: Finding) -> None:
         """Adds a finding, or replaces one that needs more changes or is not sure."""
@@ -203,6 +222,7 @@ class Judge:
         self.seen.addresses[key].add(address)
         other = next((it for it in places if it not in usual), None)
         if other is None:
+            self.usual.add((key[1], key[0], address))
             return None
         previous = self.previous(trace, index, key)
         is_walk = previous is not None and abs(address - trace.addresses[previous]) <= STRIDE

@@ -12,7 +12,6 @@ from rvlook.finders.inputs.judge import FAULT, What
 from rvlook.finders.inputs.session import GRACE, INTERRUPT, InputsOptions, Session
 from rvlook.finders.races.time_limit import OutOfTime, TimeLimit
 from rvlook.output.printer import Style, hex8, run_object
-from rvlook.protocol.replies import bytes_of
 from rvlook.protocol.run import End
 
 if TYPE_CHECKING:
@@ -27,7 +26,6 @@ if TYPE_CHECKING:
 
 MOST_SHOWN = 4  # objects of one access; bytes of a value
 LONGEST = 16
-ROW = 64  # bytes that `mem` shows at once
 
 
 @dataclass(frozen=True)
@@ -207,9 +205,8 @@ def with_old_values(run: Run, changes: Changes) -> Changes:
 def value_in(replay: Replay, it: Change) -> bytes:
     """Reads the bytes or the register of a change."""
     if it.register:
-        return int(replay.bench.one("reg %d" % it.register).split("=")[1], 16).to_bytes(len(it.value), "little")
-    rows = range(0, len(it.value), ROW)
-    return b"".join(bytes_of(replay.bench.one("mem %x %d" % (it.at + at, min(ROW, len(it.value) - at)))) for at in rows)
+        return replay.bench.register(it.register).to_bytes(len(it.value), "little")
+    return replay.bench.memory(it.at, len(it.value))
 
 
 def place_of(it: Change) -> str:

@@ -10,13 +10,12 @@ from rvlook.finders.inputs.tracer import access_of
 from rvlook.finders.races.replay import comment
 from rvlook.output.files import replace_file
 from rvlook.protocol.bench_line import ended
+from rvlook.protocol.replies import ROW, register_values
 
 if TYPE_CHECKING:
     from rvlook.finders.inputs.judge import Finding
     from rvlook.finders.inputs.search import Search
     from rvlook.protocol.run import Replay
-
-ROW = 64  # bytes that `mem` shows at once
 
 
 def replay_of(search: Search, finding: Finding) -> Replay:
@@ -51,7 +50,7 @@ def check(search: Search, finding: Finding) -> None:
     shown = replies[len(before) + after.index("dis %x" % trace.pcs[index]):]
     reached = [it[0] for it in replies if it and it[0].startswith("ran ")][-2]
     probes = search.tracer.code[trace.pcs[index]].probes
-    values = [int(it[0].split("=")[1], 16) for it in shown[1:1 + len(probes)]]
+    values = register_values(it[0] for it in shown[1:1 + len(probes)])
     is_same = not probes or access_of(search.tracer.code[trace.pcs[index]], values)[0] == trace.addresses[index]
     if " pc=%08x " % trace.pcs[index] not in reached or not is_same:
         raise Unfinished("a finding at step %d differs in its replay on rvbench" % trace.steps[index])

@@ -9,7 +9,6 @@ from rvlook.finders.inputs.judge import Finding, What
 from rvlook.finders.inputs.objects import Place
 from rvlook.finders.inputs.trace import Change
 from rvlook.finders.secret_copies import LEAST, copies_in
-from rvlook.protocol.replies import bytes_of
 
 if TYPE_CHECKING:
     from rvlook.finders.inputs.search import Search
@@ -107,9 +106,9 @@ class SecretRules:
         with run.replay() as replay:
             replay.go(trace.steps[it.end])
             if it.at is None:
-                return int(replay.bench.one("reg 11").split("=")[1], 16) != trace.visits[trace.visit_at(it.end)].answer[1]
+                return replay.bench.register(11) != trace.visits[trace.visit_at(it.end)].answer[1]
             size = min(it.size, 64)
-            return bytes_of(replay.bench.one("mem %x %d" % (it.at, size))) != self.secret.bytes[it.offset:it.offset + size]
+            return replay.bench.memory(it.at, size) != self.secret.bytes[it.offset:it.offset + size]
 
     # ---- checks
 

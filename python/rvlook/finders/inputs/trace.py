@@ -119,7 +119,8 @@ class Trace:
         found = set(self.changed)
         for first, end in self.new:
             found.update(range(max(0, first - 1), end))
-        return sorted(it for it in found if it < len(self))
+        size = len(self.pcs)
+        return [it for it in sorted(found) if it < size]
 
     def visit_at(self, index: int) -> int:
         """Returns the number, from 0, of the activation that has a step."""
@@ -127,9 +128,9 @@ class Trace:
 
     def following(self, index: int) -> int:
         """Returns the pc after a step of the enclave, or LEFT if the enclave leaves with it."""
-        if any(it.last == index for it in self.visits):
+        if index in [it.last for it in self.visits]:
             return LEFT
-        return self.pcs[index + 1] if index + 1 < len(self) else self.next_pc
+        return self.pcs[index + 1] if index + 1 < len(self.pcs) else self.next_pc
 
     @property
     def shown(self) -> list[tuple[str, int, int]]:

@@ -5,17 +5,22 @@ the registers of loads and stores, and the pc after each branch. At the first re
 reads the registers. If the new path joins that of the parent, the run follows it again."""
 from __future__ import annotations
 
+from array import array
 from bisect import bisect_left
+from collections import Counter
 from dataclasses import dataclass
-from typing import Iterator, NamedTuple, Optional, Sequence, TYPE_CHECKING, Tuple
+from functools import lru_cache
+from typing import Iterator, Mapping, Optional, Sequence, Set, TYPE_CHECKING, Tuple
 
 from rvlook.errors import Unfinished
 from rvlook.finders.inputs.code import Code, Kind, code_of
 from rvlook.finders.inputs.contexts import Contexts
 from rvlook.finders.inputs.probes import RESULT, Compared, Probes, each_probe
 from rvlook.finders.inputs.trace import Changes, Trace, Visit
-from rvlook.protocol.replies import enclave_of
+from rvlook.protocol.reader import step_command, values_of
+from rvlook.protocol.replies import enclave_of, register_values
 from rvlook.protocol.run import EQUAL, equal_at_end
+from rvlook.protocol.stretch import SHARED
 
 if TYPE_CHECKING:
     from rvlook.protocol.replies import Enclave
@@ -29,18 +34,37 @@ SAME, FAR, OCCURRENCES = 16, 4096, 4  # equal steps after which a path has joine
 MOST_FOLLOWED = 24  # times that a run follows its parent
 ENDED_BY = {0: "exit", 1: "stop", 2: "timer"}
 PLAIN = b"why=done trap=-"
+MOVES = (Kind.CALL, Kind.INDIRECT, Kind.RETURN, Kind.TRAP_RETURN)  # instructions that may change the context
 MASK = 0xFFFFFFFF
 Joined = Tuple[int, int]  # an index of the parent, and the position of the run
 
 
-class Part(NamedTuple):
-    """Single steps: their first number, and of each the pc before it, whether the enclave runs before and after it, and the end of its reply."""
-    first: int
+@dataclass
+class Part:
+    """Single steps: the pc before each, and whether the enclave runs after it; and those of the enclave, by index, with the ends of their replies.
+    `marked` has more than the pc of some steps: the instruction, whether the step does more than an access, and whether that is relative to
+    sp. `text` reads their registers. Both are known once the instructions are decoded."""
+    lines: Sequence[bytes]
     pcs: Sequence[int]
-    before: Sequence[bool]
     after: Sequence[bool]
-    tails: Sequence[bytes]
     next_pc: int
+    inside: Sequence[int]
+    own: array[int]
+    tails: Sequence[bytes]
+    starts: Set[int]
+    marked: Optional[Sequence[Tuple[int, Code, bool, bool]]] = None
+    text: bytes = b""
+
+
+def part_of(block: bytes, own: bytes, pc: int, is_own: bool) -> Part:
+    """Decodes the replies to single steps."""
+    lines = block.split(b"\n")[:-1]
+    pcs = [int(line[9:17], 16) for line in lines]
+    after = [line.startswith(own, 31) for line in lines]
+    next_pc, pcs = pcs[-1], [pc, *pcs[:-1]]
+    inside = [n for n, it in enumerate([is_own, *after[:-1]]) if it]
+    starts = {0, *(at + 1 for at, n in enumerate(inside) if not after[n])}
+    return Part(lines, pcs, after, next_pc, inside, array("I", [pcs[n] for n in inside]), [lines[n][31:] for n in inside], starts)
 
 
 @dataclass(frozen=True)
@@ -64,6 +88,9 @@ class Tracer:
     def __init__(self, run: Run, slot: int) -> None:
         self.run, self.slot, self.own = run, slot, b"e%d " % slot
         self.code: dict[int, Code] = {}
+        self.part_of = lru_cache(maxsize=SHARED)(part_of)  # runs that take the same way have parts in common
+        self.questions: dict[int, bytes] = {}  # for the registers of those that need any
+        self.plain: set[int] = set()  # those that are plain
         self.contexts = Contexts()
         self.enclave: Enclave | None = None
         self.limit = run.length + run.setup.limit
@@ -186,38 +213,36 @@ class Tracer:
     def explore(self, run: Run, trace: Trace, position: int, other: tuple[Trace, int] | None) -> Joined | None:
         """Adds the steps of a run from a position on to its trace: up to its end, to the limit, or to where it joins another trace after an index.
         Returns the latter, or None."""
-        begin = len(trace)
+        begin = at = len(trace)
         with run.replay() as leader, run.replay() as reader:
             pc, is_own = self.go(leader, position)
             go_to(reader, position)
             chunk, trace.end = FIRST_CHUNK, ""
+            ways = ways_of(*other) if other else {}
             while not trace.end:
                 count = max(1, min(chunk, self.limit - leader.position))
-                lines = single_steps(leader, count)
-                part = self.part_of(lines, leader.position - count + 1, pc, is_own)
+                part = self.part_of(single_steps(leader, count), self.own, pc, is_own)
                 pc, is_own = part.next_pc, part.after[-1]
-                self.add(trace, part, reader)
+                self.add(trace, part, leader.position - count + 1, reader)
                 trace.next_pc, chunk = pc, min(2 * chunk, LAST_CHUNK)
-                joined = self.joined(trace, begin, *other) if other else None
+                joined = self.joined(trace, at, other[0], ways) if other else None
                 if joined:
                     trace.new.append((begin, len(trace)))
                     return joined
-                trace.end = self.end_of(leader, lines, is_own)
+                at = max(begin, len(trace) - SAME)
+                trace.end = self.end_of(leader, part.lines, is_own)
             trace.total = leader.position
         trace.new.append((begin, len(trace)))
         return None
 
     @staticmethod
-    def joined(trace: Trace, begin: int, parent: Trace, start: int) -> Joined | None:
-        """Returns where the new steps of a trace join another's after an index, in the same activation, and removes the steps from there on; or
-        None."""
-        indices: dict[int, list[int]] = {}
-        for at in range(start, min(len(parent), start + FAR)):
-            indices.setdefault(parent.pcs[at], []).append(at)
+    def joined(trace: Trace, begin: int, parent: Trace, ways: Mapping[bytes, Sequence[int]]) -> Joined | None:
+        """Returns where the new steps of a trace join another's, in the same activation, and removes the steps from there on; or None."""
+        pcs = trace.pcs[begin:].tobytes()
+        width = trace.pcs.itemsize
         for at in range(begin, len(trace) - SAME):
-            for other in indices.get(trace.pcs[at], ())[:OCCURRENCES]:
-                if trace.pcs[at:at + SAME] == parent.pcs[other:other + SAME] and trace.contexts[at] == parent.contexts[other] and \
-                        trace.visit_at(at) == parent.visit_at(other):
+            for other in ways.get(pcs[(at - begin) * width:(at - begin + SAME) * width], ()):
+                if trace.contexts[at] == parent.contexts[other] and trace.visit_at(at) == parent.visit_at(other):
                     position = trace.steps[at] - 1
                     trace.cut(at)
                     return other, position
@@ -230,14 +255,6 @@ class Tracer:
         if not replies:
             return int(self.run.pc, 16), False
         return int(replies[-1].partition("pc=")[2][:8], 16), (" world=%s" % self.own.decode()) in replies[-1]
-
-    def part_of(self, lines: Sequence[bytes], first: int, pc: int, is_own: bool) -> Part:
-        """Decodes the replies to single steps."""
-        own = self.own
-        pcs = [int(line[9:17], 16) for line in lines]
-        tails = [line[31:] for line in lines]
-        after = [it.startswith(own) for it in tails]
-        return Part(first, [pc, *pcs[:-1]], [is_own, *after[:-1]], after, tails, pcs[-1])
 
     def end_of(self, leader: Replay, lines: Sequence[bytes], is_own: bool) -> str:
         """Returns why a trace ends after these steps; empty if it goes on."""
@@ -259,70 +276,103 @@ class Tracer:
         states = [lines[at:at + REGISTERS] for at in range(0, len(lines), REGISTERS + 1)]
         length = next((n for n in range(1, len(states)) if states[n] == states[0]), 0)
         for state in states[:length]:
-            values = [int(it.split(b"=")[1], 16) for it in state]
+            values = register_values(state)
             code = self.code.get(values[-1])
             address = (values[code.probes[0]] + code.offset) & MASK if code and code.kind is Kind.LOAD else 0
             if 0 <= address - self.enclave.window < self.enclave.window_size:
                 return True
         return False
 
-    def add(self, trace: Trace, part: Part, reader: Replay) -> None:
-        """Adds the steps of the enclave in a part to a trace."""
-        inside = [n for n, is_own in enumerate(part.before) if is_own]
+    def add(self, trace: Trace, part: Part, first: int, reader: Replay) -> None:
+        """Adds the steps of the enclave in a part to a trace. `first` is the number of the first step of the part."""
+        inside, pcs, tails, starts, plain, begin = part.inside, part.own, part.tails, part.starts, self.own + PLAIN, len(trace)
         if not inside:
             return
-        go_to(reader, part.first + inside[0] - 1)
+        go_to(reader, first + inside[0] - 1)
         if self.enclave is None:
             self.enclave = next(it for it in map(enclave_of, reader.bench.ask("enclaves")[0]) if it.slot == self.slot)
-        self.decode(reader, {part.pcs[n] for n in inside} - self.code.keys())
-        values = iter(self.registers(reader, part, inside))
-        for n in inside:
-            self.add_step(trace, part, n, values)
+        if part.marked is None:
+            self.decode(reader, set(pcs) - self.code.keys())
+            codes = [self.code[pc] for pc in pcs]
+            more = {at for at, tail in enumerate(tails) if tail != plain} | starts
+            more.update(at for at, it in enumerate(codes) if it.kind in MOVES or it.moves_sp or it.is_saving)
+            part.marked = [(at, it, at in more, it.is_sp_relative) for at, it in enumerate(codes) if it.probes or at in more]
+        values = iter(self.registers(reader, part, first))
+        trace.steps.extend([first + n for n in inside])
+        trace.pcs += pcs
+        trace.addresses.frombytes(bytes(4 * len(inside)))
+        trace.values.frombytes(bytes(4 * len(inside)))
+        frames = self.contexts.frames
+        addresses = trace.addresses
+        for at, code, is_more, is_sp in part.marked:
+            index, address = begin + at, 0
+            if at in starts and (not trace.visits or trace.visits[-1].last is not None):
+                trace.visits.append(Visit(index))
+            if code.kind is Kind.LOAD:
+                address = addresses[index] = next(values) + code.offset & MASK
+            elif code.probes:
+                address, value = access_of(code, [next(values) for _ in code.probes])
+                addresses[index], trace.values[index] = address, value or 0
+            if is_more or is_sp and frames.get(trace.context) != address - code.offset:
+                trace.contexts.extend([trace.context] * (index + 1 - len(trace.contexts)))
+                self.add_step(trace, part, index, at, values)
+        trace.contexts.extend([trace.context] * (len(trace) - len(trace.contexts)))
 
     def decode(self, reader: Replay, pcs: set[int]) -> None:
         """Decodes instructions that are not yet known."""
         new = sorted(pcs)
         replies = reader.bench.block(b"".join(b"dis %x\n" % it for it in new), len(new)).split(b"\n") if new else []
-        self.code.update((pc, code_of(line)) for pc, line in zip(new, replies))
+        for pc, code in zip(new, map(code_of, replies)):
+            self.code[pc] = code
+            if code.probes:
+                self.questions[pc] = b"".join([b"reg %d\n" % it for it in code.probes])
+            if code.is_plain:
+                self.plain.add(pc)
 
-    def registers(self, reader: Replay, part: Part, inside: Sequence[int]) -> list[int]:
+    def registers(self, reader: Replay, part: Part, first: int) -> Sequence[int]:
         """Reads the registers of each step that needs any, and a0 and a1 after each step that leaves."""
-        text, count = [], 0
-        for n in inside:
-            probes = self.code[part.pcs[n]].probes
-            if probes:
-                lines = advance(reader, part.first + n - 1)
-                text += [lines, *(b"reg %d\n" % it for it in probes)]
-                count += lines.count(b"\n") + len(probes)
-            if not part.after[n]:
-                lines = advance(reader, part.first + n)
-                text += [lines, RESULT]
-                count += lines.count(b"\n") + 2
-        return [int(line[-8:], 16) for line in reader.bench.block(b"".join(text), count).split(b"\n") if line.startswith(b"x")]
+        text = part.text
+        if not text or reader.index < len(reader.run.plan):
+            asked = []
+            for n in part.inside:
+                if part.pcs[n] in self.questions:
+                    asked.append((first + n - 1, self.questions[part.pcs[n]]))
+                if not part.after[n]:
+                    asked.append((first + n, RESULT))
+            if reader.index < len(reader.run.plan):
+                text = b"".join([advance(reader, position) + it for position, it in asked])
+                return values_of(reader.bench.block(text, text.count(b"\n")))
+            at = [reader.position, *(position for position, _ in asked), first + part.inside[-1]]
+            text = part.text = b"".join([step_command(now - before) + it for before, now, (_, it) in zip(at, at[1:], [*asked, (0, b"")])])
+        reader.position = first + part.inside[-1]
+        return values_of(reader.bench.block(text, text.count(b"\n")))
 
-    def add_step(self, trace: Trace, part: Part, n: int, values: Iterator[int]) -> None:
-        """Adds one step of the enclave to a trace."""
-        index, pc = len(trace), part.pcs[n]
+    def add_step(self, trace: Trace, part: Part, index: int, at: int, values: Iterator[int]) -> None:
+        """Adds the trap of a step of the enclave, and where it ends an activation or changes the context."""
+        pc, address, n = part.own[at], trace.addresses[index], part.inside[at]
         code = self.code[pc]
-        if not trace.visits or trace.visits[-1].last is not None:
-            trace.visits.append(Visit(index))
-        trace.steps.append(part.first + n)
-        trace.pcs.append(pc)
-        trace.contexts.append(trace.context)
-        address, value = access_of(code, [next(values) for _ in code.probes]) if code.probes else (0, 0)
-        trace.addresses.append(address)
-        trace.values.append(value or 0)
-        if part.tails[n] != self.own + PLAIN:
-            cause, _, number = part.tails[n].rpartition(b"trap=")[2].partition(b":")
+        if part.tails[at] != self.own + PLAIN:
+            cause, _, number = part.tails[at].rpartition(b"trap=")[2].partition(b":")
             if cause != b"-":
                 trace.traps[index] = int(cause, 16), int(number, 16)
         if not part.after[n]:
             a0, a1 = next(values), next(values)
             trace.visits[-1] = Visit(trace.visits[-1].first, index, ENDED_BY.get(a0, "?"), (a0, a1))
-        following = part.pcs[n + 1] if n + 1 < len(part.pcs) else part.next_pc
-        trace.context = self.contexts.after(trace.context, code, pc, following, trace.traps.get(index) if part.after[n] else None)
+        context, following = trace.context, part.pcs[n + 1] if n + 1 < len(part.pcs) else part.next_pc
+        trace.context = self.contexts.after(context, code, pc, following, trace.traps.get(index) if part.after[n] else None)
         if code.is_sp_relative or code.moves_sp:
-            self.contexts.note_frame(trace.contexts[index], code, address)
+            self.contexts.note_frame(context, code, address)
+
+
+def ways_of(trace: Trace, start: int) -> dict[bytes, list[int]]:
+    """Returns the first occurrences of each pc in the next steps of a trace, by the pcs from there on."""
+    found: dict[bytes, list[int]] = {}
+    counts: Counter[int] = Counter()
+    for at in range(start, min(len(trace), start + FAR)):
+        counts[trace.pcs[at]] += 1
+        if counts[trace.pcs[at]] <= OCCURRENCES:
+            found.setdefault(trace.pcs[at:at + SAME].tobytes(), []).append(at)
+    return found
 
 
 def access_of(code: Code, values: Sequence[int]) -> tuple[int, int | None]:
@@ -350,7 +400,7 @@ def go_to(replay: Replay, position: int) -> None:
         replay.bench.block(lines, lines.count(b"\n"))
 
 
-def single_steps(replay: Replay, count: int) -> list[bytes]:
+def single_steps(replay: Replay, count: int) -> bytes:
     """Does single steps; returns the replies to them."""
     commands: list[str] = []
     done = 0
@@ -359,5 +409,5 @@ def single_steps(replay: Replay, count: int) -> list[bytes]:
         done += 1
     replay.position += count - done
     text = "".join(it + "\n" for it in commands).encode() + b"step 1\n" * (count - done)
-    lines = replay.bench.block(text, len(commands) + count - done).split(b"\n")[:-1]
-    return [it for it in lines if it.startswith(b"ran ")] if commands else lines
+    block = replay.bench.block(text, len(commands) + count - done)
+    return b"".join([it for it in block.splitlines(True) if it.startswith(b"ran ")]) if commands else block

@@ -10,8 +10,8 @@ from rvlook.escapes import visible
 from rvlook.output.files import replace_file
 from rvlook.errors import RvlookError
 from rvlook.finders.outcomes import Bytes, Register
-from rvlook.finders.races.machine import ROW, commands_of
-from rvlook.protocol.replies import step_of
+from rvlook.finders.races.machine import commands_of
+from rvlook.protocol.replies import ROW, memory_commands, register_values, step_of
 from rvlook.protocol.memory_map import RAM_BASE
 
 if TYPE_CHECKING:
@@ -29,9 +29,8 @@ class Replays:
     def __init__(self, machine: Machine) -> None:
         self.machine = machine
         self.rows: list[str] | None = None
-        count = machine.setup.ram // ROW
-        self.question = "".join("mem %x %d\n" % (RAM_BASE + ROW * row, ROW) for row in range(count)).encode()
-        self.count = count
+        commands = memory_commands(RAM_BASE, machine.setup.ram)
+        self.question, self.count = "\n".join([*commands, ""]).encode(), len(commands)
 
     def ram(self, bench: Bench) -> list[str]:
         """Reads all rows of RAM."""
@@ -57,7 +56,7 @@ class Replays:
                 reached[chosen] = ran.mode, ran.world
         for hart in range(machine.count):
             replies = bench.ask(*machine.choose(hart), "regs", *machine.rest)[1:]
-            registers = tuple(int(it.split("=")[1], 16) for it in replies[0])
+            registers = tuple(register_values(replies[0]))
             own, (_, pc, kept) = machine.own(state, hart), machine.harts[state.harts[hart]]
             rest = tuple(it.encode() for reply in replies[1:] for it in reply)
             self.expect(end, (registers, rest), ((*kept, pc), own.csrs))
@@ -83,7 +82,7 @@ class Replays:
 def questions_of(outcome: Observed, count: int) -> list[str]:
     """Returns the commands that show an outcome."""
     if isinstance(outcome, Bytes):
-        return ["mem %x %d" % (outcome.at + n, min(ROW, outcome.count - n)) for n in range(0, outcome.count, ROW)]
+        return memory_commands(outcome.at, outcome.count)
     if isinstance(outcome, Register):
         return (["hart %d" % outcome.hart] if count > 1 else []) + ["reg %d" % outcome.number]
     return ["enclaves"]

@@ -1,0 +1,220 @@
+"""Reads what the steps of a run executed: the instruction at pc before each step, and the registers that it needs.
+
+The instructions of a stretch are decoded once, before it. This is right up to the first write to one of them. Only stores and the calls destroy and
+measure of the monitor write memory (`rv_monitor/specs/Changes`). Therefore the base of each store is read, and the instructions are listed again
+after each call that may be one of the two. If a step executes an instruction after such a write, each is decoded right before its step."""
+from __future__ import annotations
+
+import re
+import sys
+from array import array
+from bisect import bisect
+from dataclasses import dataclass
+from functools import lru_cache
+from itertools import accumulate, chain, compress
+from operator import sub
+from typing import Callable, Dict, Generic, Mapping, Optional, Sequence, TYPE_CHECKING, Tuple, TypeVar
+
+from rvlook.protocol.instructions import Memory, instruction_of
+from rvlook.protocol.names import ECALL_FROM_S
+from rvlook.protocol.replies import NO_TRAP
+
+if TYPE_CHECKING:
+    from rvlook.protocol.run import Replay, Run
+    from rvlook.protocol.stretch import Stretch
+
+Item = TypeVar("Item")
+Need = Tuple[Item, Tuple[int, ...], bool]  # of an instruction: what its reader makes of it, registers, and whether they are read after the step
+VALUE = re.compile(rb"x\d+=(.{8})")
+CALL = ECALL_FROM_S.encode()
+
+
+@lru_cache(maxsize=None)
+def step_command(count: int) -> bytes:
+    """Returns the command that does a number of steps; nothing for 0."""
+    return b"step %d\n" % count if count else b""
+
+
+@dataclass(frozen=True)
+class Probe(Generic[Item]):
+    """The questions about an instruction, after `is_after` steps, and the number of their registers. The first one is the base of its store, if it is
+    one. `skipped` registers are read only for that. `item` is what the reader makes of the instruction, None if it needs nothing."""
+    questions: bytes
+    count: int
+    is_after: bool
+    store: Optional[Memory]
+    skipped: int
+    item: Optional[Item]
+
+
+def probe_of(line: bytes, need: Need[Item] | None, has_store: bool) -> Probe[Item] | None:
+    """Returns the questions about the instruction in a reply of `dis`: its need, and the base of its store; None if there are none."""
+    code = instruction_of(line) if has_store else None
+    store = code.memory if code and code.memory and code.memory.kind == "w" else None
+    item, registers, is_after = need or (None, (), False)
+    skipped = int(store is not None and registers[:1] != (store.base,))
+    asked = (*[store.base for _ in range(skipped) if store], *registers)
+    text = b"".join([b"reg %d\n" % it for it in asked])
+    return Probe(text, len(asked), is_after, store, skipped, item) if need or store else None
+
+
+@dataclass(frozen=True)
+class Reads(Generic[Item]):
+    """The steps of a stretch: the reply of `dis` before each one; and of those that need something, by index, the items, and the place of their
+    registers in `values`."""
+    lines: Sequence[bytes]
+    indices: Sequence[int]
+    items: Sequence[Item]
+    starts: Sequence[int]
+    values: Sequence[int]
+
+
+@dataclass(frozen=True)
+class Asked(Generic[Item]):
+    """The probes of a stretch, with the index of the step and the number of registers before each one, and the commands for all of them. `calls` are
+    the indices of the steps after which the instructions are listed again."""
+    lines: Sequence[bytes]
+    indices: Sequence[int]
+    probes: Sequence[Probe[Item]]
+    starts: Sequence[int]
+    calls: Sequence[int]
+    text: bytes
+
+
+class Reader(Generic[Item]):
+    """A bench that follows a run, stretch after stretch. `needs` returns what is needed of the instruction in a reply of `dis`, or None."""
+
+    def __init__(self, run: Run, needs: Callable[[bytes], Optional[Need[Item]]]) -> None:
+        self.run, self.replay, self.needs = run, run.replay(), needs
+        self.probes: Dict[Tuple[bytes, bool], Optional[Probe[Item]]] = {}
+
+    def __enter__(self) -> Reader[Item]:
+        return self
+
+    def __exit__(self, *_: object) -> None:
+        self.replay.bench.close()
+
+    def read(self, stretch: Stretch) -> Reads[Item]:
+        """Reads the steps of a stretch. The stretches come in the order of the run, but some may be left out."""
+        if stretch.lines:
+            return self.registers(self.replay, stretch)
+        executed = list(dict.fromkeys(stretch.columns.pcs))
+        listing = b"".join([b"dis %s\n" % pc for pc in executed])
+        begin(self.replay, stretch)
+        code = dict(zip(executed, self.replay.bench.block(listing, len(executed)).splitlines()))
+        asked = self.asked(stretch, [code[pc] for pc in stretch.columns.pcs], listing)
+        block = self.replay.bench.block(asked.text, asked.text.count(b"\n"))
+        values = values_of(block)
+        if is_changed(asked, values, stretch, changed_after(asked, block, code)):
+            stretch.lines = lines_of(self.run, stretch)
+            with self.run.replay() as replay:
+                return self.registers(replay, stretch)
+        stretch.lines = asked.lines
+        return reads_of(asked, values)
+
+    def registers(self, replay: Replay, stretch: Stretch) -> Reads[Item]:
+        """Reads the registers of the steps of a stretch whose instructions are known."""
+        asked = self.asked(stretch, stretch.lines)
+        if not asked.text:
+            return reads_of(asked, ())
+        begin(replay, stretch)
+        return reads_of(asked, values_of(replay.bench.block(asked.text, asked.text.count(b"\n"))))
+
+    def probe(self, line: bytes, has_store: bool) -> Probe[Item] | None:
+        """Returns the questions about the instruction in a reply of `dis`; None if there are none."""
+        if (line, has_store) not in self.probes:
+            self.probes[line, has_store] = probe_of(line, self.needs(line), has_store)
+        return self.probes[line, has_store]
+
+    def asked(self, stretch: Stretch, lines: Sequence[bytes], listing: bytes = b"") -> Asked[Item]:
+        """Returns what to ask about the steps of a stretch. `listing` lists its instructions, if a write could change them."""
+        found = {it: self.probe(it, bool(listing)) for it in set(lines)}
+        every = [found[it] for it in lines]
+        indices, probes = [n for n, it in enumerate(every) if it], [it for it in every if it]
+        starts = list(accumulate([it.count for it in probes], initial=0))
+        if not starts[-1] and not listing:
+            return Asked(lines, indices, probes, starts, (), b"")
+        positions, texts = [n + it.is_after for n, it in zip(indices, probes)], [it.questions for it in probes]
+        calls = calls_in(stretch) if self.run.setup.monitor and listing else []
+        for n in calls:
+            at = bisect(positions, n + 1)
+            positions.insert(at, n + 1)
+            texts.insert(at, listing)
+        steps = map(step_command, map(sub, [*positions, stretch.count], [0, *positions]))
+        return Asked(lines, indices, probes, starts, calls, b"".join(chain.from_iterable(zip(steps, [*texts, b""]))))
+
+
+def calls_in(stretch: Stretch) -> list[int]:
+    """Returns the indices of the steps that called the monitor and stayed in their world: destroy and measure do, and create."""
+    columns = stretch.columns
+    if CALL not in stretch.data:
+        return []
+    return [n for n, trap in enumerate(columns.traps) if trap.startswith(CALL) and columns.worlds[n] == columns.after[n]]
+
+
+def reads_of(asked: Asked[Item], values: Sequence[int]) -> Reads[Item]:
+    """Returns the values that the reader needs, by the steps."""
+    probes, starts = asked.probes, asked.starts
+    items = [it.item for it in probes if it.item is not None]
+    if len(items) < len(probes):
+        is_needed = [it.item is not None for it in probes]
+        return Reads(asked.lines, list(compress(asked.indices, is_needed)), items,
+                     [at + it.skipped for it, at in compress(zip(probes, starts), is_needed)], values)
+    return Reads(asked.lines, asked.indices, items, [at + it.skipped for it, at in zip(probes, starts)], values)
+
+
+def values_of(block: bytes) -> Sequence[int]:
+    """Returns the values of all registers in replies."""
+    values = array("I", bytes.fromhex(b"".join(VALUE.findall(block)).decode()))
+    if sys.byteorder == "little":
+        values.byteswap()
+    return values
+
+
+def is_changed(asked: Asked[Item], values: Sequence[int], stretch: Stretch, changed: Mapping[bytes, int]) -> bool:
+    """Returns whether a step executes an instruction after a write to it. `changed` has the pcs of those that the monitor wrote, each with the index
+    of the step of the first call that did."""
+    pcs, traps = stretch.columns.pcs, stretch.columns.traps
+    is_store = [it.store is not None and traps[n] == NO_TRAP for n, it in zip(asked.indices, asked.probes)]
+    indices = list(compress(asked.indices, is_store))
+    bases = [values[at] for at in compress(asked.starts, is_store)]
+    memories = {line: probe.store for line, probe in zip(map(asked.lines.__getitem__, indices), compress(asked.probes, is_store))}
+    several = set(zip(map(asked.lines.__getitem__, indices), bases))
+    stored = {address & -4 for line, base in several for address in bytes_at(base, memories[line])}
+    if not changed and stored.isdisjoint([int(pc, 16) for pc in set(pcs)]):
+        return False
+    written = {int(pc, 16): at for pc, at in changed.items()}
+    for n, base in zip(indices, bases):
+        for address in bytes_at(base, memories[asked.lines[n]]):
+            written[address & -4] = min(n, written.get(address & -4, n))
+    return any(written.get(int(pc, 16), n) < n for n, pc in enumerate(pcs))
+
+
+def bytes_at(base: int, memory: Memory | None) -> tuple[int, int]:
+    """Returns the addresses of the first and the last byte of an access."""
+    assert memory
+    first = base + memory.offset
+    return first & 0xFFFFFFFF, first + memory.width - 1 & 0xFFFFFFFF
+
+
+def lines_of(run: Run, stretch: Stretch) -> list[bytes]:
+    """Returns the reply of `dis` right before each step of a stretch."""
+    with run.replay() as decoder:
+        begin(decoder, stretch)
+        text = b"".join([b"dis %s\nstep 1\n" % pc for pc in stretch.columns.pcs])
+        return decoder.bench.block(text, 2 * stretch.count).split(b"\n")[:-1:2]
+
+
+def changed_after(asked: Asked[Item], block: bytes, code: Mapping[bytes, bytes]) -> dict[bytes, int]:
+    """Returns the pcs of the instructions that are others after a call, each with the index of the step of the first such call."""
+    lines = (it for it in block.splitlines() if not it.startswith((b"x", b"ran "))) if asked.calls else iter(())
+    found: dict[bytes, int] = {}
+    for call in asked.calls:
+        found.update((pc, found.get(pc, call)) for (pc, was), now in zip(code.items(), lines) if now != was)
+    return found
+
+
+def begin(replay: Replay, stretch: Stretch) -> None:
+    """Brings a replay to the step before a stretch, and marks the steps of the stretch as done."""
+    replay.bench.ask(*(replay.lines_to(stretch.first - 1) + replay.lines_up_to_next() or ["reg 0"]))
+    replay.lines_to(stretch.first - 1 + stretch.count)
