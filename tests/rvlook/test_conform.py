@@ -54,10 +54,16 @@ def observed(**changes):
     return dataclasses.replace(whole, **changes)
 
 
+def setup_like(is_exact=False):
+    """The configuration of a comparison of two observations."""
+    from rvlook.monitors.sides import MonitorSetup
+    return MonitorSetup(None, RAM, (), (), exact=is_exact)
+
+
 def names_of(own, is_exact=False):
     """The kinds and names of the differences from the observation without changes."""
     from rvlook.monitors.comparison import differences
-    return [(it.kind.name, it.name) for it in differences(own, observed(), RAM, is_exact)]
+    return [(it.kind.name, it.name) for it in differences(own, observed(), setup_like(is_exact))]
 
 
 @pytest.mark.parametrize("number", range(1, 32))
@@ -99,7 +105,7 @@ def test_entries_that_differ_are_named_only_under_exact():
 def test_access_rights_that_differ_are_named():
     from rvlook.monitors.comparison import differences
     own = observed(entries=observed().entries.replace(b"pmp 2 cfg=00 addr=00000000", b"pmp 2 cfg=18 addr=200051ff"))
-    (it,) = differences(own, observed(), RAM, False)
+    (it,) = differences(own, observed(), setup_like())
     assert (it.kind.name, it.own) == ("rights", "80000000-80013fff rwx, 80014000-80014fff ---, 80015000-8002ffff rwx")
     assert it.reference == "80000000-8002ffff rwx"
 

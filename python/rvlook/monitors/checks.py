@@ -7,9 +7,9 @@ from dataclasses import dataclass
 from rvlook.monitors.guarded import SUPERVISOR, Return, State
 from rvlook.monitors.ownership import HOST, MONITOR, Ownership, OwnedRange
 from rvlook.monitors.rights import Right
-from rvlook.monitors.sides import ROW
 from rvlook.protocol.memory_map import MONITOR_END
 from rvlook.protocol.names import ECALL_FROM_S, TIMER, abi_name
+from rvlook.protocol.replies import ROW
 
 SIE, SPIE, SPP, MXR = 2, 0x20, 0x100, 0x80000
 MARKED_CSRS = ("sscratch", "sepc", "scause", "stval")

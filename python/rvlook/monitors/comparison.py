@@ -5,8 +5,9 @@ from dataclasses import dataclass
 from enum import Enum
 from typing import Iterator
 
-from rvlook.monitors.rights import Right, rights_of, shape
-from rvlook.monitors.sides import BELOW, DECIDING, EXACT, REGISTERS, Observation
+from rvlook.monitors.rights import Right, closed_outside, rights_of, shape
+from rvlook.monitors.sides import BELOW, DECIDING, EXACT, REGISTERS, MonitorSetup, Observation
+from rvlook.protocol.memory_map import RAM_BASE
 from rvlook.protocol.replies import bytes_of
 
 SHOWN_BYTES = 8
@@ -37,8 +38,9 @@ class Difference:
     place: int | None = None
 
 
-def differences(own: Observation, reference: Observation, ram: int, is_exact: bool) -> list[Difference]:
+def differences(own: Observation, reference: Observation, setup: MonitorSetup) -> list[Difference]:
     """Returns all differences but those of memory. After a fault in M it is the only one."""
+    is_exact = setup.exact
     if own.fault:
         return [Difference(Kind.fault, own.fault, "pc %08x" % own.pc, "pc %08x" % reference.pc, own.pc)]
     found = []
@@ -48,7 +50,7 @@ def differences(own: Observation, reference: Observation, ram: int, is_exact: bo
         found.append(Difference(Kind.mode, "mode", own.mode, reference.mode))
     found += below_differences(own.below, reference.below)
     found += above_differences(own.above, reference.above, is_exact)
-    found += entry_differences(own.entries, reference.entries) if is_exact else rights_differences(own, reference, ram)
+    found += entry_differences(own.entries, reference.entries) if is_exact else rights_differences(own, reference, setup)
     return found
 
 
@@ -85,11 +87,13 @@ def entry_differences(own: bytes, reference: bytes) -> list[Difference]:
             for index, (one, other) in pairs if one != other]
 
 
-def rights_differences(own: Observation, reference: Observation, ram: int) -> list[Difference]:
+def rights_differences(own: Observation, reference: Observation, setup: MonitorSetup) -> list[Difference]:
     """Returns the difference of what S and U can access, or nothing."""
     if own.entries == reference.entries:
         return []
-    mine, others = rights_of(own.entries, ram), rights_of(reference.entries, ram)
+    mine, others = rights_of(own.entries, setup.ram), rights_of(reference.entries, setup.ram)
+    if setup.memory:  # the reference closes only the memory below 80010000
+        others = closed_outside(others, setup.placement.first, setup.placement.end, RAM_BASE + setup.ram)
     if shape(mine) == shape(others):
         return []
     only, missing = [it for it in mine if shape((it,))[0] not in shape(others)], [it for it in others if shape((it,))[0] not in shape(mine)]

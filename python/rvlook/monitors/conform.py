@@ -3,7 +3,7 @@ from __future__ import annotations
 
 import os
 import time
-from dataclasses import dataclass, field
+from dataclasses import dataclass, field, replace
 from typing import Iterator, Sequence
 
 from rvlook.monitors.coverage import Coverage
@@ -11,9 +11,10 @@ from rvlook.monitors.directed import directed_scripts
 from rvlook.monitors.directed_large import corner_scripts, large_scripts, long_scripts
 from rvlook.monitors.directed_refusals import refusal_scripts
 from rvlook.monitors.items import Item
-from rvlook.monitors.jobs import results_of
+from rvlook.protocol.jobs import results_of
 from rvlook.monitors.pair import Pair, Played, play
-from rvlook.monitors.random_scripts import RandomScript
+from rvlook.monitors.placement import Placement
+from rvlook.monitors.random_scripts import RandomScript, State
 from rvlook.monitors.sides import MonitorSetup
 from rvlook.output.progress import Progress
 
@@ -62,14 +63,16 @@ class Outcome:
     is_interrupted: bool = False
 
 
-def tasks_of(plan: Plan, ram: int) -> list[Task]:
-    """Returns the scripts of a plan in their order, for a RAM of this many bytes."""
+def tasks_of(plan: Plan, ram: int, placement: Placement | None = None) -> list[Task]:
+    """Returns the scripts of a plan in their order, for a RAM of this many bytes. `placement` moves them."""
     table = [Task(name, tuple(items)) for scripts in (directed_scripts, refusal_scripts) for name, items in scripts(ram)]
     table += [Task(name, tuple(items)) for name, items in corner_scripts()]
     large = DEEP_RAM if plan.is_deep and not plan.has_ram else ram
     table += [Task(name, tuple(items), ram=large if large != ram else 0, is_long=True) for name, items in large_scripts(large)]
     table += [Task(name, tuple(items), is_long=True) for name, items in long_scripts()] if plan.is_deep else []
     drawn = [Task("random script %s-%d" % (plan.seed, n), (), "%s-%d" % (plan.seed, n), plan.count) for n in range(plan.tries)]
+    if placement:
+        table = [replace(it, items=tuple(map(placement.item, it.items))) for it in table]
     return [it for it in table + drawn if plan.only in it.name]
 
 
@@ -80,11 +83,13 @@ def perform(setup: MonitorSetup, task: Task) -> Played:
 
 def play_random(setup: MonitorSetup, task: Task) -> Played:
     """Runs a random script, which is made while it runs."""
-    source = RandomScript(task.seed, setup.ram)
+    placement = setup.placement
+    source = RandomScript(task.seed, placement.ram)
     with Pair(setup, task.name) as pair:
         while pair.is_alike and len(pair.played.steps) < task.count:
-            for item in source.items(pair):
-                if not pair.do(item):
+            table = [placement.enclave_before(it) for it in pair.table]
+            for item in source.items(State(pair.world, pair.mode, placement.address_before(pair.pc), table)):
+                if not pair.do(placement.item(item)):
                     break
         pair.end()
     return pair.played
@@ -92,7 +97,7 @@ def play_random(setup: MonitorSetup, task: Task) -> Played:
 
 def compare(setup: MonitorSetup, plan: Plan) -> Outcome:
     """Runs the scripts of a plan up to the first difference, the time limit or Ctrl-C."""
-    tasks, outcome, began = tasks_of(plan, setup.ram), Outcome(), time.monotonic()
+    tasks, outcome, began = tasks_of(plan, setup.placement.ram, setup.memory), Outcome(), time.monotonic()
     outcome.left = len(tasks)
     try:
         with Progress() as progress:

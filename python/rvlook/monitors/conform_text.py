@@ -6,13 +6,14 @@ from dataclasses import dataclass
 from itertools import groupby
 from typing import Callable, NamedTuple, Optional, Sequence, TYPE_CHECKING
 
-from rvlook.errors import RvlookError, Unfinished, UsageError
+from rvlook.errors import RvlookError, Unfinished
 from rvlook.image.files import image_of, read_file, script_lines
 from rvlook.image.symbols import symbols_from
 from rvlook.monitors.comparison import Difference, Kind
 from rvlook.monitors.conform import Outcome, Plan, compare
 from rvlook.monitors.divergence import Divergence, divergence_of
 from rvlook.monitors.joined import both, joined
+from rvlook.monitors.placement import placement_of
 from rvlook.monitors.shrink import Shrinker, Shrunk
 from rvlook.monitors.sides import MonitorSetup, return_addresses, size_line
 from rvlook.monitors.writers import Writer, writers_of
@@ -43,7 +44,8 @@ class ConformOutput(NamedTuple):
 @dataclass(frozen=True)
 class MonitorFiles:
     """An author's monitor: its image, a second file with the host, the file of symbols, the bytes of RAM, and the script lines of the boot.
-    `lowered` has the symbols at whose stores the timer line is lowered. `exact` compares PMP entries as stored."""
+    `lowered` has the symbols at whose stores the timer line is lowered. `exact` compares PMP entries as stored. `memory` is that of host and
+    enclaves, FIRST-LAST; without it the RAM from 80010000 on."""
     image: str
     host: Optional[str] = None
     symbols: Optional[str] = None
@@ -51,6 +53,7 @@ class MonitorFiles:
     boot: Optional[str] = None
     lowered: Sequence[str] = ()
     exact: bool = False
+    memory: Optional[str] = None
 
     def setup(self) -> tuple[MonitorSetup, Symbols]:
         """Reads the files; returns the monitor and its symbols. Raises RvlookError."""
@@ -59,12 +62,13 @@ class MonitorFiles:
         if self.host:
             image, symbols_of_host = joined(image, self.host)
             symbols = both(symbols, symbols_of_host)
-        boot: tuple[str, ...] = ("setreg 10 %x" % MONITOR_END, size_line(self.ram))
+        placement = placement_of(self.memory, self.ram, LEAST_RAM) if self.memory else None
+        boot: tuple[str, ...] = ("setreg 10 %x" % (placement.host if placement else MONITOR_END), size_line(self.ram))
         if self.boot:
             lines = resolved_script(script_lines(read_file(self.boot), self.boot), symbols)
             boot = tuple(it.text for it in lines if not it.text.lstrip().startswith("#"))
         lowered = tuple(address_of(it, symbols) for it in self.lowered)
-        return MonitorSetup(image, self.ram, boot, return_addresses(image), lowered, self.exact), symbols
+        return MonitorSetup(image, self.ram, boot, return_addresses(image), lowered, self.exact, placement), symbols
 
 
 def address_of(name: str, symbols: Symbols) -> int:
@@ -93,8 +97,7 @@ class Conformance:
 
 def find_conform(files: MonitorFiles, plan: Plan, heard: Callable[[Outcome], None] = lambda it: None) -> Conformance:
     """Compares the monitors, and shrinks the script of the first difference. Calls `heard` before it shrinks. Raises RvlookError."""
-    if files.ram < LEAST_RAM:
-        raise UsageError("--ram %d is less than %d" % (files.ram, LEAST_RAM))
+    placement_of(files.memory, files.ram, LEAST_RAM)
     setup, symbols = files.setup()
     outcome = compare(setup, plan)
     if not outcome.coverage.scripts and not outcome.is_interrupted:
@@ -279,4 +282,4 @@ def write_scripts(folder: str, setup: MonitorSetup, shrunk: Shrunk, printer: Pri
     if not printer.as_json:
         printer.line("scripts of both sides; map and gdb take the same arguments as trace:")
         printer.line("  rvlook trace --ram %d --steps 0 --no-monitor --script %s %s" % (setup.ram, own, setup.image.name))
-        printer.line("  rvlook trace --ram %d --steps 0 --monitor %s" % (setup.ram, reference))
+        printer.line("  rvlook trace --ram %d --steps 0 --monitor %s" % (setup.reference.ram, reference))

@@ -24,6 +24,8 @@ def large_scripts(ram: int) -> Iterator[tuple[str, list[Item]]]:
         if HOST + HOST_SIZE + size + 2 * PAGE <= end:
             yield "block: %x bytes apart" % size, blocks_apart(size)
         size *= 2
+    sizes = [1 << n for n in range(ram.bit_length(), 32)]
+    yield "block: larger than the RAM", [*host(), *(it for at in sizes for it in (create(RAM_BASE, at), create(FIRST, PAGE, RAM_BASE, at)))]
 
 
 def accesses(base: int, size: int) -> list[Item]:
@@ -49,6 +51,12 @@ def region_scripts(base: int, size: int, end: int) -> Iterator[tuple[str, list[I
         *host(), poke(base + size - 1, b"\x01"), create(base, size), measure(WINDOW), destroy(0)]
     yield "block: regions of %x bytes at other bases" % size, [
         *host(), *(it for at in misaligned(base, size, end) for it in (create(at, size), run(0), stop(0), destroy(0)))]
+    odd, far = [it for it in (size + PAGE, size * 3 // 2, size - PAGE, size + 4) if it > PAGE], -(-base // (2 * size)) * 2 * size
+    yield "block: regions of %x bytes that are no power of two" % size, [
+        *host(), *(it for at in odd for it in (create(far, at), create(FIRST, PAGE, far, at), run(0), stop(0), destroy(0)))]
+    over = [at for at in (base, base + size // 2, base + size - PAGE) if size > PAGE]
+    yield "block: a region of %x bytes over a small one" % size, [
+        *host(), *(it for at in over for it in (create(at, PAGE), create(base, size), create(FIRST, PAGE, base, size), destroy(0)))]
     beside = [at for at in (base, base + PAGE, base + size // 2, base + size - PAGE, base - PAGE, base + size) if at + PAGE <= end]
     yield "block: beside a region of %x bytes" % size, [
         *host(), create(base, size), *(it for at in beside for it in (create(at, PAGE), run(1), stop(0), destroy(1))),

@@ -13,6 +13,7 @@ from rvlook.monitors.rights import Right, rights_of
 from rvlook.monitors.sides import MonitorSetup, word_at
 from rvlook.monitors.traps import NewVector
 from rvlook.protocol.names import CSRS, ECALL_FROM_S, TIMER
+from rvlook.protocol.replies import value_of
 
 MOST_INTERVAL = 24  # steps of an enclave before the timer is raised
 FILL = 0x40000001  # bits that every mark has, so that it is not a small number
@@ -116,7 +117,7 @@ class Guard:
             self.loop = entry.pc
             return
         self.calls += cause == ECALL_FROM_S and self.world == HOST
-        tval = int(machine.do("csr %x" % CSRS["mtval"])[0].split(b"=")[1], 16)
+        tval = value_of(machine.do("csr %x" % CSRS["mtval"])[0])
         left = self.marks(entry, cause)
         before, rights = machine.memory(), rights_of(entry.entries, self.setup.ram)
         machine.set_state(left.registers, left.csrs)

@@ -6,7 +6,7 @@ from dataclasses import dataclass, field
 from typing import Callable, TYPE_CHECKING
 
 from rvlook.monitors.guard import Activity, Guard, Violation
-from rvlook.monitors.jobs import results_of
+from rvlook.protocol.jobs import results_of
 from rvlook.monitors.twins import Compared, Pair, secrets_of
 from rvlook.monitors.unexecuted import Block, Code, code_of, unexecuted
 

@@ -8,11 +8,11 @@ from typing import Callable, Iterable, Sequence, TYPE_CHECKING
 
 from rvlook.errors import BenchEnded, RvlookError, Unfinished
 from rvlook.monitors.encodings import BACK, csrw, is_store
-from rvlook.monitors.sides import ENTRIES, MOST_RETURNS, MOST_STEPS, REGISTERS, ROW, MonitorSetup, memory_lines, poke_lines, word_at
+from rvlook.monitors.sides import ENTRIES, MOST_RETURNS, MOST_STEPS, REGISTERS, MonitorSetup, memory_lines, poke_lines, word_at
 from rvlook.monitors.traps import NewVector, TrapLoop, TrapsInM, vector_of_first_trap
 from rvlook.protocol.memory_map import MONITOR_END, RAM_BASE
 from rvlook.protocol.names import CSRS, TIMER
-from rvlook.protocol.replies import Ran, step_of
+from rvlook.protocol.replies import ROW, Ran, register_values, step_of, value_of
 from rvlook.protocol.run import error_of
 
 if TYPE_CHECKING:
@@ -109,7 +109,7 @@ class Guarded:
     def state(self) -> State:
         """Returns the state in M now."""
         replies = self.bench.block(STATE, STATE_LINES).splitlines()
-        values = [int(line.split(b"=")[1], 16) for line in replies[:-ENTRIES]]
+        values = register_values(replies[:-ENTRIES])
         csrs = dict(zip(STATE_CSRS, values[REGISTERS:]))
         csrs["sstatus"] &= SWITCHED
         return State(tuple(values[:32]), csrs, csrs["mepc"], MODES[csrs["mstatus"] >> MPP_SHIFT & 3], b"\n".join(replies[-ENTRIES:]),
@@ -169,7 +169,7 @@ class Guarded:
 
     def mtvec(self) -> int:
         """Returns the value of mtvec."""
-        return int(self.do("csr %x" % CSRS["mtvec"])[0].split(b"=")[1], 16)
+        return value_of(self.do("csr %x" % CSRS["mtvec"])[0])
 
     def stop_at(self, vectors: Iterable[int]) -> None:
         """Stops the bench at addresses to which traps go. Raises Unfinished if there are too many."""

@@ -6,7 +6,7 @@ import random
 from dataclasses import dataclass
 
 from rvlook.monitors.encodings import ECALL, NOP, SRET, csrr, csrw, jump, load, store
-from rvlook.protocol.names import CSR_NAMES, CSRS, KEY, NUMBERED
+from rvlook.protocol.names import CSRS, KEY, NUMBERED
 
 MASK = 0xFFFFFFFF
 SSTATUS_VALUES = (0x100, 0x20, 2, 0x80000, 0, 0x122, 0x80122)  # of SIE, SPIE, SPP and MXR
@@ -147,8 +147,3 @@ def timer(is_on: bool) -> Item:
     """Returns an item that raises or lowers the timer line without a step."""
     state = "on" if is_on else "off"
     return Item("timer " + state, line=state, steps=0)
-
-
-def csr_name(number: int) -> str:
-    """Returns the name of a control and status register."""
-    return CSR_NAMES.get(number, "csr %03x" % number)

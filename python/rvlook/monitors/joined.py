@@ -2,26 +2,21 @@
 from __future__ import annotations
 
 import struct
-from typing import Tuple
 
 from rvlook.errors import RvlookError
 from rvlook.image.files import digits_of, image_of
 from rvlook.image.symbols import symbols_of
-from rvlook.protocol.inputs import AT_SEGMENTS, AT_SIZES, HEADER, LOAD, SEGMENT, Image
+from rvlook.protocol.inputs import AT_SEGMENTS, AT_SIZES, HEADER, SEGMENT, Image, Segment
 from rvlook.protocol.symbols import Symbols
 
-Segment = Tuple[int, ...]  # the fields of a program header (ELF, Program Header)
 AT_SECTIONS, AT_SECTION_SIZES = 32, 46  # in the header
 
 
 def segments_of(image: Image) -> list[Segment]:
     """Returns the program headers of the segments that are loaded. Raises RvlookError if the file is not a 32-bit ELF file."""
-    data = image.data or b""
     if not image.is_elf_32:
         raise RvlookError("'%s' is not a 32-bit ELF file" % image.name)
-    offset, (size, count) = struct.unpack_from("<I", data, AT_SEGMENTS)[0], struct.unpack_from("<HH", data, AT_SIZES)
-    found = [SEGMENT.unpack_from(data, offset + n * size) for n in range(count) if offset + n * size + SEGMENT.size <= len(data)]
-    return [it for it in found if it[0] == LOAD and it[5]]
+    return list(image.segments())
 
 
 def joined(monitor: Image, path: str) -> tuple[Image, Symbols]:
@@ -29,7 +24,7 @@ def joined(monitor: Image, path: str) -> tuple[Image, Symbols]:
     RvlookError."""
     host = image_of(path)
     parts = [(it, monitor) for it in segments_of(monitor)] + [(it, host) for it in segments_of(host)]
-    refuse_overlap([(it[3], it[3] + it[5], image.name) for it, image in parts])
+    refuse_overlap([(it.address, it.address + it.in_memory, image.name) for it, image in parts])
     table, body, start = b"", b"", HEADER + SEGMENT.size * len(parts)
     for (kind, offset, virtual, address, in_file, in_memory, flags, _), image in parts:
         table += SEGMENT.pack(kind, start + len(body), virtual, address, in_file, in_memory, flags, 1)

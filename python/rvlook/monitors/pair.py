@@ -98,7 +98,7 @@ class Pair:
         self.has_trapped = self.has_trapped or reference.trap != "-"
         if not self.has_trapped:  # the values of mepc, mcause and mtval after reset are not specified
             own = replace(own, above=own.above[:len(DECIDING)] + reference.above[len(DECIDING):])
-        self.played.differences = differences(own, reference, self.setup.ram, self.setup.exact)
+        self.played.differences = differences(own, reference, self.setup)
         if has_trap and not own.fault and self.compares_memory:
             self.compare_memory()
 

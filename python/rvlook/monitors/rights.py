@@ -5,6 +5,7 @@ from dataclasses import dataclass
 from functools import lru_cache
 
 from rvlook.access.ranges import NOTHING, boundaries, entry_range
+from rvlook.protocol.memory_map import RAM_BASE
 from rvlook.protocol.replies import entry_of
 
 BITS = (("r", 1), ("w", 2), ("x", 4))
@@ -38,6 +39,18 @@ def rights_of(lines: bytes, ram: int) -> tuple[Right, ...]:
             found[-1] = Right(found[-1].first, end, may, index)
         else:
             found.append(Right(first, end, may, index))
+    return tuple(found)
+
+
+def closed_outside(rights: tuple[Right, ...], first: int, end: int, last: int) -> tuple[Right, ...]:
+    """Returns rights without those outside of a range; `last` is the end of the RAM."""
+    inside = [Right(max(it.first, first), min(it.end, end), it.may, it.entry) for it in rights if it.first < end and first < it.end]
+    found: list[Right] = []
+    for it in (Right(RAM_BASE, first, NOTHING, None), *inside, Right(end, last, NOTHING, None)):
+        if found and found[-1].may == it.may == NOTHING:
+            found[-1] = Right(found[-1].first, it.end, NOTHING, found[-1].entry)
+        elif it.first < it.end:
+            found.append(it)
     return tuple(found)
 
 

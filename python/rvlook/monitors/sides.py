@@ -9,20 +9,20 @@ from dataclasses import dataclass, replace
 from functools import lru_cache
 
 from rvlook.errors import BenchEnded, RvlookError
-from rvlook.protocol.inputs import LOAD, SEGMENT, Image
-from rvlook.monitors.encodings import MRET, is_store
-from rvlook.monitors.items import MASK, Item
+from rvlook.protocol.inputs import Image
+from rvlook.monitors.encodings import MRET, is_store, jump
+from rvlook.monitors.items import MASK, T0, Item
+from rvlook.monitors.placement import Placement
 from rvlook.protocol.bench import Bench
 from rvlook.protocol.memory_map import MONITOR_END, RAM_BASE
 from rvlook.protocol.names import CSRS, TIMER
-from rvlook.protocol.replies import Enclave, Trap, bytes_of, enclave_of, step_of
+from rvlook.protocol.replies import ROW, Enclave, Trap, bytes_of, enclave_of, memory_commands, register_values, step_of
 from rvlook.protocol.run import Setup, error_of
 
 MOST_RETURNS = 31  # breakpoints for `mret` instructions; the bench has 32
 MOST_STEPS = 60000000  # in M, in one trap, with a small RAM
 MOST_PER_BYTE = 100  # more of them for each byte of RAM: a measurement and its checks
 STAY = "run 1000000"  # to the next `mret`
-ROW = 64  # bytes of one `mem`
 REGISTERS = 33  # lines of `regs`
 ENTRIES = 16  # lines of `pmp`
 BELOW = ("sstatus", "sie", "stvec", "scounteren", "sscratch", "sepc", "scause", "stval", "sip", "satp")
@@ -42,18 +42,25 @@ def size_line(ram: int) -> str:
 @dataclass(frozen=True)
 class MonitorSetup:
     """The author's monitor and how it is run: `boot` has the lines before the first step, `returns` the addresses of its `mret` instructions. A
-    store to an address of `lowered` clears the timer line. Without such an address it is cleared when the interrupt is taken."""
+    store to an address of `lowered` clears the timer line. Without such an address it is cleared when the interrupt is taken. `memory` is where host
+    and enclaves are; None is all of the RAM from 80010000 on."""
     image: Image
     ram: int
     boot: tuple[str, ...]
     returns: tuple[int, ...]
     lowered: tuple[int, ...] = ()
     exact: bool = False
+    memory: Placement | None = None
 
     def with_ram(self, ram: int) -> MonitorSetup:
         """Returns the configuration with another size of the RAM. The default boot passes the size to the monitor."""
         old, new = size_line(self.ram), size_line(ram)
         return replace(self, ram=ram, boot=tuple(new if it == old else it for it in self.boot))
+
+    @property
+    def placement(self) -> Placement:
+        """Returns where host and enclaves are."""
+        return self.memory or Placement(MONITOR_END, RAM_BASE + self.ram)
 
     @property
     def own(self) -> Setup:
@@ -63,7 +70,7 @@ class MonitorSetup:
     @property
     def reference(self) -> Setup:
         """Returns the configuration of the reference, whose memory is empty."""
-        return Setup(Image("the monitor of rvbench", b"", b""), monitor=True, ram=self.ram)
+        return Setup(Image("the monitor of rvbench", b"", b""), monitor=True, ram=self.placement.end - RAM_BASE)
 
 
 def return_addresses(image: Image) -> tuple[int, ...]:
@@ -71,12 +78,7 @@ def return_addresses(image: Image) -> tuple[int, ...]:
     data = image.data or b""
     if not image.is_elf_32:
         raise RvlookError("'%s' is not a 32-bit ELF file, which a monitor must be" % image.name)
-    offset, count = struct.unpack_from("<I", data, 28)[0], struct.unpack_from("<H", data, 44)[0]
-    found: list[int] = []
-    for number in range(count):
-        if offset + (number + 1) * SEGMENT.size <= len(data):
-            kind, start, _, address, size, *_ = SEGMENT.unpack_from(data, offset + number * SEGMENT.size)
-            found += words_in(data[start:start + size], address, MRET) if kind == LOAD else []
+    found = [at for it in image.segments() for at in words_in(data[it.offset:it.offset + it.in_file], it.address, MRET)]
     if not 0 < len(found) <= MOST_RETURNS:
         raise RvlookError("'%s' has %d mret instructions; a monitor must have 1 to %d" % (image.name, len(found), MOST_RETURNS))
     return tuple(sorted(found))
@@ -108,7 +110,7 @@ class Observation:
     @property
     def registers(self) -> list[int]:
         """Returns the values of x0 to x31."""
-        return [int(line.split(b"=")[1], 16) for line in self.below.splitlines()[:32]]
+        return register_values(self.below.splitlines()[:32])
 
     @property
     def cause(self) -> str:
@@ -131,7 +133,8 @@ class Side:
         self.bench = (setup.own if is_own else setup.reference).bench()
         self.log: list[str] = []
         self.stays: list[Stay] = []
-        self.pc, self.mode = MONITOR_END, "S"
+        self.placement = setup.placement
+        self.pc, self.mode = self.placement.host, "S"
 
     def __enter__(self) -> Side:
         return self
@@ -157,6 +160,8 @@ class Side:
         if self.is_own:
             self.boot()
             return self.stay("-", "bare")
+        if self.placement.offset:  # the reference begins at 80010000, and jumps to the host
+            self.do(["setreg %d %x" % (T0, self.pc), *poke_lines(MONITOR_END, struct.pack("<I", jump(T0))), "step 1", "setreg %d 0" % T0])
         return self.observation("-", "host")
 
     def boot(self) -> None:
@@ -184,7 +189,7 @@ class Side:
         """Returns the lines that prepare an item."""
         lines = [line for address, data in item.data for line in poke_lines(address, data)]
         lines += ["setreg %d %x" % it for it in item.registers if it[0]]
-        if item.word is not None and MONITOR_END <= self.pc and self.pc + 4 <= RAM_BASE + self.setup.ram:
+        if item.word is not None and self.placement.first <= self.pc and self.pc + 4 <= self.placement.end:
             lines += poke_lines(self.pc, struct.pack("<I", item.word))
         return lines + (["timer " + item.line] if item.line else [])
 
@@ -213,15 +218,15 @@ class Side:
     def observation(self, trap: str, world: str, spent: int = 0, fault: str = "") -> Observation:
         """Returns the state now."""
         replies = self.bench.block(STATE, STATE_LINES).splitlines()
-        values = (int(line.split(b"=")[1], 16) for line in replies[CUT:-ENTRIES])
+        values = register_values(replies[CUT:-ENTRIES])
         above = tuple(value & DECIDING.get(name, MASK) for name, value in zip(CSR_LIST[len(BELOW):], values))
         self.pc = int(replies[REGISTERS - 1][3:], 16)
         return Observation(self.pc, self.mode, trap, world, b"\n".join(replies[:CUT]), above, b"\n".join(replies[-ENTRIES:]), spent, fault)
 
     def memory(self) -> bytes:
-        """Returns the replies of `mem` for all bytes after the range of the monitor."""
-        end = RAM_BASE + self.setup.ram
-        return self.bench.block(memory_lines(MONITOR_END, end), (end - MONITOR_END) // ROW)
+        """Returns the replies of `mem` for all bytes of host and enclaves."""
+        first, end = self.placement.first, self.placement.end
+        return self.bench.block(memory_lines(first, end), (end - first) // ROW)
 
     def enclaves(self) -> list[Enclave]:
         """Returns the enclave table of the reference."""
@@ -231,7 +236,7 @@ class Side:
 @lru_cache(maxsize=None)
 def memory_lines(first: int, end: int) -> bytes:
     """Returns the commands that show a range of memory."""
-    return "".join("mem %x %d\n" % (it, ROW) for it in range(first, end, ROW)).encode()
+    return "\n".join([*memory_commands(first, end - first), ""]).encode()
 
 
 def poke_lines(address: int, data: bytes) -> list[str]:

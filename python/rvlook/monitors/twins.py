@@ -135,7 +135,7 @@ def unloaded_pages(setup: MonitorSetup, ownership: Ownership) -> Iterator[OwnedR
     segments = list(setup.image.segments())
     for part in [it for it in ownership.ranges if it.owner == MONITOR]:
         for first in range(-(-part.first // PAGE) * PAGE, min(part.end, RAM_BASE + setup.ram) - PAGE + 1, PAGE):
-            if not any(at < first + PAGE and first < at + size for at, size in segments):
+            if not any(it.address < first + PAGE and first < it.address + it.in_memory for it in segments):
                 yield OwnedRange(first, first + PAGE, MONITOR)
 
 

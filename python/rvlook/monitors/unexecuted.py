@@ -11,7 +11,6 @@ from rvlook.errors import BenchEnded
 from rvlook.monitors.encodings import AUIPC, BRANCH, JAL, JALR, MRET, SRET, branch_offset, jump_offset
 from rvlook.monitors.items import MASK
 from rvlook.monitors.ownership import MONITOR
-from rvlook.protocol.inputs import AT_SEGMENTS, AT_SIZES, LOAD, SEGMENT
 from rvlook.protocol.replies import step_of
 
 if TYPE_CHECKING:
@@ -73,14 +72,11 @@ def code_of(setup: MonitorSetup, ownership: Ownership, symbols: Symbols, vectors
 def segments_of(setup: MonitorSetup, ownership: Ownership) -> Iterator[tuple[int, bytes]]:
     """Yields the address and the bytes of the part of each executable segment that is in a range of the monitor."""
     data = setup.image.data or b""
-    offset, (size, count) = struct.unpack_from("<I", data, AT_SEGMENTS)[0], struct.unpack_from("<HH", data, AT_SIZES)
-    for number in range(count):
-        if offset + number * size + SEGMENT.size <= len(data):
-            kind, start, _, address, length, _, flags, _ = SEGMENT.unpack_from(data, offset + number * size)
-            for part in [it for it in ownership.ranges if it.owner == MONITOR and kind == LOAD and flags & EXECUTABLE]:
-                first, end = max(address, part.first), min(address + length, part.end)
-                if first < end:
-                    yield first, data[start + first - address:start + end - address]
+    for it in (it for it in setup.image.segments() if it.flags & EXECUTABLE):
+        for part in (part for part in ownership.ranges if part.owner == MONITOR):
+            first, end = max(it.address, part.first), min(it.address + it.in_file, part.end)
+            if first < end:
+                yield first, data[it.offset + first - it.address:it.offset + end - it.address]
 
 
 def words_of(first: int, data: bytes) -> Iterator[tuple[int, int]]:

@@ -1,0 +1,80 @@
+"""The memory of host and enclaves in a comparison. The scripts are written for a host at 80010000, and are moved for a monitor that needs
+another place or more memory than that below 80010000."""
+from __future__ import annotations
+
+import re
+from dataclasses import dataclass, replace
+from typing import TYPE_CHECKING
+
+from rvlook.errors import UsageError
+from rvlook.monitors.items import Item
+from rvlook.protocol.memory_map import MONITOR_END, RAM_BASE
+
+if TYPE_CHECKING:
+    from rvlook.protocol.replies import Enclave
+
+STEP = 0x10000  # both ends are multiples of it
+ADDRESS = re.compile(r"\b[0-9a-f]{8}\b")
+RANGE = re.compile(r"([0-9a-f]{1,8})-([0-9a-f]{1,8})\Z", re.I)
+
+
+@dataclass(frozen=True)
+class Placement:
+    """Host and enclaves have the memory from `first` up to, and not with, `end`. Everything else is closed to S and U. If the monitor needs more than
+    the memory below 80010000, addresses of a script move by `offset` bytes."""
+    first: int
+    end: int
+
+    @property
+    def offset(self) -> int:
+        """Returns the bytes by which addresses move."""
+        return self.first - RAM_BASE if self.first != MONITOR_END else 0
+
+    @property
+    def host(self) -> int:
+        """Returns the address of the host's first instruction."""
+        return MONITOR_END + self.offset
+
+    @property
+    def ram(self) -> int:
+        """Returns the size of the RAM for which scripts are written."""
+        return self.end - RAM_BASE - self.offset
+
+    def address(self, value: int) -> int:
+        """Moves an address of a script. Other values stay."""
+        return value + self.offset if MONITOR_END <= value <= RAM_BASE + self.ram else value
+
+    def address_before(self, value: int) -> int:
+        """Returns the address in a script that was moved to this one. Other values stay."""
+        return value - self.offset if self.host <= value <= self.end else value
+
+    def item(self, it: Item) -> Item:
+        """Moves an item."""
+        if not self.offset:
+            return it
+        text = ADDRESS.sub(lambda found: "%08x" % self.address(int(found[0], 16)), it.text)
+        return replace(it, text=text, registers=tuple((n, self.address(value)) for n, value in it.registers),
+                       data=tuple((self.address(at), data) for at, data in it.data))
+
+    def enclave_before(self, it: Enclave) -> Enclave:
+        """Returns an entry of the enclave table as a script has it."""
+        return replace(it, base=self.address_before(it.base), window=self.address_before(it.window), entry=self.address_before(it.entry))
+
+
+def placement_of(text: str | None, ram: int, least: int) -> Placement:
+    """Returns the placement that --memory names; without it all of the RAM from 80010000 on. `least` is the smallest RAM of a script. Raises
+    UsageError."""
+    end = RAM_BASE + ram
+    if text is None:
+        if ram < least:
+            raise UsageError("--ram %d is less than %d" % (ram, least))
+        return Placement(MONITOR_END, end)
+    match = RANGE.match(text)
+    if not match:
+        raise UsageError("invalid --memory '%s' (expected FIRST-LAST, in hexadecimal digits)" % text)
+    found = Placement(int(match[1], 16), int(match[2], 16) + 1)
+    if found.first < MONITOR_END or found.end > end or found.first % STEP or found.end % STEP:
+        raise UsageError("--memory %s must be in the RAM from 80010000 to %08x, and its ends at multiples of 10000" % (text, end - 1))
+    if found.ram < least:
+        raise UsageError("--memory %s is too small; it must have %x bytes or more" % (text, least - (0 if found.offset else MONITOR_END - RAM_BASE)))
+    return found
