@@ -9,6 +9,7 @@ from typing import Any, NoReturn, TYPE_CHECKING
 from rvlook.errors import UsageError
 from rvlook.monitors.ranges_file import GRAMMAR
 from rvlook.protocol.schedule import TURN
+from rvlook.symbolic.options import VerifyOptions
 
 if TYPE_CHECKING:
     from argparse import ArgumentParser
@@ -117,7 +118,7 @@ def findings_options(parser: ArgumentParser) -> None:
 def expect_option(parser: ArgumentParser) -> None:
     """Adds the option that names failures which the author expects."""
     parser.add_argument("--expect", metavar="FAILURE", action="append",
-                        help="expect FAILURE, which is then no finding: the name of a trap or of a status, such as 'store access fault' or "
+                        help="expect FAILURE, which is then no finding. It is the name of a trap or of a status, such as 'store access fault' or "
                              "BadRegion, with @PLACE for one function or address; repeatable")
 
 
@@ -137,7 +138,7 @@ def map_options(parser: ArgumentParser) -> None:
     """Adds the options of `map`."""
     parser.add_argument("--brief", action="store_true", help="show only the changes at each event")
     parser.add_argument("--returns", action="store_true",
-                        help="of a bare image: show the changes at each return from M, and states inside M in which S may access more")
+                        help="show the changes at each return from M of a bare image, and states inside M in which S may access more")
 
 
 def touch_options(parser: ArgumentParser) -> None:
@@ -162,6 +163,7 @@ def leak_options(parser: ArgumentParser) -> None:
     parser.add_argument("--tries", metavar="N", type=positive, help="compare N generated secrets: corner values, single bits and random values")
     parser.add_argument("--seed", metavar="S", type=int, default=0, help="set the seed of the random values (default: 0)")
     part_options(parser, "start at generated secret N", "stop after generated secret N")
+    parser.add_argument("--jobs", metavar="N", type=positive, default=1, help="compare N pairs at the same time (default: 1)")
 
 
 def inputs_options(parser: ArgumentParser) -> None:
@@ -186,7 +188,7 @@ def verify_options(parser: ArgumentParser) -> None:
     """Adds the options of `verify`."""
     parser.add_argument("--at", metavar="PLACE", action="append", default=[],
                         help="set the location of a secret in the region, PLACE[:BYTES]; repeatable")
-    parser.add_argument("--public", metavar="WHAT", action="append",
+    parser.add_argument("--public", metavar="WHAT", action="append", default=[],
                         help="allow WHAT to depend on the secret: PLACE[:BYTES] of the window or of instructions, or answer; with @answer=N only in "
                              "activations that answer N; repeatable")
     parser.add_argument("--must-know", metavar="PLACE", action="append", default=[],
@@ -196,6 +198,8 @@ def verify_options(parser: ArgumentParser) -> None:
     parser.add_argument("--wiped", action="store_true", help="check that nothing in the region or the registers depends on the secret at a stop")
     parser.add_argument("--given", metavar="PLACE", action="append", default=[],
                         help="take bytes of the window from the run itself, PLACE[:BYTES], such as lengths; repeatable")
+    parser.add_argument("--length", metavar="PLACE:N", action="append", default=[],
+                        help="leave out inputs for which a load of the window that begins at PLACE gives more than N; repeatable")
     parser.add_argument("--calm", action="store_true", help="assume that the host changes the window only while the enclave does not run")
     parser.add_argument("--each", dest="merges", action="store_false", help="explore each sequence of activations by itself, not all of them at once")
     parser.add_argument("--activations", metavar="N", type=positive, help="with --each: explore N activations (default: as many as the run has)")
@@ -205,7 +209,7 @@ def verify_options(parser: ArgumentParser) -> None:
     parser.add_argument("--timeout", metavar="MS", type=positive, default=5000, help="give z3 MS milliseconds for a query (default: 5000)")
     parser.add_argument("--replay", metavar="N", type=count, default=10, help="replay every Nth path, 0 for none (default: 10)")
     parser.add_argument("--scripts", metavar="DIR", help="write an rvbench input for each finding to DIR")
-    parser.set_defaults(path_steps=2000000)
+    parser.set_defaults(path_steps=VerifyOptions.path_steps)
 
 
 def public_option(parser: ArgumentParser) -> None:
@@ -262,6 +266,8 @@ def conform_options(parser: ArgumentParser) -> None:
     """Adds the options of `conform`."""
     parser.add_argument("image", metavar="MONITOR", help="an ELF file with a monitor that runs in M")
     monitor_options(parser)
+    parser.add_argument("--memory", metavar="FIRST-LAST",
+                        help="set the memory of host and enclaves; all other memory is closed to them (default: from 80010000 to the end of the RAM)")
     parser.add_argument("--tries", metavar="N", type=count, default=60, help="run N random scripts after the directed ones (default: 60)")
     parser.add_argument("--items", metavar="N", type=positive, default=120, help="run about N items in each random script (default: 120)")
     parser.add_argument("--deep", action="store_true",
@@ -281,10 +287,10 @@ def guard_options(parser: ArgumentParser) -> None:
     parser.add_argument("--host", metavar="FILE", help="load the host and its enclaves from a second ELF file")
     parser.add_argument("ranges", metavar="RANGES", help="a file that declares who owns which range")
     monitor_options(parser)
-    parser.add_argument("--timers", metavar="N", type=count, default=8, help="run N times with timer interrupts at random moments (default: 8)")
+    parser.add_argument("--timers", metavar="N", type=count, default=8, help="run N times with timer interrupts at random steps (default: 8)")
     parser.add_argument("--steps", metavar="N", type=count, default=20000, help="run at most N steps of S and U (default: 20000)")
     parser.add_argument("--jobs", metavar="N", type=positive, default=1, help="do N runs at the same time (default: 1)")
-    parser.set_defaults(exact=False)
+    parser.set_defaults(exact=False, memory=None)
     parser.epilog, parser.formatter_class = GRAMMAR, argparse.RawDescriptionHelpFormatter
 
 

@@ -4,14 +4,12 @@ from __future__ import annotations
 import argparse
 import os
 import sys
+from importlib import import_module
 from typing import Any, Callable, Sequence, TYPE_CHECKING
 
 from rvlook.cli.options import (Parser, conform_options, expect_option, findings_options, gdb_options, guard_options, image_options,
                                 inputs_options, leak_options, map_options, page_options, races_options, schedule_options, slot_option,
                                 timer_options, touch_options, trace_options, verify_options, window_options)
-from rvlook.cli.subcommands import (do_conform, do_explain, do_gdb, do_guard, do_inputs, do_leak, do_map, do_measure, do_new, do_page, do_prompt,
-                                    do_races, do_run, do_timer, do_touch, do_trace, do_verify, do_window)
-from rvlook.gdb.monitor import CommandLine
 from rvlook.cli.version import version
 from rvlook.errors import RvlookError, UsageError, reason_of
 from rvlook.output.findings import Findings, check_junit, write_junit
@@ -43,20 +41,28 @@ SUBCOMMANDS = """subcommands:
 Without a subcommand, rvlook IMAGE starts an interactive prompt.
 See 'rvlook SUBCOMMAND --help' and docs/LOOK.md."""
 
-NAMES = ("run", "map", "trace", "touch", "window", "inputs", "verify", "leak", "timer", "races", "conform", "guard", "measure", "explain", "page",
-         "gdb", "new")
-
-
+MODULES = {  # of each subcommand, in this package
+    "run": "views", "map": "views", "trace": "views", "touch": "views", "window": "finders", "inputs": "searches", "verify": "searches",
+    "leak": "finders", "timer": "finders", "races": "searches", "conform": "monitors", "guard": "monitors", "measure": "others",
+    "explain": "others", "page": "views", "gdb": "others", "new": "others"}
+NAMES = tuple(MODULES)
 MOST_STEPS, MOST_STEPS_OF_RUN = 1000000, 1000000000  # the defaults of --steps
 
 
-def add_subcommand(subparsers: Any, name: str, do: Callable[[Namespace], None], about: str, *more: Callable[[ArgumentParser], None]) -> Parser:
+def later(name: str, module: str = "") -> Callable[[Namespace], None]:
+    """Returns the function that runs a subcommand. It imports the module of the subcommand, which takes longer than most of them run."""
+    def do(arguments: Namespace) -> None:
+        getattr(import_module("rvlook.cli." + (module or MODULES[name])), "do_" + name)(arguments)
+    return do
+
+
+def add_subcommand(subparsers: Any, name: str, about: str, *more: Callable[[ArgumentParser], None]) -> Parser:
     """Adds a subcommand over an image; each function of `more` adds options."""
     parser = subparsers.add_parser(name, help=about, description=about + ".")
     image_options(parser, name not in ("page", "gdb"), MOST_STEPS_OF_RUN if name == "run" else MOST_STEPS)
     for options in more:
         options(parser)
-    parser.set_defaults(do=do, subcommand=name)
+    parser.set_defaults(do=later(name), subcommand=name)
     return parser
 
 
@@ -69,15 +75,15 @@ def add_measure(subparsers: Any) -> None:
         parser.add_argument(name.lower(), metavar=name, help="a hexadecimal number or a symbol")
     parser.add_argument("--symbols", metavar="FILE", help="read symbols from an ELF file or from the output of nm (default: from FILE)")
     parser.add_argument("--json", action="store_true", help="print one JSON object (see docs/LOOK.md)")
-    parser.set_defaults(do=do_measure)
+    parser.set_defaults(do=later("measure"))
 
 
-def add_monitor_check(subparsers: Any, name: str, do: Callable[[Namespace], None], about: str, options: Callable[[ArgumentParser], None]) -> None:
+def add_monitor_check(subparsers: Any, name: str, about: str, options: Callable[[ArgumentParser], None]) -> None:
     """Adds a subcommand whose image is a monitor in M."""
     parser = subparsers.add_parser(name, help=about, description=about + ".")
     options(parser)
     findings_options(parser)
-    parser.set_defaults(do=do, subcommand=name)
+    parser.set_defaults(do=later(name), subcommand=name)
 
 
 def add_explain(subparsers: Any) -> None:
@@ -89,7 +95,7 @@ def add_explain(subparsers: Any) -> None:
     findings_options(parser)
     parser.add_argument("input", metavar="INPUT", help="a file with an image, a line -- and a script; - for standard input")
     parser.add_argument("arguments", metavar="ARGUMENT", nargs="*", help="arguments for ./rvbench, after -- (default: run)")
-    parser.set_defaults(do=do_explain, subcommand="explain")
+    parser.set_defaults(do=later("explain"), subcommand="explain")
 
 
 class Version(argparse.Action):
@@ -105,28 +111,28 @@ def add_new(subparsers: Any) -> None:
     about = "Make a folder for an enclave of your own"
     parser = subparsers.add_parser("new", help=about, description=about + ": sources, tests, a Makefile, tasks for an editor, and a script for CI.")
     parser.add_argument("folder", metavar="DIR", help="the folder, which must be new or empty")
-    parser.set_defaults(do=do_new, subcommand="new")
+    parser.set_defaults(do=later("new"), subcommand="new")
 
 
-OVER_AN_IMAGE: Sequence[Any] = (  # a name, its function, its help, and its options
-    ("run", do_run, "Run a program to its end, print what it writes to its console, and exit with its status", expect_option,
+OVER_AN_IMAGE: Sequence[Any] = (  # a name, its help, and its options
+    ("run", "Run a program to its end, print what it writes to its console, and exit with its status", expect_option,
      schedule_options, findings_options),
-    ("map", do_map, "Show who can access what, and each change of it", map_options, schedule_options, findings_options),
-    ("trace", do_trace, "Show each step of a run", trace_options, schedule_options, findings_options),
-    ("touch", do_touch, "Show what each world read, wrote and executed, and what it was permitted to", touch_options, schedule_options,
+    ("map", "Show who can access what, and each change of it", map_options, schedule_options, findings_options),
+    ("trace", "Show each step of a run", trace_options, schedule_options, findings_options),
+    ("touch", "Show what each world read, wrote and executed, and what it was permitted to", touch_options, schedule_options,
      findings_options),
-    ("window", do_window, "Show what each enclave activation read, wrote and left in its window", window_options, schedule_options,
+    ("window", "Show what each enclave activation read, wrote and left in its window", window_options, schedule_options,
      findings_options),
-    ("inputs", do_inputs, "Vary what the host gives an enclave, and show what the host can make it do", slot_option, inputs_options,
+    ("inputs", "Vary what the host gives an enclave, and show what the host can make it do", slot_option, inputs_options,
      expect_option, findings_options),
-    ("verify", do_verify, "Explore all paths of an enclave, for all inputs of the host and all values of its secrets", slot_option, verify_options,
+    ("verify", "Explore all paths of an enclave, for all inputs of the host and all values of its secrets", slot_option, verify_options,
      schedule_options, findings_options),
-    ("leak", do_leak, "Compare runs that differ only in a secret of an enclave, and show where they diverge", slot_option, leak_options,
+    ("leak", "Compare runs that differ only in a secret of an enclave, and show where they diverge", slot_option, leak_options,
      findings_options),
-    ("timer", do_timer, "Interrupt an enclave before each of its steps, and check that the result stays the same", slot_option, timer_options,
+    ("timer", "Interrupt an enclave before each of its steps, and check that the result stays the same", slot_option, timer_options,
      findings_options),
-    ("races", do_races, "Search all schedules of two harts and of timer interrupts, and show the final states", races_options, findings_options),
-    ("page", do_page, "Write the run as an HTML page", page_options, schedule_options))
+    ("races", "Search all schedules of two harts and of timer interrupts, and show the final states", races_options, findings_options),
+    ("page", "Write the run as an HTML page", page_options, schedule_options))
 
 
 def parser_of() -> Parser:
@@ -136,16 +142,16 @@ def parser_of() -> Parser:
     parser.set_defaults(findings=Findings(), is_report=False, junit=None, subcommand=None)
     parser.add_argument("--version", action=Version, nargs=0, help="print the version, the commit and the Rattle kit")
     subparsers = parser.add_subparsers(prog="rvlook", metavar="SUBCOMMAND", help=argparse.SUPPRESS)
-    for name, do, about, *options in OVER_AN_IMAGE:
-        add_subcommand(subparsers, name, do, about, *options)
-    add_monitor_check(subparsers, "conform", do_conform, "Compare a monitor in M with the monitor of rvbench, call by call", conform_options)
-    add_monitor_check(subparsers, "guard", do_guard, "Check that a monitor in M isolates the worlds below it, whatever its calls are",
+    for name, about, *options in OVER_AN_IMAGE:
+        add_subcommand(subparsers, name, about, *options)
+    add_monitor_check(subparsers, "conform", "Compare a monitor in M with the monitor of rvbench, call by call", conform_options)
+    add_monitor_check(subparsers, "guard", "Check that a monitor in M isolates the worlds below it, whatever its calls are",
                       guard_options)
     add_measure(subparsers)
     add_explain(subparsers)
     add_new(subparsers)
-    gdb = add_subcommand(subparsers, "gdb", do_gdb, "Serve the run to a debugger by the GDB remote serial protocol", gdb_options, schedule_options)
-    gdb.set_defaults(command_line=CommandLine(NAMES, read))
+    gdb = add_subcommand(subparsers, "gdb", "Serve the run to a debugger by the GDB remote serial protocol", gdb_options, schedule_options)
+    gdb.set_defaults(command_line=(NAMES, read))
     return parser
 
 
@@ -186,7 +192,7 @@ def read(arguments: Sequence[str]) -> Namespace:
         raise UsageError(unknown_subcommand(arguments[0]))
     alone = Parser(prog="rvlook", usage=USAGE)
     image_options(alone)
-    alone.set_defaults(do=do_prompt, findings=Findings(), is_report=False, junit=None)
+    alone.set_defaults(do=later("prompt", "views"), findings=Findings(), is_report=False, junit=None)
     return alone.parse_args(arguments)
 
 
