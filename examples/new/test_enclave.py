@@ -1,4 +1,6 @@
 """Tests of the enclave. `make test` builds program.elf and runs them. docs/TESTS.md of rvbench describes the fixtures and the markers."""
+from importlib.util import find_spec
+
 import pytest
 
 from rvlook.api import exited, refused
@@ -50,7 +52,17 @@ def test_the_host_cannot_make_it_fail():
     """Varies what the host gives the enclave."""
 
 
+@pytest.mark.skipif(not find_spec("z3"), reason="python3-z3 is not installed")
+@pytest.mark.verified()
+def test_all_paths_for_all_inputs():
+    """Passes only if the result is COMPLETE."""
+
+
 # For an enclave with a secret in the symbol `key`, whose answer may depend on it:
+#
+# @pytest.mark.verified("key", public="answer")
+# def test_no_other_output_depends_on_the_key():
+#     """Explores all paths for all keys."""
 #
 # @pytest.mark.finds_nothing("leaks", "key", tries=8, public="answer")
 # def test_the_key_does_not_leak():

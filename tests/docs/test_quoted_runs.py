@@ -13,7 +13,7 @@ import pytest
 ROOT = Path(__file__).resolve().parents[2]
 PAGES = [ROOT / "README.md", *sorted(ROOT.glob("docs/**/*.md"))]
 SECONDS = 60
-BUILT = ("../my_enclave", "../tested_enclave")  # by a page
+BUILT = ("../my_enclave", "../pin_enclave", "../tested_enclave")  # by a page
 
 
 def runs_of(text):

@@ -293,6 +293,22 @@ def test_stops_by_a_schedule_change_nothing(two_harts, schedule):
             assert again.registers_now() == machine.registers_now()
 
 
+@pytest.mark.parametrize("schedule", [1, 3, "seed 2"])
+def test_many_steps_by_a_schedule_are_those_turn_by_turn(two_harts, schedule):
+    traps = set()
+    for count in (40, 64, 130, 500, 900):
+        with two_harts.start(schedule) as machine, two_harts.start(schedule) as other:
+            for more in (count, 7):
+                machine.step(more)
+                other.trap = None
+                for _ in range(more):
+                    other.turn(1)
+                state, expected = ((it.trap, it.hart, it.steps, it.scheduled, it.world, it.registers_now()) for it in (machine, other))
+                assert state == expected
+                traps.add(machine.trap)
+    assert len(traps) > 1
+
+
 def test_a_test_with_a_schedule_is_not_the_host(two_harts):
     with two_harts.start(1) as machine, pytest.raises(RvlookError, match="start the machine without a schedule"):
         machine.create()
@@ -332,6 +348,18 @@ def test_inputs_have_scripts_and_failures_of_the_run(built, tmp_path):
     found = find.inputs(program, runs=40)
     assert found and all("# ./rvbench " in it.script and it.step and it.source for it in found)
     assert not found.unfinished and "Covered:" in found.report
+
+
+def test_verify_has_scripts_and_says_what_is_open(built, tmp_path):
+    pytest.importorskip("z3", reason="python3-z3 is not installed")
+    store = load(build(EXAMPLES / "enclaves" / "store", tmp_path / "store.elf"))
+    found = find.verify(store, "key:32", public="window_base+1c:32", must_know="pin:8")
+    assert not found and not found.unfinished and "checks" in found.checks and "COMPLETE: all paths" in found.report
+    assert found.command.startswith("rvlook verify %s --monitor --at key:32 --public window_base+1c:32 --must-know pin:8" % store.name)
+    cut = find.verify(store, "key:32", seconds=0)
+    assert not cut and cut.unfinished.startswith("not complete: ")
+    bug = find.verify(load(build(EXAMPLES / "enclaves" / "bug", tmp_path / "bug.elf")))
+    assert bug and all("# ./rvbench " in it.script and it.step and it.source and "input  activation" in it.text for it in bug)
 
 
 def test_guard_and_conform_find_a_planted_bug(built, tmp_path):

@@ -11,6 +11,7 @@ from conftest import ROOT
 
 SECONDS = 300
 FILES = ("pyproject.toml", "README.md")
+OTHER = 12345  # a user that owns nothing else
 
 
 @pytest.fixture(scope="module")
@@ -55,3 +56,18 @@ def test_installed_package_has_the_parts_of_the_page(installed, bench, tmp_path)
 
 def test_exit_status_is_that_of_the_script(installed, bench, tmp_path):
     assert run(installed, bench, tmp_path, "map", "none").returncode == 2
+
+
+@pytest.mark.parametrize("is_own", [True, False])
+def test_bytecode_is_written_only_for_the_owner_of_the_clone(tmp_path, is_own):
+    shutil.copytree(ROOT / "python", tmp_path / "python", ignore=shutil.ignore_patterns("__pycache__"))
+    shutil.copy(ROOT / "rvlook", tmp_path)
+    if not is_own:
+        if os.geteuid():
+            pytest.skip("only root can give files to another user")
+        os.chown(tmp_path / "python" / "rvlook", OTHER, OTHER)
+    environment = {name: value for name, value in os.environ.items() if name != "PYTHONDONTWRITEBYTECODE"}
+    helps = [subprocess.run([tmp_path / "rvlook", "map", "--help"], env=environment, capture_output=True, text=True, timeout=SECONDS, check=True)
+             for _ in range(2)]
+    assert helps[0].stdout.startswith("usage: rvlook map") and helps[0].stdout == helps[1].stdout
+    assert bool(list(tmp_path.rglob("*.pyc"))) == is_own

@@ -1,4 +1,4 @@
-"""`conform` and `guard` with several processes: they end after the first difference, and they give the results of one process."""
+"""`conform`, `guard` and `leak` with several processes: they end after the first difference, and they give the results of one process."""
 import os
 import subprocess
 import sys
@@ -39,7 +39,7 @@ def test_processes_end_while_tasks_wait(bench):
 
 @pytest.mark.parametrize("count, jobs", [(0, 3), (1, 3), (7, 1), (7, 3), (100, 2)])
 def test_results_have_the_order_of_the_tasks(bench, monkeypatch, count, jobs):
-    from rvlook.monitors.jobs import results_of
+    from rvlook.protocol.jobs import results_of
     monkeypatch.setenv("RVBENCH", bench)
     offset = [5]  # the processes inherit it
     assert list(results_of(lambda number: number + offset[0], count, jobs)) == [number + 5 for number in range(count)]
@@ -47,7 +47,7 @@ def test_results_have_the_order_of_the_tasks(bench, monkeypatch, count, jobs):
 
 def test_error_of_a_task_is_raised(bench, monkeypatch):
     from rvlook.errors import BenchEnded
-    from rvlook.monitors.jobs import results_of
+    from rvlook.protocol.jobs import results_of
 
     def task(number):
         if number == 3:
@@ -64,3 +64,13 @@ def test_guard_gives_the_results_of_one_process(rvlook, words):
     arguments = ("guard", "--timers", "2", "--steps", "1500", *words, TWO / "image", TWO / "ranges")
     one, three = rvlook(*arguments), rvlook(*arguments, "--jobs", "3")
     assert (three.returncode, three.stdout, three.stderr) == (one.returncode, one.stdout, one.stderr) and "timers 1-2" in one.stdout
+
+
+@pytest.mark.parametrize("words", [(), ("--json",)])
+def test_leak_gives_the_results_of_one_process(rvlook, words):
+    """Pair 3 differs without a verdict, so the text has its details."""
+    folder = EXAMPLES / "enclaves" / "store_leaking"
+    arguments = ("leak", "--monitor", folder / "image", "--symbols", folder / "symbols", "--at", "pin:8", "--tries", "4", *words)
+    one, three = rvlook(*arguments), rvlook(*arguments, "--jobs", "3")
+    assert (three.returncode, three.stdout, three.stderr) == (one.returncode, one.stdout, one.stderr)
+    assert one.returncode == 1 and ('"differing":[3]' in one.stdout.replace(" ", "") if words else "pair 3 of 4, the first that differs" in one.stdout)

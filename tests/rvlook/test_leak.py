@@ -109,7 +109,7 @@ def test_pair_with_equal_answers_is_shown_before_one_with_others(monkeypatch):
     leak, printer = SimpleNamespace(channels=("pc", "answer")), SimpleNamespace(line=lines.append)
     pairs = {number: leak_text.Compared(number, (), False, (), channels, "pair %d" % number, ())
              for number, channels in ((1, ("pc", "answer")), (2, ("pc",)))}
-    leak_text.print_result(leak, printer, [*pairs.values()], pairs, set())
+    leak_text.print_result(leak, printer, leak_text.Tried([*pairs.values()]), pairs, set())
     assert shown == ["pair 2"] and lines[0] == "pair 2 of 2, the first that differs with the same answer"
 
 
@@ -131,3 +131,14 @@ def test_answer_that_has_a_part_of_the_secret_is_no_verdict(objects):
     folder = EXAMPLES / "enclaves" / "store_leaking"
     status, found = objects("leak", "--monitor", folder / "image", "--symbols", folder / "symbols", "--at", "key:32", "--tries", "3")
     assert (status, found[-1]["differing"], found[-1]["with_answer"]) == (1, [1, 2, 3], [])
+
+
+def test_run_with_a_secret_takes_two_processes(rvlook, bench, tmp_path):
+    """One process runs the script, two show where the enclave is created, and two run the program with each secret. A difference takes none."""
+    program, starts, folder = tmp_path / "program", tmp_path / "starts", EXAMPLES / "enclaves" / "store_leaking"
+    program.write_text('#!/bin/sh\necho >> "%s"\nexec "%s" "$@"\n' % (starts, bench))
+    program.chmod(0o755)
+    done = rvlook("leak", "--monitor", folder / "image", "--symbols", folder / "symbols", "--at", "pin", "3132333435363738", "3237313832383030",
+                  env={"RVBENCH": program})
+    assert done.returncode == 1 and "  pc      differs at step" in done.stdout
+    assert len(starts.read_text()) == 1 + 2 + 2 * 2

@@ -1,4 +1,4 @@
-"""The table of messages in docs/LOOK.md: the case of each row exits with the status of the row and prints its line."""
+"""The table of messages in docs/MESSAGES.md: the case of each row exits with the status of the row and prints its line."""
 import re
 import tempfile
 from pathlib import Path
@@ -11,7 +11,7 @@ from conftest import EXAMPLES, PROGRAMS, ROOT, RVLOOK
 
 ROW = re.compile(r"^\| (\d+) \| `(error|warning|note): (.*)` \| .*\|$", re.M)
 ROWS = [(int(status), severity, line.replace("\\|", "|")) for status, severity, line in
-        ROW.findall((ROOT / "docs" / "LOOK.md").read_text(encoding="utf-8").split("## Exit statuses")[1])]
+        ROW.findall((ROOT / "docs" / "MESSAGES.md").read_text(encoding="utf-8"))]
 KEPT = ("RVBENCH",)  # in capitals, but no placeholder
 ADDS, LISTING, SUM = EXAMPLES / "enclaves" / "adds" / "image", EXAMPLES / "enclaves" / "adds" / "symbols", EXAMPLES / "programs" / "sum" / "stdin"
 LEAKS, USES = IMAGES + "/leak/image", PROGRAMS / "stack_uses"
@@ -96,6 +96,7 @@ class Cases:
             "--public, --wiped": (*first, "--wiped"), "--at and --must-know": (*first, "--at", "80020000:4", "--must-know", "80020000:4"),
             "--must-matter names": (*first, "--at", "80020000:4", "--must-matter", "80020010:4"),
             "verify needs bytes": (*first, "--at", "a0@80020000"),
+            "'TEXT' is no length": (*first, "--length", "nowhere"), "--length leaves out": (*first, "--length", "80030000:0"),
             "'TEXT' is no number": (*first, "--at", "80020000:4", "--public", "answer@answer=x")}
 
     def of_races(self):
@@ -140,6 +141,8 @@ class Cases:
             "a segment of": ("guard", own, files.text, "--host", pair),
             "'FILE' has COUNT mret": ("conform", EXAMPLES / "programs" / "elf" / "image"),
             "boot line": ("conform", own, "--boot", files.lines["unknown"]), "no script has": ("conform", own, "--only", "nothing"),
+            "invalid --memory": ("conform", own, "--memory", "80040000"), "--memory RANGE must": ("conform", own, "--memory", "80040000-8007ffff"),
+            "--memory RANGE is too small": ("conform", own, "--ram", "524288", "--memory", "80060000-8007ffff"),
             "--ram": ("conform", own, "--ram", "131072"), "FILE:LINE: expected": ("guard", pair, files.text),
             "'FILE' has no range": ("guard", pair, files.write("hands", "hands a0\n")), "the time limit": ("conform", own, "--seconds", "0"),
             "these enclaves never": self.guarded("9", "880"), "these enclaves were": self.guarded("0", "880"),

@@ -1,4 +1,4 @@
-"""Each message that rvlook prints in one line has a row in the table of docs/LOOK.md. Each row has a case in test_message_cases.py. The errors of
+"""Each message that rvlook prints in one line has a row in the table of docs/MESSAGES.md. Each row has a case in test_message_cases.py. The errors of
 the Python API have rows in docs/TESTS.md."""
 import ast
 import re
@@ -30,7 +30,7 @@ def api_rows():
 
 
 def rows():
-    text = (ROOT / "docs" / "LOOK.md").read_text(encoding="utf-8").split("## Exit statuses")[1]
+    text = (ROOT / "docs" / "MESSAGES.md").read_text(encoding="utf-8")
     found = [row.replace("\\|", "|") for _, row in ROW.findall(text)]
     return found + [row.split(PREFIX)[1] for row in found if PREFIX in row]
 
@@ -107,7 +107,7 @@ def is_row_of(row, text):
 
 @pytest.mark.parametrize("place, text", sorted(set(messages()), key=lambda it: it[::-1]))
 def test_message_has_a_row(place, text):
-    known, page = (api_rows(), "TESTS.md") if place.startswith(OF_API) else (rows(), "LOOK.md")
+    known, page = (api_rows(), "TESTS.md") if place.startswith(OF_API) else (rows(), "MESSAGES.md")
     assert any(is_row_of(row, text) for row in known), "%s prints %r, which is not in the table of docs/%s" % (place, text, page)
 
 

@@ -129,6 +129,22 @@ def test_a_search_that_finds_something_fails_with_all_findings(run, hello):
     assert "the search did not finish: --seconds ended inputs after" in done.stdout
 
 
+def test_verified_fails_unless_the_result_is_complete_without_findings(run):
+    pytest.importorskip("z3", reason="python3-z3 is not installed")
+    done = run('''
+        @pytest.mark.verified()
+        def test_complete(): assert not "the body"
+        @pytest.mark.verified(seconds=0)
+        def test_unfinished(): ...
+        @pytest.mark.verified("region_base:4", wiped=True)
+        def test_finding(): ...
+        @pytest.mark.verified(slot=3)
+        def test_no_enclave(): ...
+        ''')
+    assert "3 failed, 1 passed" in done.stdout, done.stdout
+    assert "the search did not finish: not complete: " in done.stdout and "no enclave in slot 3" in done.stdout
+
+
 def test_strategies_draw_values_of_the_types(run):
     done = run('''
         from hypothesis import given, settings, strategies

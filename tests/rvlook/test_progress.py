@@ -52,8 +52,9 @@ def test_races_shows_its_progress_and_reports_what_it_has(stopped, bench, tmp_pa
     assert found[-1]["covered"].startswith("stopped by Ctrl-C after ")
 
 
-def test_leak_shows_a_bar_and_reports_what_it_has(stopped):
-    status, shown, found = stopped(LEAK, r"\r\[#*\.+\] \d+ of 1000  \d+ differ")
+@pytest.mark.parametrize("jobs", ["1", "2"])
+def test_leak_shows_a_bar_and_reports_what_it_has(stopped, jobs):
+    status, shown, found = stopped((*LEAK, "--jobs", jobs), r"\r\[#*\.+\] \d+ of 1000  \d+ differ")
     assert (status, shown >= TIMES) == (130, True)
     assert (found[-1]["object"], found[-1]["pairs"]) == ("leak", sum(it["object"] == "pair" for it in found))
 

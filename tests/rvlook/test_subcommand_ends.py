@@ -19,9 +19,10 @@ SHORT = {
     "verify": ("verify", "--monitor", ADDS),
     "conform": ("conform", OWN, "--only", "reset"), "guard": ("guard", PAIR, RANGES, "--timers", "0", "--steps", "99"),
     "measure": ("measure", REGION, "80020000", "1000", "0", "0", "80020000"), "explain": ("explain", SUM), "the prompt": (SUM,)}
+ENDLESS = ("LOOP", "--steps", "500000000")
 LONG = {  # runs that take a while; LOOP and MANY are files of support.message_files
-    "map": ("map", "LOOP"), "trace": ("trace", "LOOP"), "touch": ("touch", "LOOP"), "page": ("page", "LOOP"), "map --json": ("map", "LOOP", "--json"),
-    "trace --format spike": ("trace", "LOOP", "--format", "spike"),
+    "map": ("map", *ENDLESS), "trace": ("trace", *ENDLESS), "touch": ("touch", *ENDLESS), "page": ("page", *ENDLESS),
+    "map --json": ("map", *ENDLESS, "--json"), "trace --format spike": ("trace", *ENDLESS, "--format", "spike"),
     "leak --tries": ("leak", "--monitor", LEAKS, "--at", "80020800:4", "--tries", "1000"), "races": LONG_RACE,
     "timer": ("timer", "--monitor", EXAMPLES / "enclaves" / "hmac" / "image"), "conform": ("conform", OWN),
     "conform --jobs": ("conform", OWN, "--jobs", "2"), "guard": ("guard", PAIR, RANGES)}

@@ -104,9 +104,9 @@ class Runs:
         return found
 
     def stopped(self, words, wanted=""):
-        """Runs it, and sends SIGINT after a second. Tries again later if rvlook had not started, if Python dropped the signal in a finalizer, or if
-        the wanted text is not among its errors."""
-        for pause in (1, 2, 4, 8, 16):
+        """Runs it, and sends SIGINT after less than half a second. Tries again later if rvlook had not started, if Python dropped the signal in a
+        finalizer, or if the wanted text is not among its errors."""
+        for pause in (.4, 1, 2, 4, 8, 16):
             with subprocess.Popen([self.look, *map(str, words)], cwd=self.root, stdin=subprocess.PIPE, stdout=subprocess.DEVNULL,
                                   stderr=subprocess.PIPE, text=True, env=self.environment,
                                   preexec_fn=lambda: signal.signal(signal.SIGINT, signal.default_int_handler)) as process:

@@ -32,6 +32,8 @@ BUGS = (
     Bug("end_is_a_request", STORE, "application.c", "command != END; command", "command != 7; command", "test_a_store_that_has_ended_cannot_be_resumed"),
     Bug("pin_of_zeros_opens", STORE, "application.c", "    if (!is_pin(given))\n", "    if (!is_pin(given) && given[0])\n",
         "test_no_other_pin_opens_the_store"),
+    Bug("one_pin_opens_without_the_last_digit", STORE, "application.c", "    if (!is_pin(given))\n",
+        "    if (!is_pin(given) && (given[0] != 'x' || given[1] != 7))\n", "test_all_paths_for_all_keys_and_pins"),
     Bug("wrong_sum", HARTS, "application.c", "window[ANSWER] + 1", "window[ANSWER] + 2", "test_the_enclave_still_answers"),
     Bug("wrong_sign_of_running", HARTS, "application.c", "window[IS_RUNNING] = 1", "window[IS_RUNNING] = 2", "test_the_enclave_says_that_it_runs"),
     Bug("enclave_does_not_wait", HARTS, "application.c", "    while (!window[ANSWER])\n        ;\n", "", "test_the_enclave_waits_for_the_number"),

@@ -1,20 +1,19 @@
 """Runs random instructions in the machine of `verify` and on rvbench, and compares registers, control and status registers and modes: as numbers, as
 expressions, and by z3."""
 import random
-from types import SimpleNamespace
 
 from rvlook.symbolic import nodes
 from rvlook.symbolic.conditions import eq, lt, ult
 from rvlook.symbolic.evaluation import evaluate
 from rvlook.symbolic.fields import Ended
 from rvlook.symbolic.nodes import INPUT, Node, variable
+from rvlook.symbolic.options import VerifyOptions
 from rvlook.symbolic.search import Search
 from rvlook.symbolic.translate import the_z3
 from rvlook.symbolic.words import word
 
 STEPS, WORDS = 120, 128  # steps of a program, and its instructions
-OPTIONS = {"at": [], "public": [], "given": [], "must_know": [], "must_matter": [], "timeout": 1000, "seconds": 1e9, "calm": False, "wiped": False,
-           "merges": False, "activations": 1, "bound": 64, "loops": False, "path_steps": 1 << 30, "replay": 0, "slot": 0}
+OPTIONS = {"timeout": 1000, "seconds": 1e9, "merges": False, "activations": 1, "path_steps": 1 << 30, "replay": 0}
 CSRS = (0x100, 0x105, 0x140, 0x141, 0x142, 0x143)
 ALL_CSRS = (*CSRS, 0x104, 0x144, 0x106, 0x180, 0x10A, 0x300, 0xC00, 0x7C0)
 BASES = (8, 9, 18)  # registers that hold addresses of data
@@ -29,7 +28,7 @@ IGNORED = ("code", "outside", "exit", "stop", "finding", "sp")  # ends of a path
 
 def options():
     """Returns the options of a search that reports nothing."""
-    return SimpleNamespace(**OPTIONS)
+    return VerifyOptions(**OPTIONS)
 
 
 def operands_of(rng):

@@ -1,5 +1,6 @@
 """Tests of the key store: who can access the key, what the PIN protects, and what a host can do. The test is the host (docs/TESTS.md)."""
 import hmac
+from importlib.util import find_spec
 
 import pytest
 from hypothesis import given, settings, strategies
@@ -140,3 +141,9 @@ def test_there_is_no_double_fetch():
 @pytest.mark.finds_nothing("inputs", "key:32", public="window_base+1c:32", runs=40)
 def test_the_host_cannot_misuse_the_store():
     """Varies what the host gives."""
+
+
+@pytest.mark.skipif(not find_spec("z3"), reason="python3-z3 is not installed")
+@pytest.mark.verified("key:32", public="window_base+1c:32", must_know="pin:8")
+def test_all_paths_for_all_keys_and_pins():
+    """Passes only if the result is COMPLETE."""
