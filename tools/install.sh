@@ -51,6 +51,8 @@ for part in lib/rvbench share/rvbench bin/{rvbench,rvlook,rvbench-build} share/m
   if [ -e "$stage/$part" ] || [ -L "$stage/$part" ]; then place "$part"; fi
 done
 placed=()
+# Users of rvlook who do not own its files cannot keep bytecode.
+python=$(command -v /usr/bin/python3 || command -v python3) && "$python" -m compileall -q "$prefix/lib/rvbench/python" > /dev/null || true
 echo "install: installed $(cat "$prefix/lib/rvbench/version") under $prefix"
 case :$PATH: in
   *":$prefix/bin:"*) ;;
