@@ -1,6 +1,5 @@
 """Time limits, Ctrl-C, closed pipes and --harts 2: nothing of this looks like a result that it is not."""
 import os
-import signal
 import subprocess
 import time
 
@@ -59,18 +58,18 @@ def test_limit_of_seconds_ends_one_run_of_the_search(rvlook, tmp_path):
     assert (done.returncode, done.stderr) == (3, "rvlook: warning: --seconds ended inputs after 0 of 300 runs\n")
 
 
-def test_ctrl_c_prints_what_inputs_has_found(bench):
-    words = [RVLOOK, "inputs", "--monitor", BUG / "image", "--symbols", BUG / "symbols", "--runs", "1000000"]
-    for pause in (4, 8, 16):
-        with subprocess.Popen(words, stdout=subprocess.PIPE, stderr=subprocess.PIPE, text=True, cwd=ROOT, env=environment(bench),
-                              preexec_fn=lambda: signal.signal(signal.SIGINT, signal.default_int_handler)) as process:
-            time.sleep(pause)
-            process.send_signal(signal.SIGINT)
-            output, errors = process.communicate(timeout=60)
-        if "finding 1: load reaches served" in output:
-            break
-    assert process.returncode == 130 and "\n1 finding, seed 0. Covered: " in output
-    assert errors.startswith("rvlook: warning: Ctrl-C ended inputs after ") and errors.endswith("rvlook: error: interrupted\n")
+def test_ctrl_c_prints_what_inputs_has_found(bench, tmp_path):
+    """The search sends SIGINT to itself at its first finding."""
+    at_a_finding = (
+        "import os, signal; from rvlook.finders.inputs.judge import Judge; take = Judge.take; "
+        "signal.signal(signal.SIGINT, signal.default_int_handler); "
+        "Judge.take = lambda self, trace: (take(self, trace), self.findings and os.kill(os.getpid(), signal.SIGINT))[0]")
+    words = ("inputs", "--monitor", BUG / "image", "--symbols", BUG / "symbols", "--runs", "1000000")
+    with open(tmp_path / "output", "w", encoding="ascii") as output:
+        status, errors = Runs(RVLOOK, ROOT, bench).patched(at_a_finding, words, stdout=output)
+    found = (tmp_path / "output").read_text()
+    assert status == 130 and "finding 1: load reaches served" in found and "\n1 finding, seed 0. Covered: " in found
+    assert errors[0].startswith("rvlook: warning: Ctrl-C ended inputs after ") and errors[-1] == "rvlook: error: interrupted"
 
 
 @pytest.mark.parametrize("words", [("timer",), ("leak", "--at", "80020800", "00", "01"), ("inputs",)], ids=lambda it: it[0])

@@ -83,9 +83,9 @@ class Runs:
         before = [] if shell is None else ["bash", "-o", "pipefail", "-c", shell]
         return self.ended([*before, self.look, *words], env={**self.environment, **environment})
 
-    def patched(self, code, words):
+    def patched(self, code, words, **more):
         """Runs rvlook with a patch."""
-        return self.ended([sys.executable, "-B", "-c", PATCHED % (str(Path(self.root, "python")), code), *words])
+        return self.ended([sys.executable, "-B", "-c", PATCHED % (str(Path(self.root, "python")), code), *words], **more)
 
     def typed(self, words):
         """Runs it with a terminal as standard input."""
@@ -104,17 +104,21 @@ class Runs:
         return found
 
     def stopped(self, words, wanted=""):
-        """Runs it, and sends SIGINT after less than half a second. Tries again later if rvlook had not started, if Python dropped the signal in a
-        finalizer, or if the wanted text is not among its errors."""
-        for pause in (.4, 1, 2, 4, 8, 16):
+        """Runs it, and sends SIGINT while it works. The signal comes too early if rvlook has not started, if Python drops it in a finalizer, or
+        if the wanted text is not among the errors. It comes too late if the work has ended. Both are tried again."""
+        pause = .4
+        for _ in range(12):
             with subprocess.Popen([self.look, *map(str, words)], cwd=self.root, stdin=subprocess.PIPE, stdout=subprocess.DEVNULL,
                                   stderr=subprocess.PIPE, text=True, env=self.environment,
                                   preexec_fn=lambda: signal.signal(signal.SIGINT, signal.default_int_handler)) as process:
                 time.sleep(pause)
+                has_ended = process.poll() is not None
                 process.send_signal(signal.SIGINT)
                 _, errors = process.communicate(timeout=60)
-            if process.returncode != -signal.SIGINT and "Exception ignored" not in errors and wanted in errors:
+            is_late = process.returncode != -signal.SIGINT and "Exception ignored" not in errors and wanted in errors
+            if is_late and not has_ended:
                 break
+            pause *= .7 if has_ended else 2
         return process.returncode, errors.splitlines()
 
     def in_clone(self, folder, names, image):
