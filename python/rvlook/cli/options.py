@@ -118,7 +118,7 @@ def findings_options(parser: ArgumentParser) -> None:
 def expect_option(parser: ArgumentParser) -> None:
     """Adds the option that names failures which the author expects."""
     parser.add_argument("--expect", metavar="FAILURE", action="append",
-                        help="expect FAILURE, which is then no finding. It is the name of a trap or of a status, such as 'store access fault' or "
+                        help="do not count FAILURE as a finding. It is the name of a trap or of a status, such as 'store access fault' or "
                              "BadRegion, with @PLACE for one function or address; repeatable")
 
 
@@ -173,7 +173,7 @@ def inputs_options(parser: ArgumentParser) -> None:
     parser.add_argument("--runs", metavar="N", type=positive, default=300, help="try at most N runs (default: 300)")
     parser.add_argument("--seconds", metavar="S", type=seconds, help="stop after S seconds, and report the results so far")
     parser.add_argument("--seed", metavar="N", type=int, default=0, help="set the seed of the random values (default: 0)")
-    parser.add_argument("--entry", action="store_true", help="vary a0 to a3 at the entry too, which the monitor sets")
+    parser.add_argument("--entry", action="store_true", help="also vary a0 to a3 at the entry, which the monitor sets")
     parser.add_argument("--scripts", metavar="DIR", help="write an rvbench input for each finding to DIR")
 
 
@@ -199,12 +199,14 @@ def verify_options(parser: ArgumentParser) -> None:
     parser.add_argument("--given", metavar="PLACE", action="append", default=[],
                         help="take bytes of the window from the run itself, PLACE[:BYTES], such as lengths; repeatable")
     parser.add_argument("--length", metavar="PLACE:N", action="append", default=[],
-                        help="leave out inputs for which a load of the window that begins at PLACE gives more than N; repeatable")
+                        help="leave out inputs for which a load at PLACE in the window gives more than N; repeatable")
     parser.add_argument("--calm", action="store_true", help="assume that the host changes the window only while the enclave does not run")
     parser.add_argument("--each", dest="merges", action="store_false", help="explore each sequence of activations by itself, not all of them at once")
     parser.add_argument("--activations", metavar="N", type=positive, help="with --each: explore N activations (default: as many as the run has)")
-    parser.add_argument("--bound", metavar="N", type=positive, default=64, help="follow a loop whose end the host chooses for N rounds (default: 64)")
-    parser.add_argument("--loops", action="store_true", help="merge the paths at the head of such a loop instead, for any number of rounds")
+    parser.add_argument("--bound", metavar="N", type=positive, default=64,
+                        help="if the host chooses how often a loop runs, follow it for N rounds (default: 64)")
+    parser.add_argument("--loops", action="store_true",
+                        help="if the host chooses how often a loop runs, merge the paths at its head, which covers any number of rounds")
     parser.add_argument("--seconds", metavar="S", type=seconds, default=60, help="stop after S seconds, and report the results so far (default: 60)")
     parser.add_argument("--timeout", metavar="MS", type=positive, default=5000, help="give z3 MS milliseconds for a query (default: 5000)")
     parser.add_argument("--replay", metavar="N", type=count, default=10, help="replay every Nth path, 0 for none (default: 10)")
@@ -240,7 +242,7 @@ def races_options(parser: ArgumentParser) -> None:
     parser.add_argument("--no-reduction", "--plain", dest="plain", action="store_true",
                         help="switch harts before every step, without partial-order reduction (slower, same final states)")
     part_options(parser, "search only schedules whose first switch or timer interrupt comes after step N or later",
-                 "the same, after step N or earlier")
+                 "search only schedules whose first switch or timer interrupt comes after step N or earlier")
 
 
 def part_options(parser: ArgumentParser, first: str, last: str) -> None:
