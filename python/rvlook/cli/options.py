@@ -197,7 +197,7 @@ def verify_options(parser: ArgumentParser) -> None:
                         help="check that what comes out depends on each of these bytes of the secret, PLACE[:BYTES]; repeatable")
     parser.add_argument("--wiped", action="store_true", help="check that nothing in the region or the registers depends on the secret at a stop")
     parser.add_argument("--given", metavar="PLACE", action="append", default=[],
-                        help="take bytes of the window from the run itself, PLACE[:BYTES], such as lengths; repeatable")
+                        help="take bytes of the window, PLACE[:BYTES], such as lengths, from the run of the image as it is; repeatable")
     parser.add_argument("--length", metavar="PLACE:N", action="append", default=[],
                         help="leave out inputs for which a load at PLACE in the window gives more than N; repeatable")
     parser.add_argument("--calm", action="store_true", help="assume that the host changes the window only while the enclave does not run")
