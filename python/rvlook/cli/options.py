@@ -232,8 +232,8 @@ def races_options(parser: ArgumentParser) -> None:
                         help="distinguish final states by WHAT: PLACE[:BYTES], VARIABLE.MEMBER, HART.REGISTER, enclaves, or e0 to e12; repeatable "
                              "(default: all shared memory, and enclaves)")
     parser.add_argument("--forbid", metavar="CONDITION", action="append",
-                        help="report final states that meet CONDITION instead of more than one final state: a comparison such as 'left != 2', "
-                             "or halts, waits, livelock or unfinished; repeatable")
+                        help="count only final states that meet CONDITION as findings: a comparison such as 'left != 2', or halts, waits, "
+                             "livelock or unfinished; repeatable")
     parser.add_argument("--timer", dest="timers", metavar="N", type=count, default=0, help="raise at most N timer interrupts (default: 0)")
     parser.add_argument("--preemptions", metavar="N", type=count, help="allow at most N preemptions of a hart (default: any number)")
     parser.add_argument("--end", metavar="PLACE", action="append", help="end a hart before the instruction at PLACE; repeatable")
