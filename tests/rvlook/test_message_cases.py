@@ -97,6 +97,7 @@ class Cases:
             "--must-matter names": (*first, "--at", "80020000:4", "--must-matter", "80020010:4"),
             "verify needs bytes": (*first, "--at", "a0@80020000"),
             "'TEXT' is no length": (*first, "--length", "nowhere"), "--length leaves out": (*first, "--length", "80030000:0"),
+            "--allow names no instruction": (*first, "--allow", "80030000"),
             "'TEXT' is no number": (*first, "--at", "80020000:4", "--public", "answer@answer=x")}
 
     def of_races(self):

@@ -290,14 +290,14 @@ def timer(program: Program, *, slot: int = 0, every: int = 1) -> Findings:
 
 
 def verify(program: Program, secret: Names = (), *, public: Names = (), must_know: Names = (), must_matter: Names = (), wiped: bool = False,
-           given: Names = (), length: Names = (), calm: bool = False, each: bool = False, activations: Optional[int] = None,
+           given: Names = (), length: Names = (), allow: Names = (), calm: bool = False, each: bool = False, activations: Optional[int] = None,
            bound: int = VerifyOptions.bound, loops: bool = False, seconds: float = VerifyOptions.seconds, slot: int = 0) -> Findings:
     """Explores all paths of an enclave, for all inputs and secrets (docs/VERIFY.md). Findings whose replay differs are left out. `unfinished` is
     empty only if the result is COMPLETE. Raises Unfinished if no enclave runs in the slot, or z3 is missing."""
     words = option_arguments(dict(at=secret, public=public, must_know=must_know, must_matter=must_matter, wiped=wiped, given=given, length=length,
-                                  calm=calm, each=each, activations=activations, bound=bound, loops=loops, seconds=seconds, slot=slot))
+                                  allow=allow, calm=calm, each=each, activations=activations, bound=bound, loops=loops, seconds=seconds, slot=slot))
     options = VerifyOptions(slot, several(secret), several(public), several(must_know), several(must_matter), wiped, several(given),
-                            several(length), calm, not each, activations, bound, loops, seconds)
+                            several(length), several(allow), calm, not each, activations, bound, loops, seconds)
     with searching(["verify", *words], program) as (found, printer):
         run = ordered(program, "verify")
         search = find_verify(run, program.symbols, variables_of(None, run.setup.image), options)

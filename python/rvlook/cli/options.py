@@ -200,6 +200,8 @@ def verify_options(parser: ArgumentParser) -> None:
                         help="take bytes of the window, PLACE[:BYTES], such as lengths, from the run of the image as it is; repeatable")
     parser.add_argument("--length", metavar="PLACE:N", action="append", default=[],
                         help="leave out inputs for which a load at PLACE in the window gives more than N; repeatable")
+    parser.add_argument("--allow", metavar="PLACE", action="append", default=[],
+                        help="take an access to be right if the rule of objects does not decide it, at PLACE[:BYTES] or FILE:LINE; repeatable")
     parser.add_argument("--calm", action="store_true", help="assume that the host changes the window only while the enclave does not run")
     parser.add_argument("--each", dest="merges", action="store_false", help="explore each sequence of activations by itself, not all of them at once")
     parser.add_argument("--activations", metavar="N", type=positive, help="with --each: explore N activations (default: as many as the run has)")

@@ -3,7 +3,7 @@ from __future__ import annotations
 
 from typing import List, Optional, Tuple
 
-from rvlook.symbolic.conditions import all_of, within
+from rvlook.symbolic.conditions import all_of, any_of, within
 from rvlook.symbolic.decode import decode
 from rvlook.symbolic.evaluation import evaluate
 from rvlook.symbolic.extents import Extent
@@ -87,7 +87,7 @@ class Accesses(Paths):
         if w.window[0] <= at and at + width <= w.window[1] and (tag is None or w.window[0] <= tag.base < w.window[1]):
             return
         if tag is None or tag.how in (How.NONE, How.MIXED):
-            s.doubt(kind, self, UNKNOWN)
+            s.doubt_access(kind, self, UNKNOWN)
             return
         if tag.how in (How.FRAME, How.STACK) and not self.is_open(tag.call):
             s.report(kind, self, "uses a local variable of a function that has returned", self.model)
@@ -97,7 +97,7 @@ class Accesses(Paths):
         if not hit:
             self.leaves(at, width, tag, objects, kind)
         elif len(objects) > 1 and at != tag.base + offset & M32:
-            s.doubt(kind, self, FOLDED)
+            s.doubt_access(kind, self, FOLDED)
         else:
             s.landed.add((self.pc, hit[0][:2]))
             self.inside[self.pc] = tag, hit[0].low, hit[0].high
@@ -108,9 +108,9 @@ class Accesses(Paths):
         s = self.search
         target = s.extents.at(self, at, None)
         if not objects:
-            s.doubt(kind, self, UNKNOWN)
+            s.doubt_access(kind, self, UNKNOWN)
         elif all(not it.is_start and (self.pc, it[:2]) not in s.landed and tag.how is not How.FRAME for it in objects) or self.is_end(tag, at, width):
-            s.doubt(kind, self, FOLDED)
+            s.doubt_access(kind, self, FOLDED)
         else:
             text = "moves from %s into %s" % (objects[0].name, target.name if target else "memory that is no object")
             s.report(kind, self, text, self.model)
@@ -146,11 +146,10 @@ class Accesses(Paths):
         s = self.search
         objects, is_sure = self.places(x, tag, offset, width)
         if not objects:
-            s.doubt(kind, self, UNKNOWN)
-            return None
+            return self.allowed_place(x, width, kind) if s.doubt_access(kind, self, UNKNOWN) else None
         insides = [(within(x, it.low, it.high - width), it) for it in objects]
         if not any(inside is True for inside, _ in insides) and self.asked_outside(x, insides, is_sure, kind) is None:
-            return None
+            return self.allowed_place(x, width, kind) if s.world.allowed.has(self.pc) else None
         if self.is_base and not any(self.holds(inside) for inside, _ in insides):
             return None  # the run itself is outside
         found = self.chosen(insides)
@@ -186,7 +185,7 @@ class Accesses(Paths):
         if answer is None:
             s.undecided[kind, self.pc] += 1
         elif not is_sure:
-            s.doubt(kind, self, FOLDED)
+            s.doubt_access(kind, self, FOLDED)
             return None
         else:
             at = evaluate(x, model, {})
@@ -195,6 +194,25 @@ class Accesses(Paths):
             s.report(kind, self, "the host can move it from %s to %s" % (" or ".join(it.name for _, it in insides), reached), model)
         s.assumed_inside[self.pc] += 1
         return True
+
+    def allowed_place(self, x: Node, width: int, kind: str) -> Optional[Extent]:
+        """Takes an allowed access at an expression: asks whether it can leave region and window. Returns the object in which it stays, or None if
+        there is none, so that it is followed value by value."""
+        s, w = self.search, self.search.world
+        inside = any_of(*(within(x, low, high - width) for low, high in (w.region, w.window)))
+        answer, model = s.solver.satisfiable(self.conds, not_(inside), self.model)
+        if answer is None:
+            s.undecided[kind, self.pc] += 1
+        elif answer:
+            s.report(kind, self, "the host can move it out of region and window, to %08x" % evaluate(x, model, {}), model)
+            s.assumed_inside[self.pc] += 1
+            if self.is_base and not self.holds(inside):
+                return None
+            self.move_to(inside)
+        found = s.extents.at(self, self.value(x), None)
+        if found is None or s.solver.satisfiable(self.conds, not_(within(x, found.low, found.high - width)), self.model)[0] is not False:
+            return None
+        return found
 
     @staticmethod
     def outside_of(insides: List[Tuple[Condition, Extent]]) -> Condition:

@@ -39,6 +39,18 @@ class Judge(Outputs):
         self.usual_moves: Set[Place] = set()
         self.landed: Set[Tuple[int, Tuple[int, int]]] = set()  # an instruction, and an object that it reaches
         self.again: Set[Tuple[Place, Place]] = set()
+        self.allowed: Dict[int, Set[str]] = {}  # the accesses that only --allow makes right, with what is not known about them
+
+    # ---- accesses
+
+    def doubt_access(self, what: str, state: State, reason: str) -> bool:
+        """Takes an access that the rule of objects does not decide: it is not decided unless --allow names it. Returns whether it is allowed."""
+        if not self.world.allowed.has(state.pc):
+            self.doubt(what, state, reason)
+            return False
+        if not self.is_trial:
+            self.allowed.setdefault(state.pc, set()).add(reason)
+        return True
 
     # ---- code
 

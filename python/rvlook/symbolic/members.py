@@ -79,7 +79,7 @@ def member_leaves(state: Accesses, at: int, width: int, tag: Origin, offset: int
     if state.is_base:
         s.usual_moves.add((state.context, state.pc))
     elif (state.context, state.pc) not in s.usual_moves and (member.element or member.is_union):
-        s.doubt(kind, state, UNION if member.is_union else MEMBER)
+        s.doubt_access(kind, state, UNION if member.is_union else MEMBER)
 
 
 def asked_member(state: Accesses, x: Node, width: int, tag: Origin, offset: int, kind: str) -> None:
@@ -90,7 +90,7 @@ def asked_member(state: Accesses, x: Node, width: int, tag: Origin, offset: int,
         return
     member, low = found
     if member.is_union:
-        s.doubt(kind, state, UNION)
+        s.doubt_access(kind, state, UNION)
         return
     whole = s.extents.variable(low)
     if (low, member.size) == (whole.low, whole.high - whole.low) and not member.row:
@@ -118,7 +118,7 @@ def ask_flat(state: Accesses, x: Node, width: int, place: Tuple[Member, int], ki
     member, low = place
     answer, _ = state.search.solver.satisfiable(state.conds, not_(within(x, low, low + member.row - width)), state.model)
     if answer is not False:
-        state.search.doubt(kind, state, ROW)
+        state.search.doubt_access(kind, state, ROW)
 
 
 def sizes_of(state: Accesses, member: Member, terms: Linear) -> List[Tuple[int, int]]:

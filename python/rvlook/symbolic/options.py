@@ -8,7 +8,8 @@ from typing import Optional, Sequence
 @dataclass(frozen=True)
 class VerifyOptions:
     """The enclave is the one in `slot`. `at`, `must_know` and `must_matter` are places in its region, and `given` is places in its window. `length`
-    has places in its window, each with a largest value. `public` may depend on the secret. With `merges` the states of all stops are merged, and
+    has places in its window, each with a largest value. `allow` has instructions whose objects are taken to be right. `public` may depend on the
+    secret. With `merges` the states of all stops are merged, and
     otherwise `activations` are explored one by one. A loop is followed for `bound` rounds, or merged with `loops`. `seconds` limits the search,
     `timeout` (milliseconds) a query, and `path_steps` a path. Every `replay`th path is replayed. `scripts` is the folder for the inputs of
     findings."""
@@ -20,6 +21,7 @@ class VerifyOptions:
     wiped: bool = False
     given: Sequence[str] = ()
     length: Sequence[str] = ()
+    allow: Sequence[str] = ()
     calm: bool = False
     merges: bool = True
     activations: Optional[int] = None

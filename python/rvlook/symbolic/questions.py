@@ -24,6 +24,7 @@ QUESTIONS: Dict[str, Tuple[str, Sequence[str]]] = {
     "remains": ("nothing in the region or the registers depends on the secret at a stop", ("remains",)),
     "influence": ("what comes out depends on each byte of the secret that must matter", ("influence",)),
     "state": ("no older state is accepted as the latest", ("older",))}
+BUT_ALLOWED = "; what it cannot know about the accesses of --allow is taken to be right"
 OWN_PATH = ", in the activations of the run itself; use --each for others"
 REASONS = {"any_bytes": "any_bytes names bytes outside the region",
            "code": "a path reaches code that changes", "outside": "a path leaves the region", "steps": "a path is too long",
@@ -88,7 +89,8 @@ def answers(search: Search) -> List[Answer]:
     found = []
     for name in asked(search):
         title, kinds = QUESTIONS[name]
-        it = Answer(name, PROVED if is_complete else NONE_FOUND, title + (OWN_PATH if name == "state" and search.merger else ""))
+        more = BUT_ALLOWED if name == "memory" and search.allowed else OWN_PATH if name == "state" and search.merger else ""
+        it = Answer(name, PROVED if is_complete else NONE_FOUND, title + more)
         it.findings = sorted((x for x in search.found.values() if x.what in kinds and x.is_confirmed), key=lambda x: (x.pc, x.what))
         for (what, pc), count in sorted(search.undecided.items(), key=lambda x: (x[0][1], x[0][0])):
             if what in kinds and (what, pc) not in search.found:
@@ -113,6 +115,12 @@ def is_complete(search: Search) -> bool:
     return not gone(search) and not untrusted(search) and not is_open
 
 
+def open_texts(search: Search) -> List[str]:
+    """Returns why a result is not COMPLETE; empty if it is. An option --allow that is not needed may be a wrong one."""
+    found = [*gone(search), *untrusted(search)]
+    return (found if is_complete(search) else found or ["places are not decided"]) + unused(search)
+
+
 def covered(search: Search) -> str:
     """Returns what a complete search has covered."""
     number = "any number of activations" if search.merger else "1 activation" if search.activations == 1 else "%d activations" % search.activations
@@ -122,7 +130,18 @@ def covered(search: Search) -> str:
     types = "" if search.world.has_types else "; objects are known by symbols alone, without types"
     places = ", ".join(search.world.place(pc) for pc in sorted(search.assumptions))
     assumed = ", if the assumptions hold at %s" % places if places else ""
-    return "%sall paths, all inputs%s%s, %s%s%s%s" % (limits(search), secrets, given, number, calm, assumed, types)
+    allowed = ", if the allowed accesses are right: %s" % "; ".join(allowed_texts(search)) if search.allowed else ""
+    return "%sall paths, all inputs%s%s, %s%s%s%s%s" % (limits(search), secrets, given, number, calm, assumed, allowed, types)
+
+
+def allowed_texts(search: Search) -> List[str]:
+    """Returns the accesses that only --allow makes right, each with what is not known about it."""
+    return ["%s (%s)" % (search.world.place(pc), ", ".join(sorted(reasons))) for pc, reasons in sorted(search.allowed.items())]
+
+
+def unused(search: Search) -> List[str]:
+    """Returns the options --allow that a search did not need."""
+    return ["--allow %s names no access that needs it" % it for it in search.world.allowed.unused(set(search.allowed))]
 
 
 def limits(search: Search) -> str:

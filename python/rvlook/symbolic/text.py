@@ -97,12 +97,13 @@ def unfinished_text(search: Search) -> str:
     wrong = questions.untrusted(search)
     if wrong:
         return "NOT TO BE TRUSTED: " + wrong[0]
-    return "" if questions.is_complete(search) else "not complete: " + "; ".join(questions.gone(search) or ["places are not decided"])
+    reasons = questions.open_texts(search)
+    return "not complete: " + "; ".join(reasons) if reasons else ""
 
 
 def print_text(search: Search, answers: Sequence[questions.Answer], printer: Printer) -> None:
     """Prints the findings, the answers, and what was covered."""
-    number, reasons, wrong = 0, questions.gone(search), questions.untrusted(search)
+    number, reasons, wrong = 0, questions.open_texts(search), questions.untrusted(search)
     for it in (it for answer in answers for it in answer.findings):
         number += 1
         printer.line(printer.styled("finding %d: %s" % (number, heading_of(search, it)), Style.bad))
@@ -121,11 +122,11 @@ def print_text(search: Search, answers: Sequence[questions.Answer], printer: Pri
     for text in wrong:
         printer.line(printer.styled("NOT TO BE TRUSTED: %s" % text, Style.bad))
     printer.line(covered_text(search))
-    if questions.is_complete(search):
+    if not reasons:
         mark = "COMPLETE " if search.limited else "COMPLETE: "
         printer.line(printer.styled(mark + questions.covered(search), Style.good if not number else Style.heading))
     else:
-        printer.line("not complete: %s" % "; ".join([*reasons, *wrong] or ["places are not decided"]))
+        printer.line("not complete: %s" % "; ".join(reasons))
 
 
 def covered_text(search: Search) -> str:
@@ -150,6 +151,7 @@ def write_objects(search: Search, answers: Sequence[questions.Answer], printer: 
     for answer in answers:
         printer.object("question", name=answer.name, title=answer.title, verdict=answer.verdict, findings=len(answer.findings),
                        undecided=answer.places)
-    printer.object("verify", slot=search.options.slot, complete=questions.is_complete(search), covered=questions.covered(search),
-                   reasons=[*questions.gone(search), *questions.untrusted(search)], paths=search.paths, steps=search.steps,
+    reasons = questions.open_texts(search)
+    printer.object("verify", slot=search.options.slot, complete=not reasons, covered=questions.covered(search),
+                   allowed=questions.allowed_texts(search), reasons=reasons, paths=search.paths, steps=search.steps,
                    instructions=len(search.code), replays=sum(search.replays.values()), queries=search.solver.queries)

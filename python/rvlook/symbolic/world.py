@@ -11,6 +11,7 @@ from rvlook.finders.leak import Public, public_of
 from rvlook.finders.secrets import secret_of
 from rvlook.protocol.replies import enclave_of, register_values
 from rvlook.protocol.stretch import Stretch
+from rvlook.symbolic.allowed import Allowed
 
 if TYPE_CHECKING:
     from rvlook.image.variables import Variables
@@ -56,6 +57,7 @@ class World:
             raise RvlookError("--must-matter names bytes that --at does not")
         self.given = public_of(options.given, symbols) if options.given else None
         self.lengths = lengths_of(options.length, symbols)
+        self.allowed = Allowed(options.allow, symbols, self.region)
 
     def bytes_of(self, places: Sequence[str]) -> Dict[int, int]:
         """Returns the addresses of bytes of the region, each with its value at the first entry. Raises RvlookError."""

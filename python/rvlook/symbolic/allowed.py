@@ -1,0 +1,53 @@
+"""The instructions of --allow: what the rule of objects cannot know about their accesses is taken to be right."""
+from __future__ import annotations
+
+from typing import Dict, FrozenSet, List, Sequence, Set, TYPE_CHECKING, Tuple
+
+from rvlook.errors import RvlookError
+from rvlook.finders.secrets import place_and_size
+
+if TYPE_CHECKING:
+    from rvlook.protocol.symbols import Symbols
+
+WORD = 4  # bytes of an instruction, and of a place without a size
+
+
+class Allowed:
+    """The options --allow, each with its instructions."""
+
+    def __init__(self, texts: Sequence[str], symbols: Symbols, region: Tuple[int, int]) -> None:
+        self.pcs: Dict[str, FrozenSet[int]] = {it: instructions_of(it, symbols, region) for it in texts}
+        self.every = frozenset().union(*self.pcs.values())
+
+    def has(self, pc: int) -> bool:
+        """Returns whether an option names an instruction."""
+        return pc in self.every
+
+    def unused(self, used: Set[int]) -> List[str]:
+        """Returns the options that name none of these instructions."""
+        return [text for text, pcs in self.pcs.items() if not pcs & used]
+
+
+def instructions_of(text: str, symbols: Symbols, region: Tuple[int, int]) -> FrozenSet[int]:
+    """Returns the instructions that PLACE, PLACE:BYTES or FILE:LINE names. Raises RvlookError if the enclave has none there."""
+    low, high = region
+    if is_line(text, symbols):
+        found = frozenset(pc for pc in range(low, high, WORD) if has_line(symbols, pc, text))
+    else:
+        at, count = place_and_size(text, symbols)
+        found = frozenset(pc for pc in range(at & -WORD, at + (count or WORD), WORD) if low <= pc < high)
+    if not found:
+        raise RvlookError("--allow names no instruction of the enclave with '%s'; use PLACE[:BYTES] or FILE:LINE" % text)
+    return found
+
+
+def is_line(text: str, symbols: Symbols) -> bool:
+    """Returns whether a text is a file and a line: its first part is no place."""
+    name, colon, line = text.rpartition(":")
+    return bool(colon) and line.isascii() and line.isdigit() and symbols.address(name) is None
+
+
+def has_line(symbols: Symbols, pc: int, text: str) -> bool:
+    """Returns whether an instruction belongs to a source line, also as a part of an inlined call there."""
+    lines = [it for it in (symbols.source(pc), symbols.caller(pc)) if it]
+    return any(it == text or it.endswith("/" + text) for it in lines)
