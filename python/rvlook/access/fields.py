@@ -31,6 +31,10 @@ class Fields:
         """Returns the name of the field at an address, else a symbol, or None."""
         return self.known(address) or self.symbols.name(address)
 
+    def member(self, address: int) -> tuple[int, Member] | None:
+        """Returns the address and the member of the field at an address, or None."""
+        return next(((at, it) for at, it in self.rows if at <= address < at + it.size), None)
+
     def known(self, address: int) -> str | None:
         """Returns the name of the field at an address, or None."""
         for at, it in self.rows:

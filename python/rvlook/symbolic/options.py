@@ -12,7 +12,7 @@ class VerifyOptions:
     secret. With `merges` the states of all stops are merged, and
     otherwise `activations` are explored one by one. A loop is followed for `bound` rounds, or merged with `loops`. `seconds` limits the search,
     `timeout` (milliseconds) a query, and `path_steps` a path. Every `replay`th path is replayed. `scripts` is the folder for the inputs of
-    findings."""
+    findings, and `symbols` the file of the symbols, if the image has none."""
     slot: int = 0
     at: Sequence[str] = ()
     public: Sequence[str] = ()
@@ -32,3 +32,4 @@ class VerifyOptions:
     replay: int = 10
     path_steps: int = 2000000
     scripts: Optional[str] = None
+    symbols: Optional[str] = None

@@ -2,12 +2,11 @@
 from __future__ import annotations
 
 import time
-from typing import Dict, List, Sequence, TYPE_CHECKING, Tuple
+from typing import List, Sequence, TYPE_CHECKING
 
 from rvlook.output.printer import Style, hex8
 from rvlook.symbolic import questions, scripts
-from rvlook.symbolic.evaluation import evaluate
-from rvlook.symbolic.nodes import by_name, mask_of
+from rvlook.symbolic.counterexample import HINT, commands, input_lines, input_objects
 
 if TYPE_CHECKING:
     from rvlook.output.findings import Findings
@@ -15,7 +14,6 @@ if TYPE_CHECKING:
     from rvlook.symbolic.record import Finding
     from rvlook.symbolic.search import Search
 
-MOST_INPUTS = 24  # rows of the table of inputs
 STYLES = {questions.PROVED: Style.good, questions.FOUND: Style.bad}
 HEADINGS = {"pc": "the pc depends on the secret", "address": "the address depends on the secret", "operand": "the operand depends on the secret",
             "window": "the window depends on the secret", "answer": "the answer depends on the secret"}
@@ -26,40 +24,6 @@ def heading_of(search: Search, it: Finding) -> str:
     return "%s, at %s" % (it.text if it.what not in HEADINGS else it.text or HEADINGS[it.what], search.world.place(it.pc))
 
 
-def inputs_of(search: Search, it: Finding) -> List[Tuple[int, int, int, int]]:
-    """Returns the inputs that the path of a finding asks about: the activation, the address, the value, and the value of the run itself."""
-    memo: Dict[object, object] = {}
-    mask = 0
-    for condition in it.conds:
-        mask |= mask_of(condition)
-    mask |= mask_of(it.address)
-    ends, found = [end[0] for end in it.answers], []
-    for step, at, names in it.loads:
-        visit = sum(end < step for end in ends)
-        own = search.world.windows[min(visit, len(search.world.windows) - 1)]
-        for n, name in names:
-            place = evaluate(at, it.one, memo) + n  # type: ignore[arg-type]
-            if name in by_name and (by_name[name].mask or 0) & mask:
-                is_window = search.world.window[0] <= place < search.world.window[1]
-                old = own[place - search.world.window[0]] if is_window else search.world.memory[place - search.world.region[0]]
-                found.append((visit + 1, place, it.one[name], old))
-    return found
-
-
-def input_rows(search: Search, it: Finding) -> List[str]:
-    """Returns the inputs of a finding as lines: words are put together, and bytes as they are."""
-    rows, found = [row for row in inputs_of(search, it) if row[2] != row[3]], []
-    while rows:
-        visit, at = rows[0][:2]
-        count = next((n for n in (4, 2) if [row[:2] for row in rows[:n]] == [(visit, at + k) for k in range(n)] and not at % n), 1)
-        value, old = (int.from_bytes(bytes(row[k] for row in rows[:count]), "little") for k in (2, 3))
-        name = search.world.symbols.name(at) or hex8(at)
-        found.append("  input  activation %d: %s = 0x%x instead of 0x%x (%08x, %d bytes)" % (visit, name, value, old, at, count))
-        rows = rows[count:]
-    more = ["  input  ... and %d more" % (len(found) - MOST_INPUTS)] if len(found) > MOST_INPUTS else []
-    return (found[:MOST_INPUTS] or ["  input  none: the run itself"]) + more
-
-
 def details_of(search: Search, it: Finding) -> List[str]:
     """Returns the further lines of a finding."""
     times = ", %d times" % it.count if it.count > 1 else ""
@@ -67,7 +31,7 @@ def details_of(search: Search, it: Finding) -> List[str]:
     if it.two:
         texts = tuple("".join("%02x" % model["k_%08x" % at] for at in search.world.secret) for model in (it.one, it.two))
         lines.append("  secrets %s and %s" % texts)
-    return lines + input_rows(search, it)
+    return lines + input_lines(search, it)
 
 
 def show(search: Search, printer: Printer, findings: Findings) -> None:
@@ -109,8 +73,10 @@ def print_text(search: Search, answers: Sequence[questions.Answer], printer: Pri
         printer.line(printer.styled("finding %d: %s" % (number, heading_of(search, it)), Style.bad))
         for line in details_of(search, it):
             printer.line(line)
-        if search.options.scripts:
-            printer.line("  script %s/finding_%d" % (search.options.scripts, number))
+        for line in commands(search, number):
+            printer.line(line)
+    if number and not search.options.scripts:
+        printer.line(HINT)
     for answer in answers:
         count = " %d" % len(answer.findings) if answer.findings else ""
         verdict = (answer.verdict + count).ljust(12)
@@ -143,11 +109,10 @@ def write_objects(search: Search, answers: Sequence[questions.Answer], printer: 
     for answer in answers:
         for it in answer.findings:
             number += 1
-            rows = inputs_of(search, it)
             printer.object("proof_finding", number=number, question=answer.name, what=it.what, text=heading_of(search, it), step=len(it.pcs),
                            pc=hex8(it.pc), symbol=search.world.symbols.name(it.pc), source=search.world.symbols.source(it.pc),
-                           confirmed=it.answer,
-                           inputs=[{"activation": row[0], "address": hex8(row[1]), "value": row[2], "instead_of": row[3]} for row in rows])
+                           confirmed=it.answer, inputs=input_objects(search, it),
+                           script="%s/finding_%d" % (search.options.scripts, number) if search.options.scripts else None)
     for answer in answers:
         printer.object("question", name=answer.name, title=answer.title, verdict=answer.verdict, findings=len(answer.findings),
                        undecided=answer.places)

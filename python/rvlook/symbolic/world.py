@@ -2,8 +2,11 @@
 from __future__ import annotations
 
 from dataclasses import dataclass, field
+from functools import cached_property
 from typing import Dict, Iterator, List, Optional, Sequence, TYPE_CHECKING, Tuple
 
+from rvlook.access.activations import Activations
+from rvlook.access.fields import FieldReader, Fields
 from rvlook.errors import RvlookError, Unfinished
 from rvlook.finders.inputs.contexts import Contexts
 from rvlook.finders.inputs.objects import Objects
@@ -110,6 +113,17 @@ class World:
         bench.ask(*["hart %d" % chosen] if has_more else [])
         self.regs, self.pc = values[:32], values[32]
         self.memory = bytes_at(bench, *self.region)
+
+    @cached_property
+    def fields(self) -> Fields:
+        """The names of the fields of the window, as far as calls in the run itself show them."""
+        found = Fields(self.symbols)
+        if self.objects.parameters:
+            reader = FieldReader(self.run, self.objects.parameters, found)
+            for it in Activations(self.run).all():
+                if it.slot == self.slot:
+                    reader.read(it)
+        return found
 
     def place(self, pc: int) -> str:
         """Returns the line of C of an instruction, or a symbol with an offset."""

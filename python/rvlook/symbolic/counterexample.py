@@ -1,0 +1,109 @@
+"""A counterexample: the inputs of a finding as a table with the names of fields, and the commands that show the finding."""
+from __future__ import annotations
+
+import shlex
+from typing import Any, Dict, Iterator, List, NamedTuple, TYPE_CHECKING
+
+from rvlook.output.printer import hex8
+from rvlook.symbolic.evaluation import evaluate
+from rvlook.symbolic.nodes import by_name, mask_of
+
+if TYPE_CHECKING:
+    from rvlook.output.printer import Json
+    from rvlook.symbolic.record import Finding
+    from rvlook.symbolic.search import Search
+
+MOST_INPUTS = 24  # rows of the table of inputs
+RAM = 1 << 20  # bytes, if no option says otherwise
+HINT = "To run a finding, give --scripts DIR. It writes DIR/finding_N, which ./rvlook page and ./rvlook gdb show."
+
+
+class Row(NamedTuple):
+    """Bytes that a load takes from the host: the activation, the address, the values, and the values in the run itself."""
+    visit: int
+    at: int
+    values: bytes
+    old: bytes
+
+
+def rows_of(search: Search, it: Finding) -> Iterator[Row]:
+    """Yields the inputs that the path of a finding asks about, by load."""
+    memo: Dict[Any, Any] = {}
+    mask = 0
+    for condition in it.conds:
+        mask |= mask_of(condition)
+    mask |= mask_of(it.address)
+    ends = [end[0] for end in it.answers]
+    for step, at, names in it.loads:
+        if not any(name in by_name and (by_name[name].mask or 0) & mask for _, name in names):
+            continue
+        visit, first = sum(end < step for end in ends), evaluate(at, it.one, memo)
+        parts: List[Row] = []
+        for n, name in names:
+            row = Row(visit + 1, first + n, bytes([it.one[name]]), bytes([own_byte(search, visit, first + n)]))
+            is_next = bool(parts) and parts[-1].at + len(parts[-1].values) == row.at
+            parts[len(parts) - is_next:] = [joined(parts[-1], row) if is_next else row]
+        yield from parts
+
+
+def own_byte(search: Search, visit: int, at: int) -> int:
+    """Returns a byte of the window or of the region in the run itself."""
+    w = search.world
+    if w.window[0] <= at < w.window[1]:
+        return w.windows[min(visit, len(w.windows) - 1)][at - w.window[0]]
+    return w.memory[at - w.region[0]]
+
+
+def joined(one: Row, two: Row) -> Row:
+    """Returns two rows of adjacent bytes as one."""
+    return one._replace(values=one.values + two.values, old=one.old + two.old)
+
+
+def table(search: Search, it: Finding) -> List[Row]:
+    """Returns the inputs of a finding. Bytes that are loaded one by one are put together to aligned words of one field."""
+    fields, found = search.world.fields, []  # type: Any, List[Row]
+    for row in rows_of(search, it):
+        last = found[-1] if found else row
+        size = len(last.values)
+        is_part = row is not last and len(row.values) == 1 and size < 4 and last.at % 4 + size < 4 and last.at % 2 == 0
+        if is_part and (row.visit, row.at) == (last.visit, last.at + size) and fields.member(row.at) == fields.member(last.at):
+            found[-1] = joined(last, row)
+        else:
+            found.append(row)
+    return found
+
+
+def input_lines(search: Search, it: Finding) -> List[str]:
+    """Returns the inputs that differ from those of the run itself, as lines."""
+    found = [line_of(search, row) for row in table(search, it) if row.values != row.old]
+    more = ["  input  ... and %d more" % (len(found) - MOST_INPUTS)] if len(found) > MOST_INPUTS else []
+    return (found[:MOST_INPUTS] or ["  input  none: the run itself"]) + more
+
+
+def line_of(search: Search, row: Row) -> str:
+    """Returns an input as a line."""
+    value, old = (int.from_bytes(it, "little") for it in (row.values, row.old))
+    count = "1 byte" if len(row.values) == 1 else "%d bytes" % len(row.values)
+    name = search.world.fields.name(row.at) or hex8(row.at)
+    return "  input  activation %d: %s = 0x%x instead of 0x%x (%08x, %s)" % (row.visit, name, value, old, row.at, count)
+
+
+def input_objects(search: Search, it: Finding) -> List[Json]:
+    """Returns the bytes of the inputs as objects."""
+    return [{"activation": row.visit, "address": hex8(row.at + n), "name": search.world.fields.name(row.at + n), "value": value,
+             "instead_of": row.old[n]} for row in rows_of(search, it) for n, value in enumerate(row.values)]
+
+
+def commands(search: Search, number: int) -> List[str]:
+    """Returns the input of rvbench that --scripts writes for a finding, and the commands that show it, as lines."""
+    if not search.options.scripts:
+        return []
+    setup, path = search.world.run.setup, "%s/finding_%d" % (search.options.scripts, number)
+    symbols = search.options.symbols or (setup.image.name if setup.image.is_elf else None)
+    words = ["--monitor", path, *(["--symbols", symbols] if symbols else []), *(["--harts", str(setup.harts)] if setup.harts > 1 else [])]
+    words += ["--ram", str(setup.ram)] if setup.ram != RAM else []
+    text = " ".join(map(shlex.quote, words))
+    program = [setup.image.name] if setup.image.is_elf else []
+    debugger = ["gdb-multiarch", *program, "-ex", "target remote | ./rvlook gdb %s" % text]
+    return ["  script %s" % path, "  page   ./rvlook page %s --steps 0 > %s" % (text, shlex.quote(path + ".html")),
+            "  debug  %s" % " ".join(map(shlex.quote, debugger))]
