@@ -86,6 +86,11 @@ def test_objects_have_names_and_the_script(results, tmp_path):
     assert "window_base+4" in [it["name"] for it in finding["inputs"]]
 
 
+def test_hex_image_is_no_program_of_the_debugger(rvlook, tmp_path):
+    lines = rvlook(*WORDS, "--scripts", tmp_path).stdout.splitlines()
+    assert shlex.split(command_of(lines, "debug"))[:2] == ["gdb-multiarch", "-ex"]
+
+
 @pytest.mark.parametrize("fields, sizes", [([(0, 4)], [4]), ([(0, 1), (1, 1), (2, 2)], [1, 1, 2]), ([(0, 2), (2, 2)], [2, 2]), ([], [4])])
 def test_bytes_of_one_field_are_put_together(monkeypatch, fields, sizes):
     rows = [Row(1, 0x80030000 + n, bytes([n]), b"\0") for n in range(4)]

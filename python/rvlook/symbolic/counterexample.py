@@ -5,6 +5,7 @@ import shlex
 from typing import Any, Dict, Iterator, List, NamedTuple, TYPE_CHECKING
 
 from rvlook.output.printer import hex8
+from rvlook.protocol.inputs import ELF_MAGIC
 from rvlook.symbolic.evaluation import evaluate
 from rvlook.symbolic.nodes import by_name, mask_of
 
@@ -94,16 +95,25 @@ def input_objects(search: Search, it: Finding) -> List[Json]:
              "instead_of": row.old[n]} for row in rows_of(search, it) for n, value in enumerate(row.values)]
 
 
+def is_elf_file(path: str) -> bool:
+    """Returns whether a file is an ELF file, which a debugger can read. A hex image is none."""
+    try:
+        with open(path, "rb") as it:
+            return it.read(len(ELF_MAGIC)) == ELF_MAGIC
+    except OSError:
+        return False
+
+
 def commands(search: Search, number: int) -> List[str]:
     """Returns the input of rvbench that --scripts writes for a finding, and the commands that show it, as lines."""
     if not search.options.scripts:
         return []
     setup, path = search.world.run.setup, "%s/finding_%d" % (search.options.scripts, number)
-    symbols = search.options.symbols or (setup.image.name if setup.image.is_elf else None)
-    words = ["--monitor", path, *(["--symbols", symbols] if symbols else []), *(["--harts", str(setup.harts)] if setup.harts > 1 else [])]
+    words = ["--monitor", path] + (["--symbols", search.options.symbols] if search.options.symbols else [])
+    words += ["--harts", str(setup.harts)] if setup.harts > 1 else []
     words += ["--ram", str(setup.ram)] if setup.ram != RAM else []
     text = " ".join(map(shlex.quote, words))
-    program = [setup.image.name] if setup.image.is_elf else []
-    debugger = ["gdb-multiarch", *program, "-ex", "target remote | ./rvlook gdb %s" % text]
+    program = next((it for it in (search.options.symbols, setup.image.name) if it and is_elf_file(it)), None)
+    debugger = ["gdb-multiarch", *([program] if program else []), "-ex", "target remote | ./rvlook gdb %s" % text]
     return ["  script %s" % path, "  page   ./rvlook page %s --steps 0 > %s" % (text, shlex.quote(path + ".html")),
             "  debug  %s" % " ".join(map(shlex.quote, debugger))]
