@@ -5,6 +5,7 @@ that are its standard input. Then come the parts `input`, `stdout` and `stderr`,
 the output; review the changes before you commit them.
 """
 import re
+from importlib.util import find_spec
 from pathlib import Path
 
 import pytest
@@ -13,6 +14,7 @@ from conftest import ROOT
 
 GOLDEN = Path(__file__).with_name("golden")
 PART = re.compile(r"^--- (input|stdout|stderr)\n", re.M)
+FOR_ALL = re.compile("^for all secrets: .*\n", re.M)  # lines that need z3
 NO_SYMBOLS = "rvlook: warning: pyelftools is not installed"
 
 
@@ -39,6 +41,7 @@ def test_golden(rvlook, request, path):
     if request.config.getoption("--update-golden"):
         found = {**parts, "stdout": done.stdout, "stderr": errors}
         path.write_text(text_of(words, done.returncode, joined, found), encoding="utf-8")
-    assert done.stdout == parts.get("stdout", "")
+    expected = parts.get("stdout", "")
+    assert done.stdout == (expected if find_spec("z3") else FOR_ALL.sub("", expected))
     assert errors == parts.get("stderr", "")
     assert done.returncode == status

@@ -1,4 +1,4 @@
-"""`verify --harts 2`: the answers are those for one hart, whichever hart runs the enclave. What the other hart stores to the window is an input."""
+"""`verify --harts 2`: the answers are those for one hart, whichever hart runs the enclave. The other hart may store inputs to the window at any time."""
 import pytest
 
 pytest.importorskip("z3", reason="python3-z3 is not installed")

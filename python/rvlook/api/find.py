@@ -35,6 +35,7 @@ from rvlook.output.printer import Printer, place_text
 from rvlook.output.progress import Progress
 from rvlook.protocol.run import run_of
 from rvlook.protocol.schedule import TURN, alternating
+from rvlook.symbolic.one_path import is_hidden
 from rvlook.symbolic.options import VerifyOptions
 from rvlook.symbolic.questions import answers
 from rvlook.symbolic.scripts import input_of
@@ -149,7 +150,7 @@ def leaks(program: Program, secret: str, values: Sequence[bytes] = (), *, tries:
     words = option_arguments(dict(at=secret, tries=tries if values else count, public=public, strict=strict, slot=slot, seed=seed, seconds=seconds))
     options = LeakOptions(secret, slot, several(public), strict, values, count, seed=seed, seconds=seconds)
     with searching(["leak", *(it.hex() for it in values), *words], program) as (found, printer):
-        leak = Leak(ordered(program, "leak"), options)
+        leak = Leak(ordered(program, "leak"), options, is_hidden)
         if values:
             pair = compare_given(leak)
             pair_text(leak, printer, pair)

@@ -3,12 +3,13 @@ from __future__ import annotations
 
 from typing import TYPE_CHECKING
 
-from rvlook.finders.leak_search import LeakOptions, values_in
+from rvlook.finders.leak_search import Leak, LeakOptions, values_in
 from rvlook.finders.leak_text import show_leak
 from rvlook.finders.timer import show_timer
 from rvlook.finders.window import WindowOptions
 from rvlook.finders.window_text import show_window
 from rvlook.image.variables import variables_of
+from rvlook.symbolic.one_path import is_hidden
 from rvlook.cli.opening import opened, opened_monitored, refuse_empty_part
 from rvlook.errors import UsageError
 
@@ -36,7 +37,7 @@ def do_leak(arguments: Namespace) -> None:
     values = [] if arguments.tries is not None else values_in(arguments.secrets)
     options = LeakOptions(arguments.at, arguments.slot, arguments.public or (), arguments.strict, values, arguments.tries, arguments.first,
                           arguments.last, arguments.seed, arguments.seconds, arguments.jobs)
-    show_leak(run, printer, options, arguments.findings)
+    show_leak(Leak(run, options, is_hidden), printer, arguments.findings)
 
 
 def do_timer(arguments: Namespace) -> None:

@@ -38,11 +38,17 @@ class LeakOptions:
     jobs: int = 1
 
 
-class Leak:
-    """A run, its secret, and how it is compared. `cut` says why an observation ended too early, if one did."""
+def not_known(_: Leak) -> bool:
+    """Returns that nothing is known about other secrets."""
+    return False
 
-    def __init__(self, run: Run, options: LeakOptions) -> None:
-        self.run, self.symbols, self.options, self.cut = run, run.setup.symbols, options, ""
+
+class Leak:
+    """A run, its secret, and how it is compared. `cut` says why an observation ended too early, if one did. `is_hidden` decides whether no secret
+    changes what the host observes."""
+
+    def __init__(self, run: Run, options: LeakOptions, is_hidden: Callable[[Leak], bool] = not_known) -> None:
+        self.run, self.symbols, self.options, self.cut, self.is_hidden = run, run.setup.symbols, options, "", is_hidden
         self.public, self.is_strict = public_of(options.public, self.symbols), options.is_strict
         left_out = {"operand"} - ({"operand"} if self.is_strict else set()) | (set() if run.setup.monitor else {"answer", "window"})
         self.channels = [it for it in CHANNELS if it not in left_out]

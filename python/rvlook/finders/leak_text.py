@@ -4,7 +4,7 @@ from __future__ import annotations
 from typing import Mapping, Sequence, TYPE_CHECKING
 
 from rvlook.finders.leak import CHANNELS
-from rvlook.finders.leak_search import Compared, Leak, LeakOptions, Tried, compare_drawn, compare_given, pairs_text
+from rvlook.finders.leak_search import Compared, Leak, Tried, compare_drawn, compare_given, pairs_text
 from rvlook.output.printer import Style, hex8, run_object
 
 if TYPE_CHECKING:
@@ -12,18 +12,18 @@ if TYPE_CHECKING:
     from rvlook.finders.secrets import Secret
     from rvlook.output.findings import Findings
     from rvlook.output.printer import Printer
-    from rvlook.protocol.run import Run
     from rvlook.protocol.symbols import Symbols
 
 EQUAL = {"pc": "every step continues at the same pc", "address": "every load and store has the same address",
          "operand": "every division has the same operands"}
 ONLY_VERDICTS = "no two secrets with the same answer were compared; use --tries 3 or more"
+FOR_ALL = "for all secrets: with the inputs of this run, no pc, address, operand of a division, window byte or answer depends on the secret"
 MOST_NUMBERS = 10  # numbers of pairs that are printed
 
 
-def show_leak(run: Run, printer: Printer, options: LeakOptions, findings: Findings) -> None:
+def show_leak(leak: Leak, printer: Printer, findings: Findings) -> None:
     """Compares runs with one pair of secrets, or with many, and prints the result. After Ctrl-C raises KeyboardInterrupt."""
-    leak = Leak(run, options)
+    options = leak.options
     if options.tries is not None:
         show_tries(leak, printer, findings)
         return
@@ -67,13 +67,27 @@ def finish(leak: Leak, printer: Printer, tried: Tried, findings: Findings) -> No
     for it in tried.pairs:
         findings.add("pair %d" % it.number, text_of_pair(it) if it.number in differing else "")
     channels = sorted({channel for it in differing.values() for channel in it.channels}, key=CHANNELS.index)
+    is_equal = bool(tried.pairs) and not (differing or verdicts or tried.cut or tried.is_interrupted)
+    for_all = is_equal and is_for_all(leak)
     if printer.as_json:
         printer.object("leak", channels=channels, pairs=len(tried.pairs), differing=sorted(differing), with_answer=sorted(verdicts),
-                       compared=leak.channels)
+                       compared=leak.channels, for_all=for_all)
     else:
         print_result(leak, printer, tried, differing, verdicts)
+        print_for_all(leak, printer, for_all)
     if verdicts and len(verdicts) == len(tried.pairs):
         findings.cut_short(ONLY_VERDICTS)
+
+
+def is_for_all(leak: Leak) -> bool:
+    """Returns whether equal runs are known to be equal for all secrets."""
+    return not leak.cut and leak.is_hidden(leak)
+
+
+def print_for_all(leak: Leak, printer: Printer, for_all: bool) -> None:
+    """Prints that the runs are equal for all secrets, if this is known."""
+    if for_all:
+        printer.line(FOR_ALL + (", except what --public names" if leak.options.public else ""))
 
 
 def text_of_pair(it: Compared) -> str:
@@ -150,6 +164,7 @@ def pair_text(leak: Leak, printer: Printer, pair: Compared) -> None:
             printer.line("  %-7s %s" % (what, printer.styled(difference_text(leak, it, first, both), Style.bad)))
     channels = comparison.channels()
     printer.line("the runs differ in " + ", ".join(channels) if channels else "no difference in 1 pair: " + ", ".join(leak.channels))
+    print_for_all(leak, printer, not channels and is_for_all(leak))
 
 
 def heading_of(leak: Leak, it: Difference, secret: Secret) -> str:
@@ -184,4 +199,4 @@ def pair_objects(leak: Leak, printer: Printer, pair: Compared) -> None:
         printer.object("difference", channel=it.what, step=list(it.steps), values=values, pc=hex8(it.pc), count=it.count,
                        symbol=it.pc and symbols.name(it.pc), source=it.pc and symbols.source(it.pc))
     printer.object("leak", channels=comparison.channels(), steps=[it.last - first.step for it in both], exits=[len(it.activations) for it in both],
-                   compared=leak.channels, pairs=1)
+                   compared=leak.channels, pairs=1, for_all=not comparison.channels() and is_for_all(leak))

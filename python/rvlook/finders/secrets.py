@@ -24,6 +24,7 @@ REGISTER_AT = re.compile(r"(\w+)@(.+)\Z")
 COUNT = re.compile(r"[0-9]{1,8}\Z")  # a number of bytes
 CORNERS = (b"\0", b"\xff", b"\x7f", b"\x80", b"\x01", b"\x55", b"\xaa")  # of each byte
 WORD = 4
+IN_IMAGE = "image:"  # begins the place of a secret that is written at reset
 NEAR = 3  # every so many pairs one has values that agree in a prefix
 Bytes = bytes  # a member of Secret has that name
 
@@ -84,8 +85,8 @@ def secret_of(text: str, symbols: Symbols, run: Run, slot: int, size: int | None
     register = REGISTER_AT.match(text)
     if register and register[1] in names.NUMBER_OF and text.split("@")[0] not in symbols.by_name:
         return register_secret(register, symbols, run, slot)
-    is_image = text.startswith("image:")
-    at, own_size = place_and_size(text[len("image:"):] if is_image else text, symbols)
+    is_image = text.startswith(IN_IMAGE)
+    at, own_size = place_and_size(text[len(IN_IMAGE):] if is_image else text, symbols)
     count = size or own_size
     if not count:
         raise RvlookError("the size of '%s' is unknown; use --at PLACE:BYTES" % text)

@@ -37,6 +37,7 @@ WINDOW_BASE = 12  # a2, which has the base of the window at the first entry
 
 class Search(Judge):
     """The search over all paths of an enclave."""
+    state_type = State
 
     def __init__(self, world: World, options: VerifyOptions, means: Means = Means()) -> None:
         super().__init__()
@@ -73,7 +74,7 @@ class Search(Judge):
 
     def first(self) -> State:
         """Returns the state at the first entry."""
-        w, it = self.world, State.__new__(State)
+        w, it = self.world, self.state_type.__new__(self.state_type)
         it.search, it.regs, it.mem, it.sym = self, w.regs[:], bytearray(w.memory), {}
         it.pc, it.mode, it.csr, it.conds, it.public, it.model, it.memo = w.pc, 1, {n: 0 for n in CSRS}, [], set(), {}, {}
         it.context, it.calls, it.call, it.visit, it.number, it.rejoined, it.head, it.round = 0, None, 1, 0, 0, None, None, None
