@@ -77,6 +77,14 @@ def test_nothing_changes_without_z3(rvlook, words, tmp_path):
     assert rvlook(*words(0, *KEY), env={"PYTHONPATH": str(tmp_path)}).stdout.splitlines() == lines[:-1]
 
 
+@pytest.mark.parametrize("lines, is_known", [("poke window_base 05\nstep 40", True), ("step 40\npoke window_base 05", False),
+                                             ("step 40\nstep 1", True), ("step 40\nsetreg 0 1", False)])
+def test_script_that_changes_something_after_a_step_is_not_decided(results, words, tmp_path, lines, is_known):
+    arguments = words(0, *KEY)
+    (tmp_path / "script").write_text(lines + "\n")
+    assert results(*arguments)[-1]["for_all"] == is_known
+
+
 @pytest.mark.parametrize("name, options", [("timer", ()), ("adds", ("--harts", "2"))])
 def test_interrupted_enclave_and_two_harts_are_not_decided(results, tmp_path, name, options):
     script = tmp_path / "script"

@@ -35,6 +35,7 @@ from rvlook.output.printer import Printer, place_text
 from rvlook.output.progress import Progress
 from rvlook.protocol.run import run_of
 from rvlook.protocol.schedule import TURN, alternating
+from rvlook.symbolic.branch_models import BranchModels
 from rvlook.symbolic.one_path import is_hidden
 from rvlook.symbolic.options import VerifyOptions
 from rvlook.symbolic.questions import answers
@@ -195,7 +196,7 @@ def inputs(program: Program, secret: Optional[str] = None, *, public: Names = ()
     with searching(["inputs", *words], program) as (found, printer):
         run, cases = ordered(program, "inputs"), Cases()
         report = FailureReport((), program.symbols, printer, cases)
-        result = find_inputs(run, variables_of(None, run.setup.image), options, report.show)
+        result = find_inputs(run, variables_of(None, run.setup.image), options, report.show, BranchModels())
         found += [failure_finding(program, it) for it in result.failures]
         search = result.session.search
         if search:

@@ -8,6 +8,7 @@ from rvlook.finders.inputs.report import show_inputs
 from rvlook.finders.inputs.session import InputsOptions
 from rvlook.finders.races.text import RacesOptions, show_races
 from rvlook.image.variables import variables_of
+from rvlook.symbolic.branch_models import BranchModels
 from rvlook.symbolic.options import VerifyOptions
 from rvlook.symbolic.verify import show_verify
 from rvlook.cli.opening import opened, opened_monitored, refuse_empty_part
@@ -26,7 +27,7 @@ def do_inputs(arguments: Namespace) -> None:
     run, _, printer = opened_monitored(arguments)
     options = InputsOptions(arguments.slot, arguments.at, arguments.public or (), arguments.entry, arguments.runs, arguments.seed, arguments.seconds,
                             arguments.expect or (), arguments.scripts)
-    show_inputs(run, variables_of(arguments.symbols, run.setup.image), printer, options, arguments.findings)
+    show_inputs(run, variables_of(arguments.symbols, run.setup.image), printer, options, arguments.findings, BranchModels())
 
 
 def do_verify(arguments: Namespace) -> None:

@@ -19,10 +19,12 @@ from rvlook.symbolic.world import World
 
 if TYPE_CHECKING:
     from rvlook.finders.leak_search import Leak
+    from rvlook.protocol.run import Setup
 
 MOST_STEPS, SECONDS = 400000, 60.0  # of the path; and of the decision, if no option says otherwise
 HARMLESS = ("fault", "assertion", "older")  # kinds of findings that do not depend on the secret
 OBJECTS = ("load", "store", "jump", "return")  # kinds of doubts about objects, after which the path goes on as the run does
+STEPS, CHANGES = ("step", "run", "sched"), ("poke", "setreg", "timer")  # commands of a script
 OPEN = "open"  # the end of a path whose window depends on an expression
 
 
@@ -92,11 +94,18 @@ class OwnPath(Search):
                 and it.all_pcs() == [pc for visit in visits for pc in visit.pcs])
 
 
+def changes_later(setup: Setup) -> bool:
+    """Returns whether a script changes a byte or a register after a step, which the path does not know."""
+    names = [it.text.split()[0] for it in setup.lines if it.text.split()]
+    first = next((n for n, name in enumerate(names) if name in STEPS), len(names))
+    return any(name in CHANGES for name in names[first:])
+
+
 def is_hidden(leak: Leak) -> bool:
     """Returns whether it is known that no secret of the same length changes what the host observes, with the inputs of the run. Without z3, for two
     harts and for a secret outside the region it is not known."""
     options, setup = leak.options, leak.run.setup
-    if not setup.monitor or setup.harts > 1 or options.at.startswith(IN_IMAGE):
+    if not setup.monitor or setup.harts > 1 or options.at.startswith(IN_IMAGE) or changes_later(setup):
         return False
     secret = leak.secret(len(options.values[0]) if options.values else None)
     if secret.register:

@@ -2,14 +2,14 @@
 from __future__ import annotations
 
 from dataclasses import dataclass
-from typing import Callable, Sequence, TYPE_CHECKING
+from typing import Callable, Optional, Sequence, TYPE_CHECKING
 
 from rvlook.access.expectations import Report, expectation_of
 from rvlook.access.failures import failures_of
 from rvlook.finders.inputs import scripts
 from rvlook.finders.inputs.code import Kind
 from rvlook.finders.inputs.judge import FAULT, What
-from rvlook.finders.inputs.session import GRACE, INTERRUPT, InputsOptions, Session
+from rvlook.finders.inputs.session import GRACE, INTERRUPT, InputsOptions, Models, Session
 from rvlook.finders.races.time_limit import OutOfTime, TimeLimit
 from rvlook.output.printer import Style, hex8, run_object
 from rvlook.protocol.run import End
@@ -60,9 +60,11 @@ class Inputs:
     cut: str = ""
 
 
-def find_inputs(run: Run, variables: Variables, options: InputsOptions, heard: Callable[[Sequence[Failure]], None] = lambda it: None) -> Inputs:
-    """Searches the inputs of an enclave, and replays the findings. Calls `heard` with the failures of the run itself before the search."""
-    session = Session(options, TimeLimit(options.seconds))
+def find_inputs(run: Run, variables: Variables, options: InputsOptions, heard: Callable[[Sequence[Failure]], None] = lambda it: None,
+                models: Optional[Models] = None) -> Inputs:
+    """Searches the inputs of an enclave, and replays the findings. Calls `heard` with the failures of the run itself before the search. `models`
+    proposes inputs."""
+    session = Session(options, TimeLimit(options.seconds), models=models)
     found = Inputs(session, failures_in(run, options.slot))
     heard(found.failures)
     session.work(run, run.setup.symbols, variables)
@@ -74,14 +76,14 @@ def find_inputs(run: Run, variables: Variables, options: InputsOptions, heard: C
     return found
 
 
-def show_inputs(run: Run, variables: Variables, printer: Printer, options: InputsOptions, findings: Findings) -> None:
+def show_inputs(run: Run, variables: Variables, printer: Printer, options: InputsOptions, findings: Findings, models: Models) -> None:
     """Searches the inputs of an enclave, and prints the findings and the coverage. After Ctrl-C it prints what it has found, and raises
     KeyboardInterrupt."""
     symbols = run.setup.symbols
     if printer.as_json:
         run_object(printer, run, symbols)
     report = Report([expectation_of(it, symbols) for it in options.expected], symbols, printer, findings)
-    found = find_inputs(run, variables, options, report.show)
+    found = find_inputs(run, variables, options, report.show, models)
     session = found.session
     if found.cut:
         findings.cut_short(found.cut)

@@ -3,7 +3,8 @@ from __future__ import annotations
 
 from collections import deque
 from dataclasses import dataclass
-from typing import Iterator, Optional, TYPE_CHECKING
+from itertools import chain, islice
+from typing import Callable, Iterator, Optional, TYPE_CHECKING
 
 from rvlook.access.fields import Fields
 from rvlook.finders.inputs.details import Reader
@@ -36,11 +37,16 @@ class Parent:
     children: Iterator[Child]
 
 
+def no_models(_: Search, __: Trace) -> Iterator[Child]:
+    """Yields no inputs that a solver proposes."""
+    return iter(())
+
+
 class Search:
     """A search over the inputs of an enclave."""
 
     def __init__(self, run: Run, symbols: Symbols, variables: Variables, slot: int, seed: int) -> None:
-        self.run, self.symbols = run, symbols
+        self.run, self.symbols, self.variables = run, symbols, variables
         self.tracer = Tracer(run, slot)
         self.base = self.tracer.base()
         assert self.tracer.enclave is not None
@@ -50,6 +56,7 @@ class Search:
         self.values = Values(self.tracer, self.objects, self.fields, self.reader, seed)
         self.judge = Judge(self.tracer, self.objects, self.base)
         self.rules: Optional[SecretRules] = None
+        self.models: Callable[[Search, Trace], Iterator[Child]] = no_models  # a solver proposes these inputs
         self.base_details: Details
         self.root: Optional[Parent] = None  # the run itself, until all its values were tried
         self.parents: deque[Parent] = deque()  # the others
@@ -72,7 +79,8 @@ class Search:
         inputs = self.values.inputs(trace, details)
         for it in inputs:
             self.inputs.setdefault((it.visit, it.at, it.width, it.is_again, it.register), it)
-        parent = Parent(trace, details, inputs, self.values.children(trace, details, inputs))
+        own = self.values.children(trace, details, inputs)
+        parent = Parent(trace, details, inputs, chain(islice(own, SHARE), self.models(self, trace), own))
         if trace is self.base:
             self.root, self.base_details = parent, details
         else:

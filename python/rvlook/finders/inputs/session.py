@@ -2,7 +2,7 @@
 from __future__ import annotations
 
 from dataclasses import dataclass, field
-from typing import Optional, Sequence, TYPE_CHECKING
+from typing import Callable, Iterator, Optional, Sequence, TYPE_CHECKING
 
 from rvlook.finders.inputs.search import Search
 from rvlook.finders.inputs.secret_rules import SecretRules, replayed_states
@@ -13,10 +13,13 @@ from rvlook.output.progress import Progress
 
 if TYPE_CHECKING:
     from rvlook.finders.inputs.judge import Finding
+    from rvlook.finders.inputs.trace import Trace
+    from rvlook.finders.inputs.values import Child
     from rvlook.image.variables import Variables
     from rvlook.protocol.run import Run
     from rvlook.protocol.symbols import Symbols
 
+Models = Callable[[Search, "Trace"], Iterator["Child"]]
 SECONDS, INTERRUPT = "--seconds", "Ctrl-C"  # what ends a search early
 GRACE = 2.0  # seconds after the limit in which the findings are completed, and again in which they are replayed
 
@@ -45,12 +48,14 @@ class Session:
     search: Optional[Search] = None
     cut: str = ""
     states: list[Finding] = field(default_factory=list)  # findings about older states
+    models: Optional[Models] = None  # proposes inputs
 
     def work(self, run: Run, symbols: Symbols, variables: Variables) -> None:
         """Searches to the end, to the limit or to Ctrl-C. Raises Unfinished if the enclave does not return in the run itself."""
         try:
             with self.limit.until(1.0), Progress() as progress:
                 search = Search(run, symbols, variables, self.options.slot, self.options.seed)
+                search.models = self.models or search.models
                 self.prepare(search)
                 self.search = search
                 for it in replayed_states(search, search.base_details.loaded):
