@@ -173,9 +173,9 @@ def final_states(bench):
     def found(data, *names, plain=False, limit=0, seconds=None, **bounds):
         setup = run.Setup(Image("test", digits_of(data), data), monitor=True, ram=131072, harts=2)
         outcome = [outcomes.outcome_of(it, symbols.Symbols(), 2) for it in names]
-        machine = machines.Machine(types.SimpleNamespace(setup=setup), (), limit)
+        machine = machines.RaceMachine(types.SimpleNamespace(setup=setup), (), limit)
         try:
-            search = searches.Search(machine, searches.Bounds(**bounds), plain, outcomes.watched_of(outcome), time_limit.TimeLimit(seconds))
+            search = searches.Search(machine, searches.SearchBounds(**bounds), plain, outcomes.watched_of(outcome), time_limit.TimeLimit(seconds))
             return search, states.find_final_states(search, lambda _: outcome)
         finally:
             machine.close()

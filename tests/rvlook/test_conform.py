@@ -47,10 +47,10 @@ def test_jobs_give_the_same_result(rvlook):
 
 def observed(**changes):
     """An observation, with some fields replaced."""
-    from rvlook.monitors.sides import BELOW, Observation
+    from rvlook.monitors.sides import BELOW, SideState
     lines = ["x%d=%08x" % (n, n) for n in range(32)] + ["pc=80010000"] + ["csr 100=%08x" % n for n, _ in enumerate(BELOW)]
     entries = "\n".join("pmp %d cfg=%s addr=%08x" % (n, "1f" if n == 15 else "00", 0xFFFFFFFF if n == 15 else 0) for n in range(16)).encode()
-    whole = Observation(0x80010000, "S", "-", "host", "\n".join(lines).encode(), (0, 0, 0, 0, 0, 0), entries)
+    whole = SideState(0x80010000, "S", "-", "host", "\n".join(lines).encode(), (0, 0, 0, 0, 0, 0), entries)
     return dataclasses.replace(whole, **changes)
 
 
@@ -141,12 +141,12 @@ def test_byte_that_m_writes_at_a_redirected_trap_is_found(tmp_path):
 def shrunk_of(items, is_different, name="x1"):
     """Shrinks a list of numbers in place of items; a run differs if `is_different` accepts the numbers."""
     from rvlook.monitors import shrink
-    from rvlook.monitors.comparison import Difference, Kind
-    from rvlook.monitors.pair import Played, Step
+    from rvlook.monitors.comparison import MonitorDifference, DifferenceKind
+    from rvlook.monitors.pair import Played, PairStep
 
     def played(numbers):
-        return Played("test", [Step(it, "host", "") for it in numbers], [Difference(Kind.register, is_different(numbers), "0", "1")]
-                      if is_different(numbers) else [])
+        different = [MonitorDifference(DifferenceKind.register, is_different(numbers), "0", "1")] if is_different(numbers) else []
+        return Played("test", [PairStep(it, "host", "") for it in numbers], different)
 
     original = shrink.play
     shrink.play = lambda setup, script, numbers, memory: played(numbers)
@@ -210,12 +210,12 @@ def test_trap_in_m_is_located(rvlook, tmp_path):
 
 
 def test_written_byte_and_entry_have_writers(tmp_path):
-    from rvlook.monitors.comparison import Kind
+    from rvlook.monitors.comparison import DifferenceKind
     from rvlook.monitors.writers import writers_of
     setup = setup_of(variant(tmp_path, [("monitor.c", "enclaves[slot].measurement[i];", "enclaves[slot].measurement[i] ^ 1;")]))
     played = first_different(setup, "measured byte 0")
     (writer,) = writers_of(setup, played, played.differences[0])
-    assert played.differences[0].kind is Kind.memory and writer.text.startswith("sb ") and writer.address == played.differences[0].place
+    assert played.differences[0].kind is DifferenceKind.memory and writer.text.startswith("sb ") and writer.address == played.differences[0].place
     other = tmp_path / "other"
     other.mkdir()
     setup = setup_of(variant(other, [("pmp.c", "cfg[WINDOW_ENTRY] = DATA", "cfg[WINDOW_ENTRY] = OPEN")]))

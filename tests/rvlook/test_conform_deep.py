@@ -51,8 +51,8 @@ def pytest_generate_tests(metafunc):
 
 def first_different(elf, only):
     """Returns the first script with a difference, of the deep scripts whose names contain a text, and its task."""
-    from rvlook.monitors.conform import Plan, compare
-    outcome = compare(setup_of(elf), Plan(0, 0, "1", only, is_deep=True))
+    from rvlook.monitors.conform import ScriptPlan, compare
+    outcome = compare(setup_of(elf), ScriptPlan(0, 0, "1", only, is_deep=True))
     assert outcome.coverage.scripts
     return outcome
 
@@ -72,19 +72,19 @@ def test_names_of_large_scripts_have_each_power_of_two():
 
 
 def test_ram_that_is_given_is_that_of_all_scripts(tmp_path):
-    from rvlook.monitors.conform import DEEP_RAM, Plan, tasks_of
-    own = tasks_of(Plan(0, 0, "1", is_deep=True, has_ram=True), 0x30000)
+    from rvlook.monitors.conform import DEEP_RAM, ScriptPlan, tasks_of
+    own = tasks_of(ScriptPlan(0, 0, "1", is_deep=True, has_ram=True), 0x30000)
     assert {it.ram for it in own} == {0} and not any("of 20000 bytes" in it.name for it in own if it.name.startswith("block"))
-    assert {it.ram for it in tasks_of(Plan(0, 0, "1", is_deep=True), 0x30000)} == {0, DEEP_RAM}
+    assert {it.ram for it in tasks_of(ScriptPlan(0, 0, "1", is_deep=True), 0x30000)} == {0, DEEP_RAM}
 
 
 def test_report_of_a_long_script_shows_its_ends():
-    from rvlook.monitors.conform_text import Report
+    from rvlook.monitors.conform_text import DifferenceReport
     from rvlook.monitors.items import call
-    from rvlook.monitors.pair import Played, Step
+    from rvlook.monitors.pair import Played, PairStep
     from rvlook.output.printer import Printer
     stream = io.StringIO()
-    Report(None, None, Printer(stream=stream), None).show_items(Played("test", [Step(call(n), "host", "") for n in range(100, 200)]))
+    DifferenceReport(None, None, Printer(stream=stream), None).show_items(Played("test", [PairStep(call(n), "host", "") for n in range(100, 200)]))
     lines = stream.getvalue().splitlines()
     assert len(lines) == 41 and lines[20] == "  ... 60 items"
     assert (lines[0].split(), lines[19].split(), lines[21].split(), lines[-1].split()) == tuple(

@@ -48,9 +48,9 @@ def test_second_monitor_is_alike(rvlook, tmp_path):
 
 
 def test_bug_is_found(bug, tmp_path):
-    from rvlook.monitors.conform import Plan, compare
+    from rvlook.monitors.conform import ScriptPlan, compare
     file, old, new, script = BUGS[bug]
-    outcome = compare(setup_of(made(tmp_path, (file, old, new))), Plan(0, 0, "1", script, is_deep=True))
+    outcome = compare(setup_of(made(tmp_path, (file, old, new))), ScriptPlan(0, 0, "1", script, is_deep=True))
     assert outcome.different and script in outcome.different.name, outcome.coverage.scripts
 
 

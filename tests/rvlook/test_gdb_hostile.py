@@ -79,8 +79,8 @@ def test_condition_that_cannot_be_evaluated_holds(bench, elf):
 
 
 def test_condition_of_no_bits_is_refused_by_the_evaluator():
-    from rvlook.gdb.conditions import Refused, extended
-    with pytest.raises(Refused):
+    from rvlook.gdb.conditions import ExpressionError, extended
+    with pytest.raises(ExpressionError):
         extended(5, 0)
 
 

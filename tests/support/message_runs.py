@@ -21,11 +21,11 @@ OTHERWISE = """
 class Forgetful(dict):
     def setdefault(self, key, value):
         return None
-decode_step = machine.Machine.decode_step
+decode_step = machine.RaceMachine.decode_step
 def forgetful(self, *more):
     self.known = Forgetful(self.known)
     return decode_step(self, *more)
-machine.Machine.decode_step = forgetful
+machine.RaceMachine.decode_step = forgetful
 """
 MORE = "operands = machine.operands; machine.operands = lambda word: (0, *operands(word)[1:])"
 NEVER_BACK = """
@@ -45,7 +45,7 @@ conform.tasks_of = lambda *more: tasks_of(*more)[:1]
 """
 CUT_PAIR = """
 import rvlook.monitors.twins as twins
-twins.Pair.compare = lambda self: self.result("", 7, why_cut="first continues at 80014000 or 80014004")
+twins.TwinRuns.compare = lambda self: self.result("", 7, why_cut="first continues at 80014000 or 80014004")
 """
 MANY_VECTORS = "import rvlook.monitors.guarded as guarded; guarded.entries_of = lambda mtvec: range(0x80000000, 0x80000100, 4)"
 ACCESS = "import rvlook.finders.inputs.scripts as scripts; scripts.access_of = lambda *more: (0, 0)"

@@ -46,7 +46,7 @@ def setup_of(elf, **more):
 
 def first_different(setup, only="", part=slice(None)):
     """Compares over a part of the directed scripts whose names contain a text; returns the first script with a difference, or None."""
-    from rvlook.monitors.conform import Plan, all_played, tasks_of
-    tasks = tasks_of(Plan(0, 0, "1", only), RAM)
+    from rvlook.monitors.conform import ScriptPlan, all_played, tasks_of
+    tasks = tasks_of(ScriptPlan(0, 0, "1", only), RAM)
     assert tasks, only
     return next((it for it in all_played(setup, tasks[part], 1) if it.differences), None)

@@ -12,7 +12,7 @@ from rvlook.protocol.run import End
 from rvlook.protocol.stretch import Stretch
 
 if TYPE_CHECKING:
-    from rvlook.protocol.instructions import Memory
+    from rvlook.protocol.instructions import MemoryOperand
     from rvlook.protocol.reader import Need, Reads
     from rvlook.protocol.run import Run
 
@@ -40,7 +40,7 @@ def accesses(run: Run, by_mode: bool = False) -> tuple[Counter[Access], End]:
     return counter.found(), end
 
 
-def base_of(line: bytes) -> Need[Memory] | None:
+def base_of(line: bytes) -> Need[MemoryOperand] | None:
     """Returns the access of the instruction in a reply of `dis`, and its base register; None if it has no access."""
     it = instruction_of(line)
     return (it.memory, (it.memory.base,), False) if it and it.memory else None
@@ -54,7 +54,7 @@ class Counting:
         self.steps: Counter[tuple[bytes, bytes, bytes]] = Counter()
         self.touched: Counter[tuple[bytes, str, int, int, bool]] = Counter()
 
-    def take(self, stretch: Stretch, reads: Reads[Memory]) -> None:
+    def take(self, stretch: Stretch, reads: Reads[MemoryOperand]) -> None:
         """Counts the accesses of the steps of a stretch."""
         columns = stretch.columns
         worlds, traps = columns.modes if self.by_mode else columns.worlds, columns.traps

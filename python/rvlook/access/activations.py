@@ -8,7 +8,7 @@ from functools import lru_cache
 from typing import Generator, Iterable, Iterator, NamedTuple, Optional, Sequence, TYPE_CHECKING
 
 from rvlook.protocol import names
-from rvlook.protocol.instructions import Memory, instruction_of
+from rvlook.protocol.instructions import MemoryOperand, instruction_of
 from rvlook.protocol.memory_map import RAM_BASE
 from rvlook.protocol.reader import Reader
 from rvlook.protocol.replies import NO_TRAP, Enclave, enclave_of, register_values
@@ -68,20 +68,20 @@ class Activation:
         return 0 if self.world == BARE else int(self.world[1:])
 
 
-def access_of(line: bytes) -> Need[Memory] | None:
+def access_of(line: bytes) -> Need[MemoryOperand] | None:
     """Returns the access of the instruction in a reply of `dis`, with the registers of its address and its stored value; None if it has none."""
     it = instruction_of(line)
     memory = it.memory if it else None
     return (memory, (memory.base, memory.register) if memory.kind == "w" else (memory.base,), False) if memory else None
 
 
-def operands_of(line: bytes) -> Need[Memory] | None:
+def operands_of(line: bytes) -> Need[MemoryOperand] | None:
     """Returns the same as `access_of`, or the two operands of a division, as an access of the kind `d`."""
     it = instruction_of(line)
     if it is None or it.name not in DIVISIONS:
         return access_of(line)
     _, one, two = it.operands
-    return Memory("d", 0, one, 0, two), (one, two), False
+    return MemoryOperand("d", 0, one, 0, two), (one, two), False
 
 
 @lru_cache(maxsize=65536)
@@ -122,7 +122,7 @@ class Activations:
                 assert self.end is not None
                 yield self.closed(activation, self.end.steps, None, "none")
 
-    def take(self, part: Stretch, reader: Reader[Memory]) -> Iterator[Activation]:
+    def take(self, part: Stretch, reader: Reader[MemoryOperand]) -> Iterator[Activation]:
         """Takes steps in one world; yields the activation that ends with them."""
         hart, world, after = part.hart, part.before[2].decode(), part.last[2].decode()
         if world.startswith("e") or not self.run.setup.monitor:
@@ -172,7 +172,7 @@ class Activations:
         return Enclave(0, "Running", RAM_BASE, self.run.setup.ram, 0, 0, RAM_BASE, "") if world == BARE else None
 
 
-def extend(activation: Activation, part: Stretch, reads: Reads[Memory]) -> None:
+def extend(activation: Activation, part: Stretch, reads: Reads[MemoryOperand]) -> None:
     """Adds steps to an activation."""
     columns, begin_at = part.columns, len(activation.pcs)
     activation.pcs.extend(map(pc_and_mode, columns.pcs, columns.modes))
@@ -183,7 +183,7 @@ def extend(activation: Activation, part: Stretch, reads: Reads[Memory]) -> None:
         activation.operations_at.append(begin_at + n)
 
 
-def operations_of(part: Stretch, reads: Reads[Memory]) -> Iterator[tuple[int, Operation]]:
+def operations_of(part: Stretch, reads: Reads[MemoryOperand]) -> Iterator[tuple[int, Operation]]:
     """Yields the operations of steps, with the index of each."""
     pcs, traps, values, first = part.columns.pcs, part.columns.traps, reads.values, part.first
     for n, (kind, width, _, offset, _), at in zip(reads.indices, reads.items, reads.starts):

@@ -10,7 +10,7 @@ from rvlook.protocol.nearest import nearest
 from rvlook.access.failures import MOST, failure_object, failure_text
 
 if TYPE_CHECKING:
-    from rvlook.output.findings import Findings
+    from rvlook.output.findings import ReportedCases
     from rvlook.output.printer import Printer
     from rvlook.protocol.symbols import Symbols
     from rvlook.access.failures import Failure
@@ -47,10 +47,10 @@ def expectation_of(text: str, symbols: Symbols) -> Expectation:
     return Expectation(text, known, place)
 
 
-class Report:
+class FailureReport:
     """The report of the failures of a run. Failures that nobody expects are findings."""
 
-    def __init__(self, expected: Sequence[Expectation], symbols: Symbols, printer: Printer, findings: Findings) -> None:
+    def __init__(self, expected: Sequence[Expectation], symbols: Symbols, printer: Printer, findings: ReportedCases) -> None:
         self.expected, self.symbols, self.printer, self.findings = expected, symbols, printer, findings
 
     def show(self, failures: Sequence[Failure]) -> None:

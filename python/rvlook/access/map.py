@@ -66,7 +66,7 @@ class Event:
 
 
 @dataclass(frozen=True)
-class State:
+class RightsState:
     """The state that decides access rights: the PMP entries and the world of each hart, and the enclave table."""
     entries: tuple[tuple[str, ...], ...]
     worlds: tuple[str, ...]
@@ -89,7 +89,7 @@ def events(run: Run) -> Iterator[Event | End]:
 
 def events_and_refusals(run: Run) -> Iterator[Event | Failure | End]:
     """Yields the same as `events`, and each call that the monitor refuses."""
-    finder = Finder(run)
+    finder = EventFinder(run)
     end = None
     with run.replay() as replay:
         yield finder.at_reset(replay)
@@ -138,13 +138,13 @@ def matching_lines(pattern: re.Pattern[bytes], block: bytes) -> Iterator[int]:
         yield number
 
 
-class Finder:
+class EventFinder:
     """Finds the events among the steps, and caches the replies of `access` for PMP entries."""
 
     def __init__(self, run: Run) -> None:
         self.run, self.setup = run, run.setup
         self.verdicts: dict[tuple[str, ...], list[Verdicts]] = {}
-        self.state = State((), (), ())  # nothing is known yet
+        self.state = RightsState((), (), ())  # nothing is known yet
 
     def at_reset(self, replay: Replay) -> Event:
         """Returns the event at reset."""
@@ -167,7 +167,7 @@ class Finder:
         cause = cause_of(ran, old, hart, register_values(before), register_values(after), text)
         return self.event(step, hart, cause, Location(pc, ran.mode, ran.world))
 
-    def state_of(self, replay: Replay | Timeline, worlds: Sequence[str]) -> State:
+    def state_of(self, replay: Replay | Timeline, worlds: Sequence[str]) -> RightsState:
         """Reads the PMP entries of each hart and the table of enclaves. Queries the access rights only for entries that are new."""
         bench, entries = replay.bench, []
         for hart in range(self.setup.harts):
@@ -178,7 +178,7 @@ class Finder:
             entries.append(lines)
         if self.setup.harts > 1:
             bench.ask("hart %d" % replay.hart)
-        return State(tuple(entries), tuple(worlds), tuple(enclave_of(line) for line in bench.ask("enclaves")[0]))
+        return RightsState(tuple(entries), tuple(worlds), tuple(enclave_of(line) for line in bench.ask("enclaves")[0]))
 
     def event(self, step: int, hart: int, cause: Cause, location: Location) -> Event:
         """Returns the event after step `step`, in the present state. `location` is the pc before the step, and mode and world after it."""
@@ -215,7 +215,7 @@ class Finder:
             yield Row(Range(first, end), what, may)
 
 
-def cause_of(ran: Ran, old: State, hart: int, before: Sequence[int], after: Sequence[int], text: str) -> Cause:
+def cause_of(ran: Ran, old: RightsState, hart: int, before: Sequence[int], after: Sequence[int], text: str) -> Cause:
     """Returns what a step did that changed the access rights."""
     world = old.worlds[hart]
     if world == "bare":

@@ -13,7 +13,7 @@ from rvlook.output.printer import Style, enclave_object, end_object, end_text, h
 
 if TYPE_CHECKING:
     from rvlook.access.map import Column, Event, Row
-    from rvlook.output.printer import Printer, Writer
+    from rvlook.output.printer import Printer, ObjectWriter
     from rvlook.protocol.replies import Enclave
     from rvlook.protocol.run import Run
     from rvlook.protocol.symbols import Symbols
@@ -52,7 +52,7 @@ def show_refused(printer: Printer, it: Failure, run: Run, symbols: Symbols) -> N
     printer.line(printer.styled(heading, Style.bad) + "  at " + place_text(it.at.pc, symbols))
 
 
-def write_event(printer: Writer, event: Event, symbols: Symbols) -> None:
+def write_event(printer: ObjectWriter, event: Event, symbols: Symbols) -> None:
     """Writes an event as an object."""
     pc = int(event.pc, 16)
     rows = [{"first": hex8(row.range.first), "last": hex8(row.range.end - 1), "size": row.range.end - row.range.first,

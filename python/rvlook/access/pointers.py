@@ -11,14 +11,14 @@ from typing import NamedTuple, Optional, TYPE_CHECKING
 from rvlook.protocol.instructions import instruction_of
 
 if TYPE_CHECKING:
-    from rvlook.protocol.instructions import Instruction, Memory
+    from rvlook.protocol.instructions import Instruction, MemoryOperand
 
 SP, A0, A1 = 2, 10, 11
 WORD = 4  # bytes of a pointer
 REGISTERS = 32
 
 
-class Kind(Enum):
+class Effect(Enum):
     """The effect of an instruction on pointers."""
     ADD = "add"
     SUBTRACT = "subtract"
@@ -29,15 +29,15 @@ class Kind(Enum):
     STORE = "store"
 
 
-SUMS = {"add": Kind.ADD, "or": Kind.ADD, "sub": Kind.SUBTRACT}
+SUMS = {"add": Effect.ADD, "or": Effect.ADD, "sub": Effect.SUBTRACT}
 
 
-class Operation(NamedTuple):
+class PointerOperation(NamedTuple):
     """An instruction that writes a register or accesses memory: the register that it writes, and its operands."""
-    kind: Kind
+    kind: Effect
     writes: int = 0
     sources: tuple[int, int] = (0, 0)
-    memory: Optional[Memory] = None
+    memory: Optional[MemoryOperand] = None
 
     @property
     def register(self) -> int | None:
@@ -45,24 +45,24 @@ class Operation(NamedTuple):
         return self.memory.base if self.memory else SP if self.writes == SP else None
 
 
-def operation_of(line: bytes) -> Operation | None:
+def operation_of(line: bytes) -> PointerOperation | None:
     """Decodes a reply of `dis`; returns None for an instruction that neither writes a register nor accesses memory."""
     it = instruction_of(line)
     if it is None:
         return None
     if it.memory:
-        kind = Kind.LOAD if it.memory.kind == "r" else Kind.STORE
-        return Operation(kind, it.writes, (it.memory.base, it.memory.register), it.memory)
+        kind = Effect.LOAD if it.memory.kind == "r" else Effect.STORE
+        return PointerOperation(kind, it.writes, (it.memory.base, it.memory.register), it.memory)
     return computation_of(it) if it.writes else None
 
 
-def computation_of(it: Instruction) -> Operation:
+def computation_of(it: Instruction) -> PointerOperation:
     """Decodes an instruction that writes a register and accesses no memory."""
     if it.name in SUMS:
-        return Operation(SUMS[it.name], it.writes, (it.operands[1], it.operands[2]))
+        return PointerOperation(SUMS[it.name], it.writes, (it.operands[1], it.operands[2]))
     if it.name in ("addi", "ori") or it.name == "andi" and it.operands[2] < 0:
-        return Operation(Kind.COPY, it.writes, (it.operands[1], 0))
-    return Operation(Kind.BUILD if it.name in ("lui", "auipc") else Kind.NUMBER, it.writes)
+        return PointerOperation(Effect.COPY, it.writes, (it.operands[1], 0))
+    return PointerOperation(Effect.BUILD if it.name in ("lui", "auipc") else Effect.NUMBER, it.writes)
 
 
 @dataclass
@@ -75,24 +75,24 @@ class Pointers:
         """Returns whether a register has a pointer into the stack."""
         return self.registers[register] == 1
 
-    def has_source(self, it: Operation) -> bool:
+    def has_source(self, it: PointerOperation) -> bool:
         """Returns whether an operand of a computation is a pointer into the stack."""
-        return it.kind in (Kind.ADD, Kind.SUBTRACT, Kind.COPY) and 1 in (self.registers[it.sources[0]], self.registers[it.sources[1]])
+        return it.kind in (Effect.ADD, Effect.SUBTRACT, Effect.COPY) and 1 in (self.registers[it.sources[0]], self.registers[it.sources[1]])
 
-    def execute(self, it: Operation, address: int) -> None:
+    def execute(self, it: PointerOperation, address: int) -> None:
         """Takes the effect of an instruction; `address` is that of its access."""
         registers, (one, two) = self.registers, it.sources
         result = 0
-        if it.kind is Kind.STORE:
+        if it.kind is Effect.STORE:
             self.store(address, registers[two] if it.memory and it.memory.width == WORD else 0)
-        elif it.kind is Kind.LOAD:
+        elif it.kind is Effect.LOAD:
             result = self.words.get(address, 0) if it.memory and it.memory.width == WORD else 0
-        elif it.kind is Kind.COPY:
+        elif it.kind is Effect.COPY:
             result = registers[one]
-        elif it.kind in (Kind.ADD, Kind.SUBTRACT):
-            result = registers[one] + (registers[two] if it.kind is Kind.ADD else -registers[two])
+        elif it.kind in (Effect.ADD, Effect.SUBTRACT):
+            result = registers[one] + (registers[two] if it.kind is Effect.ADD else -registers[two])
         if it.writes:
-            registers[it.writes] = int(it.kind is not Kind.BUILD) if it.writes == SP else result
+            registers[it.writes] = int(it.kind is not Effect.BUILD) if it.writes == SP else result
 
     def store(self, address: int, coefficient: int) -> None:
         """Takes the store of a word with a coefficient."""

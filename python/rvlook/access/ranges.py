@@ -10,7 +10,7 @@ from rvlook.protocol.replies import entry_of
 
 if TYPE_CHECKING:
     from rvlook.protocol.bench import Bench
-    from rvlook.protocol.replies import Enclave, Entry
+    from rvlook.protocol.replies import Enclave, PmpEntry
 
 KINDS = "rwx"
 TOR, NA4, NAPOT = 1, 2, 3
@@ -32,7 +32,7 @@ class Verdicts:
     replies: tuple[str, ...]
 
 
-def entry_range(entries: Sequence[Entry], index: int) -> Range | None:
+def entry_range(entries: Sequence[PmpEntry], index: int) -> Range | None:
     """Returns the range that a PMP entry covers, or None if it is off or empty."""
     entry = entries[index]
     mode = entry.cfg >> 3 & 3
@@ -48,7 +48,7 @@ def entry_range(entries: Sequence[Entry], index: int) -> Range | None:
     return None
 
 
-def boundaries(entries: Sequence[Entry], ram: int) -> list[int]:
+def boundaries(entries: Sequence[PmpEntry], ram: int) -> list[int]:
     """Returns the boundaries of the PMP entries in RAM, sorted. All bytes between two of them have the same access rights."""
     cuts = {RAM_BASE, RAM_BASE + ram}
     for index in range(len(entries)):

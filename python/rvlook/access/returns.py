@@ -16,7 +16,7 @@ from rvlook.protocol.run import End
 from rvlook.protocol.stretch import Stretch
 
 if TYPE_CHECKING:
-    from rvlook.output.findings import Findings
+    from rvlook.output.findings import ReportedCases
     from rvlook.output.printer import Printer
     from rvlook.protocol.run import Run
     from rvlook.protocol.symbols import Symbols
@@ -91,7 +91,7 @@ def supervisor_rights(event: Event, address: int) -> set[str]:
     return set(may["S"]) - {"-"}
 
 
-def show_returns(run: Run, symbols: Symbols, printer: Printer, findings: Findings) -> None:
+def show_returns(run: Run, symbols: Symbols, printer: Printer, findings: ReportedCases) -> None:
     """Shows each return from M with the access rights that it changes. A transient state is a finding."""
     if printer.as_json:
         run_object(printer, run, symbols)

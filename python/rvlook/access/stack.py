@@ -11,7 +11,7 @@ import re
 from functools import lru_cache
 from typing import Container, NamedTuple, Sequence, TYPE_CHECKING
 
-from rvlook.access.pointers import SP, Kind, Pointers, operation_of
+from rvlook.access.pointers import SP, Effect, Pointers, operation_of
 from rvlook.output.printer import hex8
 from rvlook.protocol import names
 from rvlook.protocol.reader import Reader
@@ -19,7 +19,7 @@ from rvlook.protocol.replies import NO_TRAP
 from rvlook.protocol.stretch import Stretch
 
 if TYPE_CHECKING:
-    from rvlook.access.pointers import Operation
+    from rvlook.access.pointers import PointerOperation
     from rvlook.protocol.reader import Need, Reads
     from rvlook.protocol.run import Run
     from rvlook.protocol.symbols import Symbols
@@ -50,7 +50,7 @@ class Overflow(NamedTuple):
     stack: Stack
 
 
-class Place(NamedTuple):
+class StepPlace(NamedTuple):
     """A step: its number, its hart, and the pc, the mode and the world before it."""
     step: int
     hart: int
@@ -81,7 +81,7 @@ def kind_of(world: str, mode: str, kinds: Container[str] = ()) -> str | None:
     return "runtime" if mode == "S" else "application"
 
 
-class Finder:
+class OverflowFinder:
     """Finds the first overflow of each kind of stack."""
 
     def __init__(self, stacks: dict[str, list[Stack]]) -> None:
@@ -90,7 +90,7 @@ class Finder:
         self.pointers: dict[str, Pointers] = {}
         self.left_at: dict[str, int] = {}  # the pc at which an enclave left
 
-    def take(self, stretch: Stretch, reads: Reads[Operation]) -> None:
+    def take(self, stretch: Stretch, reads: Reads[PointerOperation]) -> None:
         """Checks steps of one hart, one after another."""
         columns, world = stretch.columns, b""
         values = dict(zip(reads.indices, map(reads.values.__getitem__, reads.starts)))
@@ -106,8 +106,8 @@ class Finder:
             if it and not trap.startswith(TIMER):
                 value = values.get(at, 0)
                 address = (value + it.memory.offset) & MASK if it.memory else value
-                if it.kind is Kind.STORE or it.writes == SP:
-                    self.check(Place(stretch.first + at, stretch.hart, pc.decode(), mode.decode(), world.decode()), it, pointers, address)
+                if it.kind is Effect.STORE or it.writes == SP:
+                    self.check(StepPlace(stretch.first + at, stretch.hart, pc.decode(), mode.decode(), world.decode()), it, pointers, address)
                 if trap == NO_TRAP:
                     pointers.execute(it, address)
             elif not it and trap.startswith(CALL):
@@ -121,19 +121,19 @@ class Finder:
             self.pointers[key] = Pointers()
         return self.pointers[key]
 
-    def check(self, place: Place, it: Operation, pointers: Pointers, address: int) -> None:
+    def check(self, place: StepPlace, it: PointerOperation, pointers: Pointers, address: int) -> None:
         """Checks the use of a stack by a step."""
         kind = kind_of(place.world, place.mode, self.stacks)
         if kind is None or kind in self.found or kind not in self.stacks:
             return
-        if it.kind is Kind.STORE and it.memory:
+        if it.kind is Effect.STORE and it.memory:
             wanted: Sequence[str] = (kind,) if it.memory.base == SP else POINTED.get(kind, ()) if pointers.is_pointer(it.memory.base) else ()
-        elif it.writes == SP and it.kind not in (Kind.BUILD, Kind.LOAD) and address:  # 0 is no stack: a handler exchanges sp with sscratch
+        elif it.writes == SP and it.kind not in (Effect.BUILD, Effect.LOAD) and address:  # 0 is no stack: a handler exchanges sp with sscratch
             wanted = (kind,) if pointers.has_source(it) else self.stacks_of_world(kind)
         else:
             return
         stacks = [stack for name in wanted for stack in self.stacks.get(name, ())]
-        is_store = it.kind is Kind.STORE
+        is_store = it.kind is Effect.STORE
         if stacks and not any(stack.bottom <= address and address - (not is_store) < stack.top for stack in stacks):
             own = min(self.stacks[kind], key=lambda stack: min(abs(stack.bottom - address), abs(stack.top - address)))
             self.found[kind] = Overflow(place.step, place.hart, place.world, int(place.pc, 16), is_store, address, own)
@@ -145,7 +145,7 @@ class Finder:
 
 
 @lru_cache(maxsize=65536)
-def need_of(line: bytes) -> Need[Operation] | None:
+def need_of(line: bytes) -> Need[PointerOperation] | None:
     """Returns the operation of the instruction in a reply of `dis`, and the register that it needs: the base of its access, or sp after a write of
     it; None if it needs none."""
     it = operation_of(line)
@@ -157,7 +157,7 @@ def overflows(run: Run, symbols: Symbols) -> list[Overflow]:
     stacks = stacks_of(symbols)
     if not stacks:
         return []
-    finder = Finder(stacks)
+    finder = OverflowFinder(stacks)
     with Reader(run, need_of) as reader:
         for item in run.stretches():
             if isinstance(item, Stretch):

@@ -27,7 +27,7 @@ LOWER_MODE = re.compile(rb"mode=[SU]")
 
 
 @dataclass(frozen=True)
-class Kind:
+class AccessKind:
     """Accesses of a world of one kind, done or refused."""
     world: str
     kind: str
@@ -65,12 +65,12 @@ class Touches:
     """The accesses of a run, counted by first byte and width."""
 
     def __init__(self, run: Run) -> None:
-        self.counts: dict[Kind, Counter[tuple[int, int]]] = defaultdict(Counter)
+        self.counts: dict[AccessKind, Counter[tuple[int, int]]] = defaultdict(Counter)
         self.permitted: dict[str, list[tuple[Range, str, set[str]]]] = defaultdict(list)
         has_modes = enters_lower_mode(run)
         found, self.end = accesses(run, has_modes)
         for it, count in found.items():
-            self.counts[Kind(it.world, it.kind, it.done)][it.address, it.width] += count
+            self.counts[AccessKind(it.world, it.kind, it.done)][it.address, it.width] += count
         changes = [it for it in events(run) if isinstance(it, Event)]
         for event in changes:
             (self.allow_mode(event, "M") if has_modes else self.allow(event))
@@ -93,7 +93,7 @@ class Touches:
         """Returns the worlds that accessed memory, the host first."""
         return sorted({kind.world for kind in self.counts}, key=lambda it: (it != "host", it))
 
-    def ranges(self, kind: Kind, symbols: Symbols) -> list[Touched]:
+    def ranges(self, kind: AccessKind, symbols: Symbols) -> list[Touched]:
         """Returns the bytes that were accessed, in ranges within one symbol."""
         found: list[Touched] = []
         for (address, width), count in sorted(self.counts[kind].items()):
@@ -107,7 +107,7 @@ class Touches:
 
     def bytes_of(self, world: str, kind: str) -> list[int]:
         """Returns the addresses that a world accessed, in ascending order."""
-        return sorted({address + i for address, width in self.counts[Kind(world, kind, True)] for i in range(width)})
+        return sorted({address + i for address, width in self.counts[AccessKind(world, kind, True)] for i in range(width)})
 
     def permitted_rows(self, world: str) -> Iterator[Permitted]:
         """Yields each range that a world was ever permitted to access, with its accesses there."""
@@ -120,7 +120,7 @@ class Touches:
 
     def executed(self, world: str) -> dict[int, int]:
         """Returns how often a world executed each instruction, by address."""
-        return {address: count for (address, _), count in self.counts[Kind(world, "x", True)].items()}
+        return {address: count for (address, _), count in self.counts[AccessKind(world, "x", True)].items()}
 
 
 def joined(rows: Iterable[tuple[Range, str, set[str]]]) -> list[tuple[Range, str, str]]:
@@ -196,9 +196,9 @@ def show_touch(run: Run, symbols: Symbols, printer: Printer) -> None:
     (end_object(printer, touches.end) if printer.as_json else end_text(printer, touches.end, symbols))
 
 
-def all_touched(touches: Touches, world: str, symbols: Symbols) -> list[tuple[Kind, Touched]]:
+def all_touched(touches: Touches, world: str, symbols: Symbols) -> list[tuple[AccessKind, Touched]]:
     """Returns all ranges that a world accessed, each with the kind of access."""
-    kinds = [Kind(world, kind, done) for kind in KINDS for done in (True, False)]
+    kinds = [AccessKind(world, kind, done) for kind in KINDS for done in (True, False)]
     return [(kind, it) for kind in kinds for it in touches.ranges(kind, symbols)]
 
 
@@ -241,7 +241,7 @@ def world_text(touches: Touches, world: str, symbols: Symbols, printer: Printer)
         printer.line(line)
 
 
-def touched_text(kind: Kind, it: Touched) -> str:
+def touched_text(kind: AccessKind, it: Touched) -> str:
     """Returns a range that was accessed as a line."""
     what = KINDS[kind.kind] + ("" if kind.done else ", refused")
     return "  %-16s %08x-%08x %7d  %s" % (what, it.range.first, it.range.end - 1, it.count, it.symbol or "")

@@ -9,7 +9,7 @@ from contextlib import contextmanager
 from dataclasses import dataclass, replace
 from typing import Any, Callable, Dict, Iterator, List, Optional, Sequence, TYPE_CHECKING, Tuple, Union
 
-from rvlook.access.expectations import Report as FailureReport
+from rvlook.access.expectations import FailureReport
 from rvlook.access.failures import failure_text
 from rvlook.access.stack import overflow_text, overflows as overflows_of
 from rvlook.api.program import RAM, STEPS
@@ -25,12 +25,12 @@ from rvlook.finders.timer import find_timer, timer_text
 from rvlook.finders.window import WindowOptions, WindowSearch
 from rvlook.finders.window_text import activation_text, rows_that_are_findings
 from rvlook.image.variables import variables_of
-from rvlook.monitors.conform import Plan
+from rvlook.monitors.conform import ScriptPlan
 from rvlook.monitors.conform_text import LEAST_RAM, MonitorFiles, find_conform, rest_of, script_text, show_counts
 from rvlook.monitors.guard_runs import GuardPlan, do_runs
 from rvlook.monitors.guard_text import rest_of as rest_of_guard, show_results, show_run
 from rvlook.monitors.ranges_file import ownership_of
-from rvlook.output.findings import Findings as Cases
+from rvlook.output.findings import ReportedCases
 from rvlook.output.printer import Printer, place_text
 from rvlook.output.progress import Progress
 from rvlook.protocol.run import run_of
@@ -158,7 +158,7 @@ def leaks(program: Program, secret: str, values: Sequence[bytes] = (), *, tries:
             found += [leak_finding(program, what, text_of_channel(leak, pair, what), pair) for what in pair.channels]
             found.checks, found.unfinished = tuple(leak.channels), leak.cut
         else:
-            tried, cases = compare_drawn(leak), Cases()
+            tried, cases = compare_drawn(leak), ReportedCases()
             finish(leak, printer, tried, cases)
             found += [leak_finding(program, "pair %d" % number, text_of_pair(it), it) for number, it in tried.differing.items()]
             found.checks, found.unfinished = tuple(it.name for it in cases.cases), leak.cut or tried.cut or cases.cut
@@ -194,7 +194,7 @@ def inputs(program: Program, secret: Optional[str] = None, *, public: Names = ()
     words = option_arguments(dict(at=secret, public=public, runs=runs, seed=seed, entry=entry, slot=slot, seconds=seconds))
     options = InputsOptions(slot, secret, several(public), entry, runs, seed, seconds)
     with searching(["inputs", *words], program) as (found, printer):
-        run, cases = ordered(program, "inputs"), Cases()
+        run, cases = ordered(program, "inputs"), ReportedCases()
         report = FailureReport((), program.symbols, printer, cases)
         result = find_inputs(run, variables_of(None, run.setup.image), options, report.show, BranchModels())
         found += [failure_finding(program, it) for it in result.failures]
@@ -242,7 +242,7 @@ def conform(monitor: Path, *, only: str = "", tries: int = 60, items: int = 120,
                                   memory=memory, seconds=seconds))
     files = MonitorFiles(os.fspath(monitor), ram=LEAST_RAM if ram is None else ram, boot=boot, exact=exact, memory=memory)
     has_ram = any(it is not None for it in (ram, boot, memory))
-    plan = Plan(tries, items, str(seed), only, seconds, jobs, deep, has_ram)
+    plan = ScriptPlan(tries, items, str(seed), only, seconds, jobs, deep, has_ram)
     with searching(["conform", os.fspath(monitor), *words]) as (found, printer):
         result = find_conform(files, plan, lambda it: show_counts(it, printer))
         if result.shrunk:

@@ -6,7 +6,7 @@ from __future__ import annotations
 
 from typing import Dict, List, Optional, Sequence, TYPE_CHECKING
 
-from rvlook.api.stepper import LIMIT, Call, Snapshot, Stepper, pokes
+from rvlook.api.stepper import LIMIT, MadeCall, Snapshot, Stepper, pokes
 from rvlook.api.values import Answer, NotReached, answer_of
 from rvlook.api.views import View
 from rvlook.errors import RvlookError
@@ -92,7 +92,7 @@ class HostStepper(Stepper):
             raise RvlookError("the host does not run at %s, in %s of %s; go on to the host first" % (self.where, self.mode, self.world))
         values = self.registers_now()
         used = {A0, A1, A6, A7, *map(number_of, registers)}
-        self.calls[self.hart] = Call({n: values[n] for n in sorted(used)}, values[32] + WORD, registers.get("a0", 0))
+        self.calls[self.hart] = MadeCall({n: values[n] for n in sorted(used)}, values[32] + WORD, registers.get("a0", 0))
         self.execute(ECALL, ["setreg %d %x" % (number_of(name), value & 0xFFFFFFFF) for name, value in registers.items()])
         self.leave_m()
         self.calls[self.hart] = self.calls[self.hart]._replace(has_entered=self.is_inside())

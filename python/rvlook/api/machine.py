@@ -3,7 +3,7 @@ from __future__ import annotations
 
 from typing import Any, List, Optional, TYPE_CHECKING
 
-from rvlook.access.map import Cause, Finder
+from rvlook.access.map import Cause, EventFinder
 from rvlook.api.host import MOST_WATCHED, WORD, EnclaveHandle, HostStepper, number_of
 from rvlook.api.stepper import UNTIL_THE_END, Snapshot, pokes
 from rvlook.api.values import AccessMap, Answer, Ending, Rights
@@ -56,7 +56,7 @@ class Machine(HostStepper):
     def __init__(self, program: Program, schedule: str = "", interrupts: Optional[int] = None, at: Optional[Snapshot] = None) -> None:
         super().__init__(program.setup, schedule, interrupts, at)
         self.program: Program = program
-        self.finder = Finder(program.run)
+        self.finder = EventFinder(program.run)
         self.registers = Registers(self)
 
     def __enter__(self) -> Machine:

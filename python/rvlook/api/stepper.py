@@ -26,7 +26,7 @@ LOOP = "jal x0, 0"  # the text of an instruction that jumps to itself
 UNTIL_THE_END = 0  # a breakpoint at an address without RAM, where a trap without a handler leads
 
 
-class Call(NamedTuple):
+class MadeCall(NamedTuple):
     """A call that the test has made as the host. `kept` has the registers that it used, with their values before. `left_at` is the address after its
     `ecall`, and `slot` is a0."""
     kept: Dict[int, int]
@@ -43,7 +43,7 @@ class Snapshot(NamedTuple):
     consoles: Tuple[Tuple[int, str, Optional[int]], ...] = ()  # of each: the characters written, the line that has not ended, and the status
     lines: Tuple[str, ...] = ()  # complete lines of the consoles
     trap: Optional[Trap] = None
-    calls: Tuple[Tuple[int, Call], ...] = ()  # of each hart, the call under way
+    calls: Tuple[Tuple[int, MadeCall], ...] = ()  # of each hart, the call under way
 
 
 class Stepper:
@@ -53,7 +53,7 @@ class Stepper:
         self.setup, self.schedule = setup, schedule
         self.consoles: List[Console] = consoles_of(setup.symbols)
         self.lines: List[str] = []
-        self.calls: Dict[int, Call] = {}
+        self.calls: Dict[int, MadeCall] = {}
         self.trap: Optional[Trap] = None
         self.scheduled = 0
         self.turns: Iterator[Tuple[int, int]] = turns_of(schedule) if schedule else iter(())

@@ -6,7 +6,7 @@ from typing import Iterable, Iterator, List, Optional, Sequence, Tuple, TYPE_CHE
 from rvlook.output.printer import place_text
 from rvlook.protocol.instructions import instruction_of
 from rvlook.protocol.run import MOST_STEPS
-from rvlook.protocol.timeline import Action, Steps, Timeline, actions_between
+from rvlook.protocol.timeline import Action, ScheduledSteps, Timeline, actions_between
 
 if TYPE_CHECKING:
     from rvlook.protocol.run import Setup
@@ -34,7 +34,7 @@ def accesses(setup: Setup, past: Iterable[Action], address: int) -> List[Access]
     try:
         again.do("watch %x" % address)
         for it in past:
-            if isinstance(it, Steps):
+            if isinstance(it, ScheduledSteps):
                 found += [(step, False) for step in watched_steps(again, it)]
             else:
                 again.do_all([*it.chosen, it.line])
@@ -45,7 +45,7 @@ def accesses(setup: Setup, past: Iterable[Action], address: int) -> List[Access]
     return found
 
 
-def watched_steps(again: Timeline, steps: Steps) -> Iterator[int]:
+def watched_steps(again: Timeline, steps: ScheduledSteps) -> Iterator[int]:
     """Repeats steps; yields the number of each one that accesses the watched byte."""
     for hart, count in parts_of(steps):
         while count:
@@ -55,7 +55,7 @@ def watched_steps(again: Timeline, steps: Steps) -> Iterator[int]:
                 yield again.position
 
 
-def parts_of(steps: Steps) -> Iterator[Tuple[int, int]]:
+def parts_of(steps: ScheduledSteps) -> Iterator[Tuple[int, int]]:
     """Yields steps as a hart and a number of steps each: all at once if they are of one hart."""
     if steps.chosen:
         yield int(steps.turns[0]), steps.count
@@ -67,7 +67,7 @@ def parts_of(steps: Steps) -> Iterator[Tuple[int, int]]:
 def store_at(setup: Setup, past: Iterable[Action], step: int) -> Optional[str]:
     """Returns the instruction of a step as text if it is a store; else None."""
     before = tuple(actions_between(past, -1, step - 1))
-    hart = next((it.last for it in actions_between(past, step - 1, step) if isinstance(it, Steps)), 0)
+    hart = next((it.last for it in actions_between(past, step - 1, step) if isinstance(it, ScheduledSteps)), 0)
     timeline = Timeline(setup, before, hart)
     try:
         pc = timeline.ask("regs")[0][32][3:]

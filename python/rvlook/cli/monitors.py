@@ -3,7 +3,7 @@ from __future__ import annotations
 
 from typing import TYPE_CHECKING
 
-from rvlook.monitors.conform import Plan
+from rvlook.monitors.conform import ScriptPlan
 from rvlook.monitors.conform_text import LEAST_RAM, ConformOutput, MonitorFiles, show_conform
 from rvlook.monitors.guard_runs import GuardPlan
 from rvlook.monitors.guard_text import show_guard
@@ -24,7 +24,8 @@ def files_of(arguments: Namespace) -> MonitorFiles:
 def do_conform(arguments: Namespace) -> None:
     """Runs `conform`."""
     has_ram = any(it is not None for it in (arguments.ram, arguments.boot, arguments.memory))
-    plan = Plan(arguments.tries, arguments.items, str(arguments.seed), arguments.only, arguments.seconds, arguments.jobs, arguments.deep, has_ram)
+    plan = ScriptPlan(arguments.tries, arguments.items, str(arguments.seed), arguments.only, arguments.seconds, arguments.jobs, arguments.deep,
+                      has_ram)
     output = ConformOutput(arguments.scripts, arguments.table)
     show_conform(files_of(arguments), plan, Printer(arguments.json), output, arguments.findings)
 

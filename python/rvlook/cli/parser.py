@@ -12,7 +12,7 @@ from rvlook.cli.options import (Parser, conform_options, expect_option, findings
                                 timer_options, touch_options, trace_options, verify_options, window_options)
 from rvlook.cli.version import version
 from rvlook.errors import RvlookError, UsageError, reason_of
-from rvlook.output.findings import Findings, check_junit, write_junit
+from rvlook.output.findings import ReportedCases, check_junit, write_junit
 from rvlook.protocol.nearest import nearest
 
 if TYPE_CHECKING:
@@ -139,7 +139,7 @@ def parser_of() -> Parser:
     """Returns the parser of all subcommands."""
     parser = Parser(prog="rvlook", usage=USAGE, epilog=SUBCOMMANDS, formatter_class=argparse.RawDescriptionHelpFormatter,
                     description="Show what a host and its enclaves can access, and when, in a run of rvbench.")
-    parser.set_defaults(findings=Findings(), is_report=False, junit=None, subcommand=None)
+    parser.set_defaults(findings=ReportedCases(), is_report=False, junit=None, subcommand=None)
     parser.add_argument("--version", action=Version, nargs=0, help="print the version, the commit and the Rattle kit")
     subparsers = parser.add_subparsers(prog="rvlook", metavar="SUBCOMMAND", help=argparse.SUPPRESS)
     for name, about, *options in OVER_AN_IMAGE:
@@ -192,7 +192,7 @@ def read(arguments: Sequence[str]) -> Namespace:
         raise UsageError(unknown_subcommand(arguments[0]))
     alone = Parser(prog="rvlook", usage=USAGE)
     image_options(alone)
-    alone.set_defaults(do=later("prompt", "views"), findings=Findings(), is_report=False, junit=None)
+    alone.set_defaults(do=later("prompt", "views"), findings=ReportedCases(), is_report=False, junit=None)
     return alone.parse_args(arguments)
 
 

@@ -10,7 +10,7 @@ from rvlook.output.printer import Style, hex8, run_object
 if TYPE_CHECKING:
     from rvlook.finders.leak import Comparison, Difference, Observation
     from rvlook.finders.secrets import Secret
-    from rvlook.output.findings import Findings
+    from rvlook.output.findings import ReportedCases
     from rvlook.output.printer import Printer
     from rvlook.protocol.symbols import Symbols
 
@@ -21,7 +21,7 @@ FOR_ALL = "for all secrets: with the inputs of this run, no pc, address, operand
 MOST_NUMBERS = 10  # numbers of pairs that are printed
 
 
-def show_leak(leak: Leak, printer: Printer, findings: Findings) -> None:
+def show_leak(leak: Leak, printer: Printer, findings: ReportedCases) -> None:
     """Compares runs with one pair of secrets, or with many, and prints the result. After Ctrl-C raises KeyboardInterrupt."""
     options = leak.options
     if options.tries is not None:
@@ -42,7 +42,7 @@ def text_of_channel(leak: Leak, pair: Compared, what: str) -> str:
     return "\n".join(heading_of(leak, it, pair.secrets[0]) for it in pair.found.all() if it.what == what)
 
 
-def show_tries(leak: Leak, printer: Printer, findings: Findings) -> None:
+def show_tries(leak: Leak, printer: Printer, findings: ReportedCases) -> None:
     """Compares the run with runs that have drawn secrets, and prints the result."""
     if printer.as_json:
         run_object(printer, leak.run, leak.symbols)
@@ -61,7 +61,7 @@ def show_tries(leak: Leak, printer: Printer, findings: Findings) -> None:
         raise KeyboardInterrupt
 
 
-def finish(leak: Leak, printer: Printer, tried: Tried, findings: Findings) -> None:
+def finish(leak: Leak, printer: Printer, tried: Tried, findings: ReportedCases) -> None:
     """Prints the result of all pairs, and the first pair that differs. Notes what was found."""
     verdicts, differing = tried.verdicts, tried.differing
     for it in tried.pairs:

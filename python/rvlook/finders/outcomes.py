@@ -16,7 +16,7 @@ from rvlook.output.printer import hex8
 
 if TYPE_CHECKING:
     from rvlook.finders.races.final_states import FinalState
-    from rvlook.finders.races.machine import Look, Machine, Memory, State
+    from rvlook.finders.races.machine import Look, RaceMachine, Memory, CachedState
     from rvlook.image.variables import Member
     from rvlook.protocol.run import Run
     from rvlook.protocol.symbols import Symbols
@@ -34,7 +34,7 @@ class Bytes(NamedTuple):
     at: int
     count: int  # type: ignore[assignment]  # a tuple has a method of that name
 
-    def value_in(self, machine: Machine, _state: State, memory: Memory) -> bytes:
+    def value_in(self, machine: RaceMachine, _state: CachedState, memory: Memory) -> bytes:
         """Returns the bytes in a state."""
         return bytes(machine.bytes_at(memory, self.at, self.count) or ())
 
@@ -45,7 +45,7 @@ class Register(NamedTuple):
     hart: int
     number: int
 
-    def value_in(self, machine: Machine, state: State, _memory: Memory) -> int:
+    def value_in(self, machine: RaceMachine, state: CachedState, _memory: Memory) -> int:
         """Returns the value of the register in a state."""
         return machine.harts[state.harts[self.hart]][2][self.number]
 
@@ -55,21 +55,21 @@ class Slot(NamedTuple):
     name: str
     slot: int
 
-    def value_in(self, machine: Machine, state: State, _memory: Memory) -> str:
+    def value_in(self, machine: RaceMachine, state: CachedState, _memory: Memory) -> str:
         """Returns the state of the enclave in a state of the machine; `none` if there is none."""
         return states_of(machine, state).get(self.slot, "none")
 
 
-class Table(NamedTuple):
+class EnclaveStates(NamedTuple):
     """The states of all enclaves."""
     name: str = "enclaves"
 
-    def value_in(self, machine: Machine, state: State, _memory: Memory) -> tuple[tuple[int, str], ...]:
+    def value_in(self, machine: RaceMachine, state: CachedState, _memory: Memory) -> tuple[tuple[int, str], ...]:
         """Returns the slots and the states of all enclaves in a state of the machine."""
         return tuple(sorted(states_of(machine, state).items()))
 
 
-Observed = Union[Bytes, Register, Slot, Table]
+Observed = Union[Bytes, Register, Slot, EnclaveStates]
 Value = Union[bytes, int, str, Tuple[Tuple[int, str], ...]]  # of one of those, in this order
 
 
@@ -94,7 +94,7 @@ def watched_of(outcome: Iterable[Observed]) -> Watched:
                    frozenset((it.hart, it.number) for it in outcome if isinstance(it, Register)))
 
 
-class Condition(NamedTuple):
+class Forbidden(NamedTuple):
     """Comparisons that are forbidden together: name, operator and value of each; or how a hart must not end."""
     text: str
     parts: tuple[tuple[str, str, Union[int, str]], ...]
@@ -108,7 +108,7 @@ class Condition(NamedTuple):
         return bool(values) and all(OPERATORS[compared](number_of(values[name]), value) for name, compared, value in self.parts)
 
 
-def states_of(machine: Machine, state: State) -> dict[int, str]:
+def states_of(machine: RaceMachine, state: CachedState) -> dict[int, str]:
     """Returns the state of each enclave, by slot."""
     return {it.slot: it.state for it in map(enclave_of, machine.tables[state.table][0])}
 
@@ -136,7 +136,7 @@ def outcome_of(text: str, symbols: Symbols, harts: int, members: Sequence[Member
     addresses, down to their members. Raises RvlookError."""
     hart, dot, register = text.partition(".")
     if text == "enclaves":
-        return Table()
+        return EnclaveStates()
     if re.fullmatch(r"e([0-9]|1[0-2])", text) and text not in symbols.by_name:
         return Slot(text, int(text[1:]))
     if dot and hart in map(str, range(harts)) and register in names.NUMBER_OF:
@@ -155,16 +155,16 @@ def outcome_of(text: str, symbols: Symbols, harts: int, members: Sequence[Member
     return Bytes(text, at, int(count or (symbol and symbol.size) or WORD_BYTES))
 
 
-def condition_of(text: str, symbols: Symbols) -> Condition:
+def condition_of(text: str, symbols: Symbols) -> Forbidden:
     """Parses --forbid: comparisons joined by `and`, or one of HOW and ALIASES. Raises RvlookError."""
     name = ALIASES.get(text.strip(), text.strip())
     if name in HOW:
-        return Condition(text, (), HOW[name])
+        return Forbidden(text, (), HOW[name])
     texts = re.split(r"\band\b", text)
     parts = [match for match in map(CONDITION.match, texts) if match]
     if len(parts) < len(texts):
         raise RvlookError("invalid --forbid '%s' (expected NAME OPERATOR VALUE, joined by 'and', or one of %s)" % (text, ", ".join(HOW)))
-    return Condition(text, tuple((it[1], it[2], compared_with(it[1], it[3], symbols)) for it in parts))
+    return Forbidden(text, tuple((it[1], it[2], compared_with(it[1], it[3], symbols)) for it in parts))
 
 
 def compared_with(name: str, value: str, symbols: Symbols) -> int | str:
@@ -180,7 +180,7 @@ def compared_with(name: str, value: str, symbols: Symbols) -> int | str:
         return at
 
 
-def outcomes_of(texts: Iterable[str] | None, conditions: Sequence[Condition], run: Run, path: str | None) -> list[Observed]:
+def outcomes_of(texts: Iterable[str] | None, conditions: Sequence[Forbidden], run: Run, path: str | None) -> list[Observed]:
     """Returns what distinguishes final states, with what --forbid compares; empty if it is all shared memory. `path` is the file of --symbols."""
     named = list(texts or ()) + [part[0] for it in conditions for part in it.parts]
     members = variables_of(path, run.setup.image).fixed if any("." in it for it in named) else ()

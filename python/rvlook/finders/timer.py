@@ -17,7 +17,7 @@ from rvlook.protocol.stretch import Stretch
 from rvlook.output.printer import Style, place_text, run_object
 
 if TYPE_CHECKING:
-    from rvlook.output.findings import Findings
+    from rvlook.output.findings import ReportedCases
     from rvlook.output.printer import Printer
     from rvlook.protocol.bench import Bench
     from rvlook.protocol.replies import Enclave
@@ -49,7 +49,7 @@ class Last:
 
 
 @dataclass(frozen=True)
-class Difference:
+class TimerDifference:
     """The first step of the enclave with another result, or its final state."""
     number: int
     pc: Optional[str]
@@ -58,12 +58,12 @@ class Difference:
 
 
 @dataclass
-class Outcome:
+class InterruptedRun:
     """The result of the interrupted run."""
     steps: int = 0
     interrupts: int = 0
-    difference: Optional[Difference] = None
-    not_resumed: Optional[Difference] = None  # the step before which the host did not enter the enclave
+    difference: Optional[TimerDifference] = None
+    not_resumed: Optional[TimerDifference] = None  # the step before which the host did not enter the enclave
 
 
 def last_of(run: Run, slot: int) -> Last:
@@ -111,9 +111,9 @@ def commands_for(pc: bytes, is_entered: bool, is_stopped: bool, is_left: bool) -
     return b"".join(commands), len(commands)
 
 
-def interrupted(replay: Replay, steps: Iterable[Inside], every: int) -> Outcome:
+def interrupted(replay: Replay, steps: Iterable[Inside], every: int) -> InterruptedRun:
     """Runs the steps with a timer interrupt before every one that is due. After the first difference the steps are only counted."""
-    outcome = Outcome()
+    outcome = InterruptedRun()
     with Progress() as progress:
         for batch in batches_of(enumerate(steps)):
             outcome.steps += len(batch)
@@ -131,7 +131,7 @@ def batches_of(steps: Iterator[tuple[int, Inside]]) -> Iterator[list[tuple[int, 
         count = min(2 * count, MOST_STEPS)
 
 
-def compare(replay: Replay, batch: Sequence[tuple[int, Inside]], every: int, outcome: Outcome) -> None:
+def compare(replay: Replay, batch: Sequence[tuple[int, Inside]], every: int, outcome: InterruptedRun) -> None:
     """Compares some steps of the enclave, up to the first difference."""
     texts = [commands_for(it.pc, it.is_entered, number % every == 0, bool(it.answer)) for number, it in batch]
     replies, end = replay.bench.block(b"".join([text for text, _ in texts]), sum(count for _, count in texts)).splitlines(), 0
@@ -146,12 +146,12 @@ def compare(replay: Replay, batch: Sequence[tuple[int, Inside]], every: int, out
             return
 
 
-def difference_at(number: int, step: Inside, expected: bytes, actual: bytes) -> Difference:
+def difference_at(number: int, step: Inside, expected: bytes, actual: bytes) -> TimerDifference:
     """Returns a difference in one step of the enclave."""
-    return Difference(number, step.pc.decode(), expected.decode(), actual.decode())
+    return TimerDifference(number, step.pc.decode(), expected.decode(), actual.decode())
 
 
-def not_entered(number: int, step: Inside, lines: Sequence[bytes]) -> Difference | None:
+def not_entered(number: int, step: Inside, lines: Sequence[bytes]) -> TimerDifference | None:
     """Returns the first time that the host did not enter the enclave before a step, or None. The reply to each of its runs is the third one before
     the end, or before that of a timer interrupt."""
     for reply in lines[-3::-5][::-1]:
@@ -160,7 +160,7 @@ def not_entered(number: int, step: Inside, lines: Sequence[bytes]) -> Difference
     return None
 
 
-def compare_step(number: int, step: Inside, is_stopped: bool, lines: Sequence[bytes], answer: tuple[bytes, ...]) -> Difference | None:
+def compare_step(number: int, step: Inside, is_stopped: bool, lines: Sequence[bytes], answer: tuple[bytes, ...]) -> TimerDifference | None:
     """Returns the difference in one step of the enclave, or None."""
     if is_stopped and b" trap=%s:" % TIMER not in lines[-5]:
         return difference_at(number, step, b"a timer interrupt", lines[-5])
@@ -192,7 +192,7 @@ def after_script(run: Run) -> Replay:
     return replay
 
 
-def find_timer(run: Run, slot: int = 0, every: int = 1) -> tuple[Outcome, Last]:
+def find_timer(run: Run, slot: int = 0, every: int = 1) -> tuple[InterruptedRun, Last]:
     """Runs an enclave with and without timer interrupts; returns the result, and its last step. Raises Unfinished if it executes no step."""
     last = last_of(run, slot)
     with run.replay() as quiet, run.replay() as reader, after_script(run) as replay:
@@ -202,11 +202,11 @@ def find_timer(run: Run, slot: int = 0, every: int = 1) -> tuple[Outcome, Last]:
             raise Unfinished("the enclave in slot %d executes no step after the script" % slot)
         if not (outcome.difference or outcome.not_resumed):
             pairs = zip(finish_of(quiet.bench, last.enclave), finish_of(replay.bench, last.enclave))
-            outcome.difference = next((Difference(outcome.steps, None, a, b) for a, b in pairs if a != b), None)
+            outcome.difference = next((TimerDifference(outcome.steps, None, a, b) for a, b in pairs if a != b), None)
     return outcome, last
 
 
-def show_timer(run: Run, printer: Printer, slot: int, every: int, findings: Findings) -> None:
+def show_timer(run: Run, printer: Printer, slot: int, every: int, findings: ReportedCases) -> None:
     """Runs an enclave with and without timer interrupts, and reports whether the results are equal. Raises Unfinished if the host does not
     resume the enclave."""
     outcome, last = find_timer(run, slot, every)
@@ -220,7 +220,7 @@ def show_timer(run: Run, printer: Printer, slot: int, every: int, findings: Find
         findings.cut_short("--steps %d ended the run while the enclave in slot %d was running" % (run.setup.limit, slot))
 
 
-def timer_object(run: Run, symbols: Symbols, printer: Printer, slot: int, every: int, outcome: Outcome) -> None:
+def timer_object(run: Run, symbols: Symbols, printer: Printer, slot: int, every: int, outcome: InterruptedRun) -> None:
     """Writes the result as objects."""
     it = outcome.difference or outcome.not_resumed
     run_object(printer, run, symbols)
@@ -230,7 +230,7 @@ def timer_object(run: Run, symbols: Symbols, printer: Printer, slot: int, every:
                    same=None if outcome.not_resumed else it is None, difference=difference)
 
 
-def timer_text(_run: Run, symbols: Symbols, printer: Printer, slot: int, every: int, outcome: Outcome) -> None:
+def timer_text(_run: Run, symbols: Symbols, printer: Printer, slot: int, every: int, outcome: InterruptedRun) -> None:
     """Prints the result."""
     it = outcome.difference or outcome.not_resumed
     which = "each step" if every == 1 else "every %d steps" % every

@@ -27,7 +27,7 @@ Marks = Tuple[Tuple[int, ...], Optional[bool], bool]  # instructions, whether it
 Kept = Tuple[int, int, int]  # a value, the instruction that stored it, and the number of the activation
 
 
-class Found(NamedTuple):
+class MarkedBytes(NamedTuple):
     """Bytes of the window from an offset on with the same marks: what was done, and by which instructions. `is_secret` is None without a
     secret; `is_public` is true if --public names the bytes or the instruction."""
     what: str
@@ -57,14 +57,14 @@ class SecretCopy(NamedTuple):
 
 
 @dataclass(frozen=True)
-class View:
+class ActivationView:
     """The findings of one activation: its ranges, and the copies of the secret."""
-    found: list[Found]
+    found: list[MarkedBytes]
     copies: list[SecretCopy]
 
 
 @dataclass(frozen=True)
-class Context:
+class WindowContext:
     """The names of instructions and of fields of the window, and what may differ."""
     symbols: Symbols
     fields: Fields
@@ -121,15 +121,15 @@ def stored(byte: Byte, pc: int, value: int) -> None:
     byte.values.append(value)
 
 
-def ranges(what: str, marks: Mapping[int, Marks]) -> list[Found]:
+def ranges(what: str, marks: Mapping[int, Marks]) -> list[MarkedBytes]:
     """Joins adjacent bytes with the same marks. `marks` has them by offset."""
-    found: list[Found] = []
+    found: list[MarkedBytes] = []
     for at in sorted(marks):
         last = found[-1] if found else None
         if last and last.first + last.size == at and last[3:6] == marks[at]:
             found[-1] = last._replace(size=last.size + 1)
         else:
-            found.append(Found(what, at, 1, *marks[at]))
+            found.append(MarkedBytes(what, at, 1, *marks[at]))
     return found
 
 
@@ -172,7 +172,7 @@ class Leftovers:
         return remaining
 
 
-def reread(found: Mapping[int, Byte], symbols: Symbols) -> Iterator[Found]:
+def reread(found: Mapping[int, Byte], symbols: Symbols) -> Iterator[MarkedBytes]:
     """Yields the bytes that were loaded again: one range for adjacent bytes that the same two source lines load, or the same two instructions
     without source lines."""
     groups: dict[tuple[object, object], dict[int, tuple[int, int]]] = defaultdict(dict)
@@ -186,7 +186,7 @@ def reread(found: Mapping[int, Byte], symbols: Symbols) -> Iterator[Found]:
         yield from ranges("rereads", marks)
 
 
-def view_of(activation: Activation, leftovers: Leftovers, other: Activation | None, secret: Secret | None, context: Context) -> View:
+def view_of(activation: Activation, leftovers: Leftovers, other: Activation | None, secret: Secret | None, context: WindowContext) -> ActivationView:
     """Returns all findings of an activation. `other` is the same activation with another secret, if there is one."""
     public = context.public
     found, base = bytes_of(activation), activation.enclave.window
@@ -205,7 +205,7 @@ def view_of(activation: Activation, leftovers: Leftovers, other: Activation | No
                     *ranges("writes", writes),
                     *ranges("remains", {at: ((pc, number), None, False) for at, (_, pc, number) in kept.items()})]
     writers = {at: pc for at, (_, pc, _) in leftovers.kept[activation.world].items()}
-    return View(found_ranges, list(copies_of(activation, other, secret, writers, public)) if secret else [])
+    return ActivationView(found_ranges, list(copies_of(activation, other, secret, writers, public)) if secret else [])
 
 
 def copies_of(activation: Activation, other: Activation | None, secret: Secret, writers: Mapping[int, int], public: Public) -> Iterator[SecretCopy]:
@@ -232,14 +232,14 @@ class WindowSearch:
 
     def __init__(self, run: Run, variables: Variables, options: WindowOptions) -> None:
         self.run, self.options, symbols = run, options, run.setup.symbols
-        self.context = Context(symbols, Fields(symbols), public_of(options.public, symbols))
+        self.context = WindowContext(symbols, Fields(symbols), public_of(options.public, symbols))
         self.secret: Secret | None = None
         if options.at:
             secret = secret_of(options.at, symbols, run, 0 if options.slot is None else options.slot)
             self.secret = secret.with_bytes(secret.bytes_in(run))
         self.reader = FieldReader(run, variables.parameters, self.context.fields)
 
-    def views(self, heard: Callable[[int], None] = lambda step: None) -> Iterator[tuple[Activation, View]]:
+    def views(self, heard: Callable[[int], None] = lambda step: None) -> Iterator[tuple[Activation, ActivationView]]:
         """Yields each activation with its findings. Calls `heard` with the last step of each activation. Raises Unfinished if there is none."""
         others = WithComplement(self.run, self.secret) if self.secret else None
         leftovers, slot, number = Leftovers(), self.options.slot, 0

@@ -11,9 +11,9 @@ from rvlook.output.progress import Progress
 if TYPE_CHECKING:
     from rvlook.access.activations import Activation
     from rvlook.finders.secrets import Secret
-    from rvlook.finders.window import Context, Found, SecretCopy, View, WindowOptions
+    from rvlook.finders.window import WindowContext, MarkedBytes, SecretCopy, ActivationView, WindowOptions
     from rvlook.image.variables import Variables
-    from rvlook.output.findings import Findings
+    from rvlook.output.findings import ReportedCases
     from rvlook.output.printer import Printer
     from rvlook.protocol.run import Run
     from rvlook.protocol.symbols import Symbols
@@ -22,7 +22,7 @@ WIDTH = 16  # bytes of a row of the dump
 END_TEXT = {"none": "still running"}  # of an activation that has not ended
 
 
-def show_window(run: Run, variables: Variables, printer: Printer, options: WindowOptions, findings: Findings) -> None:
+def show_window(run: Run, variables: Variables, printer: Printer, options: WindowOptions, findings: ReportedCases) -> None:
     """Prints what each activation did with its window."""
     search, number = WindowSearch(run, variables, options), 0
     if printer.as_json:
@@ -36,14 +36,15 @@ def show_window(run: Run, variables: Variables, printer: Printer, options: Windo
             findings.add("%s, activation %d" % (activation.world, activation.number), finding_of(activation, view, search.context, search.secret))
 
 
-def rows_that_are_findings(activation: Activation, view: View, context: Context, secret: Secret | None) -> list[tuple[str, int | None]]:
+def rows_that_are_findings(activation: Activation, view: ActivationView, context: WindowContext,
+                           secret: Secret | None) -> list[tuple[str, int | None]]:
     """Returns the rows of an activation that are findings, each with the first instruction that it names."""
     rows: list[tuple[str, int | None]] = [(found_text(activation, it, context).strip(), next(iter(it.pcs), None))
                                           for it in view.found if it.is_finding]
     return rows + [(copy_text(activation, it, context, secret).strip(), None) for it in view.copies if it.is_finding]
 
 
-def finding_of(activation: Activation, view: View, context: Context, secret: Secret | None) -> str:
+def finding_of(activation: Activation, view: ActivationView, context: WindowContext, secret: Secret | None) -> str:
     """Returns the rows that are findings, as a text; empty if there is none."""
     return "\n".join(text for text, _ in rows_that_are_findings(activation, view, context, secret))
 
@@ -61,7 +62,7 @@ def places_text(pcs: Iterable[int], symbols: Symbols) -> str:
     return " and ".join(dict.fromkeys(symbols.source(pc) or symbols.name(pc) or hex8(pc) for pc in pcs))
 
 
-def found_text(activation: Activation, it: Found, context: Context) -> str:
+def found_text(activation: Activation, it: MarkedBytes, context: WindowContext) -> str:
     """Returns a range as a line."""
     symbols = context.symbols
     base = activation.enclave.window + it.first
@@ -81,12 +82,12 @@ def found_text(activation: Activation, it: Found, context: Context) -> str:
     return "  ".join(part for part in parts if part)
 
 
-def secret_text(it: Found | SecretCopy) -> str:
+def secret_text(it: MarkedBytes | SecretCopy) -> str:
     """Returns whether bytes of the window depend on the secret."""
     return ("depends on the secret" + (", public" if it.is_public else "")) if it.is_secret else "the same with another secret"
 
 
-def copy_text(activation: Activation, it: SecretCopy, context: Context, secret: Secret | None) -> str:
+def copy_text(activation: Activation, it: SecretCopy, context: WindowContext, secret: Secret | None) -> str:
     """Returns a copy of a part of the secret as a line."""
     assert secret is not None
     copy, base = it.copy, activation.enclave.window + it.copy.at
@@ -118,7 +119,7 @@ def heading_of(activation: Activation) -> str:
     return "%s%s, activation %d: steps %d to %d, %s%s" % (hart, activation.world, activation.number, activation.first, activation.last, end, answer)
 
 
-def activation_text(printer: Printer, context: Context, activation: Activation, view: View, secret: Secret | None) -> None:
+def activation_text(printer: Printer, context: WindowContext, activation: Activation, view: ActivationView, secret: Secret | None) -> None:
     """Prints an activation."""
     printer.line(printer.styled(heading_of(activation), Style.heading))
     for it in view.found:
@@ -134,7 +135,7 @@ def activation_text(printer: Printer, context: Context, activation: Activation, 
     printer.line()
 
 
-def activation_objects(printer: Printer, context: Context, activation: Activation, view: View, _secret: Secret | None) -> None:
+def activation_objects(printer: Printer, context: WindowContext, activation: Activation, view: ActivationView, _secret: Secret | None) -> None:
     """Writes an activation as objects."""
     symbols = context.symbols
     printer.object("activation", world=activation.world, hart=activation.hart, activation=activation.number, first=activation.first,

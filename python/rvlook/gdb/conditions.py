@@ -11,7 +11,7 @@ CONSTANTS = {0x22: 1, 0x23: 2, 0x24: 4, 0x25: 8}
 MOST = 10000  # operations
 
 
-class Refused(Exception):
+class ExpressionError(Exception):
     """An expression that cannot be evaluated."""
 
 
@@ -23,7 +23,7 @@ def signed(value: int) -> int:
 def divided(one: int, other: int) -> int:
     """Returns the quotient, rounded towards zero; raises Refused for a division by zero."""
     if other == 0:
-        raise Refused("a division by zero")
+        raise ExpressionError("a division by zero")
     return abs(one) // abs(other) * (1 if (one < 0) == (other < 0) else -1)
 
 
@@ -43,12 +43,12 @@ TWO = {
 def extended(value: int, bits: int) -> int:
     """Sign-extends the low bits of a value; raises Refused for 0 bits."""
     if bits == 0:
-        raise Refused("a value of no bits")
+        raise ExpressionError("a value of no bits")
     value &= (1 << bits) - 1
     return value - (1 << bits) if value >> (bits - 1) else value
 
 
-class Machine:
+class ExpressionStack:
     """The stack of an expression. `register` and `memory` read a register by its number, and bytes by address and count."""
 
     def __init__(self, code: bytes, register: Callable[[int], int], memory: Callable[[int, int], bytes]) -> None:
@@ -68,7 +68,7 @@ class Machine:
         """Replaces the address on the stack by a little-endian number from memory."""
         found = self.memory(self.stack.pop() & 0xFFFFFFFF, size)
         if len(found) < size:
-            raise Refused("it reads outside RAM")
+            raise ExpressionError("it reads outside RAM")
         self.push(int.from_bytes(found, "little"))
 
     def run(self) -> int:
@@ -78,7 +78,7 @@ class Machine:
             if code == 0x27:
                 return self.stack.pop()
             self.do(code)
-        raise Refused("it comes to no end")
+        raise ExpressionError("it comes to no end")
 
     def do(self, code: int) -> None:
         """Executes one operation."""
@@ -93,7 +93,7 @@ class Machine:
         elif code in MOVES:
             MOVES[code](self)
         else:
-            raise Refused("the operation %02x" % code)
+            raise ExpressionError("the operation %02x" % code)
 
     def jump_if(self) -> None:
         """Jumps if the top of the stack is not zero."""
@@ -116,15 +116,15 @@ class Machine:
 
 MOVES = {
     0x0E: lambda it: it.push(it.stack.pop() == 0), 0x12: lambda it: it.push(~it.stack.pop()),
-    0x16: lambda it: it.push(extended(it.stack.pop(), it.number(1))), 0x20: Machine.jump_if, 0x21: Machine.jump,
+    0x16: lambda it: it.push(extended(it.stack.pop(), it.number(1))), 0x20: ExpressionStack.jump_if, 0x21: ExpressionStack.jump,
     0x26: lambda it: it.push(it.register(it.number(2))), 0x28: lambda it: it.push(it.stack[-1]), 0x29: lambda it: it.stack.pop(),
-    0x2A: lambda it: it.push(it.stack.pop() & ((1 << it.number(1)) - 1)), 0x2B: Machine.swap,
-    0x32: lambda it: it.push(it.stack[-1 - it.number(1)]), 0x33: Machine.rotate}
+    0x2A: lambda it: it.push(it.stack.pop() & ((1 << it.number(1)) - 1)), 0x2B: ExpressionStack.swap,
+    0x32: lambda it: it.push(it.stack[-1 - it.number(1)]), 0x33: ExpressionStack.rotate}
 
 
 def holds(code: bytes, register: Callable[[int], int], memory: Callable[[int, int], bytes]) -> bool:
     """Returns whether a condition holds. Returns True if it cannot be evaluated: the debugger then evaluates it itself."""
     try:
-        return bool(Machine(code, register, memory).run())
-    except (Refused, IndexError, ValueError):
+        return bool(ExpressionStack(code, register, memory).run())
+    except (ExpressionError, IndexError, ValueError):
         return True

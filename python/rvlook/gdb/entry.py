@@ -9,10 +9,10 @@ from typing import Iterator, TYPE_CHECKING
 from rvlook.gdb.lookahead import BLOCK, query_steps
 from rvlook.gdb.target import SAVED
 from rvlook.protocol.names import NUMBER_OF
-from rvlook.protocol.timeline import Change, actions_between, steps_within
+from rvlook.protocol.timeline import StateChange, actions_between, steps_within
 
 if TYPE_CHECKING:
-    from rvlook.protocol.timeline import Steps, Timeline
+    from rvlook.protocol.timeline import ScheduledSteps, Timeline
 
 FIRST_PART, MORE = 4096, 8  # steps of the first part that is looked through, and times as many in the next
 PC, CALL = 32, 4  # the register pc, and the bytes of an ecall
@@ -32,7 +32,7 @@ class Entered:
         return {"host_pc": after, **{"host_" + name: self.values[NUMBER_OF[name]] for name in SAVED}}
 
 
-class Entry:
+class LastEntries:
     """Caches for each hart the entry that was found last, up to which step it is valid, and by what the timeline shows that the hart stayed."""
 
     def __init__(self) -> None:
@@ -85,10 +85,10 @@ def last_switch(timeline: Timeline, hart: int, lowest: int) -> int | None:
     return None
 
 
-def blocks(timeline: Timeline, ahead: Timeline, first: int, end: int) -> Iterator[Steps]:
+def blocks(timeline: Timeline, ahead: Timeline, first: int, end: int) -> Iterator[ScheduledSteps]:
     """Yields the steps of a part of the past in blocks. Gives the commands between them to the other bench."""
     for it in actions_between(timeline.past, first, end):
-        if isinstance(it, Change):
+        if isinstance(it, StateChange):
             ahead.choose(it.hart)
             ahead.do(it.line)
             continue
@@ -96,7 +96,7 @@ def blocks(timeline: Timeline, ahead: Timeline, first: int, end: int) -> Iterato
             yield steps_within(it, at, at + BLOCK)
 
 
-def blocks_with_traps(timeline: Timeline, hart: int, first: int, end: int) -> list[tuple[int, Steps]]:
+def blocks_with_traps(timeline: Timeline, hart: int, first: int, end: int) -> list[tuple[int, ScheduledSteps]]:
     """Returns the blocks in which a hart trapped, as it does at each switch of world, each with the step before it."""
     found = []
     with contextlib.closing(timeline.again(first)) as ahead:
@@ -107,7 +107,7 @@ def blocks_with_traps(timeline: Timeline, hart: int, first: int, end: int) -> li
     return found
 
 
-def switch_in(timeline: Timeline, hart: int, start: int, steps: Steps) -> int | None:
+def switch_in(timeline: Timeline, hart: int, start: int, steps: ScheduledSteps) -> int | None:
     """Returns the last step of a block that brought a hart to another world, or None."""
     found = None
     with contextlib.closing(timeline.again(start)) as ahead:

@@ -8,7 +8,7 @@ from typing import Callable, Iterable, Iterator, Mapping, Optional, TYPE_CHECKIN
 
 from rvlook.protocol.replies import RAN, Ran, Trap, step_of, trap_of
 from rvlook.protocol.run import EQUAL, MOST_STEPS
-from rvlook.protocol.timeline import Steps, actions_between, rotated
+from rvlook.protocol.timeline import ScheduledSteps, actions_between, rotated
 
 if TYPE_CHECKING:
     from rvlook.gdb.stops import Halt, Stops
@@ -58,7 +58,7 @@ def query_steps(timeline: Timeline, turns: str, count: int, is_single: bool,
     runs, text, lines = planned(turns, count, is_single, timeline.hart)
     block = timeline.bench.block(text, lines)
     timeline.hart = runs[-1][0]
-    timeline.add(Steps(turns, count))
+    timeline.add(ScheduledSteps(turns, count))
     if is_quiet and is_quiet(block, len(runs)):
         for hart in range(timeline.setup.harts) if block.count(NO_TRAP) < len(runs) else ():
             timeline.moved[hart] += 1
@@ -99,7 +99,7 @@ def judged(timeline: Timeline, stops: Stops, hart: int, count: int) -> list[tupl
         done += ran.steps
         timeline.reach(hart, ran.mode, ran.world, ran.trap and ran.steps > 1)
         found.append((done, ran, stops.verdict(timeline, ran, dict(zip(questions, replies[first + 1:first + len(lines)])))))
-    timeline.add(Steps(str(hart), done))
+    timeline.add(ScheduledSteps(str(hart), done))
     return found
 
 
@@ -129,7 +129,7 @@ def first_equal(timeline: Timeline, first: int, ends: Mapping[int, RanState]) ->
     with contextlib.closing(timeline.again(block_before(timeline, first, ends))) as ahead:
         since: dict[int, int] = {}
         for it in actions_between(timeline.past, ahead.position, end):
-            while isinstance(it, Steps) and it.count:
+            while isinstance(it, ScheduledSteps) and it.count:
                 count = min(it.count, BLOCK)
                 position = ahead.position
                 for hart, _, ran in query_steps(ahead, it.turns, count, True):
@@ -140,7 +140,7 @@ def first_equal(timeline: Timeline, first: int, ends: Mapping[int, RanState]) ->
                         since.setdefault(hart, position)
                 if len(since) == len(ends) and position >= max(since.values()) + EQUAL * len(it.turns):
                     return max(since.values())
-                it = next(actions_between([it], count, it.count), Steps(it.turns, 0))
+                it = next(actions_between([it], count, it.count), ScheduledSteps(it.turns, 0))
         return max(since.values(), default=end)
 
 

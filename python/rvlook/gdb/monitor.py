@@ -12,7 +12,7 @@ from rvlook.protocol.bench_line import tokens_of
 from rvlook.protocol.commands import COMMANDS, Form, is_form, written
 from rvlook.escapes import visible
 from rvlook.errors import RvlookError
-from rvlook.gdb.entry import Entry
+from rvlook.gdb.entry import LastEntries
 from rvlook.gdb.moves import DISCARDED
 from rvlook.protocol.names import Call
 from rvlook.protocol.run import run_of
@@ -48,7 +48,7 @@ class Monitor:
     """Runs lines of `monitor`. `symbols` reads the symbols; only with `has_files` may a line name files."""
 
     def __init__(self, moves: Moves, symbols: Callable[[], Symbols], command_line: CommandLine, has_files: bool = True) -> None:
-        self.moves, self.symbols, self.entry, self.refreshes = moves, symbols, Entry(), False
+        self.moves, self.symbols, self.entry, self.refreshes = moves, symbols, LastEntries(), False
         self.session: Session | None = None
         self.has_files, self.read = has_files, command_line.read
         self.subcommands = tuple(it for it in command_line.names if it not in (*OTHERS, *NOT_OFFERED))  # over an image

@@ -8,10 +8,10 @@ from typing import Container, NamedTuple, Sequence, TYPE_CHECKING
 from rvlook.protocol import names
 from rvlook.gdb.lookahead import query_steps, by_turns, ends_of, first_equal, judged
 from rvlook.gdb.stops import INTERRUPTED, Halt, Stops, signal_of
-from rvlook.gdb.view import View
+from rvlook.gdb.view import CachedView
 from rvlook.protocol.run import EQUAL, MOST_STEPS
 from rvlook.protocol.schedule import TURN, alternating
-from rvlook.protocol.timeline import Steps, actions_between
+from rvlook.protocol.timeline import ScheduledSteps, actions_between
 
 if TYPE_CHECKING:
     from rvlook.gdb.link import Link
@@ -36,7 +36,7 @@ class Moves:
     one to stops that it has passed."""
 
     def __init__(self, timeline: Timeline, link: Link) -> None:
-        self.timeline, self.view, self.link, self.stops = timeline, View(timeline), link, Stops()
+        self.timeline, self.view, self.link, self.stops = timeline, CachedView(timeline), link, Stops()
         self.schedule = timeline.setup.schedule or alternating(TURN)
         self.ready: dict[int, Timeline] = {}
         self.follower: Timeline | None = None
@@ -65,7 +65,7 @@ class Moves:
         new.take_future(self.timeline)
         new.set_stops(self.timeline.stops)
         self.timeline.close()
-        self.timeline, self.view = new, View(new)
+        self.timeline, self.view = new, CachedView(new)
         self.discard(position)
 
     def apply(self, lines: Sequence[str]) -> None:
@@ -179,16 +179,16 @@ class Moves:
         if len(set(turns)) == 1 and not self.stops.is_single:
             for done, ran, verdict in judged(self.timeline, self.stops, int(turns[0]), count):
                 if verdict is not False:
-                    return self.met_at(start, Steps(turns, done), int(turns[0]), ran, worlds[int(turns[0])])
+                    return self.met_at(start, ScheduledSteps(turns, done), int(turns[0]), ran, worlds[int(turns[0])])
             return None
         for hart, wanted, ran in query_steps(self.timeline, turns, count, self.stops.is_single, self.stops.is_quiet(self.timeline)):
             done += ran.steps
             if ran.steps < wanted or self.stops.may_meet(self.timeline, ran, worlds[hart]):
-                return self.met_at(start, Steps(turns, done), hart, ran, worlds[hart])
+                return self.met_at(start, ScheduledSteps(turns, done), hart, ran, worlds[hart])
             worlds[hart] = ran.world
         return None
 
-    def met_at(self, start: Start, steps: Steps, hart: int, ran: Ran, before: str) -> Halt | None:
+    def met_at(self, start: Start, steps: ScheduledSteps, hart: int, ran: Ran, before: str) -> Halt | None:
         """Returns the halt after these steps, or None. The bench has gone further, and perhaps not by the turns; it is brought back."""
         if self.timeline.position != start.position + steps.count:
             self.go(start.position + steps.count)
@@ -220,7 +220,7 @@ class Moves:
         found = query_steps(self.timeline, turns, EQUAL * len(turns), True)
         for done, (hart, _, ran) in enumerate(found, 1):
             if self.stops.may_meet(self.timeline, ran, worlds[hart]):
-                halt = self.met_at(start, Steps(turns, done), hart, ran, worlds[hart])
+                halt = self.met_at(start, ScheduledSteps(turns, done), hart, ran, worlds[hart])
                 if halt or done < len(found):
                     return halt
             worlds[hart] = ran.world

@@ -8,12 +8,12 @@ from typing import Any, Iterable, Iterator, Sequence, TYPE_CHECKING
 from rvlook.gdb.lookahead import BLOCK, query_steps, by_turns, judged
 from rvlook.gdb.stops import INTERRUPTED, Halt
 from rvlook.protocol.run import MOST_STEPS
-from rvlook.protocol.timeline import Change, actions_between, steps_within
+from rvlook.protocol.timeline import StateChange, actions_between, steps_within
 
 if TYPE_CHECKING:
     from rvlook.gdb.moves import Moves
     from rvlook.protocol.replies import Ran
-    from rvlook.protocol.timeline import Action, Steps, Timeline
+    from rvlook.protocol.timeline import Action, ScheduledSteps, Timeline
 
 FIRST_PART, MORE_BACK = 4096, 8  # steps of the first part that is searched, and the factor for the next
 MOST_BY_TURNS = 1 << 18  # the most steps of a part with two harts, or of single steps
@@ -109,7 +109,7 @@ class Back:
         with contextlib.closing(moves.timeline.again(first)) as ahead:
             ahead.set_stops(moves.timeline.stops)
             for it in pieces:
-                if isinstance(it, Change):
+                if isinstance(it, StateChange):
                     ahead.choose(it.hart)
                     ahead.do(it.line)
                 elif moves.stops.is_single:
@@ -122,12 +122,12 @@ class Back:
 
     def may_stop(self, first: int, pieces: Sequence[Action]) -> bool:
         """Returns whether there may be a stop in steps of two harts. Steps of one hart are searched at once."""
-        if all(isinstance(it, Change) or it.chosen for it in pieces):
+        if all(isinstance(it, StateChange) or it.chosen for it in pieces):
             return True
         with contextlib.closing(self.moves.timeline.again(first)) as ahead:
             ahead.set_stops(self.moves.timeline.stops)
             for it in pieces:
-                if isinstance(it, Change):
+                if isinstance(it, StateChange):
                     ahead.choose(it.hart)
                     ahead.do(it.line)
                 elif any(ran.steps < count or self.moves.stops.may_meet(ahead, ran, "")
@@ -135,14 +135,14 @@ class Back:
                     return True
         return False
 
-    def stops_by_turns(self, ahead: Timeline, steps: Steps) -> Iterator[tuple[int, Halt]]:
+    def stops_by_turns(self, ahead: Timeline, steps: ScheduledSteps) -> Iterator[tuple[int, Halt]]:
         """Yields the stops in steps of the past, with an exchange for each run."""
         for halt in by_turns(ahead, self.moves.stops, steps.turns, steps.count):
             self.check_interrupt()
             if halt:
                 yield ahead.position, halt
 
-    def judged_stops(self, ahead: Timeline, steps: Steps) -> Iterator[tuple[int, Halt]]:
+    def judged_stops(self, ahead: Timeline, steps: ScheduledSteps) -> Iterator[tuple[int, Halt]]:
         """Yields the stops in steps of one hart with conditions, with many runs in one exchange."""
         hart, end = int(steps.turns), ahead.position + steps.count
         while ahead.position < end:
@@ -153,7 +153,7 @@ class Back:
                 if halt:
                     yield position + done, halt
 
-    def single_stops(self, ahead: Timeline, steps: Steps) -> Iterator[tuple[int, Halt]]:
+    def single_stops(self, ahead: Timeline, steps: ScheduledSteps) -> Iterator[tuple[int, Halt]]:
         """Yields the stops in steps of the past that are checked one by one, with many steps in one exchange."""
         stops = self.moves.stops
         for at in range(0, steps.count, BLOCK):

@@ -24,7 +24,7 @@ def line_of(address: int) -> str:
     return "mem %x %d" % (address & -LINE & 0xFFFFFFFF, LINE)
 
 
-class View:
+class CachedView:
     """The registers and the memory of a timeline, cached until anything changes."""
 
     def __init__(self, timeline: Timeline) -> None:

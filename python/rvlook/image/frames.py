@@ -9,7 +9,7 @@ from typing import Any, Iterable, Iterator, Optional, Sequence, Tuple, TYPE_CHEC
 from rvlook.image.budget import budget_of, spend
 from rvlook.image.files import read_file
 from rvlook.image.symbols import checked, compilation_units, knows_all_forms, ranges_of, readable
-from rvlook.image.variables import ADDRESSES, AGGREGATES, FRAME_SP, RELATIVE, Unit, signed
+from rvlook.image.variables import ADDRESSES, AGGREGATES, FRAME_SP, RELATIVE, UnitEntries, signed
 from rvlook.protocol.inputs import ELF_MAGIC
 
 if TYPE_CHECKING:
@@ -61,7 +61,7 @@ def has_any(ranges: Iterable[tuple[int, int]], executed: Sequence[int]) -> bool:
     return not each or any(bisect_left(executed, first) < bisect_left(executed, end) for first, end in each)
 
 
-class Frames(Unit):
+class Frames(UnitEntries):
     """The entries of a compilation unit, with the locations of the variables of its functions."""
 
     def variables(self) -> Iterator[Variable]:

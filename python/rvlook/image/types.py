@@ -8,7 +8,7 @@ from typing import Any, Iterator, Mapping, Optional, TYPE_CHECKING
 from rvlook.errors import SymbolError
 from rvlook.image.budget import budget_of
 from rvlook.image.symbols import checked, compilation_units, knows_all_forms, ranges_of, readable
-from rvlook.image.variables import AGGREGATES, FIXED, Unit
+from rvlook.image.variables import AGGREGATES, FIXED, UnitEntries
 from rvlook.protocol.nearest import nearest
 
 if TYPE_CHECKING:
@@ -84,7 +84,7 @@ def read_types(file: Any) -> Types:
     found = Types()
     dwarf = file.get_dwarf_info() if file.has_dwarf_info() else None
     for unit in compilation_units(dwarf) if dwarf else ():
-        reader = Reader(dwarf, unit)
+        reader = TypeReader(dwarf, unit)
         for entry in reader.entries.values():
             reader.take(entry, found)
     for name in found.ambiguous:
@@ -92,7 +92,7 @@ def read_types(file: Any) -> Types:
     return found
 
 
-class Reader(Unit):
+class TypeReader(UnitEntries):
     """Reads the types of a compilation unit."""
 
     def take(self, entry: Any, found: Types) -> None:

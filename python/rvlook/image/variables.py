@@ -88,14 +88,14 @@ def read_variables(file: Any) -> Variables:
     if file.has_dwarf_info():
         dwarf = file.get_dwarf_info()
         for unit in compilation_units(dwarf):
-            reader = Unit(dwarf, unit)
+            reader = UnitEntries(dwarf, unit)
             fixed += reader.fixed()
             frames += reader.locals()
             parameters += reader.parameters()
     return Variables(sorted(set(fixed), key=lambda it: (it.at, -it.size)), frames, parameters)
 
 
-class Unit:
+class UnitEntries:
     """The entries of a compilation unit. `children` has those below each entry, by offset."""
 
     def __init__(self, dwarf: Any, unit: Any) -> None:

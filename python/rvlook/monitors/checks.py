@@ -4,7 +4,7 @@ from __future__ import annotations
 import struct
 from dataclasses import dataclass
 
-from rvlook.monitors.guarded import SUPERVISOR, Return, State
+from rvlook.monitors.guarded import SUPERVISOR, StayInM, HartState
 from rvlook.monitors.ownership import HOST, MONITOR, Ownership, OwnedRange
 from rvlook.monitors.rights import Right
 from rvlook.protocol.memory_map import MONITOR_END
@@ -19,14 +19,14 @@ A0, A7 = 10, 17
 @dataclass
 class Left:
     """A world that was left: the state before the marks, the marks of its registers and S-mode registers, and whether it made a call."""
-    state: State
+    state: HartState
     registers: dict[int, int]
     csrs: dict[str, int]
     is_call: bool
 
 
 @dataclass
-class Memory:
+class MemoryAndRights:
     """The bytes after the range of the monitor at the entry to M and at the return, and the access rights of the world that trapped."""
     before: bytes
     after: bytes
@@ -88,7 +88,7 @@ def is_covered(first: int, end: int, parts: list[OwnedRange]) -> bool:
 
 # ---- registers
 
-def visible_mark(ownership: Ownership, was: str, left: Left, world: str, state: State) -> str:
+def visible_mark(ownership: Ownership, was: str, left: Left, world: str, state: HartState) -> str:
     """No other world sees a marked register of the world that was left, apart from those that hand values over at a call."""
     names = {value: abi_name(number) for number, value in left.registers.items()}
     names.update({value: name for name, value in left.csrs.items() if name in MARKED_CSRS})
@@ -100,7 +100,7 @@ def visible_mark(ownership: Ownership, was: str, left: Left, world: str, state: 
     return ""
 
 
-def leftover(was: str, left: Left, world: str, state: State) -> str:
+def leftover(was: str, left: Left, world: str, state: HartState) -> str:
     """A world that is entered for the first time has neither stvec nor sstatus of the world that was left."""
     stvec = left.state.csrs["stvec"]
     if stvec and state.csrs["stvec"] == stvec:
@@ -109,7 +109,7 @@ def leftover(was: str, left: Left, world: str, state: State) -> str:
     return "%s is entered at %08x with bits of sstatus of %s, %08x" % (world, state.pc, was, kept) if kept else ""
 
 
-def changed_context(ownership: Ownership, world: str, left: Left, state: State) -> str:
+def changed_context(ownership: Ownership, world: str, left: Left, state: HartState) -> str:
     """A world that continues has its registers, pc and mode, apart from the registers that hand values over at a call."""
     before = left.state
     pc = before.pc + 4 if left.is_call else before.pc
@@ -126,12 +126,12 @@ def changed_context(ownership: Ownership, world: str, left: Left, state: State) 
     return ""
 
 
-def is_redirect(stay: Return) -> bool:
+def is_redirect(stay: StayInM) -> bool:
     """Returns whether M redirected the trap to S of the same world."""
     return stay.exit.pc == stay.exit.csrs["stvec"] & ~3
 
 
-def wrong_redirect(world: str, left: Left, stay: Return, tval: int) -> str:
+def wrong_redirect(world: str, left: Left, stay: StayInM, tval: int) -> str:
     """A redirected exception changes what the privileged specification says (Privileged 20211203, section 4.1.1), and nothing else."""
     before, after = left.state, stay.exit
     if after.mode != "S":
@@ -149,7 +149,7 @@ def wrong_redirect(world: str, left: Left, stay: Return, tval: int) -> str:
     return ""
 
 
-def wrong_emulation(world: str, left: Left, stay: Return) -> str:
+def wrong_emulation(world: str, left: Left, stay: StayInM) -> str:
     """An exception that M handles itself changes at most one register, the result of the instruction."""
     changed = [n for n in range(1, 32) if stay.exit.registers[n] != left.registers.get(n, left.state.registers[n])]
     if len(changed) > 1:
@@ -159,7 +159,7 @@ def wrong_emulation(world: str, left: Left, stay: Return) -> str:
 
 # ---- memory
 
-def changed_bytes(ownership: Ownership, world: str, memory: Memory) -> str:
+def changed_bytes(ownership: Ownership, world: str, memory: MemoryAndRights) -> str:
     """M changes only its own memory, what the world that trapped may store to, and bytes of an enclave that it zeroes."""
     if memory.before == memory.after:
         return ""
@@ -171,7 +171,7 @@ def changed_bytes(ownership: Ownership, world: str, memory: Memory) -> str:
     return ""
 
 
-def changed_row(ownership: Ownership, world: str, memory: Memory, offset: int) -> str:
+def changed_row(ownership: Ownership, world: str, memory: MemoryAndRights, offset: int) -> str:
     """Returns the violation of `changed_bytes` in a row of bytes."""
     for at in range(offset, offset + ROW):
         address, value = MONITOR_END + at, memory.after[at]
@@ -183,7 +183,7 @@ def changed_row(ownership: Ownership, world: str, memory: Memory, offset: int) -
     return ""
 
 
-def zeroed_range(parts: list[OwnedRange], memory: Memory) -> str:
+def zeroed_range(parts: list[OwnedRange], memory: MemoryAndRights) -> str:
     """M zeroes bytes of an enclave only at the end of its range. `parts` were live before the trap and still are."""
     for part in parts:
         first, end = part.first - MONITOR_END, part.end - MONITOR_END

@@ -6,7 +6,7 @@ from enum import Enum
 from typing import Iterator
 
 from rvlook.monitors.rights import Right, closed_outside, rights_of, shape
-from rvlook.monitors.sides import BELOW, DECIDING, EXACT, REGISTERS, MonitorSetup, Observation
+from rvlook.monitors.sides import BELOW, DECIDING, EXACT, REGISTERS, MonitorSetup, SideState
 from rvlook.protocol.memory_map import RAM_BASE
 from rvlook.protocol.replies import bytes_of
 
@@ -14,7 +14,7 @@ SHOWN_BYTES = 8
 SHOWN_RANGES = 4
 
 
-class Kind(Enum):
+class DifferenceKind(Enum):
     """What differs."""
     fault = "fault in M"
     trap = "trap"
@@ -28,66 +28,66 @@ class Kind(Enum):
 
 
 @dataclass(frozen=True)
-class Difference:
+class MonitorDifference:
     """One difference: its kind, a name such as `x10` or `sepc`, and the values of both monitors. `place` locates it: the number of a register or
     of a PMP entry, or the address of a byte."""
-    kind: Kind
+    kind: DifferenceKind
     name: str
     own: str
     reference: str
     place: int | None = None
 
 
-def differences(own: Observation, reference: Observation, setup: MonitorSetup) -> list[Difference]:
+def differences(own: SideState, reference: SideState, setup: MonitorSetup) -> list[MonitorDifference]:
     """Returns all differences but those of memory. After a fault in M it is the only one."""
     is_exact = setup.exact
     if own.fault:
-        return [Difference(Kind.fault, own.fault, "pc %08x" % own.pc, "pc %08x" % reference.pc, own.pc)]
+        return [MonitorDifference(DifferenceKind.fault, own.fault, "pc %08x" % own.pc, "pc %08x" % reference.pc, own.pc)]
     found = []
     if own.trap != reference.trap:
-        found.append(Difference(Kind.trap, "trap of the step", own.trap, reference.trap))
+        found.append(MonitorDifference(DifferenceKind.trap, "trap of the step", own.trap, reference.trap))
     if own.mode != reference.mode:
-        found.append(Difference(Kind.mode, "mode", own.mode, reference.mode))
+        found.append(MonitorDifference(DifferenceKind.mode, "mode", own.mode, reference.mode))
     found += below_differences(own.below, reference.below)
     found += above_differences(own.above, reference.above, is_exact)
     found += entry_differences(own.entries, reference.entries) if is_exact else rights_differences(own, reference, setup)
     return found
 
 
-def below_differences(own: bytes, reference: bytes) -> list[Difference]:
+def below_differences(own: bytes, reference: bytes) -> list[MonitorDifference]:
     """Returns the differences of x1 to x31, pc and the S-mode registers; pc comes first."""
     if own == reference:
         return []
     pairs = zip(own.decode().splitlines(), reference.decode().splitlines())
     found = [below_difference(number, one, other) for number, (one, other) in enumerate(pairs) if one != other]
-    return sorted(found, key=lambda it: it.kind is not Kind.pc)
+    return sorted(found, key=lambda it: it.kind is not DifferenceKind.pc)
 
 
-def below_difference(number: int, own: str, reference: str) -> Difference:
+def below_difference(number: int, own: str, reference: str) -> MonitorDifference:
     """Returns the difference of two replies, which have a number in the state."""
     values = own.partition("=")[2], reference.partition("=")[2]
     if number == REGISTERS - 1:
-        return Difference(Kind.pc, "pc", *values)
+        return MonitorDifference(DifferenceKind.pc, "pc", *values)
     if number < REGISTERS:
-        return Difference(Kind.register, "x%d" % number, *values, number)
-    return Difference(Kind.csr, BELOW[number - REGISTERS], *values, number)
+        return MonitorDifference(DifferenceKind.register, "x%d" % number, *values, number)
+    return MonitorDifference(DifferenceKind.csr, BELOW[number - REGISTERS], *values, number)
 
 
-def above_differences(own: tuple[int, ...], reference: tuple[int, ...], is_exact: bool) -> list[Difference]:
+def above_differences(own: tuple[int, ...], reference: tuple[int, ...], is_exact: bool) -> list[MonitorDifference]:
     """Returns the differences of the deciding bits of mstatus, mie and mip, and of mepc, mcause and mtval if they are compared."""
     names = (*DECIDING, *EXACT)[:len(DECIDING) + (len(EXACT) if is_exact else 0)]
-    return [Difference(Kind.csr, name, "%08x" % one, "%08x" % other)
+    return [MonitorDifference(DifferenceKind.csr, name, "%08x" % one, "%08x" % other)
             for name, one, other in zip(names, own, reference) if one != other]
 
 
-def entry_differences(own: bytes, reference: bytes) -> list[Difference]:
+def entry_differences(own: bytes, reference: bytes) -> list[MonitorDifference]:
     """Returns the PMP entries that differ."""
     pairs = enumerate(zip(own.decode().splitlines(), reference.decode().splitlines()))
-    return [Difference(Kind.entry, "PMP entry %d" % index, one.split(None, 2)[2], other.split(None, 2)[2], index)
+    return [MonitorDifference(DifferenceKind.entry, "PMP entry %d" % index, one.split(None, 2)[2], other.split(None, 2)[2], index)
             for index, (one, other) in pairs if one != other]
 
 
-def rights_differences(own: Observation, reference: Observation, setup: MonitorSetup) -> list[Difference]:
+def rights_differences(own: SideState, reference: SideState, setup: MonitorSetup) -> list[MonitorDifference]:
     """Returns the difference of what S and U can access, or nothing."""
     if own.entries == reference.entries:
         return []
@@ -97,7 +97,7 @@ def rights_differences(own: Observation, reference: Observation, setup: MonitorS
     if shape(mine) == shape(others):
         return []
     only, missing = [it for it in mine if shape((it,))[0] not in shape(others)], [it for it in others if shape((it,))[0] not in shape(mine)]
-    return [Difference(Kind.rights, "access rights of S and U", ranges_text(only), ranges_text(missing), first_entry(only))]
+    return [MonitorDifference(DifferenceKind.rights, "access rights of S and U", ranges_text(only), ranges_text(missing), first_entry(only))]
 
 
 def ranges_text(rights: list[Right]) -> str:
@@ -110,19 +110,19 @@ def first_entry(rights: list[Right]) -> int | None:
     return next((it.entry for it in rights if it.entry is not None), None)
 
 
-def memory_difference(own: bytes, reference: bytes) -> list[Difference]:
+def memory_difference(own: bytes, reference: bytes) -> list[MonitorDifference]:
     """Returns the first difference of memory, from the replies of `mem`."""
     if own == reference:
         return []
     return [next(byte_differences(own.decode(), reference.decode()))]
 
 
-def byte_differences(own: str, reference: str) -> Iterator[Difference]:
+def byte_differences(own: str, reference: str) -> Iterator[MonitorDifference]:
     """Yields the first difference of each row."""
     for one, other in zip(own.splitlines(), reference.splitlines()):
         if one != other:
             mine, its = bytes_of(one), bytes_of(other)
             at = next(n for n in range(len(mine)) if mine[n] != its[n])
             address = int(one[:8], 16) + at
-            yield Difference(Kind.memory, "memory at %08x" % address, mine[at:at + SHOWN_BYTES].hex(" "), its[at:at + SHOWN_BYTES].hex(" "),
-                             address)
+            yield MonitorDifference(DifferenceKind.memory, "memory at %08x" % address, mine[at:at + SHOWN_BYTES].hex(" "),
+                                    its[at:at + SHOWN_BYTES].hex(" "), address)

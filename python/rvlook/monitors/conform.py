@@ -6,15 +6,15 @@ import time
 from dataclasses import dataclass, field, replace
 from typing import Iterator, Sequence
 
-from rvlook.monitors.coverage import Coverage
+from rvlook.monitors.coverage import ScriptCoverage
 from rvlook.monitors.directed import directed_scripts
 from rvlook.monitors.directed_large import corner_scripts, large_scripts, long_scripts
 from rvlook.monitors.directed_refusals import refusal_scripts
 from rvlook.monitors.items import Item
 from rvlook.protocol.jobs import results_of
-from rvlook.monitors.pair import Pair, Played, play
+from rvlook.monitors.pair import BothSides, Played, play
 from rvlook.monitors.placement import Placement
-from rvlook.monitors.random_scripts import RandomScript, State
+from rvlook.monitors.random_scripts import RandomScript, ReferenceState
 from rvlook.monitors.sides import MonitorSetup
 from rvlook.output.progress import Progress
 
@@ -39,7 +39,7 @@ class Task:
 
 
 @dataclass(frozen=True)
-class Plan:
+class ScriptPlan:
     """The scripts to run: those of the table whose names contain `only`, then `tries` random ones of `count` items. `seconds` limits the time.
     `is_deep` adds scripts with many calls, and with large blocks in a larger RAM. With `has_ram` the RAM stays as it is."""
     tries: int
@@ -53,17 +53,17 @@ class Plan:
 
 
 @dataclass
-class Outcome:
+class ConformOutcome:
     """The scripts that were run: what they covered, and the first one with a difference with its task. `left` scripts were not run, because of the
     time limit or Ctrl-C."""
-    coverage: Coverage = field(default_factory=Coverage)
+    coverage: ScriptCoverage = field(default_factory=ScriptCoverage)
     different: Played | None = None
     task: Task | None = None
     left: int = 0
     is_interrupted: bool = False
 
 
-def tasks_of(plan: Plan, ram: int, placement: Placement | None = None) -> list[Task]:
+def tasks_of(plan: ScriptPlan, ram: int, placement: Placement | None = None) -> list[Task]:
     """Returns the scripts of a plan in their order, for a RAM of this many bytes. `placement` moves them."""
     table = [Task(name, tuple(items)) for scripts in (directed_scripts, refusal_scripts) for name, items in scripts(ram)]
     table += [Task(name, tuple(items)) for name, items in corner_scripts()]
@@ -85,19 +85,19 @@ def play_random(setup: MonitorSetup, task: Task) -> Played:
     """Runs a random script, which is made while it runs."""
     placement = setup.placement
     source = RandomScript(task.seed, placement.ram)
-    with Pair(setup, task.name) as pair:
+    with BothSides(setup, task.name) as pair:
         while pair.is_alike and len(pair.played.steps) < task.count:
             table = [placement.enclave_before(it) for it in pair.table]
-            for item in source.items(State(pair.world, pair.mode, placement.address_before(pair.pc), table)):
+            for item in source.items(ReferenceState(pair.world, pair.mode, placement.address_before(pair.pc), table)):
                 if not pair.do(placement.item(item)):
                     break
         pair.end()
     return pair.played
 
 
-def compare(setup: MonitorSetup, plan: Plan) -> Outcome:
+def compare(setup: MonitorSetup, plan: ScriptPlan) -> ConformOutcome:
     """Runs the scripts of a plan up to the first difference, the time limit or Ctrl-C."""
-    tasks, outcome, began = tasks_of(plan, setup.placement.ram, setup.memory), Outcome(), time.monotonic()
+    tasks, outcome, began = tasks_of(plan, setup.placement.ram, setup.memory), ConformOutcome(), time.monotonic()
     outcome.left = len(tasks)
     try:
         with Progress() as progress:

@@ -9,14 +9,14 @@ from typing import Callable, NamedTuple, Optional, Sequence, TYPE_CHECKING
 from rvlook.errors import RvlookError, Unfinished
 from rvlook.image.files import image_of, read_file, script_lines
 from rvlook.image.symbols import symbols_from
-from rvlook.monitors.comparison import Difference, Kind
-from rvlook.monitors.conform import Outcome, Plan, compare
+from rvlook.monitors.comparison import MonitorDifference, DifferenceKind
+from rvlook.monitors.conform import ConformOutcome, ScriptPlan, compare
 from rvlook.monitors.divergence import Divergence, divergence_of
 from rvlook.monitors.joined import both, joined
 from rvlook.monitors.placement import placement_of
 from rvlook.monitors.shrink import Shrinker, Shrunk
 from rvlook.monitors.sides import MonitorSetup, return_addresses, size_line
-from rvlook.monitors.writers import Writer, writers_of
+from rvlook.monitors.writers import WritingInstruction, writers_of
 from rvlook.output.files import replace_file
 from rvlook.output.printer import Printer, hex8, place_text
 from rvlook.protocol.lines import no_symbol, resolved_script
@@ -24,14 +24,14 @@ from rvlook.protocol.memory_map import MONITOR_END
 
 if TYPE_CHECKING:
     from rvlook.monitors.pair import Played
-    from rvlook.output.findings import Findings
+    from rvlook.output.findings import ReportedCases
     from rvlook.protocol.symbols import Symbols
 
 MOST_SHOWN = 6  # differences
 MOST_ITEMS = 40  # of a script that are shown
 MOST_LINES = 4  # source lines before a writer
 MOST_TRACED = 2  # differences whose writers are searched
-CAUSED_BY_A_BRANCH = (Kind.register, Kind.pc, Kind.mode, Kind.rights)
+CAUSED_BY_A_BRANCH = (DifferenceKind.register, DifferenceKind.pc, DifferenceKind.mode, DifferenceKind.rights)
 LEAST_RAM = 0x30000  # bytes; the directed scripts use them
 
 
@@ -82,8 +82,8 @@ def address_of(name: str, symbols: Symbols) -> int:
 @dataclass
 class Conformance:
     """The result of `conform`: the outcome, and the shrunk script with the monitor as it was set up if there is a difference."""
-    outcome: Outcome
-    plan: Plan
+    outcome: ConformOutcome
+    plan: ScriptPlan
     setup: MonitorSetup
     symbols: Symbols
     shrunk: Optional[Shrunk] = None
@@ -95,7 +95,7 @@ class Conformance:
         return "%s: %s, not %s" % (first.name, first.own, first.reference) if first else ""
 
 
-def find_conform(files: MonitorFiles, plan: Plan, heard: Callable[[Outcome], None] = lambda it: None) -> Conformance:
+def find_conform(files: MonitorFiles, plan: ScriptPlan, heard: Callable[[ConformOutcome], None] = lambda it: None) -> Conformance:
     """Compares the monitors, and shrinks the script of the first difference. Calls `heard` before it shrinks. Raises RvlookError."""
     placement_of(files.memory, files.ram, LEAST_RAM)
     setup, symbols = files.setup()
@@ -111,12 +111,12 @@ def find_conform(files: MonitorFiles, plan: Plan, heard: Callable[[Outcome], Non
     return found
 
 
-def show_conform(files: MonitorFiles, plan: Plan, printer: Printer, output: ConformOutput, findings: Findings) -> None:
+def show_conform(files: MonitorFiles, plan: ScriptPlan, printer: Printer, output: ConformOutput, findings: ReportedCases) -> None:
     """Compares the monitors, and shows the first difference and the coverage table. A difference is a finding; an empty cell and a time limit
     make the result incomplete. After Ctrl-C shows what was found, and raises KeyboardInterrupt."""
     found = find_conform(files, plan, lambda it: show_counts(it, printer))
     if found.shrunk:
-        Report(found.setup, found.symbols, printer, found.outcome).show(found.shrunk)
+        DifferenceReport(found.setup, found.symbols, printer, found.outcome).show(found.shrunk)
     findings.add("conform", found.finding)
     if found.shrunk and output.scripts:
         write_scripts(output.scripts, found.setup, found.shrunk, printer)
@@ -129,7 +129,7 @@ def show_conform(files: MonitorFiles, plan: Plan, printer: Printer, output: Conf
         findings.cut_short(rest)
 
 
-def rest_of(outcome: Outcome, plan: Plan) -> str:
+def rest_of(outcome: ConformOutcome, plan: ScriptPlan) -> str:
     """Returns what was not examined: scripts after the time limit, or empty cells of the table; empty if nothing was left out."""
     empty = outcome.coverage.empty()
     if outcome.different or plan.only:
@@ -139,7 +139,7 @@ def rest_of(outcome: Outcome, plan: Plan) -> str:
     return "no script covered %s" % "; ".join(empty) if empty else ""
 
 
-def show_counts(outcome: Outcome, printer: Printer) -> None:
+def show_counts(outcome: ConformOutcome, printer: Printer) -> None:
     """Shows how much was run."""
     it = outcome.coverage
     if printer.as_json:
@@ -150,10 +150,10 @@ def show_counts(outcome: Outcome, printer: Printer) -> None:
     printer.line("%s: %d scripts, %d steps below M, %d returns from M, %d steps in M" % (result, it.scripts, it.steps, it.returns, it.spent))
 
 
-class Report:
+class DifferenceReport:
     """Shows a difference."""
 
-    def __init__(self, setup: MonitorSetup, symbols: Symbols, printer: Printer, outcome: Outcome) -> None:
+    def __init__(self, setup: MonitorSetup, symbols: Symbols, printer: Printer, outcome: ConformOutcome) -> None:
         self.setup, self.symbols, self.printer, self.outcome = setup, symbols, printer, outcome
 
     def show(self, shrunk: Shrunk) -> None:
@@ -186,13 +186,13 @@ class Report:
             elif number == MOST_ITEMS // 2:
                 self.printer.line("  ... %d items" % left_out)
 
-    def difference_object(self, script: str, it: Difference, writers: list[Writer]) -> None:
+    def difference_object(self, script: str, it: MonitorDifference, writers: list[WritingInstruction]) -> None:
         """Writes a difference as an object."""
         self.printer.object("mismatch", script=script, kind=it.kind.value, name=it.name, own=it.own, reference=it.reference, writers=[
             {"pc": hex8(writer.pc), "instruction": writer.text, "address": hex8(writer.address), "symbol": self.symbols.name(writer.pc),
              "line": source_of(writer, self.symbols)} for writer in writers])
 
-    def difference_text(self, it: Difference, writers: list[Writer], is_traced: bool) -> None:
+    def difference_text(self, it: MonitorDifference, writers: list[WritingInstruction], is_traced: bool) -> None:
         """Prints a difference."""
         self.printer.line("  " + it.name)
         self.printer.line("    own monitor        %s" % it.own)
@@ -202,7 +202,7 @@ class Report:
             self.printer.line("    %s %s at %s" % (what, writer.text, writer_place(writer, self.symbols)))
         if writers:
             self.printer.line("      executed before it: %s" % (", ".join(lines_before(writers[-1], self.symbols)) or "no source lines are known"))
-        if is_traced and not writers and it.kind not in (Kind.fault, Kind.trap):
+        if is_traced and not writers and it.kind not in (DifferenceKind.fault, DifferenceKind.trap):
             self.printer.line("    not written in M")
 
     def show_divergence(self, it: Divergence | None) -> None:
@@ -217,23 +217,23 @@ class Report:
                 self.printer.line("    %-7s %s" % (name, place_text("%08x" % pc, self.symbols)))
 
     @staticmethod
-    def what_happened(difference: Difference) -> str:
+    def what_happened(difference: MonitorDifference) -> str:
         """Returns what an instruction did about a difference."""
-        return "trapped at" if difference.kind is Kind.fault else "last written in M by"
+        return "trapped at" if difference.kind is DifferenceKind.fault else "last written in M by"
 
 
-def source_of(writer: Writer, symbols: Symbols) -> str | None:
+def source_of(writer: WritingInstruction, symbols: Symbols) -> str | None:
     """Returns the source line of an instruction, or if it has none, of the last one that was executed before it and has one."""
     return next((line for line in map(symbols.line, (writer.pc, *writer.path)) if line), None)
 
 
-def lines_before(writer: Writer, symbols: Symbols) -> list[str]:
+def lines_before(writer: WritingInstruction, symbols: Symbols) -> list[str]:
     """Returns the source lines that were executed before an instruction, each once, the last one first."""
     lines = (it for it in map(symbols.line, writer.path) if it and it != symbols.line(writer.pc))
     return list(dict.fromkeys(lines))[:MOST_LINES]
 
 
-def writer_place(writer: Writer, symbols: Symbols) -> str:
+def writer_place(writer: WritingInstruction, symbols: Symbols) -> str:
     """Returns the address of an instruction with its symbol and source line."""
     if symbols.line(writer.pc):
         return place_text("%08x" % writer.pc, symbols)
@@ -241,7 +241,7 @@ def writer_place(writer: Writer, symbols: Symbols) -> str:
     return place_text("%08x" % writer.pc, symbols) + ("  after %s" % source if source else "")
 
 
-def show_coverage(outcome: Outcome, printer: Printer) -> None:
+def show_coverage(outcome: ConformOutcome, printer: Printer) -> None:
     """Shows the coverage table."""
     cells = list(outcome.coverage.cells())
     if printer.as_json:

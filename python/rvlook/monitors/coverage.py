@@ -32,7 +32,7 @@ class Cell:
 
 
 @dataclass
-class Coverage:
+class ScriptCoverage:
     """Counts of scripts, steps below M, returns from M and steps in M, and of each cell. `most` is the longest stay in M and its item."""
     scripts: int = 0
     steps: int = 0
@@ -43,7 +43,7 @@ class Coverage:
     switches: Counter[str] = field(default_factory=Counter)
     redirected: Counter[tuple[str, str, int]] = field(default_factory=Counter)  # side, mode, cause
 
-    def add(self, other: Coverage) -> None:
+    def add(self, other: ScriptCoverage) -> None:
         """Adds the counts of more scripts."""
         self.scripts, self.steps = self.scripts + other.scripts, self.steps + other.steps
         self.returns, self.spent = self.returns + other.returns, self.spent + other.spent

@@ -8,7 +8,7 @@ from typing import Callable, Iterator, TYPE_CHECKING
 
 from rvlook.monitors.items import MASK, Item
 from rvlook.monitors.pair import Played, play
-from rvlook.monitors.writers import Replay
+from rvlook.monitors.writers import StayReplay
 from rvlook.protocol.names import Call
 
 if TYPE_CHECKING:
@@ -68,7 +68,7 @@ def first_difference(setup: MonitorSetup, played: Played, other: Played) -> Dive
     paths = []
     for it in (played, other):
         stay = replace(it.stays[-1], steps=min(it.stays[-1].steps, MOST_COMPARED))
-        with Replay(setup, it, stay) as replay:
+        with StayReplay(setup, it, stay) as replay:
             paths.append(replay.addresses())
     one, two = paths
     at = next((number for number, pair in enumerate(zip(one, two)) if pair[0] != pair[1]), 0)

@@ -6,8 +6,8 @@ from collections import Counter, defaultdict
 from dataclasses import dataclass, field
 
 from rvlook.monitors import checks
-from rvlook.monitors.guarded import SWITCHED, Guarded, Return, State
-from rvlook.monitors.checks import A0, A7, Left, Memory
+from rvlook.monitors.guarded import SWITCHED, Guarded, StayInM, HartState
+from rvlook.monitors.checks import A0, A7, Left, MemoryAndRights
 from rvlook.monitors.ownership import HOST, MONITOR, OwnedRange, Ownership
 from rvlook.monitors.rights import Right, rights_of
 from rvlook.monitors.sides import MonitorSetup, word_at
@@ -70,7 +70,7 @@ class Guard:
         self.left: dict[str, Left] = {}
         self.loaded: dict[OwnedRange, int] = {}  # ranges that are not live and that M loaded, and pc of the trap
         self.exposed: dict[OwnedRange, int] = {}  # of these the ranges to which the host may store after it, and pc of the host
-        self.last = Left(State((), {}, 0, "S", b"", 0), {}, {}, False)
+        self.last = Left(HartState((), {}, 0, "S", b"", 0), {}, {}, False)
 
     def run(self) -> Violation | None:
         """Runs up to the first violation, the limit, or the end of the host; returns the violation. Starts again if M uses a new trap vector."""
@@ -127,13 +127,13 @@ class Guard:
         if stay.fault:
             self.fail("trap in M", stay.fault, machine, stay.inside)
             return
-        memory = Memory(before, machine.memory(), rights)
+        memory = MemoryAndRights(before, machine.memory(), rights)
         self.check(checks.changed_bytes(self.ownership, self.world, memory), "integrity", machine)
         live = set(self.live)
         self.arrive(machine, stay, memory.after, tval)
         self.check(checks.zeroed_range(sorted(live & self.live, key=lambda it: it.first), memory), "integrity", machine)
 
-    def marks(self, entry: State, cause: str) -> Left:
+    def marks(self, entry: HartState, cause: str) -> Left:
         """Returns the state of the world that trapped, and its marks. The arguments of a call are not marked."""
         is_call = cause == ECALL_FROM_S
         registers = {n: self.mark() for n in range(1, 32) if not (is_call and A0 <= n <= A7)}
@@ -156,7 +156,7 @@ class Guard:
         """Notes a violation."""
         self.violation = self.violation or Violation(name, text, machine.steps, self.last.state.pc, inside)
 
-    def arrive(self, machine: Guarded, stay: Return, memory: bytes, tval: int) -> None:
+    def arrive(self, machine: Guarded, stay: StayInM, memory: bytes, tval: int) -> None:
         """Makes the checks of a return from M, and gives the world that continues its values in place of the marks."""
         self.ownership = self.declared.now(lambda at: word_at(machine.bench, at), self.calls)
         was, owner = self.world, self.ownership.owner_of(stay.exit.pc)
@@ -173,7 +173,7 @@ class Guard:
             self.check(checks.marks_in_memory(self.ownership, was, self.last, memory), "memory", machine)
         self.check_access(machine, stay, memory)
 
-    def same_world(self, machine: Guarded, stay: Return, tval: int) -> None:
+    def same_world(self, machine: Guarded, stay: StayInM, tval: int) -> None:
         """Checks a trap after which the same world continues."""
         left, world = self.last, self.world
         if stay.cause not in (ECALL_FROM_S, TIMER) and checks.is_redirect(stay):
@@ -192,12 +192,12 @@ class Guard:
         status = left.state.csrs["sstatus"]
         return status & checks.MXR | (checks.SPIE if status & checks.SIE else 0) | (checks.SPP if left.state.mode == "S" else 0)
 
-    def restored(self, left: Left, state: State, is_call: bool) -> dict[int, int]:
+    def restored(self, left: Left, state: HartState, is_call: bool) -> dict[int, int]:
         """Returns the registers before the marks, for those that still have their marks."""
         return {n: left.state.registers[n] for n, mark in left.registers.items()
                 if state.registers[n] == mark and not (is_call and n in self.ownership.hands)}
 
-    def other_world(self, machine: Guarded, was: str, state: State) -> None:
+    def other_world(self, machine: Guarded, was: str, state: HartState) -> None:
         """Checks a switch to another world, which continues or is entered for the first time."""
         left, back = self.last, self.left.pop(self.world, None)
         self.left[was] = left
@@ -212,7 +212,7 @@ class Guard:
         self.check(checks.changed_context(self.ownership, self.world, back, state), "context", machine)
         machine.set_state(self.restored(back, state, back.is_call), {name: back.state.csrs[name] for name in back.csrs})
 
-    def check_access(self, machine: Guarded, stay: Return, memory: bytes) -> None:
+    def check_access(self, machine: Guarded, stay: StayInM, memory: bytes) -> None:
         """Checks the access rights of the world that continues, and which ranges are live from now on."""
         state = stay.exit
         rights = rights_of(state.entries, self.setup.ram)
@@ -242,14 +242,14 @@ class Guard:
         self.activity[part.owner].given_back += 1
         self.counts["ranges given back"] += 1
 
-    def note_load(self, part: OwnedRange, stay: Return, rights: tuple[Right, ...]) -> None:
+    def note_load(self, part: OwnedRange, stay: StayInM, rights: tuple[Right, ...]) -> None:
         """Notes that M loaded a range that is not live, as for a measurement, and that the host may store to it after that."""
         if part.first in stay.loaded:
             self.loaded[part] = stay.entry.pc
         if part in self.loaded and "w" in checks.may_at(rights, part.first):
             self.exposed.setdefault(part, stay.exit.pc)
 
-    def exposed_text(self, part: OwnedRange, stay: Return) -> str:
+    def exposed_text(self, part: OwnedRange, stay: StayInM) -> str:
         """Returns that the host could store to a range after M had loaded it and before it became live. Returns an empty text if it could not, or if
         M loads it again."""
         at, pc = self.exposed.pop(part, None), self.loaded.pop(part, 0)

@@ -7,8 +7,8 @@ from typing import Callable, TYPE_CHECKING
 
 from rvlook.monitors.guard import Activity, Guard, Violation
 from rvlook.protocol.jobs import results_of
-from rvlook.monitors.twins import Compared, Pair, secrets_of
-from rvlook.monitors.unexecuted import Block, Code, code_of, unexecuted
+from rvlook.monitors.twins import TwinResult, TwinRuns, secrets_of
+from rvlook.monitors.unexecuted import Block, MonitorBlocks, code_of, unexecuted
 
 if TYPE_CHECKING:
     from rvlook.monitors.ownership import Ownership
@@ -43,8 +43,8 @@ class GuardPlan:
 class GuardResults:
     """What was done. `pairs`, `code` and `never` are None for what was not done, because of a violation or of Ctrl-C."""
     guards: list[Guard] = field(default_factory=list)
-    pairs: list[Compared] | None = None
-    code: Code | None = None
+    pairs: list[TwinResult] | None = None
+    code: MonitorBlocks | None = None
     never: list[Block] | None = None
     is_interrupted: bool = False
 
@@ -104,7 +104,7 @@ def compare_pairs(plan: GuardPlan, results: GuardResults, progress: Progress) ->
     vectors = set().union(*(it.vectors for it in results.guards))
     secrets = secrets_of(plan.setup, plan.ownership, plan.limit, vectors)
     results.pairs = []
-    compare = [Pair(plan.setup, plan.ownership, plan.limit, vectors, it).compare for it in secrets]
+    compare = [TwinRuns(plan.setup, plan.ownership, plan.limit, vectors, it).compare for it in secrets]
     for pair in results_of(lambda number: compare[number](), len(compare), plan.jobs):
         results.pairs.append(pair)
         progress.bar(len(results.pairs), len(compare), "pairs of runs")

@@ -13,8 +13,8 @@ if TYPE_CHECKING:
     from collections import Counter
     from rvlook.monitors.guard import Activity, Guard, Violation
     from rvlook.monitors.ownership import Ownership
-    from rvlook.monitors.twins import Compared
-    from rvlook.output.findings import Findings
+    from rvlook.monitors.twins import TwinResult
+    from rvlook.output.findings import ReportedCases
     from rvlook.output.printer import Printer
     from rvlook.protocol.symbols import Symbols
 
@@ -22,7 +22,7 @@ COUNTS = {"steps": "steps below M", "returns": "returns from M", "switches": "sw
           "given_back": "ranges given back"}
 
 
-def show_guard(plan: GuardPlan, printer: Printer, findings: Findings) -> None:
+def show_guard(plan: GuardPlan, printer: Printer, findings: ReportedCases) -> None:
     """Runs the image without and with timer interrupts and in pairs, and shows the first violation, which is a finding. An enclave that was not
     entered, left and continued makes the result incomplete. After Ctrl-C shows what was found, and raises KeyboardInterrupt."""
     with Progress() as progress:
@@ -112,7 +112,7 @@ def show_run(printer: Printer, name: str, guard: Guard) -> None:
         printer.line("%-12s %s" % (name + ":", ", ".join("%d %s" % (guard.counts[it], it) for it in COUNTS.values())))
 
 
-def show_twins(printer: Printer, results: Sequence[Compared]) -> None:
+def show_twins(printer: Printer, results: Sequence[TwinResult]) -> None:
     """Shows how much the pairs of runs compared."""
     changes, returns = sum(it.changes for it in results), sum(it.returns for it in results)
     if printer.as_json:

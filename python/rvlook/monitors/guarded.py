@@ -34,7 +34,7 @@ WITHOUT_EFFECT = ("break ", "clear ", "watch ", "unwatch ", "csr ")  # commands 
 
 
 @dataclass(frozen=True)
-class State:
+class HartState:
     """The state of the hart in M: at the entry, of the world that trapped; at the return, of the world that continues. `pc` is mepc, and `mode`
     is MPP."""
     registers: tuple[int, ...]
@@ -46,12 +46,12 @@ class State:
 
 
 @dataclass(frozen=True)
-class Return:
+class StayInM:
     """A stay in M: the cause of the trap, the state at its entry and at its return, and its steps. If M did not return as it should, `fault` says
     why, and `inside` is pc of M. `handled` has pc of each trap in M from which M returned, `loaded` the watched bytes that M loaded."""
     cause: str
-    entry: State
-    exit: State
+    entry: HartState
+    exit: HartState
     spent: int
     fault: str = ""
     inside: int = 0
@@ -91,7 +91,7 @@ class Guarded:
                 self.log.append(line)
         return replies
 
-    def begin(self) -> Return:
+    def begin(self) -> StayInM:
         """Starts the monitor; returns its first return from M. Raises RvlookError if the bench refuses the image or a line of the boot."""
         try:
             self.bench.one("reg 0")
@@ -106,16 +106,16 @@ class Guarded:
         entry = self.state()
         return self.to_return("", entry)
 
-    def state(self) -> State:
+    def state(self) -> HartState:
         """Returns the state in M now."""
         replies = self.bench.block(STATE, STATE_LINES).splitlines()
         values = register_values(replies[:-ENTRIES])
         csrs = dict(zip(STATE_CSRS, values[REGISTERS:]))
         csrs["sstatus"] &= SWITCHED
-        return State(tuple(values[:32]), csrs, csrs["mepc"], MODES[csrs["mstatus"] >> MPP_SHIFT & 3], b"\n".join(replies[-ENTRIES:]),
-                     values[REGISTERS - 1])
+        return HartState(tuple(values[:32]), csrs, csrs["mepc"], MODES[csrs["mstatus"] >> MPP_SHIFT & 3], b"\n".join(replies[-ENTRIES:]),
+                         values[REGISTERS - 1])
 
-    def to_return(self, cause: str, entry: State, watched: Sequence[int] = ()) -> Return:
+    def to_return(self, cause: str, entry: HartState, watched: Sequence[int] = ()) -> StayInM:
         """Runs M up to its mret to S or U, which is the next instruction then. Traps in M may come before, from which M must return. Notes which of
         the watched bytes M loads. Raises NewVector."""
         watched = watched[:MOST_WATCHED - len(self.setup.lowered)]
@@ -124,7 +124,7 @@ class Guarded:
         self.do(*("unwatch %x" % it for it in watched))
         return found
 
-    def to_mret(self, cause: str, entry: State) -> Return:
+    def to_mret(self, cause: str, entry: HartState) -> StayInM:
         """Does the same with the watchpoints that are set."""
         spent, stops, fault, traps = 0, 0, "", TrapsInM(self.is_code)
         loaded: set[int] = set()
@@ -140,7 +140,7 @@ class Guarded:
                 fault = "%sM does not return within %d steps" % (traps.text and traps.text + "; ", spent)
             if fault or is_end:
                 inside = traps.pending[-1][0] if traps.pending else state.here
-                return Return(cause, entry, state, spent, fault, inside if fault else 0, tuple(traps.handled), frozenset(loaded))
+                return StayInM(cause, entry, state, spent, fault, inside if fault else 0, tuple(traps.handled), frozenset(loaded))
 
     def note_access(self, address: int, word: int, loaded: set[int]) -> None:
         """Clears the timer line at a store to its register, and notes a load of another watched byte."""
@@ -149,7 +149,7 @@ class Guarded:
         elif is_store(word):
             self.do("timer off")
 
-    def after_part(self, ran: Ran, state: State, traps: TrapsInM) -> tuple[str, bool]:
+    def after_part(self, ran: Ran, state: HartState, traps: TrapsInM) -> tuple[str, bool]:
         """Handles a stop of the bench in M; returns why it is a violation, or an empty text, and whether M returns to S or U. Raises NewVector."""
         if ran.mode != "M":
             return "M is left by another instruction than mret", False

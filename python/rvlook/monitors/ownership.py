@@ -14,7 +14,7 @@ Words = Callable[[int], int]  # the word of memory at an address
 
 
 @dataclass(frozen=True)
-class Condition:
+class WordCondition:
     """A comparison with a value: of the word at an address, or of the number of calls of the host if there is no address."""
     at: int | None
     compare: Callable[[int, int], bool]
@@ -26,7 +26,7 @@ class Condition:
 
 
 @dataclass(frozen=True)
-class Table:
+class RangesTable:
     """A table in memory of the monitor that has the ranges of its enclaves. Each element has words with the base and the size of the region, and of
     the window, at these offsets. It counts while the conditions hold, whose addresses are offsets, too."""
     name: str
@@ -35,7 +35,7 @@ class Table:
     stride: int
     region: tuple[int, int]
     window: tuple[int, int] | None
-    when: tuple[Condition, ...]
+    when: tuple[WordCondition, ...]
 
     def ranges(self, words: Words, calls: int) -> Iterator[OwnedRange]:
         """Yields the ranges of the elements that count."""
@@ -65,7 +65,7 @@ class OwnedRange:
     may: str = ALL
     sharers: tuple[str, ...] = ()
     is_timed: bool = False
-    when: tuple[Condition, ...] = ()
+    when: tuple[WordCondition, ...] = ()
 
     def has(self, at: int) -> bool:
         """Returns whether an address is in the range."""
@@ -85,7 +85,7 @@ class Ownership:
     ranges: list[OwnedRange] = field(default_factory=list)
     hands: set[int] = field(default_factory=lambda: {10, 11})
     once: set[str] = field(default_factory=set)
-    tables: list[Table] = field(default_factory=list)
+    tables: list[RangesTable] = field(default_factory=list)
     secrets: list[OwnedRange] = field(default_factory=list)
 
     def now(self, words: Words, calls: int) -> Ownership:

@@ -3,10 +3,10 @@ from __future__ import annotations
 
 from dataclasses import dataclass, field, replace
 
-from rvlook.monitors.comparison import Difference, differences, memory_difference
-from rvlook.monitors.coverage import DONE, ENCLAVE, HOST, OTHER, Coverage
+from rvlook.monitors.comparison import MonitorDifference, differences, memory_difference
+from rvlook.monitors.coverage import DONE, ENCLAVE, HOST, OTHER, ScriptCoverage
 from rvlook.monitors.items import Item
-from rvlook.monitors.sides import DECIDING, MonitorSetup, Observation, Side, Stay
+from rvlook.monitors.sides import DECIDING, MonitorSetup, SideState, Side, Stay
 from rvlook.protocol.names import ECALL_FROM_S, NUMBERED, STATUSES, TIMER
 from rvlook.protocol.replies import Enclave
 
@@ -14,7 +14,7 @@ A0 = 10
 
 
 @dataclass(frozen=True)
-class Step:
+class PairStep:
     """An item that was done: the world that did it, and the result in words; empty if there was no trap."""
     item: Item
     world: str
@@ -25,9 +25,9 @@ class Step:
 class Played:
     """A script that was run: its steps up to the first difference, the differences, what it covered, and the lines of both sides."""
     name: str
-    steps: list[Step] = field(default_factory=list)
-    differences: list[Difference] = field(default_factory=list)
-    coverage: Coverage = field(default_factory=Coverage)
+    steps: list[PairStep] = field(default_factory=list)
+    differences: list[MonitorDifference] = field(default_factory=list)
+    coverage: ScriptCoverage = field(default_factory=ScriptCoverage)
     own_log: list[str] = field(default_factory=list)
     reference_log: list[str] = field(default_factory=list)
     stays: list[Stay] = field(default_factory=list)
@@ -38,7 +38,7 @@ class Played:
         return [it.item for it in self.steps]
 
 
-class Pair:
+class BothSides:
     """Both sides. `compares_memory` selects whether memory is compared after each trap."""
 
     def __init__(self, setup: MonitorSetup, name: str, compares_memory: bool = True) -> None:
@@ -53,7 +53,7 @@ class Pair:
             self.close()
             raise
 
-    def __enter__(self) -> Pair:
+    def __enter__(self) -> BothSides:
         return self
 
     def __exit__(self, *_: object) -> None:
@@ -86,14 +86,14 @@ class Pair:
         own, reference = self.own.step(item), self.reference.step(item)
         self.world = reference.world or world
         self.played.coverage.steps += item.steps
-        self.played.steps.append(Step(item, world, self.result_of(item, world, reference)))
+        self.played.steps.append(PairStep(item, world, self.result_of(item, world, reference)))
         has_trap = reference.trap != "-"
         self.compare(own, reference, has_trap)
         if has_trap and not own.fault:
             self.count(item, world, mode, (own, reference))
         return self.is_alike
 
-    def compare(self, own: Observation, reference: Observation, has_trap: bool) -> None:
+    def compare(self, own: SideState, reference: SideState, has_trap: bool) -> None:
         """Notes the differences after a step."""
         self.has_trapped = self.has_trapped or reference.trap != "-"
         if not self.has_trapped:  # the values of mepc, mcause and mtval after reset are not specified
@@ -107,13 +107,13 @@ class Pair:
         if self.is_alike:
             self.played.differences = memory_difference(self.own.memory(), self.reference.memory())
 
-    def result_of(self, item: Item, world: str, seen: Observation) -> str:
+    def result_of(self, item: Item, world: str, seen: SideState) -> str:
         """Returns what a step did, in words."""
         if seen.cause == ECALL_FROM_S and item.call_number is not None:
             return self.world if self.world != world else STATUSES.get(seen.registers[A0], DONE)
         return "" if seen.trap == "-" else "trap %s" % seen.trap + (", then %s" % self.world if self.world != world else "")
 
-    def count(self, item: Item, world: str, mode: str, seen: tuple[Observation, Observation]) -> None:
+    def count(self, item: Item, world: str, mode: str, seen: tuple[SideState, SideState]) -> None:
         """Counts what a trap covers."""
         own, reference = seen
         coverage, side = self.played.coverage, HOST if world == "host" else ENCLAVE
@@ -129,7 +129,7 @@ class Pair:
         if reference.cause in (ECALL_FROM_S, TIMER):
             self.table = self.reference.enclaves()
 
-    def count_call(self, item: Item, side: str, seen: Observation) -> None:
+    def count_call(self, item: Item, side: str, seen: SideState) -> None:
         """Counts the result of a call, and the state of an enclave that was destroyed."""
         number = item.call_number
         name = NUMBERED[number].name if number in NUMBERED and number is not None else OTHER
@@ -162,7 +162,7 @@ class Pair:
 
 def play(setup: MonitorSetup, name: str, items: list[Item], compares_memory: bool = True) -> Played:
     """Runs a script on both monitors up to the first difference."""
-    with Pair(setup, name, compares_memory) as pair:
+    with BothSides(setup, name, compares_memory) as pair:
         for item in items:
             if not (pair.is_alike and pair.do(item)):
                 break

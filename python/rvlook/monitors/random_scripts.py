@@ -21,7 +21,7 @@ CALLS = ("create", "create", "run", "run", "resume", "resume", "resume", "destro
 MOST_LIVE = 13
 
 
-class State(NamedTuple):
+class ReferenceState(NamedTuple):
     """The state of the reference on which the next items depend: the world that runs, its mode and pc, and the enclave table."""
     world: str
     mode: str
@@ -38,7 +38,7 @@ class RandomScript:
         self.makers = {"call": self.call, "access": self.access, "csr": self.csr, "registers": self.registers, "sret": self.sret,
                        "fault": self.fault, "timer": self.timer, "jump": self.jump}
 
-    def items(self, state: State) -> list[Item]:
+    def items(self, state: ReferenceState) -> list[Item]:
         """Returns the next items."""
         draw = self.draw
         if not self.is_begun:
@@ -50,7 +50,7 @@ class RandomScript:
             return self.user(state)
         return self.makers[draw.choices(list(KINDS), list(KINDS.values()))[0]](state)
 
-    def user(self, state: State) -> list[Item]:
+    def user(self, state: ReferenceState) -> list[Item]:
         """Returns items for U."""
         draw = self.draw
         kind = draw.randrange(5)
@@ -58,11 +58,11 @@ class RandomScript:
             return [nop()] if kind else [ecall_from_user(draw.randrange(8))]
         return (self.access, self.fault, self.timer)[kind - 2](state)
 
-    def own(self, state: State) -> Enclave | None:
+    def own(self, state: ReferenceState) -> Enclave | None:
         """Returns the enclave that runs, or None."""
         return next((it for it in state.table if it.world == state.world), None)
 
-    def place(self, state: State) -> int:
+    def place(self, state: ReferenceState) -> int:
         """Returns a boundary of a range."""
         places = [RAM_BASE, MONITOR_END, self.end]
         for it in state.table:
@@ -73,7 +73,7 @@ class RandomScript:
         """Returns a base in RAM for a block of a size."""
         return (MONITOR_END + self.draw.randrange(2, (self.end - MONITOR_END) // PAGE) * PAGE) & -size
 
-    def call(self, state: State) -> list[Item]:
+    def call(self, state: ReferenceState) -> list[Item]:
         """Returns a call of the world that runs."""
         draw = self.draw
         if state.world != "host":
@@ -84,7 +84,7 @@ class RandomScript:
         kind = draw.choice(CALLS)
         return self.created(state) if kind == "create" else self.slot_call(state, kind)
 
-    def slot_call(self, state: State, kind: str) -> list[Item]:
+    def slot_call(self, state: ReferenceState, kind: str) -> list[Item]:
         """Returns a call of the host that names a slot."""
         draw = self.draw
         wanted = [it.slot for it in state.table if it.state in STATES.get(kind, ANY_STATE)]
@@ -98,7 +98,7 @@ class RandomScript:
             return [run(slot), *(inside(fresh.base, str(draw.random())) if fresh else ())]
         return [resume(slot) if kind == "resume" else destroy(slot)]
 
-    def created(self, state: State) -> list[Item]:
+    def created(self, state: ReferenceState) -> list[Item]:
         """Returns a create, which is often valid."""
         draw = self.draw
         size, width = draw.choice((PAGE, PAGE, PAGE, 2 * PAGE, 4 * PAGE)), draw.choice((0, PAGE, PAGE, 2 * PAGE))
@@ -116,38 +116,38 @@ class RandomScript:
         data = bytes(draw.getrandbits(8) for _ in range(16))
         return [*((poke(base, data),) if has_bytes else ()), create(base, size, window, width, entry)]
 
-    def measured(self, state: State, slot: int) -> Item:
+    def measured(self, state: ReferenceState, slot: int) -> Item:
         """Returns a measure near a boundary."""
         return measure(self.place(state) + self.draw.choice((-32, -31, -16, -1, 0, 1, 64, self.draw.randrange(0x800))), slot)
 
-    def access(self, state: State) -> list[Item]:
+    def access(self, state: ReferenceState) -> list[Item]:
         """Returns a load or a store near a boundary."""
         draw = self.draw
         at, width, register = self.place(state) + draw.randrange(-6, 6), draw.randrange(3), draw.randrange(8, 16)
         return [load_at(at, register, width) if draw.random() < .5 else store_at(at, register, width)]
 
-    def csr(self, _: State) -> list[Item]:
+    def csr(self, _: ReferenceState) -> list[Item]:
         """Returns a write of an S-mode register."""
         return [set_csr(self.draw.choice(CSRS_SET), self.draw.getrandbits(32))]
 
-    def registers(self, _: State) -> list[Item]:
+    def registers(self, _: ReferenceState) -> list[Item]:
         """Returns new values of all registers."""
         return [set_registers(str(self.draw.random()))]
 
-    def sret(self, state: State) -> list[Item]:
+    def sret(self, state: ReferenceState) -> list[Item]:
         """Returns an sret into the code of the world that runs."""
         own = self.own(state)
         return [set_csr("sepc", own.base + own.size // 2 if own else HOST + 0x400), sret()]
 
-    def fault(self, _: State) -> list[Item]:
+    def fault(self, _: ReferenceState) -> list[Item]:
         """Returns an instruction that traps."""
         return [instruction(*self.draw.choice(FAULTS))]
 
-    def timer(self, _: State) -> list[Item]:
+    def timer(self, _: ReferenceState) -> list[Item]:
         """Returns a change of the timer line, and a step."""
         return [timer(self.draw.random() < .8), nop()]
 
-    def jump(self, state: State) -> list[Item]:
+    def jump(self, state: ReferenceState) -> list[Item]:
         """Returns a jump in the code of the world that runs."""
         own = self.own(state)
         return [jump_to(own.base + 4 * self.draw.randrange(64) if own else HOST + 4 * self.draw.randrange(256))]

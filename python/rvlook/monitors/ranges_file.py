@@ -7,7 +7,7 @@ from typing import Callable
 
 from rvlook.errors import RvlookError
 from rvlook.image.files import read_file
-from rvlook.monitors.ownership import ALL, HANDS, HOST, MONITOR, ONCE, SECRET, SHARED, Condition, OwnedRange, Ownership, Table
+from rvlook.monitors.ownership import ALL, HANDS, HOST, MONITOR, ONCE, SECRET, SHARED, WordCondition, OwnedRange, Ownership, RangesTable
 from rvlook.protocol.names import NUMBER_OF
 from rvlook.protocol.symbols import Symbols
 
@@ -76,14 +76,14 @@ def add_line(found: Ownership, words: list[str], symbols: Symbols) -> None:
         found.ranges.append(range_of(words, tuple(condition_of(it, symbols) for it in conditions)))
 
 
-def condition_of(text: str, symbols: Symbols | None) -> Condition:
+def condition_of(text: str, symbols: Symbols | None) -> WordCondition:
     """Returns a condition; without symbols its place is an offset. Raises ValueError."""
     match = CONDITION.match(text)
     if not match:
         raise ValueError
     if match[1] == CALLS:
-        return Condition(None, COMPARISONS[match[2]], int(match[3]))
-    return Condition(int(match[1], 16) if symbols is None else address_of(match[1], symbols), COMPARISONS[match[2]], int(match[3], 16))
+        return WordCondition(None, COMPARISONS[match[2]], int(match[3]))
+    return WordCondition(int(match[1], 16) if symbols is None else address_of(match[1], symbols), COMPARISONS[match[2]], int(match[3], 16))
 
 
 def address_of(text: str, symbols: Symbols) -> int:
@@ -94,7 +94,7 @@ def address_of(text: str, symbols: Symbols) -> int:
     return address
 
 
-def range_of(words: list[str], when: tuple[Condition, ...]) -> OwnedRange:
+def range_of(words: list[str], when: tuple[WordCondition, ...]) -> OwnedRange:
     """Returns the range of a line. Raises ValueError."""
     match = RANGE.match(words[-1])
     owner, *others = words[:-1] or [""]
@@ -113,10 +113,10 @@ def secret_of(words: list[str], symbols: Symbols) -> OwnedRange:
     return OwnedRange(first, first + int(size, 16), MONITOR)
 
 
-def table_of(words: list[str], conditions: list[str], symbols: Symbols) -> Table:
+def table_of(words: list[str], conditions: list[str], symbols: Symbols) -> RangesTable:
     """Returns the table of a line. Raises ValueError or IndexError."""
     _, name, count, place, stride, region, base, size, *window = words
     if region != REGION or window and (len(window) != 3 or window[0] != WINDOW) or not 0 < int(count) <= MOST_ELEMENTS:
         raise ValueError
-    return Table(name, int(count), address_of(place, symbols), int(stride, 16), (int(base, 16), int(size, 16)),
-                 (int(window[1], 16), int(window[2], 16)) if window else None, tuple(condition_of(it, None) for it in conditions))
+    return RangesTable(name, int(count), address_of(place, symbols), int(stride, 16), (int(base, 16), int(size, 16)),
+                       (int(window[1], 16), int(window[2], 16)) if window else None, tuple(condition_of(it, None) for it in conditions))

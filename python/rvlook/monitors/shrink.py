@@ -5,7 +5,7 @@ import time
 from dataclasses import dataclass
 from typing import TYPE_CHECKING
 
-from rvlook.monitors.comparison import Difference, Kind
+from rvlook.monitors.comparison import MonitorDifference, DifferenceKind
 from rvlook.monitors.pair import Played, play
 
 if TYPE_CHECKING:
@@ -14,7 +14,8 @@ if TYPE_CHECKING:
 
 MOST_RUNS = 300
 MOST_SECONDS = 60  # after which a script is not shrunk further
-NAMED = (Kind.register, Kind.csr, Kind.entry)  # kinds whose name is a part of what differs; the others have addresses or causes in it
+# Kinds whose name is a part of what differs. The names of the others have addresses or causes in them.
+NAMED = (DifferenceKind.register, DifferenceKind.csr, DifferenceKind.entry)
 
 
 @dataclass
@@ -25,7 +26,7 @@ class Shrunk:
     is_interrupted: bool = False
 
 
-def signature(difference: Difference) -> tuple[Kind, str]:
+def signature(difference: MonitorDifference) -> tuple[DifferenceKind, str]:
     """Returns what a shrunk script must still show."""
     return difference.kind, difference.name if difference.kind in NAMED else ""
 
@@ -45,7 +46,7 @@ class Shrinker:
     def is_shorter(self, items: list[Item]) -> bool:
         """Runs a part of the script; keeps it, without what follows the difference, if it shows the same."""
         self.runs += 1
-        played = play(self.setup, self.best.name, items, self.wanted[0] is Kind.memory)
+        played = play(self.setup, self.best.name, items, self.wanted[0] is DifferenceKind.memory)
         if not played.differences or signature(played.differences[0]) != self.wanted:
             return False
         self.best = played

@@ -94,7 +94,7 @@ def words_in(data: bytes, address: int, word: int) -> list[int]:
 
 
 @dataclass(frozen=True)
-class Observation:
+class SideState:
     """The state after a step, as S and U can observe it. `below` has the replies of x0 to x31, pc and the S-mode registers, `above` the values
     of DECIDING and EXACT, `entries` the replies of `pmp`. `spent` is the number of steps in M, `fault` why M did not return, if so."""
     pc: int
@@ -151,7 +151,7 @@ class Side:
         self.log += lines
         return self.bench.block(("\n".join(lines) + "\n").encode(), len(lines)).splitlines() if lines else []
 
-    def begin(self) -> Observation:
+    def begin(self) -> SideState:
         """Goes to the first instruction below M. Raises RvlookError if the bench refuses the image or a line of the boot."""
         try:
             self.bench.one("reg 0")
@@ -173,7 +173,7 @@ class Side:
                 raise RvlookError("boot line '%s': %s" % (line, reply.decode()))
         self.mode = "M"
 
-    def step(self, item: Item) -> Observation:
+    def step(self, item: Item) -> SideState:
         """Does an item, and all steps in M after it."""
         lines = self.lines_of(item)
         if not item.steps:
@@ -193,7 +193,7 @@ class Side:
             lines += poke_lines(self.pc, struct.pack("<I", item.word))
         return lines + (["timer " + item.line] if item.line else [])
 
-    def stay(self, trap: str, world: str) -> Observation:
+    def stay(self, trap: str, world: str) -> SideState:
         """Does the steps in M up to the return; the fault says why there is none."""
         first, spent, fault = len(self.log), 0, ""
         while self.mode == "M" and not fault:
@@ -215,13 +215,13 @@ class Side:
             return "trap in M, %s" % trap_text(trap)
         return "M does not return within %d steps" % spent if spent > most else ""
 
-    def observation(self, trap: str, world: str, spent: int = 0, fault: str = "") -> Observation:
+    def observation(self, trap: str, world: str, spent: int = 0, fault: str = "") -> SideState:
         """Returns the state now."""
         replies = self.bench.block(STATE, STATE_LINES).splitlines()
         values = register_values(replies[CUT:-ENTRIES])
         above = tuple(value & DECIDING.get(name, MASK) for name, value in zip(CSR_LIST[len(BELOW):], values))
         self.pc = int(replies[REGISTERS - 1][3:], 16)
-        return Observation(self.pc, self.mode, trap, world, b"\n".join(replies[:CUT]), above, b"\n".join(replies[-ENTRIES:]), spent, fault)
+        return SideState(self.pc, self.mode, trap, world, b"\n".join(replies[:CUT]), above, b"\n".join(replies[-ENTRIES:]), spent, fault)
 
     def memory(self) -> bytes:
         """Returns the replies of `mem` for all bytes of host and enclaves."""

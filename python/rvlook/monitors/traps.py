@@ -7,7 +7,7 @@ from rvlook.monitors.sides import trap_text
 from rvlook.protocol.replies import step_of
 
 if TYPE_CHECKING:
-    from rvlook.monitors.guarded import State
+    from rvlook.monitors.guarded import HartState
     from rvlook.monitors.sides import MonitorSetup
     from rvlook.protocol.replies import Ran, Trap
 
@@ -56,14 +56,14 @@ class TrapsInM:
         """Returns the description of the last trap whose handler has not returned."""
         return self.pending[-1][1] if self.pending else ""
 
-    def enter(self, state: State, trap: Trap) -> str:
+    def enter(self, state: HartState, trap: Trap) -> str:
         """Notes a trap; returns why it is a violation, or an empty text."""
         self.pending.append((state.pc, "trap in M at %08x, %s" % (state.pc, trap_text(trap))))
         if not self.is_code(state.here):
             return "%s, whose vector %08x is not in memory of the monitor" % (self.text, state.here)
         return "%s, in the handler of a trap in M" % self.text if len(self.pending) > MOST_NESTED else ""
 
-    def leave(self, state: State) -> str:
+    def leave(self, state: HartState) -> str:
         """Notes an mret that continues M; returns why it is a violation, or an empty text."""
         if not self.pending:
             return "" if self.is_code(state.pc) else "M continues at %08x in M, which is not in memory of the monitor" % state.pc
@@ -71,7 +71,7 @@ class TrapsInM:
         self.handled.append(pc)
         return "" if state.pc in (pc, pc + WORD) else "%s, after which M continues at %08x" % (text, state.pc)
 
-    def end(self, state: State) -> str:
+    def end(self, state: HartState) -> str:
         """Returns why a return to S or U is a violation, or an empty text."""
         return "%s, after which M enters %s at %08x" % (self.text, state.mode, state.pc) if self.pending else ""
 
@@ -83,7 +83,7 @@ class TrapLoop:
         self.last: tuple[str, int, str, bytes] = ("", 0, "", b"")
         self.count, self.steps = 0, 0
 
-    def is_closed(self, cause: str, entry: State, steps: int) -> bool:
+    def is_closed(self, cause: str, entry: HartState, steps: int) -> bool:
         """Notes a trap, after a number of steps below M; returns whether it is one of such a loop."""
         key = (cause, entry.pc, entry.mode, entry.entries)
         self.count = self.count + 1 if key == self.last and steps - self.steps <= 1 else 0

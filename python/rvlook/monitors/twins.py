@@ -10,7 +10,7 @@ from dataclasses import dataclass, field
 from typing import Iterator
 
 from rvlook.monitors.checks import A0, A7, MARKED_CSRS, closed_ranges, is_context_switch
-from rvlook.monitors.guarded import STATE_CSRS, SUPERVISOR, Guarded, Return, State
+from rvlook.monitors.guarded import STATE_CSRS, SUPERVISOR, Guarded, StayInM, HartState
 from rvlook.monitors.items import MASK
 from rvlook.monitors.ownership import HOST, MONITOR, OwnedRange, Ownership
 from rvlook.monitors.rights import rights_of
@@ -41,7 +41,7 @@ class Track:
     def __post_init__(self) -> None:
         self.ownership = self.declared
 
-    def next(self, secret: str = "") -> Return | None:
+    def next(self, secret: str = "") -> StayInM | None:
         """Goes to the next return from M; returns None at the limit, the end of the host, a loop of traps, and a fault in M. If the world `secret`
         traps, its registers are inverted before M runs."""
         self.inverted = []
@@ -66,7 +66,7 @@ class Track:
         self.note_closed(stay)
         return None if stay.fault else stay
 
-    def invert_state(self, cause: str, entry: State) -> None:
+    def invert_state(self, cause: str, entry: HartState) -> None:
         """Inverts the private state of the world that trapped: its registers without the arguments of a call, and its ranges. A range to which an
         argument points stays as it is, since M may read it for the call."""
         arguments = entry.registers[A0:A7 + 1] if cause == ECALL_FROM_S else ()
@@ -76,7 +76,7 @@ class Track:
         for it in self.inverted:
             self.machine.do(*poke_lines(it.first, bytes(byte ^ 0xFF for byte in self.machine.bytes_of(it.first, it.end))))
 
-    def note_closed(self, stay: Return) -> None:
+    def note_closed(self, stay: StayInM) -> None:
         """Notes which ranges are live and closed to the world that continues."""
         shut = closed_ranges(self.ownership, rights_of(stay.exit.entries, self.machine.setup.ram))
         self.live = {it for it in self.ownership.private()
@@ -85,7 +85,7 @@ class Track:
 
 
 @dataclass(frozen=True)
-class Secret:
+class TwinSecret:
     """The difference of the second run of a pair: the ranges of these owners, the registers of one of them, and ranges of the monitor."""
     name: str
     owners: frozenset[str] = frozenset()
@@ -99,10 +99,10 @@ class Secret:
 
 
 @dataclass(frozen=True)
-class Compared:
+class TwinResult:
     """The result of a pair of runs: what differs, with the step below M and pc of the trap before it, the changes, and the returns that were
     compared. `why_cut` says why the comparison ended early, if it did."""
-    secret: Secret
+    secret: TwinSecret
     difference: str = ""
     step: int = 0
     pc: int = 0
@@ -111,7 +111,7 @@ class Compared:
     why_cut: str = ""
 
 
-def secrets_of(setup: MonitorSetup, ownership: Ownership, limit: int, vectors: set[int]) -> list[Secret]:
+def secrets_of(setup: MonitorSetup, ownership: Ownership, limit: int, vectors: set[int]) -> list[TwinSecret]:
     """Returns what differs in each pair of runs. Unused pages of the monitor are in no segment, and all zeros after the boot and at the end."""
     entered: dict[str, None] = {}
     closed: dict[str, None] = {}
@@ -124,10 +124,10 @@ def secrets_of(setup: MonitorSetup, ownership: Ownership, limit: int, vectors: s
             closed.update({it.owner: None for it in track.closed})
             stay = track.next()
         unused = list(zero_pages(machine, unused))
-    found = [Secret(it, frozenset({it}), it) for it in entered if it in closed]
+    found = [TwinSecret(it, frozenset({it}), it) for it in entered if it in closed]
     others = frozenset(closed.keys() - entered.keys())
-    found += [Secret(OTHERS, others)] if others else []
-    return found + [Secret(name, ranges=tuple(ranges)) for name, ranges in ((UNUSED, unused), (SECRETS, ownership.secrets)) if ranges]
+    found += [TwinSecret(OTHERS, others)] if others else []
+    return found + [TwinSecret(name, ranges=tuple(ranges)) for name, ranges in ((UNUSED, unused), (SECRETS, ownership.secrets)) if ranges]
 
 
 def unloaded_pages(setup: MonitorSetup, ownership: Ownership) -> Iterator[OwnedRange]:
@@ -144,10 +144,10 @@ def zero_pages(machine: Guarded, pages: Iterator[OwnedRange] | list[OwnedRange])
     return (it for it in pages if not any(machine.bytes_of(it.first, it.end)))
 
 
-class Pair:
+class TwinRuns:
     """Two runs. The second one has other values in the private state of an enclave, or in unused memory of the monitor."""
 
-    def __init__(self, setup: MonitorSetup, ownership: Ownership, limit: int, vectors: set[int], secret: Secret) -> None:
+    def __init__(self, setup: MonitorSetup, ownership: Ownership, limit: int, vectors: set[int], secret: TwinSecret) -> None:
         self.setup, self.ownership, self.limit, self.vectors, self.secret = setup, ownership, limit, vectors, secret
         self.inverted: list[OwnedRange] = []
         self.changes, self.returns = 0, 0
@@ -156,7 +156,7 @@ class Pair:
         """Returns the machine of a run."""
         return Guarded(self.setup, self.vectors, self.ownership.is_monitor)
 
-    def compare(self) -> Compared:
+    def compare(self) -> TwinResult:
         """Does both runs up to the first difference."""
         with self.machine() as one, self.machine() as other:
             tracks = Track(one, self.ownership, self.limit), Track(other, self.ownership, self.limit)
@@ -171,7 +171,7 @@ class Pair:
             is_different = stays[0] is not stays[1] and tracks[0].world not in self.secret.owners
             return self.result("only one of two runs has another return from M" if is_different else "", one.steps)
 
-    def at_return(self, tracks: tuple[Track, Track], one: Return, other: Return) -> Compared | None:
+    def at_return(self, tracks: tuple[Track, Track], one: StayInM, other: StayInM) -> TwinResult | None:
         """Compares the runs at a return from M to a world that must not know the secret; returns the difference. An owner of the secret gets the
         state of the first run instead."""
         steps = tracks[0].machine.steps
@@ -196,7 +196,7 @@ class Pair:
             self.inverted.append(it)
         self.changes += bool(ranges)
 
-    def restore(self, tracks: tuple[Track, Track], one: Return, other: Return) -> None:
+    def restore(self, tracks: tuple[Track, Track], one: StayInM, other: StayInM) -> None:
         """Gives the owner that continues in the second run the bytes and registers of the first run."""
         for it in [it for it in self.inverted if it not in self.secret.ranges]:
             data, old = (track.machine.bytes_of(it.first, it.end) for track in tracks)
@@ -206,12 +206,12 @@ class Pair:
         csrs = {name: one.exit.csrs[name] for name in SUPERVISOR if one.exit.csrs[name] != other.exit.csrs[name]}
         tracks[1].machine.set_state(registers, csrs)
 
-    def result(self, difference: str, step: int, pc: int = 0, why_cut: str = "") -> Compared:
+    def result(self, difference: str, step: int, pc: int = 0, why_cut: str = "") -> TwinResult:
         """Returns the result of the pair."""
-        return Compared(self.secret, difference, step, pc, self.changes, self.returns, why_cut)
+        return TwinResult(self.secret, difference, step, pc, self.changes, self.returns, why_cut)
 
 
-def state_difference(one: Return, other: Return) -> str:
+def state_difference(one: StayInM, other: StayInM) -> str:
     """Returns the first difference of two returns as text, or an empty text: the steps in M, the registers, and the access rights."""
     if one.spent != other.spent:
         return "M takes %d or %d steps for a trap at %08x" % (one.spent, other.spent, one.entry.pc)

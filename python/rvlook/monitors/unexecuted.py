@@ -33,7 +33,7 @@ class Block:
 
 
 @dataclass
-class Code:
+class MonitorBlocks:
     """The basic blocks of a monitor by their first addresses. `functions` has the end of each function by its first address; it is empty if the
     symbols have no functions."""
     blocks: dict[int, Block]
@@ -58,7 +58,7 @@ class Code:
         return sum(entry <= it < self.functions[entry] for it in self.blocks)
 
 
-def code_of(setup: MonitorSetup, ownership: Ownership, symbols: Symbols, vectors: Iterable[int]) -> Code:
+def code_of(setup: MonitorSetup, ownership: Ownership, symbols: Symbols, vectors: Iterable[int]) -> MonitorBlocks:
     """Returns the code of the monitor: its functions, and what branches, jumps and calls reach from them, from the entry and from the trap
     vectors. Data in an executable segment is therefore left out."""
     words = {address: word for first, data in segments_of(setup, ownership) for address, word in words_of(first, data)}
@@ -66,7 +66,7 @@ def code_of(setup: MonitorSetup, ownership: Ownership, symbols: Symbols, vectors
     start = struct.unpack_from("<I", setup.image.data or b"", AT_ENTRY)[0]
     roots = {start, *vectors, *functions}
     reached = reachable(words, roots) | {at for first, end in functions.items() for at in range(first, end, 4) if at in words}
-    return Code(blocks_of(sorted(reached), leaders_of(words, reached) | roots), functions)
+    return MonitorBlocks(blocks_of(sorted(reached), leaders_of(words, reached) | roots), functions)
 
 
 def segments_of(setup: MonitorSetup, ownership: Ownership) -> Iterator[tuple[int, bytes]]:
@@ -137,7 +137,7 @@ def blocks_of(addresses: Sequence[int], leaders: set[int]) -> dict[int, Block]:
     return found
 
 
-class Replay:
+class BlockReplay:
     """A run that is repeated. It has breakpoints at the first of some blocks. A block that is executed makes room for the next one."""
 
     def __init__(self, setup: MonitorSetup, blocks: Sequence[Block]) -> None:
@@ -203,7 +203,7 @@ def unexecuted_in(setup: MonitorSetup, logs: Sequence[Sequence[str]], blocks: Se
     for number, log in enumerate(logs, 1):
         rest, missed = missing, []
         while rest:
-            replay = Replay(setup, rest)
+            replay = BlockReplay(setup, rest)
             replay.run(log)
             missed += [it for it in rest if it.first in replay.decided and it.first not in replay.executed]
             rest = [it for it in rest if it.first not in replay.decided and it.first not in replay.executed]
@@ -212,7 +212,7 @@ def unexecuted_in(setup: MonitorSetup, logs: Sequence[Sequence[str]], blocks: Se
     return missing
 
 
-def unexecuted(setup: MonitorSetup, code: Code, logs: Sequence[Sequence[str]], progress: Progress) -> list[Block]:
+def unexecuted(setup: MonitorSetup, code: MonitorBlocks, logs: Sequence[Sequence[str]], progress: Progress) -> list[Block]:
     """Returns the blocks of the monitor's code that none of the runs executed. The entries of functions are searched first: if the entry of a
     function was not executed, none of its blocks was."""
     never = {it.first for it in unexecuted_in(setup, logs, [code.blocks[it] for it in code.ordered], progress)}

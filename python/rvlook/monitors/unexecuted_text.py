@@ -7,14 +7,14 @@ from typing import Iterator, Sequence, TYPE_CHECKING
 from rvlook.output.printer import hex8
 
 if TYPE_CHECKING:
-    from rvlook.monitors.unexecuted import Block, Code
+    from rvlook.monitors.unexecuted import Block, MonitorBlocks
     from rvlook.output.printer import Printer
     from rvlook.protocol.symbols import Symbols
 
 MOST_FUNCTIONS = 40  # that are shown
 
 
-def show_unexecuted(printer: Printer, symbols: Symbols, code: Code, found: Sequence[Block]) -> None:
+def show_unexecuted(printer: Printer, symbols: Symbols, code: MonitorBlocks, found: Sequence[Block]) -> None:
     """Shows blocks that were not executed: as objects, or a line for each function."""
     if printer.as_json:
         for it in joined(found):
@@ -41,7 +41,7 @@ def joined(blocks: Sequence[Block]) -> list[tuple[int, int]]:
     return found
 
 
-def lines_of(symbols: Symbols, code: Code, found: Sequence[Block]) -> Iterator[str]:
+def lines_of(symbols: Symbols, code: MonitorBlocks, found: Sequence[Block]) -> Iterator[str]:
     """Yields a text for each function that has blocks which were not executed."""
     for name, members in groupby(found, lambda it: symbols.function(it.first)):
         blocks = list(members)

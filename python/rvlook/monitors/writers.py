@@ -5,7 +5,7 @@ from __future__ import annotations
 from dataclasses import dataclass, replace
 from typing import Callable, Iterator, TYPE_CHECKING
 
-from rvlook.monitors.comparison import Difference, Kind
+from rvlook.monitors.comparison import MonitorDifference, DifferenceKind
 from rvlook.monitors.encodings import is_store, loaded_offset, written_csr, written_register
 from rvlook.monitors.items import MASK
 from rvlook.monitors.sides import word_at
@@ -28,7 +28,7 @@ Test = Callable[[int], bool]
 
 
 @dataclass(frozen=True)
-class Writer:
+class WritingInstruction:
     """An instruction in M: its address, and its text with ABI names. `address` is what it loads or stores, if that is known. `path` has the
     addresses of the instructions that were executed before it, the last one first, because a compiler may give it no source line."""
     pc: int
@@ -37,7 +37,7 @@ class Writer:
     path: tuple[int, ...] = ()
 
 
-class Replay:
+class StayReplay:
     """The author's side of a script, brought to the begin of one of its stays in M."""
 
     def __init__(self, setup: MonitorSetup, played: Played, stay: Stay) -> None:
@@ -45,7 +45,7 @@ class Replay:
         lines = played.own_log[:stay.line]
         self.bench.block(("\n".join(lines) + "\n").encode(), len(lines))
 
-    def __enter__(self) -> Replay:
+    def __enter__(self) -> StayReplay:
         return self
 
     def __exit__(self, *_: object) -> None:
@@ -97,52 +97,52 @@ def last_stays(played: Played) -> list[Stay]:
     return played.stays[::-1][:MOST_STAYS]
 
 
-def writers_of(setup: MonitorSetup, played: Played, difference: Difference) -> list[Writer]:
+def writers_of(setup: MonitorSetup, played: Played, difference: MonitorDifference) -> list[WritingInstruction]:
     """Returns the last instruction in M that wrote what differs. If that is a load, the second one is the last store to its address. Returns
     nothing if no instruction in M wrote it."""
-    if difference.kind is Kind.fault:
+    if difference.kind is DifferenceKind.fault:
         return trap_of(setup, played)
-    if difference.kind is Kind.trap:
+    if difference.kind is DifferenceKind.trap:
         return []
-    if difference.kind is Kind.memory:
+    if difference.kind is DifferenceKind.memory:
         found = last_store(setup, played, difference.place or 0)
         return [found] if found else []
     return list(chain_of(setup, played, test_of(difference)))
 
 
-def trap_of(setup: MonitorSetup, played: Played) -> list[Writer]:
+def trap_of(setup: MonitorSetup, played: Played) -> list[WritingInstruction]:
     """Returns the instruction of the last stay that traps in M, if there is one."""
     stay = played.stays[-1]
-    with Replay(setup, played, stay) as replay:
+    with StayReplay(setup, played, stay) as replay:
         number = replay.first_trap()
     return [] if number is None else [writer_at(setup, played, stay, number)]
 
 
-def test_of(difference: Difference) -> Test:
+def test_of(difference: MonitorDifference) -> Test:
     """Returns the test for instructions that write what differs, which is not memory."""
-    if difference.kind is Kind.register:
+    if difference.kind is DifferenceKind.register:
         return lambda word: written_register(word) == difference.place
     numbers = written_csrs(difference)
     return lambda word: written_csr(word) in numbers
 
 
-def written_csrs(difference: Difference) -> set[int]:
+def written_csrs(difference: MonitorDifference) -> set[int]:
     """Returns the numbers of the control and status registers that determine what differs."""
-    if difference.kind is Kind.pc:
+    if difference.kind is DifferenceKind.pc:
         return {CSRS["mepc"]}
-    if difference.kind is Kind.mode:
+    if difference.kind is DifferenceKind.mode:
         return {CSRS["mstatus"]}
-    if difference.kind is Kind.csr:
+    if difference.kind is DifferenceKind.csr:
         return {CSRS[it] for it in ALSO_WRITTEN_BY.get(difference.name, (difference.name,))}
     if difference.place is None:
         return {CSRS["pmpcfg%d" % it] for it in range(4)}
     return {CSRS["pmpcfg%d" % (difference.place // 4)], CSRS["pmpaddr%d" % difference.place]}
 
 
-def chain_of(setup: MonitorSetup, played: Played, test: Test) -> Iterator[Writer]:
+def chain_of(setup: MonitorSetup, played: Played, test: Test) -> Iterator[WritingInstruction]:
     """Yields the last instruction that a test accepts, and the last store to the address that it loads."""
     for index, stay in enumerate(last_stays(played)):
-        with Replay(setup, played, stay) as replay:
+        with StayReplay(setup, played, stay) as replay:
             number = replay.last_match(test)
         if number is None:
             continue
@@ -154,9 +154,9 @@ def chain_of(setup: MonitorSetup, played: Played, test: Test) -> Iterator[Writer
         return
 
 
-def writer_at(setup: MonitorSetup, played: Played, stay: Stay, number: int) -> Writer:
+def writer_at(setup: MonitorSetup, played: Played, stay: Stay, number: int) -> WritingInstruction:
     """Returns the instruction of a stay that has a number, with the address that it loads if it is a load."""
-    with Replay(setup, played, stay) as replay:
+    with StayReplay(setup, played, stay) as replay:
         first = max(0, number - PATH)
         path = [replay.go(first)]
         path += [int(step_of(it.decode()).pc, 16) for it in replay.bench.block(b"step 1\n" * (number - first), number - first).splitlines()]
@@ -164,14 +164,14 @@ def writer_at(setup: MonitorSetup, played: Played, stay: Stay, number: int) -> W
         if loaded:
             base = int(replay.bench.one("reg %d" % loaded[0]).partition("=")[2], 16)
             address = base + loaded[1] & MASK
-        return Writer(path[-1], text_at(replay.bench, path[-1]), address, tuple(path[-2::-1]))
+        return WritingInstruction(path[-1], text_at(replay.bench, path[-1]), address, tuple(path[-2::-1]))
 
 
-def last_store(setup: MonitorSetup, played: Played, address: int, skipped: int = 0, before: int | None = None) -> Writer | None:
+def last_store(setup: MonitorSetup, played: Played, address: int, skipped: int = 0, before: int | None = None) -> WritingInstruction | None:
     """Returns the last instruction in M that stores to a byte, or None. Skips the last `skipped` stays, and of the next one all instructions from
     the number `before` on."""
     for stay in last_stays(played)[skipped:]:
-        with Replay(setup, played, stay) as replay:
+        with StayReplay(setup, played, stay) as replay:
             number = replay.last_store(address, stay.steps if before is None else before)
         if number is not None:
             return replace(writer_at(setup, played, stay, number), address=address)

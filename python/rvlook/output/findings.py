@@ -19,7 +19,7 @@ class Case:
     seconds: float = 0
 
 
-class Findings:
+class ReportedCases:
     """The cases of one subcommand, the lines of the script that the bench refused, and why it could not finish, if so."""
 
     def __init__(self) -> None:
@@ -81,7 +81,7 @@ def check_junit(path: str | None) -> None:
             raise Unfinished(package_missing("junitparser", "python3-junitparser", "--junit cannot write its report")) from None
 
 
-def write_junit(path: str, name: str, findings: Findings, error: str = "") -> None:
+def write_junit(path: str, name: str, findings: ReportedCases, error: str = "") -> None:
     """Writes one test suite, with at least one case. A finding is a failure; a refused line, why the work was cut short, and `error` are errors."""
     from junitparser import Error, Failure, JUnitXml, TestCase, TestSuite
     suite = TestSuite("rvlook " + name)

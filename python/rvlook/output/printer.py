@@ -19,7 +19,7 @@ if TYPE_CHECKING:
 Json = Union[None, bool, int, float, str, Sequence[Any], Mapping[str, Any]]  # the value of a member
 
 
-class Writer(Protocol):
+class ObjectWriter(Protocol):
     """A consumer of the objects of a run."""
 
     def object(self, __kind: str, **members: Json) -> None:
@@ -92,7 +92,7 @@ def hex8(number: int | None) -> str | None:
     return None if number is None else "%08x" % number
 
 
-def end_object(printer: Writer, end: End) -> None:
+def end_object(printer: ObjectWriter, end: End) -> None:
     """Writes the end of a run as an object."""
     printer.object("end", steps=end.steps, why=end.why, pc=end.pc, mode=end.mode, world=end.world)
 
@@ -110,7 +110,7 @@ def place_text(pc: str, symbols: Symbols) -> str:
     return "  ".join(it for it in (pc, symbols.name(number), symbols.line(number)) if it)
 
 
-def run_object(printer: Writer, run: Run, symbols: Symbols) -> None:
+def run_object(printer: ObjectWriter, run: Run, symbols: Symbols) -> None:
     """Writes the first object of an output."""
     setup = run.setup
     printer.object("run", image=setup.image.name, monitor=setup.monitor, harts=setup.harts, ram=setup.ram, pc=run.pc, mode=run.mode,

@@ -14,13 +14,13 @@ from array import array
 from typing import Any, Hashable, Mapping, TYPE_CHECKING
 
 from rvlook.protocol import names
-from rvlook.trace.text import Objects
+from rvlook.trace.text import ObjectTrace
 
 if TYPE_CHECKING:
     from rvlook.output.printer import Json
     from rvlook.protocol.run import Run
     from rvlook.protocol.symbols import Symbols
-    from rvlook.trace.tracer import Step, Touch
+    from rvlook.trace.tracer import TracedStep, Touch
 
 GRANULE = 16  # bytes that are touched are kept by so many, which bounds the memory for them
 KINDS = {"r": 0, "w": 1}
@@ -33,7 +33,7 @@ BRANCH = re.compile(r"b|jal ")
 SITE = ("word", "abi", "symbol", "function", "source", "caller")  # of a site, after its pc
 
 
-class Table:
+class NumberedValues:
     """Values with a number each, in the order in which they came."""
 
     def __init__(self) -> None:
@@ -48,7 +48,7 @@ class Table:
         return [dict(zip(names, value)) for value in self.numbers]
 
 
-class Columns:
+class NumberColumns:
     """Arrays of numbers as bytes, each aligned to four bytes."""
 
     def __init__(self) -> None:
@@ -65,14 +65,14 @@ class Columns:
         return location
 
 
-def compressed(data: Mapping[str, Any], columns: Columns) -> str:
+def compressed(data: Mapping[str, Any], columns: NumberColumns) -> str:
     """Returns the data of a page and its columns as text."""
     header = json.dumps(data, separators=(",", ":")).encode("utf-8")
     header += b" " * (-len(header) % 4)
     return base64.b64encode(zlib.compress(struct.pack("<I", len(header)) + header + bytes(columns.bytes), LEVEL)).decode("ascii")
 
 
-def refusal(step: Step) -> str | None:
+def refusal(step: TracedStep) -> str | None:
     """Returns the status with which the monitor refused a call, or None. It is in a0 if no other world continues."""
     assert step.call
     status = int(step.changed[10], 16) if 10 in step.changed else next(iter(step.call.arguments.values()))
@@ -83,11 +83,11 @@ class Collector:
     """Takes the steps of a run, and its other objects as a printer does, and keeps those parts that the page shows."""
 
     def __init__(self, run: Run, symbols: Symbols) -> None:
-        self.objects, self.symbols = Objects(run, symbols, self), symbols
+        self.objects, self.symbols = ObjectTrace(run, symbols, self), symbols
         self.path = ""
         self.run: dict[str, Any] = {}
         self.end: dict[str, Any] = {}
-        self.sites, self.places, self.traps, self.names = Table(), Table(), Table(), Table()
+        self.sites, self.places, self.traps, self.names = NumberedValues(), NumberedValues(), NumberedValues(), NumberedValues()
         self.site_numbers: dict[tuple[object, ...], int] = {}  # by pc, word, and whether the word was fetched or an interrupt came
         self.name_numbers: dict[int, int] = {}  # by address
         self.site, self.place, self.trap = array("I"), array("B"), array("I")
@@ -100,7 +100,7 @@ class Collector:
         self.events: list[dict[str, Any]] = []
         self.granules: set[int] = set()
         self.labels: dict[str, int] = {}
-        self.maps = Table()
+        self.maps = NumberedValues()
         self.boundaries: set[str] = set()
         self.points = self.rows = 0
 
@@ -139,7 +139,7 @@ class Collector:
         rest = {name: value for name, value in it.items() if name not in MAP}
         self.events.append({**rest, "map": self.maps.number(shown)})
 
-    def step(self, step: Step) -> None:
+    def step(self, step: TracedStep) -> None:
         """Takes a step."""
         self.site.append(self.site_of(step))
         self.place.append(self.places.number((step.hart, step.at.world, step.at.mode)))
@@ -157,7 +157,7 @@ class Collector:
         if step.touch:
             self.take_touch(step.number, step.touch)
 
-    def site_of(self, step: Step) -> int:
+    def site_of(self, step: TracedStep) -> int:
         """Returns the number of the site of a step: its pc and instruction. A new site is drawn, unless an interrupt came in its place."""
         key = step.at.pc, step.instruction and step.instruction.word, step.trap and (step.is_executed, step.is_interrupt)
         if key not in self.site_numbers:
@@ -202,7 +202,7 @@ class Collector:
         sources = [source for site in self.sites.numbers for source in site[5:7] if source]
         return {source.rsplit(":", 1)[0] for source in sources}
 
-    def data(self, columns: Columns) -> dict[str, Any]:
+    def data(self, columns: NumberColumns) -> dict[str, Any]:
         """Returns all data as one object, and appends the columns."""
         return {
             "title": self.title, "run": self.run, "end": self.end, "steps": len(self.site), "points": self.points,

@@ -11,12 +11,12 @@ from rvlook.access.map_text import write_event
 from rvlook.access.map import events
 from rvlook.image.frames import frames_of
 from rvlook.page.axis import segments_of
-from rvlook.page.data import Collector, Columns, compressed
+from rvlook.page.data import Collector, NumberColumns, compressed
 from rvlook.page.sources import roots_of, source_texts
 from rvlook.protocol.console import consoles_of
 from rvlook.protocol.run import End
 from rvlook.output.printer import end_object, run_object
-from rvlook.trace.tracer import Step, Tracer
+from rvlook.trace.tracer import TracedStep, Tracer
 from rvlook.trace.text import lines_of
 
 if TYPE_CHECKING:
@@ -43,7 +43,7 @@ def show_page(run: Run, symbols: Symbols, printer: Printer, template: Any, paths
     """Writes the page of a run. `paths` are the ELF files whose source files it has, from below their own folders and `folders`."""
     found = collected(run, symbols)
     sources = source_texts(paths, found.source_names(), roots_of(folders))
-    columns = Columns()
+    columns = NumberColumns()
     variables = [vars(it) for it in frames_of(paths[0] if len(paths) > 1 else None, run.setup.image, found.executed())]
     data = {**found.data(columns), "segments": segments_of(found), "sources": sources, "variables": variables}
     style, script = text_of(STYLES), text_of(SCRIPTS)
@@ -78,7 +78,7 @@ def collected(run: Run, symbols: Symbols) -> Collector:
     writer = found.objects
     run_object(found, run, symbols)
     for item in Tracer(run).events():
-        if isinstance(item, Step):
+        if isinstance(item, TracedStep):
             found.step(item)
             for of, line in lines_of(item, consoles):
                 writer.console(item.number, of, line)

@@ -16,7 +16,7 @@ from rvlook.errors import RvlookError, Unfinished
 from rvlook.image.files import MOST_LINES, bounded, read_file
 
 if TYPE_CHECKING:
-    from rvlook.output.findings import Findings
+    from rvlook.output.findings import ReportedCases
     from rvlook.output.printer import Printer
 
 MOST_ERRORS = 10000  # errors of an input that are explained
@@ -162,7 +162,7 @@ def argument_error(arguments: Sequence[str], index: int) -> tuple[str, str]:
         "./rvbench run --help"
 
 
-def show_explain(path: str, arguments: Sequence[str], printer: Printer, findings: Findings) -> None:
+def show_explain(path: str, arguments: Sequence[str], printer: Printer, findings: ReportedCases) -> None:
     """Prints the errors of an input, and what to write; each is a finding."""
     data = bounded(sys.stdin.buffer, "standard input") if path == "-" else read_file(path)
     if data.count(b"\n") > MOST_LINES:

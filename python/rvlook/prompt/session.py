@@ -12,7 +12,7 @@ from rvlook.escapes import visible
 from rvlook.protocol.messages import line_error
 from rvlook.errors import SymbolError
 from rvlook.protocol.lines import resolved
-from rvlook.access.map import Cause, Finder
+from rvlook.access.map import Cause, EventFinder
 from rvlook.access.map_text import print_event
 from rvlook.protocol.nearest import nearest
 from rvlook.protocol.replies import Location, ran_of
@@ -64,7 +64,7 @@ class Session:
     """The session of a prompt; `keeper` has its timeline."""
 
     def __init__(self, keeper: Keeper, run: Run, symbols: Symbols, printer: Printer) -> None:
-        self.keeper, self.setup, self.symbols, self.printer, self.finder = keeper, run.setup, symbols, printer, Finder(run)
+        self.keeper, self.setup, self.symbols, self.printer, self.finder = keeper, run.setup, symbols, printer, EventFinder(run)
         self.consoles = consoles_of(symbols)
 
     @property

@@ -15,7 +15,7 @@ STORES = {"sb": 1, "sh": 2, "sw": 4}
 BRANCHES = ("beq", "bne", "blt", "bge", "bltu", "bgeu")
 
 
-class Memory(NamedTuple):
+class MemoryOperand(NamedTuple):
     """The operand of a load (`r`) or store (`w`): `width` bytes at a base register and an offset, from or to another register."""
     kind: str
     width: int
@@ -44,10 +44,10 @@ class Instruction:
         return short_form(self.abi)
 
     @cached_property
-    def memory(self) -> Optional[Memory]:
+    def memory(self) -> Optional[MemoryOperand]:
         """Returns the operand of a load or a store, else None."""
         width = LOADS.get(self.name) or STORES.get(self.name)
-        return Memory("r" if self.name in LOADS else "w", width, self.operands[2], self.operands[1], self.operands[0]) if width else None
+        return MemoryOperand("r" if self.name in LOADS else "w", width, self.operands[2], self.operands[1], self.operands[0]) if width else None
 
     @property
     def offset(self) -> int | None:

@@ -15,7 +15,7 @@ from itertools import accumulate, chain, compress
 from operator import sub
 from typing import Callable, Dict, Generic, Mapping, Optional, Sequence, TYPE_CHECKING, Tuple, TypeVar
 
-from rvlook.protocol.instructions import Memory, instruction_of
+from rvlook.protocol.instructions import MemoryOperand, instruction_of
 from rvlook.protocol.names import ECALL_FROM_S
 from rvlook.protocol.replies import NO_TRAP
 
@@ -42,7 +42,7 @@ class Probe(Generic[Item]):
     questions: bytes
     count: int
     is_after: bool
-    store: Optional[Memory]
+    store: Optional[MemoryOperand]
     skipped: int
     item: Optional[Item]
 
@@ -190,7 +190,7 @@ def is_changed(asked: Asked[Item], values: Sequence[int], stretch: Stretch, chan
     return any(written.get(int(pc, 16), n) < n for n, pc in enumerate(pcs))
 
 
-def bytes_at(base: int, memory: Memory | None) -> tuple[int, int]:
+def bytes_at(base: int, memory: MemoryOperand | None) -> tuple[int, int]:
     """Returns the addresses of the first and the last byte of an access."""
     assert memory
     first = base + memory.offset

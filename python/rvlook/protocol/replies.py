@@ -58,7 +58,7 @@ class Enclave:
 
 
 @dataclass(frozen=True)
-class Entry:
+class PmpEntry:
     """A line of `pmp`."""
     cfg: int
     addr: int
@@ -90,10 +90,10 @@ def enclave_of(line: str) -> Enclave:
     return Enclave(int(words[1]), words[2], base, size, window, window_size, entry, words[8])
 
 
-def entry_of(line: str) -> Entry:
+def entry_of(line: str) -> PmpEntry:
     """Decodes a line of `pmp`."""
     cfg, addr = line.split()[2:]
-    return Entry(int(cfg[4:], 16), int(addr[5:], 16))
+    return PmpEntry(int(cfg[4:], 16), int(addr[5:], 16))
 
 
 def value_of(line: AnyStr) -> int:

@@ -19,7 +19,7 @@ TURNS = 64  # digits of a sched, at most
 
 
 @dataclass(frozen=True)
-class Steps:
+class ScheduledSteps:
     """`count` steps by the schedule `turns`, whose digits name harts and repeat."""
     turns: str
     count: int
@@ -45,7 +45,7 @@ class Steps:
 
 
 @dataclass(frozen=True)
-class Change:
+class StateChange:
     """A command that changed the state without a step, with the selected hart."""
     hart: int
     line: str
@@ -60,7 +60,7 @@ class Change:
         return [self.line]
 
 
-Action = Union[Steps, Change]  # a part of the history of a bench
+Action = Union[ScheduledSteps, StateChange]  # a part of the history of a bench
 
 
 def rotated(turns: str, count: int) -> str:
@@ -73,19 +73,19 @@ def actions_between(past: Iterable[Action], first: int, end: int) -> Iterator[Ac
     """Yields what was done after step `first`, up to step `end`, with the commands right after that."""
     at = 0
     for it in past:
-        if isinstance(it, Change):
+        if isinstance(it, StateChange):
             if first < at <= end:
                 yield it
             continue
         skipped, count = max(0, first - at), min(at + it.count, end) - max(at, first)
         if count > 0:
-            yield Steps(rotated(it.turns, skipped), count)
+            yield ScheduledSteps(rotated(it.turns, skipped), count)
         at += it.count
 
 
-def steps_within(steps: Steps, first: int, end: int) -> Steps:
+def steps_within(steps: ScheduledSteps, first: int, end: int) -> ScheduledSteps:
     """Returns the steps from number `first` on up to, and not with, number `end`; the first of them has the number 0."""
-    return Steps(rotated(steps.turns, first), max(0, min(steps.count, end) - first))
+    return ScheduledSteps(rotated(steps.turns, first), max(0, min(steps.count, end) - first))
 
 
 def commands_of(past: Iterable[Action], chosen: int, hart: int) -> Iterator[str]:
@@ -228,11 +228,11 @@ class Timeline:
     def keep(self, name: str, line: str, replies: Sequence[str], turns: str | None = None) -> None:
         """Records what was done."""
         if name in ("step", "run"):
-            self.add(Steps(turns or str(self.hart), step_of(replies[0]).steps))
+            self.add(ScheduledSteps(turns or str(self.hart), step_of(replies[0]).steps))
         elif name == "sched":
-            self.add(Steps(line.split()[1], len(line.split()[1])))
+            self.add(ScheduledSteps(line.split()[1], len(line.split()[1])))
         elif name in CHANGING:
-            self.add(Change(self.hart, line))
+            self.add(StateChange(self.hart, line))
         elif name in ("break", "watch"):
             self.stops["%s %x" % (name, int(line.split()[1], 16))] = None
         elif name in CONTRARY:
@@ -243,37 +243,37 @@ class Timeline:
         self.changes += 1
         self.spend(it)
         last = self.past[-1] if self.past else None
-        if isinstance(it, Steps):
+        if isinstance(it, ScheduledSteps):
             self.position += it.count
-            if isinstance(last, Steps) and rotated(last.turns, last.count) == it.turns:
-                self.past[-1] = Steps(last.turns, last.count + it.count)
+            if isinstance(last, ScheduledSteps) and rotated(last.turns, last.count) == it.turns:
+                self.past[-1] = ScheduledSteps(last.turns, last.count + it.count)
                 return
         self.past.append(it)
 
     def spend(self, it: Action) -> None:
         """Removes what is done now from the future; drops the future if it differs."""
-        if isinstance(it, Change):
+        if isinstance(it, StateChange):
             self.future = self.future[1:] if self.future[:1] == [it] else []
             return
         while self.future and it.count:
             head = self.future[0]
-            done = min(it.count, head.count) if isinstance(head, Steps) else 0
-            if isinstance(head, Change) or not done or not agree(it.turns, head.turns, done):
+            done = min(it.count, head.count) if isinstance(head, ScheduledSteps) else 0
+            if isinstance(head, StateChange) or not done or not agree(it.turns, head.turns, done):
                 self.future = []
                 return
-            self.future[:1] = [Steps(rotated(head.turns, done), head.count - done)] if done < head.count else []
-            it = Steps(rotated(it.turns, done), it.count - done)
+            self.future[:1] = [ScheduledSteps(rotated(head.turns, done), head.count - done)] if done < head.count else []
+            it = ScheduledSteps(rotated(it.turns, done), it.count - done)
 
     @property
     def has_command(self) -> bool:
         """Returns whether the future has a command."""
-        return any(isinstance(it, Change) for it in self.future)
+        return any(isinstance(it, StateChange) for it in self.future)
 
     def room(self) -> int | None:
         """Returns the number of steps before the first command of the future, or None."""
         count = 0
         for it in self.future:
-            if isinstance(it, Change):
+            if isinstance(it, StateChange):
                 return count
             count += it.count
         return None
@@ -283,7 +283,7 @@ class Timeline:
         found = False
         while self.future:
             head = self.future[0]
-            if not isinstance(head, Change):
+            if not isinstance(head, StateChange):
                 break
             found = True
             self.choose(head.hart)
@@ -314,7 +314,7 @@ class Timeline:
     def turns_of(self, schedule: str) -> str:
         """Returns the schedule from the next step on, also if a hart ran alone meanwhile."""
         for it in reversed(self.past):
-            if isinstance(it, Steps) and len(it.turns) == len(schedule) and it.turns in schedule * 2:
+            if isinstance(it, ScheduledSteps) and len(it.turns) == len(schedule) and it.turns in schedule * 2:
                 return rotated(it.turns, it.count)
         return schedule
 
@@ -322,7 +322,7 @@ class Timeline:
         """Returns the step before the last one of a hart, or None if it did none."""
         at = self.position
         for it in reversed(self.past):
-            if isinstance(it, Steps):
+            if isinstance(it, ScheduledSteps):
                 for back in range(1, min(len(it.turns), it.count) + 1):
                     if int(it.turns[(it.count - back) % len(it.turns)]) == hart:
                         return at - back

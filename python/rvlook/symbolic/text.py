@@ -9,7 +9,7 @@ from rvlook.symbolic import questions, scripts
 from rvlook.symbolic.counterexample import HINT, commands, input_lines, input_objects
 
 if TYPE_CHECKING:
-    from rvlook.output.findings import Findings
+    from rvlook.output.findings import ReportedCases
     from rvlook.output.printer import Printer
     from rvlook.symbolic.record import Finding
     from rvlook.symbolic.search import Search
@@ -34,7 +34,7 @@ def details_of(search: Search, it: Finding) -> List[str]:
     return lines + input_lines(search, it)
 
 
-def show(search: Search, printer: Printer, findings: Findings) -> None:
+def show(search: Search, printer: Printer, findings: ReportedCases) -> None:
     """Prints what a search found and covered, and notes it for the exit status."""
     answers = questions.answers(search)
     if search.options.scripts:

@@ -12,7 +12,7 @@ from rvlook.symbolic.world import World
 
 if TYPE_CHECKING:
     from rvlook.image.variables import Variables
-    from rvlook.output.findings import Findings
+    from rvlook.output.findings import ReportedCases
     from rvlook.output.printer import Printer
     from rvlook.protocol.run import Run
     from rvlook.protocol.symbols import Symbols
@@ -36,7 +36,7 @@ def find_verify(run: Run, symbols: Symbols, variables: Variables, options: Verif
     return search
 
 
-def show_verify(run: Run, symbols: Symbols, variables: Variables, printer: Printer, options: VerifyOptions, findings: Findings) -> None:
+def show_verify(run: Run, symbols: Symbols, variables: Variables, printer: Printer, options: VerifyOptions, findings: ReportedCases) -> None:
     """Explores the paths of an enclave, and prints what was found and covered. After Ctrl-C it prints what is known, and raises
     KeyboardInterrupt."""
     if printer.as_json:

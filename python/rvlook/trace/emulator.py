@@ -12,7 +12,7 @@ from rvlook.protocol.console import ENDED, WRITTEN, consoles_of
 from rvlook.protocol.replies import Location, Ran, step_of
 from rvlook.protocol.run import EQUAL, MOST_STEPS
 from rvlook.protocol.schedule import turns_of
-from rvlook.access.expectations import Report, expectation_of
+from rvlook.access.expectations import FailureReport, expectation_of
 from rvlook.access.failures import failures_of
 
 if TYPE_CHECKING:
@@ -39,7 +39,7 @@ class Why(Enum):
 
 
 @dataclass(frozen=True)
-class Ending:
+class ProgramEnd:
     """The end of a program: its location, its exit status, and a text with the reason."""
     why: Why
     at: Location
@@ -61,7 +61,7 @@ class Emulator:
         """Returns the number of steps up to the end, with those of the script."""
         return self.run.length + self.run.setup.limit - self.left + self.probed
 
-    def ending(self) -> Ending:
+    def ending(self) -> ProgramEnd:
         """Runs the program to its end."""
         with self.run.replay() as replay:
             self.bench = replay.bench
@@ -94,7 +94,7 @@ class Emulator:
 
     # one hart
 
-    def alone(self) -> Ending:
+    def alone(self) -> ProgramEnd:
         """Runs the selected hart."""
         watches = ["watch %x" % (it.address + offset) for it in self.consoles for offset in (WRITTEN, ENDED)]
         self.bench.ask(AT_ZERO, *watches)
@@ -121,7 +121,7 @@ class Emulator:
 
     # two harts
 
-    def by_turns(self) -> Ending:
+    def by_turns(self) -> ProgramEnd:
         """Runs both harts by the schedule."""
         turns, ran = turns_of(self.schedule), Ran(0, self.run.pc, self.run.mode, self.run.world, "done", None)
         while self.left:
@@ -157,20 +157,20 @@ class Emulator:
         """Returns where a hart is, as a text."""
         return "%s in %s of %s" % (place_text(ran.pc, self.symbols), ran.mode, ran.world)
 
-    def ended(self, why: Why, ran: Ran, status: int, text: str) -> Ending:
+    def ended(self, why: Why, ran: Ran, status: int, text: str) -> ProgramEnd:
         """Returns an end at the location of a reply."""
-        return Ending(why, Location(ran.pc, ran.mode, ran.world), status, text)
+        return ProgramEnd(why, Location(ran.pc, ran.mode, ran.world), status, text)
 
-    def finished(self, ran: Ran) -> Ending:
+    def finished(self, ran: Ran) -> ProgramEnd:
         """Returns the end of a program that called finish()."""
         status = self.status() or 0
         return self.ended(Why.end, ran, status, "the program ended with status %d at %s" % (status, self.place(ran)))
 
-    def halted_harts(self, harts: Sequence[Ran], last: Ran) -> Ending:
+    def halted_harts(self, harts: Sequence[Ran], last: Ran) -> ProgramEnd:
         """Returns the end of a program both of whose harts do nothing more: that of a hart which traps or hangs, if there is one."""
         return self.halted(next((it for it in harts if it.trap), next((it for it in harts if self.hangs(it)), last)))
 
-    def halted(self, ran: Ran) -> Ending:
+    def halted(self, ran: Ran) -> ProgramEnd:
         """Returns the end of a program whose harts do nothing more: an instruction that jumps to itself, or one that traps again and again."""
         if ran.trap:
             cause = names.CAUSES.get(ran.trap.cause, ran.trap.cause)
@@ -192,7 +192,7 @@ class Emulator:
         name = self.symbols.name(pc)
         return name is not None and "+" in name and (entry is None or self.symbols.function(pc) != entry)
 
-    def fault(self, ran: Ran) -> Ending:
+    def fault(self, ran: Ran) -> ProgramEnd:
         """Returns the end of a program that reached address 0: it trapped without a trap vector, or jumped there."""
         mode = "m" if ran.mode == "M" else "s"
         cause, pc, value, vector = (self.bench.one("csr %x" % names.CSRS[mode + it]).partition("=")[2] for it in ("cause", "epc", "tval", "tvec"))
@@ -201,7 +201,7 @@ class Emulator:
         text = "fault: %s at %s, %stval %s, and %stvec is not set"
         return self.ended(Why.fault, ran, UNFINISHED, text % (names.CAUSES.get(cause, cause), place_text(pc, self.symbols), mode, value, mode))
 
-    def cut(self, ran: Ran) -> Ending:
+    def cut(self, ran: Ran) -> ProgramEnd:
         """Returns the end of a program that reached the limit."""
         return self.ended(Why.limit, ran, UNFINISHED, "the program did not end in %d steps; it is at %s" % (self.run.setup.limit, self.place(ran)))
 
@@ -218,7 +218,7 @@ def batch_of(turns: Iterator[tuple[int, int]], most: int) -> Iterator[tuple[int,
 def show_run(run: Run, schedule: str, printer: Printer, options: Namespace) -> None:
     """Runs a program to its end, and reports its failures; `schedule` orders the steps of two harts after the script."""
     symbols, findings = run.setup.symbols, options.findings
-    report = Report([expectation_of(it, symbols) for it in options.expect or ()], symbols, printer, findings)
+    report = FailureReport([expectation_of(it, symbols) for it in options.expect or ()], symbols, printer, findings)
     if printer.as_json:
         run_object(printer, run, symbols)
     emulator = Emulator(run, schedule, printer)

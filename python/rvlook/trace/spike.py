@@ -6,7 +6,7 @@ from typing import TYPE_CHECKING
 
 from rvlook.protocol import names
 from rvlook.protocol.run import End
-from rvlook.trace.tracer import Step, Tracer
+from rvlook.trace.tracer import TracedStep, Tracer
 
 if TYPE_CHECKING:
     from rvlook.output.printer import Printer
@@ -21,13 +21,13 @@ def show_spike(run: Run, wanted: Filter, printer: Printer) -> None:
     symbols = run.setup.symbols
     with run.replay() as follower:
         for item in Tracer(run, wanted.first, wanted.last).events():
-            if isinstance(item, Step) and item.trap is None and wanted.takes(item, symbols):
+            if isinstance(item, TracedStep) and item.trap is None and wanted.takes(item, symbols):
                 printer.line(commit_text(item, follower))
             elif isinstance(item, End):
                 return
 
 
-def commit_text(step: Step, follower: Replay) -> str:
+def commit_text(step: TracedStep, follower: Replay) -> str:
     """Returns a commit as a line. Reads the value of a control and status register after the step."""
     it = step.instruction
     assert it is not None

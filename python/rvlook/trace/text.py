@@ -10,17 +10,17 @@ from rvlook.escapes import visible_line
 from rvlook.protocol.instructions import short_form
 from rvlook.protocol.run import End
 from rvlook.output.printer import Style, end_object, end_text, hex8, run_object
-from rvlook.trace.tracer import Step, Tracer
+from rvlook.trace.tracer import TracedStep, Tracer
 
 if TYPE_CHECKING:
-    from rvlook.output.printer import Json, Printer, Writer
+    from rvlook.output.printer import Json, Printer, ObjectWriter
     from rvlook.protocol.console import Console
     from rvlook.protocol.instructions import Instruction
     from rvlook.protocol.replies import Trap
     from rvlook.protocol.run import Run
     from rvlook.protocol.symbols import Symbols
     from rvlook.trace.tracer import CallMade, Touch
-    from rvlook.trace.tracer import Command
+    from rvlook.trace.tracer import TracedCommand
 
 SHOWN_REGISTERS = 2  # if more changed, as at a switch, a0 and the number of the others are shown
 SHOWN_REPLY = 60  # characters of a reply to a line of the script
@@ -29,7 +29,7 @@ ARGUMENT_FORMS = {"base": "%x", "size": "%x", "window": " window %x", "window_si
 A0 = 10
 
 
-def worlds_of(step: Step) -> tuple[str, ...]:
+def worlds_of(step: TracedStep) -> tuple[str, ...]:
     """Returns the names by which the world of a step can be selected. On the bare bench the mode is one."""
     return (step.at.world, step.at.mode) if step.at.world == "bare" else (step.at.world,)
 
@@ -43,7 +43,7 @@ class Filter:
     function: Optional[str] = None
     traps: bool = False
 
-    def takes(self, step: Step, symbols: Symbols) -> bool:
+    def takes(self, step: TracedStep, symbols: Symbols) -> bool:
         """Returns whether a step is wanted."""
         if self.world and self.world not in worlds_of(step) or self.traps and step.trap is None:
             return False
@@ -59,10 +59,10 @@ def show_trace(run: Run, symbols: Symbols, printer: Printer, wanted: Filter, is_
     """Prints the wanted steps, and the lines of the script if all steps are wanted."""
     if printer.as_json:
         run_object(printer, run, symbols)
-    writer: Objects | Lines = Objects(run, symbols, printer) if printer.as_json else Lines(run, symbols, printer, is_short)
+    writer: ObjectTrace | Lines = ObjectTrace(run, symbols, printer) if printer.as_json else Lines(run, symbols, printer, is_short)
     shown, consoles = 0, consoles_of(symbols)
     for item in Tracer(run, wanted.first, wanted.last).events():
-        if isinstance(item, Step):
+        if isinstance(item, TracedStep):
             if wanted.takes(item, symbols):
                 writer.step(item)
                 shown += 1
@@ -76,7 +76,7 @@ def show_trace(run: Run, symbols: Symbols, printer: Printer, wanted: Filter, is_
             writer.command(item)
 
 
-def lines_of(step: Step, consoles: Sequence[Console]) -> Iterable[tuple[str, str]]:
+def lines_of(step: TracedStep, consoles: Sequence[Console]) -> Iterable[tuple[str, str]]:
     """Returns the lines of consoles that a step ends, each with its writer."""
     touch = step.touch
     if not (consoles and touch and touch.done and touch.kind == "w" and touch.value):
@@ -85,14 +85,14 @@ def lines_of(step: Step, consoles: Sequence[Console]) -> Iterable[tuple[str, str
 
 
 @dataclass
-class Objects:
+class ObjectTrace:
     """Writes a trace as objects."""
     run: Run
     symbols: Symbols
-    printer: Writer
+    printer: ObjectWriter
     sites: dict[tuple[str, Optional[Instruction]], dict[str, Optional[str]]] = field(default_factory=dict)
 
-    def step(self, step: Step) -> None:
+    def step(self, step: TracedStep) -> None:
         """Writes a step."""
         target = step.target
         self.printer.object(
@@ -102,7 +102,7 @@ class Objects:
             call=self.call(step.call), trap=self.trap(step.trap),
             next={"pc": step.next.pc, "mode": step.next.mode, "world": step.next.world})
 
-    def site(self, step: Step) -> dict[str, str | None]:
+    def site(self, step: TracedStep) -> dict[str, str | None]:
         """Returns what is the same each time at a pc and an instruction."""
         key = step.at.pc, step.instruction
         if key not in self.sites:
@@ -132,7 +132,7 @@ class Objects:
         """Returns a trap as an object."""
         return None if trap is None else {"cause": trap.cause, "value": trap.value, "name": names.cause_name(trap.cause)}
 
-    def command(self, command: Command) -> None:
+    def command(self, command: TracedCommand) -> None:
         """Writes a line of the script."""
         self.printer.object("command", step=command.step, hart=command.hart, line=command.line, given=command.given,
                             replies=list(command.replies))
@@ -168,7 +168,7 @@ class Lines:
     source: Optional[str] = None
     sites: dict[tuple[str, Optional[Instruction]], Site] = field(default_factory=dict)
 
-    def step(self, step: Step) -> None:
+    def step(self, step: TracedStep) -> None:
         """Prints a step."""
         key = step.at.pc, step.instruction
         site = self.sites.get(key)
@@ -190,7 +190,7 @@ class Lines:
         if step.next.world != step.at.world:
             self.aside("switch to %s in %s" % (step.next.world, step.next.mode))
 
-    def site(self, step: Step) -> Site:
+    def site(self, step: TracedStep) -> Site:
         """Returns the text of an instruction, with the target of a branch or jump in place of its offset."""
         pc, it = int(step.at.pc, 16), step.instruction
         text = it.abi if it else "(not fetched)"
@@ -210,7 +210,7 @@ class Lines:
         parts = ("hart %d" % number if self.run.setup.harts > 1 else None, world, mode, function)
         self.printer.line(self.printer.styled("  ".join(it for it in parts if it), Style.heading))
 
-    def effects(self, step: Step) -> list[str]:
+    def effects(self, step: TracedStep) -> list[str]:
         """Returns the registers that changed, the access, and the target of a jump to a register."""
         changed = ["%s=%s" % (names.ABI[number], value) for number, value in step.changed.items()]
         if len(changed) > SHOWN_REGISTERS:
@@ -226,7 +226,7 @@ class Lines:
         """Prints an indented line."""
         self.printer.line(" " * 8 + self.printer.styled(text, style))
 
-    def command(self, command: Command) -> None:
+    def command(self, command: TracedCommand) -> None:
         """Prints a line of the script, and the first line of its reply."""
         first = command.replies[0] if command.replies else "(no reply)"
         shown = first if len(first) <= SHOWN_REPLY else first[:SHOWN_REPLY] + " .."
@@ -248,7 +248,7 @@ class Lines:
         end_text(self.printer, end, self.symbols)
 
 
-def call_text(step: Step) -> str:
+def call_text(step: TracedStep) -> str:
     """Returns a call with its arguments, and the status if it is refused."""
     call = step.call
     assert call is not None

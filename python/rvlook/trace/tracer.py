@@ -12,7 +12,7 @@ from rvlook.protocol.replies import NO_TRAP, Location, RanFields, Trap, step_fie
 from rvlook.protocol.run import End, Line
 
 if TYPE_CHECKING:
-    from rvlook.protocol.instructions import Memory
+    from rvlook.protocol.instructions import MemoryOperand
     from rvlook.protocol.run import Replay, Run
     from rvlook.protocol.stretch import Stretch
 
@@ -39,7 +39,7 @@ class CallMade(NamedTuple):
     slot: Optional[int]
 
 
-class Step(NamedTuple):
+class TracedStep(NamedTuple):
     """One step: `at` is before it and `next` after it; `changed` has the registers with another value after it."""
     number: int
     hart: int
@@ -85,7 +85,7 @@ class Step(NamedTuple):
         return int(self.next.pc, 16) if self.instruction.name == "jalr" and self.trap is None else None
 
 
-class Command(NamedTuple):
+class TracedCommand(NamedTuple):
     """A line of the script that does no step, after the step of that number."""
     step: int
     hart: int
@@ -121,7 +121,7 @@ class Tracer:
         self.locations: dict[tuple[bytes, bytes, bytes], Location] = {}
         self.traps: dict[bytes, Trap | None] = {NO_TRAP: None}
 
-    def events(self) -> Iterator[Command | Step | End]:
+    def events(self) -> Iterator[TracedCommand | TracedStep | End]:
         """Yields Command, Step and End in the order of the run. Two benches follow the first one, which reports each pc: one decodes the
         instructions, the other reads the register that each writes."""
         with Reader[None](self.run, lambda line: None) as decoder, self.run.replay() as reader:
@@ -131,7 +131,7 @@ class Tracer:
                         self.harts[self.hart].registers = None
                     self.hart = self.hart if item.hart is None else item.hart
                     if not item.hidden and self.position + 1 >= self.first:
-                        yield Command(self.position, self.hart, item.text, item.replies, item.given)
+                        yield TracedCommand(self.position, self.hart, item.text, item.replies, item.given)
                 elif isinstance(item, End):
                     yield item
                 else:
@@ -145,7 +145,7 @@ class Tracer:
         location = self.harts[self.hart].location
         return End(self.position if self.last is None else self.last, "limit", location.pc, location.mode, location.world)
 
-    def steps(self, decoder: Reader[None], reader: Replay, stretch: Stretch) -> Iterator[Step]:
+    def steps(self, decoder: Reader[None], reader: Replay, stretch: Stretch) -> Iterator[TracedStep]:
         """Yields the wanted steps of a stretch; raises Unfinished if the registers do not agree."""
         hart, end = self.harts[stretch.hart], stretch.first + stretch.count - 1
         begin, stop = max(self.first, stretch.first), min(end, self.last or end)
@@ -186,7 +186,7 @@ class Tracer:
         reader.lines_to(begin - 1 + len(rans))
         return iter(block.split(b"\n"))
 
-    def step(self, number: int, hart_number: int, hart: Hart, done: Done, replies: Iterator[bytes]) -> Step:
+    def step(self, number: int, hart_number: int, hart: Hart, done: Done, replies: Iterator[bytes]) -> TracedStep:
         """Returns a step, from its replies and what was before it; `hart` becomes what is after it."""
         at, (ran, instruction) = hart.location, done
         next_location = hart.location = self.locations.get(ran[:3]) or self.location_of(ran)
@@ -203,17 +203,17 @@ class Tracer:
                         changed = {instruction.writes: value}
                 if memory:
                     touch = self.touched(memory, address, registers[memory.register])
-            return Step(number, hart_number, at, instruction, changed, touch, None, None, next_location, value)
-        return self.trapped(Step(number, hart_number, at, instruction, {}, None, None, self.trap_of(ran[3]), next_location), hart, replies)
+            return TracedStep(number, hart_number, at, instruction, changed, touch, None, None, next_location, value)
+        return self.trapped(TracedStep(number, hart_number, at, instruction, {}, None, None, self.trap_of(ran[3]), next_location), hart, replies)
 
     @staticmethod
-    def touched(memory: Memory, address: int, value: str) -> Touch:
+    def touched(memory: MemoryOperand, address: int, value: str) -> Touch:
         """Returns a load or store that was done; `value` is its register after it."""
         has_value = memory.kind == "w" or memory.register
         return Touch(memory.kind, address, memory.width, True, value[8 - 2 * memory.width:] if has_value else None)
 
     @staticmethod
-    def trapped(step: Step, hart: Hart, replies: Iterator[bytes]) -> Step:
+    def trapped(step: TracedStep, hart: Hart, replies: Iterator[bytes]) -> TracedStep:
         """Returns a step that trapped, with what it changed: any register may have another value after it, as another world may continue."""
         before, trap, instruction, at = hart.known(), step.trap, step.instruction, step.at
         assert trap is not None

@@ -4,7 +4,7 @@ from __future__ import annotations
 from dataclasses import dataclass
 from typing import Callable, Optional, Sequence, TYPE_CHECKING
 
-from rvlook.access.expectations import Report, expectation_of
+from rvlook.access.expectations import FailureReport, expectation_of
 from rvlook.access.failures import failures_of
 from rvlook.finders.inputs import scripts
 from rvlook.finders.inputs.code import Kind
@@ -20,7 +20,7 @@ if TYPE_CHECKING:
     from rvlook.finders.inputs.search import Search
     from rvlook.finders.inputs.trace import Change, Changes
     from rvlook.image.variables import Variables
-    from rvlook.output.findings import Findings
+    from rvlook.output.findings import ReportedCases
     from rvlook.output.printer import Json, Printer
     from rvlook.protocol.run import Replay, Run
 
@@ -76,13 +76,13 @@ def find_inputs(run: Run, variables: Variables, options: InputsOptions, heard: C
     return found
 
 
-def show_inputs(run: Run, variables: Variables, printer: Printer, options: InputsOptions, findings: Findings, models: Models) -> None:
+def show_inputs(run: Run, variables: Variables, printer: Printer, options: InputsOptions, findings: ReportedCases, models: Models) -> None:
     """Searches the inputs of an enclave, and prints the findings and the coverage. After Ctrl-C it prints what it has found, and raises
     KeyboardInterrupt."""
     symbols = run.setup.symbols
     if printer.as_json:
         run_object(printer, run, symbols)
-    report = Report([expectation_of(it, symbols) for it in options.expected], symbols, printer, findings)
+    report = FailureReport([expectation_of(it, symbols) for it in options.expected], symbols, printer, findings)
     found = find_inputs(run, variables, options, report.show, models)
     session = found.session
     if found.cut:
@@ -96,7 +96,7 @@ def show_inputs(run: Run, variables: Variables, printer: Printer, options: Input
         raise KeyboardInterrupt
 
 
-def show_findings(found: Inputs, search: Search, printer: Printer, findings: Findings) -> None:
+def show_findings(found: Inputs, search: Search, printer: Printer, findings: ReportedCases) -> None:
     """Prints the findings of a search, and its coverage."""
     options, groups = found.session.options, found.groups
     if options.scripts:

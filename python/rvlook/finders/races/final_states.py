@@ -10,21 +10,21 @@ from typing import Any, Callable, Iterable, Iterator, Mapping, Optional, Sequenc
 from rvlook.errors import RvlookError
 from rvlook.finders.races.search import Graph, Vertex, schedule_of
 from rvlook.finders.races.loop import do_steps
-from rvlook.finders.races.machine import Segment, State, Work
+from rvlook.finders.races.machine import Segment, CachedState, Work
 from rvlook.finders.races.time_limit import OutOfTime
 
 if TYPE_CHECKING:
     from rvlook.finders.outcomes import Observed, Value
     from rvlook.finders.races.loop import Loop
-    from rvlook.finders.races.machine import Machine
-    from rvlook.finders.races.search import Edge, Move, Node, Search
+    from rvlook.finders.races.machine import RaceMachine
+    from rvlook.finders.races.search import Edge, Move, SearchNode, Search
 
 ENDED, HALTS, WAITS, RUNS_ON, UNFINISHED, NOT_SEARCHED = "ended", "halts", "waits", "runs on", "unfinished", "not searched"
 GRACE, SLACK = 0.01, 0.3  # beyond the time limit for the analysis and the replays: a share of it, and seconds
 
 
 HartEnd = Tuple[str, Optional[int]]  # how a hart ended, and the address at which
-Found = Tuple[Vertex, State, Tuple[Segment, ...]]  # a vertex, a state after it, and the schedule from the vertex to the state
+Found = Tuple[Vertex, CachedState, Tuple[Segment, ...]]  # a vertex, a state after it, and the schedule from the vertex to the state
 
 
 @dataclass
@@ -33,10 +33,10 @@ class FinalState:
     `tail` the schedule from there to `state` if a hart runs on alone. `round` is the schedule of an endless loop from the state."""
     harts: tuple[HartEnd, ...]
     values: tuple[Value, ...]
-    node: Node
+    node: SearchNode
     round: tuple[Segment, ...]
     orders: int
-    state: State
+    state: CachedState
     tail: tuple[Segment, ...] = ()
     number: int = 0
 
@@ -210,7 +210,7 @@ class Component:
                 found.setdefault(values_in(self.machine, outcome, state), (first, state, ((hart, work.done, ""),)))
         return found
 
-    def round(self, vertex: Vertex, state: State, harts: Sequence[int], tail: Sequence[Segment]) -> tuple[Segment, ...]:
+    def round(self, vertex: Vertex, state: CachedState, harts: Sequence[int], tail: Sequence[Segment]) -> tuple[Segment, ...]:
         """Returns the schedule from a state back to it in which each of these harts moves."""
         moving = [it for it in harts if it in self.moves]
         if len(moving) == 1 and tail:
@@ -220,7 +220,7 @@ class Component:
         return tuple(schedule_of((hart, move, False) for hart, move in round_of(self.graph, vertex, moving, self.all)))
 
 
-def values_in(machine: Machine, outcome: Sequence[Observed], state: State) -> tuple[Value, ...]:
+def values_in(machine: RaceMachine, outcome: Sequence[Observed], state: CachedState) -> tuple[Value, ...]:
     """Returns the values of an outcome in a state."""
     memory = machine.memories[state.memory]
     return tuple(it.value_in(machine, state, memory) for it in outcome)

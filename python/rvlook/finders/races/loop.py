@@ -7,7 +7,7 @@ from rvlook.errors import RvlookError
 from rvlook.finders.races.machine import Work, digest_of
 
 if TYPE_CHECKING:
-    from rvlook.finders.races.machine import Look, Machine, State, Schedule
+    from rvlook.finders.races.machine import Look, RaceMachine, CachedState, Schedule
 
 
 class Loop(NamedTuple):
@@ -39,7 +39,7 @@ def state_of(work: Work) -> tuple[int, int, int, tuple[int, ...]]:
     return work.pc, work.context, work.digest, tuple(work.registers)
 
 
-def do_steps(machine: Machine, work: Work, count: int, schedule: Schedule) -> Iterator[Look]:
+def do_steps(machine: RaceMachine, work: Work, count: int, schedule: Schedule) -> Iterator[Look]:
     """Does so many steps of a hart; yields the access of each after it."""
     for _ in range(count):
         look = machine.look(work)
@@ -47,7 +47,7 @@ def do_steps(machine: Machine, work: Work, count: int, schedule: Schedule) -> It
         yield look
 
 
-def loop_of(machine: Machine, work: Work, length: int, schedule: Schedule) -> tuple[Loop, tuple[int, int, int, tuple[int, ...]]]:
+def loop_of(machine: RaceMachine, work: Work, length: int, schedule: Schedule) -> tuple[Loop, tuple[int, int, int, tuple[int, ...]]]:
     """Goes through a loop twice; returns what the hart does in it, and the state that represents the loop. This is the least by pc,
     registers and the bytes that the loop itself stores, so that it does not depend on what other harts store meanwhile."""
     digest, accesses, changes = work.digest, False, False
@@ -66,7 +66,7 @@ def loop_of(machine: Machine, work: Work, length: int, schedule: Schedule) -> tu
     return Loop(accesses, changes, length), (pc, context, own ^ rest, registers)
 
 
-def first_arrival(machine: Machine, state: State, work: Work, wanted: tuple[int, int, int, tuple[int, ...]], first: int) -> Work:
+def first_arrival(machine: RaceMachine, state: CachedState, work: Work, wanted: tuple[int, int, int, tuple[int, ...]], first: int) -> Work:
     """Returns the hart where it first comes to the state `wanted` of its loop, after `first` steps or more. `work` has been there."""
     again, most = Work(machine, state, work.hart), work.done
     while again.done < first or state_of(again) != wanted:

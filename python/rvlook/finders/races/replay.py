@@ -17,7 +17,7 @@ from rvlook.protocol.memory_map import RAM_BASE
 if TYPE_CHECKING:
     from rvlook.finders.outcomes import Observed
     from rvlook.finders.races.final_states import FinalState
-    from rvlook.finders.races.machine import Machine, Memory, State
+    from rvlook.finders.races.machine import RaceMachine, Memory, CachedState
     from rvlook.protocol.bench import Bench
 
 LONGEST_COMMENT = 118  # characters after `# `
@@ -26,7 +26,7 @@ LONGEST_COMMENT = 118  # characters after `# `
 class Replays:
     """Replays schedules, and compares their states. `rows` are the replies of `mem` for all RAM after the script."""
 
-    def __init__(self, machine: Machine) -> None:
+    def __init__(self, machine: RaceMachine) -> None:
         self.machine = machine
         self.rows: list[str] | None = None
         commands = memory_commands(RAM_BASE, machine.setup.ram)
@@ -46,7 +46,7 @@ class Replays:
             for _ in range(2 if end.round else 0):
                 self.done(bench, end, commands_of(end.round, machine.count), state)
 
-    def done(self, bench: Bench, end: FinalState, commands: Sequence[str], state: State) -> None:
+    def done(self, bench: Bench, end: FinalState, commands: Sequence[str], state: CachedState) -> None:
         """Runs commands, and compares the state after them."""
         machine, chosen, reached = self.machine, 0, {}
         for command, lines in zip(commands, bench.ask(*commands)):
@@ -93,7 +93,7 @@ def comment(text: str) -> str:
     return "# " + visible(text).encode("ascii", "backslashreplace").decode("ascii")[:LONGEST_COMMENT]
 
 
-def script_of(machine: Machine, end: FinalState, outcome: Sequence[Observed], heading: str) -> bytes:
+def script_of(machine: RaceMachine, end: FinalState, outcome: Sequence[Observed], heading: str) -> bytes:
     """Returns an input of the bench that replays the schedule of a final state, and shows its outcome."""
     setup = machine.setup
     lines = [comment(heading), comment("./rvbench %s < this file" % " ".join(setup.arguments()))]

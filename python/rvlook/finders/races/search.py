@@ -12,11 +12,11 @@ from typing import Any, Callable, Iterable, Iterator, NamedTuple, Optional, TYPE
 from rvlook.protocol import names
 from rvlook.finders.outcomes import Watched
 from rvlook.finders.races.loop import LoopDetector, first_arrival, loop_of
-from rvlook.finders.races.machine import Called, State, Work
+from rvlook.finders.races.machine import Called, CachedState, Work
 from rvlook.finders.races.time_limit import OutOfTime, TimeLimit
 
 if TYPE_CHECKING:
-    from rvlook.finders.races.machine import Context, Look, Machine, Outcome, Segment, Schedule
+    from rvlook.finders.races.machine import HartContext, Look, RaceMachine, Outcome, Segment, Schedule
     from rvlook.finders.races.loop import Loop
 
 MOST_STATES = 500000  # states with the hart that stepped last; the search ends there, and is not whole
@@ -37,7 +37,7 @@ class Move(NamedTuple):
     """A dependent step with the independent steps around it, or only independent steps if its `pc` is None.
 
     Has the state after it, the number of steps, and whether memory or the table changed."""
-    state: State
+    state: CachedState
     steps: int
     dependent: DependentStep
     changes: bool
@@ -46,15 +46,15 @@ class Move(NamedTuple):
 class SearchPoint(NamedTuple):
     """A state of the search: the state of the machine, the last hart, the number of timer interrupts, and whether a switch or an interrupt
     has occurred."""
-    state: State
+    state: CachedState
     last: Optional[int]
     timers: int
     begun: bool
 
 
-class Origin(NamedTuple):
+class Reached(NamedTuple):
     """How a node was reached: from which node, by which move, and whether the timer came before it. The start has none."""
-    parent: Optional[Node] = None
+    parent: Optional[SearchNode] = None
     move: Optional[Move] = None
     is_timer: bool = False
 
@@ -65,12 +65,12 @@ Agent = Union[int, Tuple[int, str]]  # a hart, or a hart in a world
 Cost = Tuple[int, int, int, int]  # preemptions, timers, switches and steps
 
 
-class Node:
+class SearchNode:
     """A point with the simplest schedule that leads to it, whose cost is `cost`. `alone` counts the moves of its hart in succession; `low` is the
     first step that the next switch may be attributed to."""
     __slots__ = ("point", "parent", "move", "is_timer", "alone", "cost", "low")
 
-    def __init__(self, point: SearchPoint, cost: Cost = (0, 0, 0, 0), origin: Origin = Origin(), alone: int = 0, low: int = 0) -> None:
+    def __init__(self, point: SearchPoint, cost: Cost = (0, 0, 0, 0), origin: Reached = Reached(), alone: int = 0, low: int = 0) -> None:
         self.point, self.cost, self.alone, self.low = point, cost, alone, low
         self.parent, self.move, self.is_timer = origin
 
@@ -86,7 +86,7 @@ class Node:
         assert self.move is not None
         return self.move
 
-    def path(self) -> list[Node]:
+    def path(self) -> list[SearchNode]:
         """Returns the nodes on the path from the start, without the start."""
         found, node = [], self
         while node.parent:
@@ -116,7 +116,7 @@ def schedule_of(moves: Iterable[tuple[int, Move, bool]]) -> list[Segment]:
     return joined + ([(joined[-1][0], 0, "off")] if clears else [])
 
 
-class Touches:
+class TouchedBytes:
     """Bytes that each agent read, wrote and executed."""
 
     def __init__(self) -> None:
@@ -140,15 +140,15 @@ class Graph:
     `unended` and `alone` have the states in which a hart was given up: within a move, or after many moves alone."""
 
     def __init__(self) -> None:
-        self.nodes: dict[Vertex, Node] = {}
+        self.nodes: dict[Vertex, SearchNode] = {}
         self.edges: dict[Vertex, list[Edge]] = {}
-        self.moves: dict[tuple[State, int, bool], Move | None] = {}
-        self.loops: dict[tuple[State, int], Loop] = {}
-        self.unended: set[tuple[State, int]] = set()
-        self.alone: set[tuple[State, int]] = set()
+        self.moves: dict[tuple[CachedState, int, bool], Move | None] = {}
+        self.loops: dict[tuple[CachedState, int], Loop] = {}
+        self.unended: set[tuple[CachedState, int]] = set()
+        self.alone: set[tuple[CachedState, int]] = set()
 
 
-class Bounds(NamedTuple):
+class SearchBounds(NamedTuple):
     """The bounds of a search: preemptions (None: any number), timer interrupts, independent steps in succession, and the steps between which
     the first switch or timer interrupt comes."""
     preemptions: Optional[int] = None
@@ -167,7 +167,7 @@ class Search:
     """All orders within bounds. `plain` switches harts before each step; `outcome` is what distinguishes final states; `progress`, which may
     be set, is called with the search at each point."""
 
-    def __init__(self, machine: Machine, bounds: Bounds = Bounds(), plain: bool = False, outcome: Watched = Watched(),
+    def __init__(self, machine: RaceMachine, bounds: SearchBounds = SearchBounds(), plain: bool = False, outcome: Watched = Watched(),
                  limit: TimeLimit = TimeLimit()) -> None:
         self.machine, self.bounds, self.outcome, self.limit = machine, bounds, outcome, limit
         self.progress: Callable[[Search], None] | None = None
@@ -175,7 +175,7 @@ class Search:
         self.plain = plain or not machine.monitor  # a handler of the bare bench shares its registers with what it stops
         self.is_outcome_visible = self.plain
         self.shared: frozenset[int] = frozenset()
-        self.touches, self.rounds, self.regions = Touches(), 0, 0
+        self.touches, self.rounds, self.regions = TouchedBytes(), 0, 0
         self.why_cut: str | None = None
         self.whole: tuple[int, int] | None = None  # the last level, of preemptions and timers, of which all was searched
         self.graph = Graph()  # of this round
@@ -185,7 +185,7 @@ class Search:
 
     def reset(self) -> None:
         """Begins a new round."""
-        self.cycles: dict[tuple[State, int], int] = {}
+        self.cycles: dict[tuple[CachedState, int], int] = {}
         self.done: set[SearchPoint] = set()
         self.graph = Graph()
         self.count, self.level, self.waiting = 0, (0, 0), 0
@@ -240,7 +240,7 @@ class Search:
     def search(self) -> bool:
         """Searches one round; returns False if more bytes turned out to be shared."""
         order, self.regions = itertools.count(), len(self.machine.regions)
-        start = Node(SearchPoint(self.machine.start, None, 0, not self.bounds.is_part))
+        start = SearchNode(SearchPoint(self.machine.start, None, 0, not self.bounds.is_part))
         heap = [(start.cost, next(order), start)]
         while heap:
             cost, _, node = heapq.heappop(heap)
@@ -265,17 +265,17 @@ class Search:
         self.earlier = None
         return not self.grows()
 
-    def vertex(self, node: Node) -> Vertex:
+    def vertex(self, node: SearchNode) -> Vertex:
         """Returns the vertex of a node in the graph of orders. The last hart does not matter if the preemptions are not bounded."""
         point = node.point
         return point if self.bounds.preemptions is not None else (point.state, point.timers, point.begun)
 
-    def edges_of(self, node: Node) -> list[Edge]:
+    def edges_of(self, node: SearchNode) -> list[Edge]:
         """Returns the list for the edges of a node; a discarded one if its vertex has edges already."""
         vertex, edges = self.vertex(node), self.graph.edges
         return edges.setdefault(vertex, []) if vertex not in edges else []
 
-    def next_nodes(self, node: Node) -> Iterator[Node]:
+    def next_nodes(self, node: SearchNode) -> Iterator[SearchNode]:
         """Yields the nodes that follow, with their cost."""
         state, last, timers, begun = node.point
         if node.alone > MOST_ALONE:
@@ -297,13 +297,13 @@ class Search:
                     continue
                 self.count += 1
                 comes = is_switch or is_timer
-                new = Node(SearchPoint(move.state, hart, timers + is_timer, begun or comes),
-                           (preemptions, cost[1] + is_timer, cost[2] + is_switch, cost[3] + move.steps), Origin(node, move, is_timer),
-                           1 if comes else node.alone + 1, cost[3] + move.dependent.before + 1)
+                new = SearchNode(SearchPoint(move.state, hart, timers + is_timer, begun or comes),
+                                 (preemptions, cost[1] + is_timer, cost[2] + is_switch, cost[3] + move.steps), Reached(node, move, is_timer),
+                                 1 if comes else node.alone + 1, cost[3] + move.dependent.before + 1)
                 edges.append((self.vertex(new), hart, move, preemptions - cost[0]))
                 yield new
 
-    def is_in_part(self, node: Node, hart: int) -> bool:
+    def is_in_part(self, node: SearchNode, hart: int) -> bool:
         """Returns whether the first switch or timer interrupt, which is here, represents one within `first` and `last`. It could also come before
         any of the independent steps around here, and in an endless loop in each round."""
         state, last = node.point.state, node.point.last
@@ -318,7 +318,7 @@ class Search:
 
     # ---- moves
 
-    def move(self, state: State, hart: int, schedule: Schedule, is_timer: bool = False) -> Move | None:
+    def move(self, state: CachedState, hart: int, schedule: Schedule, is_timer: bool = False) -> Move | None:
         """Returns the move of a hart, or None if it stops. `schedule` gives the schedule that leads here."""
         key = (state, hart, is_timer)
         moves = self.graph.moves
@@ -326,7 +326,7 @@ class Search:
             moves[key] = self.timer_move(state, hart, schedule) if is_timer else self.hart_move(state, hart, schedule)
         return moves[key]
 
-    def timer_move(self, state: State, hart: int, schedule: Schedule) -> Move | None:
+    def timer_move(self, state: CachedState, hart: int, schedule: Schedule) -> Move | None:
         """Sets the timer interrupt pending; returns the move, or None. Under the monitor this matters only to enclaves, and stops one before its
         next instruction."""
         work = Work(self.machine, state, hart)
@@ -342,13 +342,13 @@ class Search:
         return Move(self.kept(work, done), 1, dependent, (work.digest, work.table) != before)
 
     @staticmethod
-    def kept(work: Work, done: Outcome | None) -> State:
+    def kept(work: Work, done: Outcome | None) -> CachedState:
         """Returns the state after a step. On the bare bench the timer interrupt is cleared after it was taken."""
         if is_taken(done) and work.own.world == "bare":
             work.raise_line(False)
         return work.kept()
 
-    def hart_move(self, state: State, hart: int, schedule: Schedule) -> Move | None:
+    def hart_move(self, state: CachedState, hart: int, schedule: Schedule) -> Move | None:
         """Returns a move: independent steps, one dependent step, and the independent steps after it; or None."""
         machine, work, detector = self.machine, Work(self.machine, state, hart), LoopDetector()
         dependent: DependentStep | None = None
@@ -386,7 +386,7 @@ class Search:
             return None
         return Move(found, work.done, dependent or DependentStep(work.done, None, None, work.own.world, False), changes)
 
-    def looped(self, state: State, work: Work, length: int, first: int, schedule: Schedule) -> Work:
+    def looped(self, state: CachedState, work: Work, length: int, first: int, schedule: Schedule) -> Work:
         """Runs a hart in an endless loop to the state that represents the loop, and records the loop. The search then treats all states of the loop
         as one."""
         loop, wanted = loop_of(self.machine, work, length, schedule)
@@ -409,7 +409,7 @@ class Search:
             return False
         return not shared.isdisjoint(range(look.at, look.at + look.width)) or self.machine.overlaps_region(look.at, look.width)
 
-    def is_watched(self, own: Context, look: Look) -> bool:
+    def is_watched(self, own: HartContext, look: Look) -> bool:
         """Returns whether a step of an enclave is dependent because the host may not resume the enclave after a timer interrupt.
 
         This is so if the step stores a part of the outcome, or if the steps are limited."""
@@ -430,13 +430,13 @@ class Search:
 
     # ---- harts that make no progress
 
-    def is_free(self, state: State, hart: int, schedule: Schedule) -> bool:
+    def is_free(self, state: CachedState, hart: int, schedule: Schedule) -> bool:
         """Returns whether a switch from a hart is no preemption: the hart stops, or returns by itself to its state."""
         return self.move(state, hart, schedule) is None or self.is_in_loop(state, hart, schedule)
 
-    def is_in_loop(self, state: State, hart: int, schedule: Schedule) -> bool:
+    def is_in_loop(self, state: CachedState, hart: int, schedule: Schedule) -> bool:
         """Returns whether a hart returns by itself to this state; `cycles` has the number of steps, or 0."""
-        chain: dict[State, int] = {}
+        chain: dict[CachedState, int] = {}
         passed, runs, move = [0], state, None
         while (state, hart) not in self.cycles and state not in chain and len(chain) <= MOST_ALONE:
             chain[state] = len(chain)
@@ -457,7 +457,7 @@ def is_taken(done: Outcome | None) -> bool:
     return done.trap.startswith(names.TIMER) if isinstance(done, Called) else done.trapped == names.TIMER
 
 
-def is_inside(own: Context, look: Look) -> bool:
+def is_inside(own: HartContext, look: Look) -> bool:
     """Returns whether an enclave accesses its own region, which no other world accesses while it runs."""
     blocks = own.blocks
     return bool(blocks) and blocks[0] <= look.at and look.at + look.width <= blocks[0] + blocks[1]

@@ -4,13 +4,13 @@ from __future__ import annotations
 from dataclasses import dataclass, field
 from typing import Callable, Dict, Iterator, List, Optional, Sequence, Set, TYPE_CHECKING, Tuple
 
-from rvlook.finders.outcomes import Condition, Table, condition_of, number_of, outcomes_of, ranges_of, value_text, watched_of
+from rvlook.finders.outcomes import Forbidden, EnclaveStates, condition_of, number_of, outcomes_of, ranges_of, value_text, watched_of
 from rvlook.errors import RvlookError, Unfinished, warn
 from rvlook.output.progress import Progress
-from rvlook.finders.races.search import MOST_ALONE, Bounds, Search
+from rvlook.finders.races.search import MOST_ALONE, SearchBounds, Search
 from rvlook.finders.races.final_states import (ENDED, GRACE, HALTS, NOT_SEARCHED, RUNS_ON, SLACK, UNFINISHED, WAITS, FinalState, FinalStates,
                                                find_final_states)
-from rvlook.finders.races.machine import Machine, commands_of
+from rvlook.finders.races.machine import RaceMachine, commands_of
 from rvlook.finders.races.replay import Replays, script_of, write_scripts
 from rvlook.output.printer import Style, hex8, place_text, run_object
 from rvlook.protocol.run import Run
@@ -19,8 +19,8 @@ from rvlook.finders.races.time_limit import OutOfTime, TimeLimit
 
 if TYPE_CHECKING:
     from rvlook.finders.outcomes import Observed, Value
-    from rvlook.finders.races.search import DependentStep, Node
-    from rvlook.output.findings import Findings
+    from rvlook.finders.races.search import DependentStep, SearchNode
+    from rvlook.output.findings import ReportedCases
     from rvlook.output.printer import Json, Printer
 
 INTERRUPT = "Ctrl-C"
@@ -64,9 +64,9 @@ class Story:
         assert pc is not None
         return self.symbols.source(pc) or self.symbols.name(pc) or hex8(pc)
 
-    def turns(self) -> list[list[Node]]:
+    def turns(self) -> list[list[SearchNode]]:
         """Returns the moves that lead to the final state, grouped by hart; a timer interrupt begins a group."""
-        turns: list[list[Node]] = []
+        turns: list[list[SearchNode]] = []
         for it in self.end.node.path():
             if turns and turns[-1][0].point.last == it.point.last and not it.is_timer:
                 turns[-1].append(it)
@@ -93,7 +93,7 @@ class Story:
         first, last = self.location(pcs[0]), self.location(pcs[-1])
         return first if first == last else "%s to %s" % (first, last)
 
-    def access(self, node: Node) -> str:
+    def access(self, node: SearchNode) -> str:
         """Returns a move as a line: its access, and its place."""
         _, pc, look, _, _ = dependent = node.last_move.dependent
         assert pc is not None and look is not None
@@ -135,7 +135,7 @@ class Story:
                        schedule=commands_of(end.schedule(), count), loop=commands_of(end.round, count) if end.round else [],
                        turns=turns)
 
-    def access_object(self, node: Node) -> dict[str, Json]:
+    def access_object(self, node: SearchNode) -> dict[str, Json]:
         """Returns the access of a node as an object."""
         look, pc = node.last_move.dependent.look, node.last_move.dependent.pc
         assert look is not None and pc is not None
@@ -155,7 +155,7 @@ def shown(value: Value) -> Json:
     return dict(("e%d" % slot, state) for slot, state in value) if isinstance(value, tuple) else value
 
 
-def bound_text(bounds: Bounds) -> str:
+def bound_text(bounds: SearchBounds) -> str:
     """Returns the bounds of a search in words."""
     bound = []
     if bounds.preemptions is not None:
@@ -212,29 +212,29 @@ class RacesOptions:
     scripts: Optional[str] = None
 
 
-def find_races(run: Run, options: RacesOptions) -> Report:
+def find_races(run: Run, options: RacesOptions) -> RacesReport:
     """Searches all orders, and replays the final states. Writes their inputs if the options have a folder. Raises Unfinished if the program cannot be
     searched."""
     symbols = run.setup.symbols
     conditions = [condition_of(it, symbols) for it in options.forbid]
     outcome = outcomes_of(options.outcome, conditions, run, options.symbols)
     ends = [address_of(it, symbols) for it in options.end]
-    bounds = Bounds(options.preemptions, options.timers, run.setup.limit, options.first, options.last)
+    bounds = SearchBounds(options.preemptions, options.timers, run.setup.limit, options.first, options.last)
     limit = TimeLimit(options.seconds)
-    machine = Machine(run, ends, options.limit)
+    machine = RaceMachine(run, ends, options.limit)
     try:
         with Progress() as progress:
             search = Search(machine, bounds, options.plain, watched_of(outcome), limit)
             search.progress = progress_of(progress)
-            found = find_final_states(search, lambda it: outcome or [*ranges_of(it.shared, symbols), Table()])
-        return completed(Report(run, symbols, search, found, conditions), options.scripts)
+            found = find_final_states(search, lambda it: outcome or [*ranges_of(it.shared, symbols), EnclaveStates()])
+        return completed(RacesReport(run, symbols, search, found, conditions), options.scripts)
     except RvlookError as fault:  # the arguments are right, but the program cannot be searched
         raise Unfinished(str(fault)) from None
     finally:
         machine.close()
 
 
-def show_races(run: Run, printer: Printer, options: RacesOptions, findings: Findings) -> None:
+def show_races(run: Run, printer: Printer, options: RacesOptions, findings: ReportedCases) -> None:
     """Searches all orders, and prints the final states. Raises Unfinished if the program cannot be searched."""
     report = find_races(run, options)
     (objects if printer.as_json else texts)(report, printer)
@@ -264,16 +264,16 @@ def progress_of(progress: Progress) -> Callable[[Search], None]:
 
 
 @dataclass
-class Report:
+class RacesReport:
     """A search and its final states. After the replay, `stories` describes them, `bad` has those that are forbidden with their conditions, and
     `scripts` the input of the bench for each number."""
     run: Run
     symbols: Symbols
     search: Search
     found: FinalStates
-    conditions: List[Condition]
+    conditions: List[Forbidden]
     stories: List[Story] = field(default_factory=list)
-    bad: List[Tuple[Condition, FinalState]] = field(default_factory=list)
+    bad: List[Tuple[Forbidden, FinalState]] = field(default_factory=list)
     scripts: Dict[int, bytes] = field(default_factory=dict)
 
     def title(self, end: FinalState) -> str:
@@ -294,7 +294,7 @@ class Report:
         return "the search is incomplete: " + (long[0].heading() if long else "it was stopped by %s" % (self.search.why_cut or "--seconds"))
 
 
-def completed(report: Report, folder: str | None) -> Report:
+def completed(report: RacesReport, folder: str | None) -> RacesReport:
     """Replays the final states, describes them, and writes their inputs if there is a folder; returns the report."""
     search, found = report.search, report.found
     replay(search, found, report.conditions)
@@ -307,7 +307,7 @@ def completed(report: Report, folder: str | None) -> Report:
     return report
 
 
-def note(findings: Findings, report: Report) -> None:
+def note(findings: ReportedCases, report: RacesReport) -> None:
     """Notes what counts as found: with --forbid the ends that are forbidden, else each end but the first, and each in which a hart does
     not come to its end."""
     if report.conditions:
@@ -317,14 +317,14 @@ def note(findings: Findings, report: Report) -> None:
         findings.add("final state %d" % story.end.number, story.heading() if report.is_finding(story) else "")
 
 
-def note_cut(findings: Findings, report: Report) -> None:
+def note_cut(findings: ReportedCases, report: RacesReport) -> None:
     """Notes whether a part of the orders was not searched: by --seconds, or because a hart was given up."""
     text = report.cut_text()
     if text:
         findings.cut_short(text)
 
 
-def note_forbidden(findings: Findings, report: Report) -> None:
+def note_forbidden(findings: ReportedCases, report: RacesReport) -> None:
     """Notes the ends that --forbid names; no other counts as found."""
     for condition, end in report.bad:
         warn("--forbid %s: final state %d matches" % (condition.text, end.number))
@@ -332,7 +332,7 @@ def note_forbidden(findings: Findings, report: Report) -> None:
         findings.add("--forbid " + condition.text, "\n".join(report.title(it.end) for it in report.stories if (condition, it.end) in report.bad))
 
 
-def replay(search: Search, found: FinalStates, conditions: Sequence[Condition]) -> None:
+def replay(search: Search, found: FinalStates, conditions: Sequence[Forbidden]) -> None:
     """Replays the final states on the bench, forbidden ones first. Leaves out those for which no time is left."""
     replayed, is_forbidden = [], {id(end) for _, end in forbidden(conditions, found)}
     try:
@@ -347,7 +347,7 @@ def replay(search: Search, found: FinalStates, conditions: Sequence[Condition]) 
         found.keep(replayed)
 
 
-def forbidden(conditions: Sequence[Condition], found: FinalStates) -> list[tuple[Condition, FinalState]]:
+def forbidden(conditions: Sequence[Forbidden], found: FinalStates) -> list[tuple[Forbidden, FinalState]]:
     """Returns the conditions that hold, each with the final state."""
     named = [it.name for it in found.outcome]
     return [(condition, end) for condition in conditions for end in found.ends if condition.holds(end, named)]
@@ -358,7 +358,7 @@ def is_whole(search: Search, found: FinalStates) -> bool:
     return search.is_whole() and not found.is_cut
 
 
-def objects(report: Report, printer: Printer) -> None:
+def objects(report: RacesReport, printer: Printer) -> None:
     """Writes a report as objects."""
     search, found, stories, bad, symbols = report.search, report.found, report.stories, report.bad, report.symbols
     run_object(printer, report.run, symbols)
@@ -371,7 +371,7 @@ def objects(report: Report, printer: Printer) -> None:
                    states=len(search.done), transitions=search.count, rounds=search.rounds, runs=machine.runs, steps=machine.steps_run)
 
 
-def texts(report: Report, printer: Printer) -> None:
+def texts(report: RacesReport, printer: Printer) -> None:
     """Writes a report as lines."""
     search, found, stories, bad = report.search, report.found, report.stories, report.bad
     for it in ranges_of(search.shared, report.symbols):
