@@ -1,4 +1,5 @@
 """A finding of `verify` is a counterexample that one can run: its inputs have the names of fields, and its commands show it."""
+import json
 import os
 import re
 import shlex
@@ -104,3 +105,13 @@ def test_bytes_of_two_activations_stay_apart(monkeypatch):
     monkeypatch.setattr(counterexample, "rows_of", lambda search, it: iter([Row(1, 0x80030000, b"a", b"b"), Row(2, 0x80030001, b"a", b"b")]))
     none = SimpleNamespace(member=lambda at: None)
     assert len(table(SimpleNamespace(world=SimpleNamespace(fields=none)), None)) == 2
+
+
+def test_lines_of_the_script_right_after_the_entry_belong_to_the_run(rvlook, bench, tmp_path):
+    """The window of the run itself has what the script pokes at the entry."""
+    found = map(json.loads, rvlook("trace", *WORDS[1:], "--json").stdout.splitlines())
+    entry = next(it["step"] for it in found if it["object"] == "step" and it["world"] == "e0") - 1
+    script = tmp_path / "script"
+    script.write_text("step %d\npoke window_base+4 05\n" % entry)
+    done = rvlook(*WORDS, "--script", script)
+    assert "window_base+4 = 0x1010101 instead of 0x5 (80030004, 4 bytes)" in done.stdout and "[confirmed]" in done.stdout

@@ -116,18 +116,8 @@ def path_of(search: InputSearch, trace: Trace) -> Optional[TracePath]:
         path = TracePath(World(run, search.symbols, search.variables, options), options)
     except RvlookError:
         return None
-    apply_at_entries(path.world, trace)
     path.first().go()
     return path
-
-
-def apply_at_entries(world: World, trace: Trace) -> None:
-    """Applies the changes that are made right at an entry, which the windows of the run do not have."""
-    low, high = world.window
-    for visit, window in zip(world.visits, world.windows):
-        for it in trace.changes:
-            if it.step == visit.position and not it.register and low <= it.at and it.at + len(it.value) <= high:
-                window[it.at - low:it.at - low + len(it.value)] = it.value
 
 
 def child_of(search: InputSearch, trace: Trace, world: World, model: Model) -> Optional[Child]:

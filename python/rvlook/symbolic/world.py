@@ -92,11 +92,12 @@ class World:
                 inside[hart] = is_own
 
     def first_entry(self) -> Enclave:
-        """Reads region and registers at the first entry, and the window at each entry; returns the enclave."""
+        """Reads region and registers at the first entry, and the window at each entry, after the lines of the script there; returns the enclave."""
         found: Optional[Enclave] = None
         with self.run.replay() as replay:
             for it in self.visits:
                 replay.go(it.position)
+                replay.bench.ask(*replay.lines_up_to_next())
                 if found is None:
                     found = next(e for e in map(enclave_of, replay.bench.ask("enclaves")[0]) if e.slot == self.slot)
                     self.region, self.window = (found.base, found.base + found.size), (found.window, found.window + found.window_size)
