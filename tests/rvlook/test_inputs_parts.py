@@ -229,6 +229,13 @@ def test_registers_at_the_entry_are_inputs_on_request(rvlook, elf, tmp_path):
     assert "input  a0, a1, a2, a3  activation 1" in entry and "activation 1" not in plain
 
 
+def test_a0_after_a_resume_is_an_input_on_request(rvlook):
+    store = EXAMPLES / "enclaves" / "store"
+    plain, entry = (rvlook("inputs", "--monitor", store / "image", "--symbols", store / "symbols", "--runs", "20", *more).stdout
+                    for more in ((), ("--entry",)))
+    assert "input  a0  activation 2" in entry and "activation 2" not in plain
+
+
 def test_races_start_after_the_input_of_a_finding(rvlook, tmp_path):
     rvlook("inputs", "--monitor", EXAMPLES / "enclaves" / "bug" / "image", "--runs", "40", "--scripts", tmp_path)
     for words in (("--timer", "1"), ("--harts", "2")):

@@ -173,7 +173,7 @@ def inputs_options(parser: ArgumentParser) -> None:
     parser.add_argument("--runs", metavar="N", type=positive, default=300, help="try at most N runs (default: 300)")
     parser.add_argument("--seconds", metavar="S", type=seconds, help="stop after S seconds, and report the results so far")
     parser.add_argument("--seed", metavar="N", type=int, default=0, help="set the seed of the random values (default: 0)")
-    parser.add_argument("--entry", action="store_true", help="also vary a0 to a3 at the entry, which the monitor sets")
+    parser.add_argument("--entry", action="store_true", help="also vary a0 to a3 at the entry and a0 after a resume, which the monitor sets")
     parser.add_argument("--scripts", metavar="DIR", help="write an rvbench input for each finding to DIR")
 
 

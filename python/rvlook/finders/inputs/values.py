@@ -112,11 +112,13 @@ class Values:
         yield from self.registers(trace, number, visit)
 
     def registers(self, trace: Trace, number: int, visit: Visit) -> Iterator[Input]:
-        """Yields a0 after a resume, and a0 to a3 at the entry."""
+        """Yields a0 after the resume of a stop, and a0 to a3 at the entry, with --entry: the monitor sets them, so no host can choose their values."""
+        if not self.has_entry:
+            return
         entry, before = trace.steps[visit.first] - 1, trace.visits[number - 1].ended_by if number else ""
         if before == "stop":
             yield Input(number, visit.first, visit.first, entry, 0, bytes(WORD), False, A0)
-        elif self.has_entry and before != "timer":
+        elif before != "timer":
             own = self.objects.enclave
             for register, value in enumerate((own.base, own.size, own.window, own.window_size), A0):
                 yield Input(number, visit.first, visit.first, entry, 0, value.to_bytes(WORD, "little"), False, register)
