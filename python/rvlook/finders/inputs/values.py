@@ -112,7 +112,7 @@ class Values:
         yield from self.registers(trace, number, visit)
 
     def registers(self, trace: Trace, number: int, visit: Visit) -> Iterator[Input]:
-        """Yields a0 after the resume of a stop, and a0 to a3 at the entry, with --entry: the monitor sets them, so no host can choose their values."""
+        """With --entry, yields a0 after the resume of a stop, and a0 to a3 at the entry. The monitor sets them, so no host can choose them."""
         if not self.has_entry:
             return
         entry, before = trace.steps[visit.first] - 1, trace.visits[number - 1].ended_by if number else ""
