@@ -253,8 +253,8 @@ def conform(monitor: Path, *, only: str = "", tries: int = 60, items: int = 120,
 
 def guard(image: Path, ranges: Path, *, host: Optional[Path] = None, timers: int = 8, seed: int = 1, steps: int = 20000, jobs: int = 1,
           ram: int = LEAST_RAM, boot: Optional[str] = None) -> Findings:
-    """Checks that a monitor isolates the worlds below it, whatever its calls are (docs/OWN_MONITOR.md). `ranges` is the file that says who owns
-    which memory. A finding has the step below M and the pc of the trap."""
+    """Checks that an M-mode monitor with calls of any kind isolates the worlds in S and U (docs/OWN_MONITOR.md). `ranges` is the file that says
+    who owns which memory. A finding has the step below M and the pc of the trap."""
     path = None if host is None else os.fspath(host)
     words = option_arguments(dict(host=path, timers=timers, seed=seed, steps=steps, jobs=jobs, ram=ram, boot=boot))
     files = MonitorFiles(os.fspath(image), path, ram=ram, boot=boot)

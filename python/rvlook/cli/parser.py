@@ -145,7 +145,7 @@ def parser_of() -> Parser:
     for name, about, *options in OVER_AN_IMAGE:
         add_subcommand(subparsers, name, about, *options)
     add_monitor_check(subparsers, "conform", "Compare a monitor in M with the monitor of rvbench, call by call", conform_options)
-    add_monitor_check(subparsers, "guard", "Check that a monitor in M isolates the worlds below it, whatever its calls are",
+    add_monitor_check(subparsers, "guard", "Check that an M-mode monitor with calls of any kind isolates the worlds in S and U",
                       guard_options)
     add_measure(subparsers)
     add_explain(subparsers)
