@@ -80,7 +80,7 @@ def image_options(parser: ArgumentParser, has_json: bool = True, steps: int = 10
     """Adds the options of the image and its run; without `has_json`, --json is parsed but not in the help. `steps` is the default of --steps."""
     parser.add_argument("image", metavar="IMAGE", help="an ELF file, raw bytes, or a hex image, which may be followed by -- and a script")
     parser.add_argument("--script", metavar="FILE", help="run the commands in FILE first; their steps are shown too")
-    parser.add_argument("--monitor", action="store_true", default=None, help="run the image under the monitor (default: decided by the image)")
+    parser.add_argument("--monitor", action="store_true", default=None, help="run the image under the monitor (default: the image decides)")
     parser.add_argument("--no-monitor", dest="monitor", action="store_false", help="run the image bare, without the monitor")
     parser.add_argument("--ram", metavar="BYTES", type=int, default=1 << 20, help="set the size of the RAM (default: 1048576)")
     parser.add_argument("--kind", choices=("auto", "raw", "elf"), default="auto", help="set the format of the image (default: auto)")
@@ -138,7 +138,8 @@ def map_options(parser: ArgumentParser) -> None:
     """Adds the options of `map`."""
     parser.add_argument("--brief", action="store_true", help="show only the changes at each event")
     parser.add_argument("--returns", action="store_true",
-                        help="show the changes at each return from M of a bare image, and states inside M in which S may access more")
+                        help="show the changes at each return from M of a bare image, and states inside M in which S may access more than before and "
+                        "after")
 
 
 def touch_options(parser: ArgumentParser) -> None:
@@ -158,7 +159,7 @@ def leak_options(parser: ArgumentParser) -> None:
                              "when the enclave first reaches PLACE")
     parser.usage = "rvlook leak IMAGE --at PLACE [ONE TWO] [OPTIONS]; ONE and TWO are the secrets, in hexadecimal digits"
     parser.set_defaults(secrets=(), needs_order=True)
-    parser.add_argument("--strict", action="store_true", help="compare the operands of divisions too, whose latency may depend on them")
+    parser.add_argument("--strict", action="store_true", help="compare the operands of divisions too: the time of a division may depend on them")
     public_option(parser)
     parser.add_argument("--tries", metavar="N", type=positive, help="compare N generated secrets: corner values, single bits and random values")
     parser.add_argument("--seed", metavar="S", type=int, default=0, help="set the seed of the random values (default: 0)")
@@ -276,8 +277,8 @@ def conform_options(parser: ArgumentParser) -> None:
     parser.add_argument("--items", metavar="N", type=positive, default=120, help="run about N items in each random script (default: 120)")
     parser.add_argument("--deep", action="store_true",
                         help="add scripts with many calls, and with blocks of up to 2 MiB in 4 MiB of RAM; this takes minutes")
-    parser.add_argument("--exact", action="store_true", help="compare the PMP entries as stored, and mepc, mcause and mtval")
-    parser.add_argument("--only", metavar="TEXT", default="", help="run only the scripts with TEXT in their names, and accept empty cells")
+    parser.add_argument("--exact", action="store_true", help="compare the stored PMP entries, mepc, mcause and mtval too")
+    parser.add_argument("--only", metavar="TEXT", default="", help="run only scripts with TEXT in the name, and accept empty cells of the table")
     parser.add_argument("--jobs", metavar="N", type=positive, default=1, help="run N scripts at the same time (default: 1)")
     parser.add_argument("--seconds", metavar="S", type=seconds, help="stop after S seconds, and report the results so far")
     parser.add_argument("--scripts", metavar="DIR", help="write the shrunk script of each side to DIR")

@@ -21,17 +21,17 @@ if TYPE_CHECKING:
 USAGE = "rvlook [SUBCOMMAND] IMAGE [OPTIONS]"
 SUBCOMMANDS = """subcommands:
   run          run a program to its end, and print what it writes to its console
-  map          show who can access what, and each change of it
+  map          show who can access each byte, and each change of these rights
   trace        show each step: instruction, registers, memory access, trap
   touch        show what each world read, wrote and executed
   window       show what each enclave activation did with its window
-  inputs       vary what the host gives an enclave, and show what it can make it do
+  inputs       vary what the host gives an enclave, and show what the host can make it do
   verify       answer questions about all paths of an enclave, for all inputs and secrets
   leak         compare runs that differ only in a secret of an enclave
   timer        interrupt an enclave before each step, and compare the results
   races        search all schedules of two harts and of timer interrupts
-  conform      compare a monitor in M with the monitor of rvbench
-  guard        check that a monitor in M with calls of its own isolates worlds
+  conform      compare an M-mode monitor with the monitor of rvbench
+  guard        check that an M-mode monitor with calls of any kind isolates worlds
   measure      compute the measurement that create records
   explain      explain the errors of an rvbench input
   page         write the run as an HTML page
@@ -117,9 +117,9 @@ def add_new(subparsers: Any) -> None:
 OVER_AN_IMAGE: Sequence[Any] = (  # a name, its help, and its options
     ("run", "Run a program to its end, print what it writes to its console, and exit with its status", expect_option,
      schedule_options, findings_options),
-    ("map", "Show who can access what, and each change of it", map_options, schedule_options, findings_options),
+    ("map", "Show who can access each byte of memory, and each change of these rights", map_options, schedule_options, findings_options),
     ("trace", "Show each step of a run", trace_options, schedule_options, findings_options),
-    ("touch", "Show what each world read, wrote and executed, and what it was permitted to", touch_options, schedule_options,
+    ("touch", "Show what each world read, wrote and executed, and what it could access", touch_options, schedule_options,
      findings_options),
     ("window", "Show what each enclave activation read, wrote and left in its window", window_options, schedule_options,
      findings_options),
@@ -144,7 +144,7 @@ def parser_of() -> Parser:
     subparsers = parser.add_subparsers(prog="rvlook", metavar="SUBCOMMAND", help=argparse.SUPPRESS)
     for name, about, *options in OVER_AN_IMAGE:
         add_subcommand(subparsers, name, about, *options)
-    add_monitor_check(subparsers, "conform", "Compare a monitor in M with the monitor of rvbench, call by call", conform_options)
+    add_monitor_check(subparsers, "conform", "Compare an M-mode monitor with the monitor of rvbench, call by call", conform_options)
     add_monitor_check(subparsers, "guard", "Check that an M-mode monitor with calls of any kind isolates the worlds in S and U",
                       guard_options)
     add_measure(subparsers)
