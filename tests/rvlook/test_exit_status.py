@@ -28,7 +28,7 @@ def test_leak_of_drawn_secrets(rvlook, short_program):
     assert rvlook("leak", *short_program("leak_trap"), "--at", "secret:4", "--tries", "2").returncode == 1
     public = [word for it in ("pc", "answer") for word in ("--public", it) if it == "answer"]
     done = rvlook("leak", *short_program("window_copies"), "--at", "key:20", "--tries", "2", "--public", "window_base+10", *public)
-    assert (done.returncode, done.stdout) == (0, "no difference in 2 pairs: pc, steps, address, answer, window\n")
+    assert done.returncode == 0 and done.stdout.startswith("no difference in 2 pairs: pc, steps, address, answer, window\n")
 
 
 def test_leak_that_seconds_cut(rvlook, short_program):

@@ -74,7 +74,7 @@ def test_gdb_calls_a_function_and_jumps(bench, built):
     commands = ["target remote | %s gdb --monitor %s" % (ROOT / "rvlook", elf), "break main", "continue", "call print_number(4711)",
                 "print host_console.written", "jump *main", "delete", "continue"]
     words = [it for line in commands for it in ("-ex", line)]
-    done = subprocess.run(["gdb-multiarch", "-q", "-nx", "-batch", "-iex", "set confirm off", *words, elf], capture_output=True, text=True,
-                          env={**os.environ, "RVBENCH": bench}, timeout=SECONDS, check=False)
+    done = subprocess.run(["gdb-multiarch", "-q", "-nx", "-batch", "-iex", "set confirm off", "-iex", "set remotetimeout 60", *words, elf],
+                          capture_output=True, text=True, env={**os.environ, "RVBENCH": bench}, timeout=SECONDS, check=False)
     assert "$1 = 4\n" in done.stdout and done.stdout.count("Breakpoint 1, main") == 2, done.stdout + done.stderr
     assert "host console: red: ^[[31m" in done.stderr and done.stderr.count("[pc is set to ") >= 2
