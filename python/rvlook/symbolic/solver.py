@@ -1,6 +1,7 @@
 """Questions about expressions: cheap attempts first, then z3 with a limit. Conditions that share no variable with the question are left out.
 
-Each answer that something exists is evaluated before it counts. An answer that nothing exists is that of simplification or of z3."""
+Each answer that something exists is evaluated before it counts. An answer that nothing exists is that of simplification, of all values of a
+byte, or of z3."""
 from __future__ import annotations
 
 import random
@@ -8,6 +9,7 @@ import time
 from copy import copy
 from typing import Any, Dict, FrozenSet, List, Optional, Sequence, Set, Tuple
 
+from rvlook.symbolic.domains import Domains, member_of
 from rvlook.symbolic.evaluation import Model, evaluate, reduced
 from rvlook.symbolic.guess import Part, solutions
 from rvlook.symbolic.nodes import CHECK, HEAVY, SECRET, Condition, Node, Word, by_name, mask_of, names_of
@@ -16,6 +18,7 @@ from rvlook.symbolic.translate import Primed, Translator
 
 CORNERS = (0, 1, 255, 128, 127, 65, 4, 16)
 OPAQUE_TIMEOUT = 500  # milliseconds
+MOST_PARTS = 12  # of a conjunction that is guessed
 MOST_NAMES, TRIES, REPAIRS = 64, 6, 4  # variables of a question that is guessed; guesses; repaired conditions of a guess
 Answer = Optional[bool]  # None if it is not decided
 Pair = Tuple[Answer, Optional[Part], Optional[Part]]
@@ -27,7 +30,7 @@ class Solver:
 
     def __init__(self, timeout: int, seed: int = 0) -> None:
         self.timeout, self.rng, self.plain = timeout, random.Random(seed), Translator()
-        self.z3, self.opaque = self.plain.z3, Opaque()
+        self.z3, self.opaque, self.domains = self.plain.z3, Opaque(), Domains()
         self.cache: Dict[Any, Any] = {}
         self.primed: Dict[FrozenSet[Node], Primed] = {}
         self.queries = self.guesses = self.cached = 0
@@ -71,7 +74,14 @@ class Solver:
         return answer, {**model, **part} if part else model
 
     def answered(self, relevant: List[Node], question: Node, mask: int, model: Part) -> Tuple[Answer, Optional[Part]]:
-        """Returns whether conditions and a question hold, with the values that differ from a model: by guesses, by simplification, or by z3."""
+        """Returns whether conditions and a question hold, with the values that differ from a model: by the values of
+        bytes, by guesses, by simplification, or by z3."""
+        known, sets = self.domains.answer([*relevant, question])
+        if known is False:
+            self.note_proof([self.plain(it) for it in (*relevant, question)])
+            return False, None
+        if known:
+            return True, {n: member_of(own, model.get(n, 0)) for it, own in sets.items() for n in names_of(mask_of(it))}
         part = self.guessed(relevant, question, mask_of(question), model)
         if part is not None:
             self.guesses += 1
@@ -108,7 +118,7 @@ class Solver:
     def guessed(self, conditions: Sequence[Node], question: Node, mask: int, model: Part) -> Optional[Part]:
         """Returns values of the variables of a question for which it holds and so do the conditions; or None."""
         names, memo = names_of(mask), {}  # type: List[str], Dict[Node, Any]
-        if len(names) > MOST_NAMES and question.weight > HEAVY:
+        if len(names) > MOST_NAMES and question.weight > HEAVY or is_long(question):
             return None
         parts = [it for it, _ in zip(solutions(question, model, memo), range(8))]
         for turn in range(TRIES if len(names) <= MOST_NAMES else 0):
@@ -215,3 +225,9 @@ class Solver:
             n = self.rng.choice(names)
             return {n: model.get(n, 0) ^ 1 << self.rng.randrange(8)}
         return {n: self.rng.randrange(256) for n in names}
+
+
+def is_long(question: Node) -> bool:
+    """Returns whether a question is one about many conditions at once."""
+    it = question.args[0] if question.op == "not" else question
+    return it.op == "and1" and len(it.args) > MOST_PARTS
