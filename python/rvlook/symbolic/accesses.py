@@ -84,7 +84,7 @@ class Accesses(Paths):
         if old is not None and old[0] == tag and old[1] <= at and at + width <= old[2]:
             return
         s, w = self.search, self.search.world
-        if w.window[0] <= at and at + width <= w.window[1] and (tag is None or w.window[0] <= tag.base < w.window[1]):
+        if w.window[0] <= at and at + width <= w.window[1] and (tag is None or tag.how is How.NONE or w.window[0] <= tag.base < w.window[1]):
             return
         if tag is None or tag.how in (How.NONE, How.MIXED):
             s.doubt_access(kind, self, UNKNOWN)

@@ -146,6 +146,7 @@ class Traps(Memory):
             s.take_stop(self)
             if not self.is_base:
                 raise Ended("stop")
+            self.is_covered = bool(s.means.loops_from)
         if self.visit + 1 >= s.activations:
             raise Ended("stop")
         self.visit += 1

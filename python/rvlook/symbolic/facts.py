@@ -16,13 +16,14 @@ if TYPE_CHECKING:
 
 WordPlace = Union[int, str]  # the address of a word, a register x1 to x31, or b and the address of a byte
 Words = Callable[[WordPlace], Word]
-MOST, ORDER, SUM, DIFFERENCE, TOTAL = "most", "order", "sum", "difference", "total"
+MOST, LEAST, ORDER, BELOW, SUM, DIFFERENCE, TOTAL = "most", "least", "order", "below", "sum", "difference", "total"
 POWERS = tuple((1 << n) - 1 for n in (0, 1, 2, 3, 4, 5, 6, 7, 8, 9, 10, 12, 16, 31))
 ROUNDS, TIMEOUT = 40, 2000  # questions about the facts of one state, and milliseconds of each
 
 
 class Fact(NamedTuple):
-    """A fact. MOST: x + offset <= bound; ORDER: x <= y; SUM: x + y <= bound; DIFFERENCE and TOTAL: x - y and x + y are bound."""
+    """A fact. MOST: x + offset <= bound; LEAST: x >= bound; ORDER: x <= y; BELOW: x < y; SUM: x + y <= bound; DIFFERENCE and TOTAL: x - y and x + y
+    are bound."""
     kind: str
     x: WordPlace
     y: WordPlace = 0
@@ -35,9 +36,13 @@ def condition_of(fact: Fact, words: Words) -> Condition:
     x = words(fact.x)
     if fact.kind == MOST:
         return not_(ult(fact.bound, operation("add", x, fact.offset)))
+    if fact.kind == LEAST:
+        return not_(ult(x, fact.bound))
     y = words(fact.y)
     if fact.kind == ORDER:
         return not_(ult(y, x))
+    if fact.kind == BELOW:
+        return ult(x, y)
     if fact.kind == SUM:
         return all_of(not_(ult(fact.bound, x)), not_(ult(operation("sub", fact.bound, x), y)))
     return eq(operation("sub" if fact.kind == DIFFERENCE else "add", x, y), fact.bound)
@@ -48,7 +53,7 @@ def active(facts: Sequence[Fact]) -> List[Fact]:
     found: List[Fact] = []
     least: Dict[Tuple[WordPlace, WordPlace, int], Fact] = {}
     for it in facts:
-        if it.kind in (MOST, SUM):
+        if it.kind in (MOST, SUM) and type(it.bound) is int:
             key = it.x, it.y if it.kind == SUM else "", it.offset
             if key not in least or it.bound < least[key].bound:
                 least[key] = it
@@ -94,16 +99,20 @@ def candidates(new: Sequence[WordPlace], others: Sequence[WordPlace], words: Wor
     for x in new:
         for offset in (0, 1) if x not in bases else (-bases[x] & M32,):
             found += [Fact(MOST, x, 0, offset, bound) for bound in limits.numbers]
+        if is_loop:
+            first = words(x)
+            found += [Fact(LEAST, x, 0, 0, first), Fact(LEAST, x, 0, 0, 1)] + ([Fact(MOST, x, 0, 0, first)] if type(first) is Node else [])
         if isinstance(x, str) and x.startswith("b"):
             continue
         for y in others:
             if x == y or isinstance(y, str) and y.startswith("b"):
                 continue
-            if is_loop or limits.are_ordered(x, y):
-                found += [Fact(ORDER, x, y), Fact(ORDER, y, x)]
+            is_close = is_loop and (isinstance(x, str) or isinstance(y, str)) or limits.are_ordered(x, y)
+            if is_close:
+                found += [Fact(ORDER, x, y), Fact(ORDER, y, x)] + ([Fact(BELOW, x, y), Fact(BELOW, y, x)] if is_loop else [])
             if limits.are_added(x, y):
                 found += [Fact(SUM, x, y, 0, bound) for bound in limits.sums]
-            if is_loop and y in new and str(x) < str(y):
+            if is_loop and is_close and y in new and str(x) < str(y):
                 one, two = words(x), words(y)
                 found += [Fact(DIFFERENCE, x, y, 0, operation("sub", one, two)), Fact(TOTAL, x, y, 0, operation("add", one, two))]
     return found

@@ -18,7 +18,8 @@ AnyState = Any  # a State; its bases call functions that take one
 Calls = Optional[Tuple[Any, int, int, int, int]]  # the calls that are open: the outer ones, their number, the return address, sp, and the entry
 Load = Tuple[int, Word, Tuple[Tuple[int, str], ...]]  # the step, the address, and the offset and the variable of each byte
 Store = Tuple[int, Word, int, Word]  # the step, the address, the width and the value
-FetchedAt = Tuple[Word, int, int, int, Tuple[Node, ...]]  # the address, the width, the instruction, its context, and conditions of joined paths
+FetchedAt = Tuple[Word, Word, int, int, Tuple[Node, ...]]  # the address, the width (or the end, if it is an expression), the instruction, its
+# context, and conditions of joined paths
 Answer = Tuple[int, int, Word, int, int]  # the step, the call, the value, and the numbers of loads and stores before
 
 
@@ -32,7 +33,7 @@ class Fields:
     __slots__ = ("search", "regs", "mem", "sym", "pc", "mode", "csr", "conds", "public", "model", "memo", "context", "calls", "call", "visit",
                  "loads", "stores", "answers", "trail", "pcs", "before", "counts", "winmem", "win", "inside", "is_base", "first_visit", "fetched",
                  "fetched_at", "number", "rejoined", "head", "round", "tags", "mem_tags", "csr_tags", "areas", "bottom", "pending", "released",
-                 "past", "earlier", "inputs", "rounds", "entry", "opening", "resumed")
+                 "past", "earlier", "inputs", "rounds", "entry", "opening", "resumed", "is_covered")
     search: Search
     regs: List[Word]
     mem: bytearray
@@ -80,6 +81,7 @@ class Fields:
     entry: int  # of the present function
     opening: int  # the number of the merged state in which the path begins
     resumed: Optional[int]  # the place at which the path has waited
+    is_covered: bool  # whether a merged state that is explored includes the path
 
     def fork(self, pc: int, is_again: bool = False) -> Any:
         """Returns a copy that goes on at a pc. The present step belongs to it unless it is done again."""
@@ -89,7 +91,7 @@ class Fields:
             self.pcs = []
         it = type(self).__new__(type(self))
         for name in ("search", "mode", "model", "context", "calls", "call", "visit", "trail", "before", "first_visit", "rejoined", "areas", "bottom",
-                     "pending", "released", "round", "past", "earlier", "inputs", "entry", "opening"):
+                     "pending", "released", "round", "past", "earlier", "inputs", "entry", "opening", "is_covered"):
             setattr(it, name, getattr(self, name))
         for name in ("loads", "stores", "answers", "conds", "regs", "tags", "fetched_at"):
             setattr(it, name, getattr(self, name)[:])

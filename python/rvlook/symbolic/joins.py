@@ -19,7 +19,8 @@ if TYPE_CHECKING:
     from rvlook.symbolic.search import Search
 
 MOST_CONDITIONS, TIMEOUT = 400, 500  # conditions of a path since it divided, and milliseconds of a question whether two paths exclude each other
-SAME = ("pc", "mode", "context", "call", "bottom", "areas", "visit", "first_visit", "opening", "released", "round", "pending", "head", "entry")
+SAME = ("pc", "mode", "context", "call", "bottom", "areas", "visit", "first_visit", "opening", "released", "round", "pending", "head", "entry",
+        "is_covered")
 Half = Tuple[Any, List[Node]]  # a path, and its conditions since the paths divided
 
 

@@ -4,7 +4,7 @@ from __future__ import annotations
 from typing import Dict, List, Sequence, Set, Tuple, TYPE_CHECKING
 
 from rvlook.protocol.names import MARKS
-from rvlook.symbolic.conditions import all_of, any_of, differ, eq, within
+from rvlook.symbolic.conditions import all_of, any_of, differ, eq, ult, within
 from rvlook.symbolic.evaluation import evaluate
 from rvlook.symbolic.fields import Ended
 from rvlook.symbolic.nodes import Condition, Node, Word
@@ -172,8 +172,10 @@ class Judge(Outputs):
             self.doubt("jump", state, "a target that is no instruction")
 
 
-def overlap(x: Word, width: int, y: Word, size: int) -> Condition:
-    """Returns whether two accesses have a byte in common."""
+def overlap(x: Word, width: int, y: Word, size: Word) -> Condition:
+    """Returns whether two accesses have a byte in common. The size of the second may be an expression: its end."""
+    if type(size) is Node:
+        return all_of(not_(ult(operation("add", x, width - 1), y)), ult(x, size))
     distance = operation("add", operation("sub", x, y), width - 1)
     return within(distance, 0, width + size - 2)
 

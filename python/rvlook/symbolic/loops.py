@@ -6,14 +6,19 @@ from __future__ import annotations
 
 from typing import Dict, List, Optional, Set, Tuple, TYPE_CHECKING
 
+from rvlook.symbolic.bounds import words_of
 from rvlook.symbolic.conditions import ult
+from rvlook.symbolic.facts import MOST, condition_of
 from rvlook.symbolic.fields import MERGED_LOOP, FetchedAt
+from rvlook.symbolic.judge import MEETS
 from rvlook.symbolic.merge import Cell, Key, Merged, Merger, Place, begin, join_tags, key_of, raw_cells, tags_of, taint_of
-from rvlook.symbolic.nodes import Byte, Condition, Node, Word, mask_of, variable
+from rvlook.symbolic.nodes import INPUT, Byte, Condition, Node, Word, mask_of, variable
+from rvlook.symbolic.sweeps import Sweep, has_variables
 from rvlook.symbolic.words import not_, word
 
 if TYPE_CHECKING:
     from rvlook.symbolic.bounds import Assumed
+    from rvlook.symbolic.facts import Fact
     from rvlook.symbolic.search import Search
     from rvlook.symbolic.state import State
 
@@ -28,10 +33,13 @@ class Head(Merged):
     def __init__(self, state: State) -> None:
         super().__init__(state)
         self.own, self.loads = 0, 0
+        self.explored: Dict[Place, Cell] = {}  # the cells with which it was explored last
         self.conds: List[Node] = []
         self.public: Set[Node] = set()
         self.fetched: Dict[int, Tuple[int, int]] = {}
         self.fetched_at: List[FetchedAt] = []
+        self.sweep = Sweep()
+        self.range_explored: List[FetchedAt] = []  # the range with which it was explored last
         self.model: Dict[str, int] = {}
         self.arrivals: List[Arrival] = []  # of paths from merged heads, in the last pass
 
@@ -46,7 +54,7 @@ class Loops:
 
     def take(self, state: State) -> Optional[Tuple[LoopMerger, Head]]:
         """Takes a path at the head of a loop; returns what has to be explored again."""
-        key = key_of(state)
+        key = *key_of(state), state.pending
         if key not in self.heads:
             merger = LoopMerger(self.search, "v%d_" % len(self.heads))
             self.heads[key] = merger, Head(state.fork(state.pc, True))
@@ -66,6 +74,7 @@ class Loops:
         if self.is_final:
             return []
         self.is_final = True
+        self.search.forget_rereads()
         for _, head in self.heads.values():
             head.arrivals, head.is_queued = [], True
         return list(self.heads.values())
@@ -108,7 +117,7 @@ class LoopMerger(Merger):
 
     def first(self, it: Head, state: State) -> None:
         """Takes the first path at a head."""
-        it.cells, it.mem, it.tags = dict(raw_cells(state)), bytes(state.mem), tags_of(state)
+        it.cells, it.mem, it.tags = dict(raw_cells(state)), bytes(state.mem), tags_of(state, self.zeros)
         it.conds, it.public = state.conds[:], set(state.public)
         self.note(it, state)
         self.learn(it, state, None, {}, 0)
@@ -121,20 +130,42 @@ class LoopMerger(Merger):
 
     def note(self, it: Head, state: State) -> bool:
         """Takes what a path has loaded, and its values; returns whether the loads are new."""
-        grown = {**it.fetched, **state.fetched}
-        new = [x for x in state.fetched_at if x not in it.fetched_at and not any(mask_of(y) & it.own for y in (x[0], *x[4]))]
-        is_changed = len(grown) > len(it.fetched) or bool(new) or state.inputs > it.loads and not it.loads
+        found = [x for x in state.fetched_at if x not in it.fetched_at]
+        new = [x for x in found if not has_variables(x, it.own)]
+        swept, grown = self.note_loads(it, state, [x for x in found if has_variables(x, it.own)])
+        is_changed = swept or len(grown) > len(it.fetched) or bool(new) or state.inputs > it.loads and not it.loads
         it.fetched, it.loads = grown, max(it.loads, state.inputs)
         it.fetched_at = it.fetched_at + new
         it.model = dict(state.model)
         return is_changed
+
+    def note_loads(self, it: Head, state: State, loads: List[FetchedAt]) -> Tuple[bool, Dict[int, Tuple[int, int]]]:
+        """Takes the loads of rounds at places that are other ones in each round, and those of a first round, which are at numbers. Returns whether
+        their range changed, and all loads at numbers that are not in it."""
+        grown, is_own = {**it.fetched, **state.fetched}, state.round is not None and state.round[0] == self.prefix
+        if not loads and not is_own:
+            return False, grown  # the path comes from outside the loop
+        loads = [x for x in loads if x not in it.range_explored]
+        first: List[FetchedAt] = [(at, 1, *site, ()) for at, site in state.fetched.items() if is_own and at not in it.fetched]
+        before, now = self.words(it, it.explored), words_of(state)
+        sweep = it.sweep.extended(loads + first, it.facts, before, now, state, lambda c: self.implied(state, c))
+        if not sweep.is_lost:
+            grown = {at: x for at, x in grown.items() if at in it.fetched or not is_own}
+        elif first:
+            sweep = it.sweep.extended(loads, it.facts, before, now, state, lambda c: self.implied(state, c))
+        if sweep.is_lost:
+            self.search.note(("reread", sweep.site[0]), MEETS)
+            self.search.rereads.append(sweep.site[0])
+        is_changed, it.sweep = sweep.ends != it.sweep.ends, sweep
+        return is_changed, grown
 
     def next(self, it: Head, state: State) -> bool:
         """Takes a further path at a head; returns whether the merged state changed."""
         assumed, old = self.assumed(it), dict(it.cells)
         new = {at: self.loop_cell(it, state, at, x) for at, x in raw_cells(state)}
         is_changed = self.join(it, new, bytes(state.mem))
-        is_changed = join_tags(it.tags, tags_of(state)) or is_changed
+        is_changed = join_tags(it.tags, tags_of(state, self.zeros)) or is_changed
+        is_changed = self.complete(it, state) or is_changed
         self.note_unknowns(it)
         is_changed = self.drop(it) or is_changed
         common = set(state.conds)
@@ -155,6 +186,19 @@ class LoopMerger(Merger):
         if type(x) is Node and mask_of(x) & it.own and not self.is_unknown_of(at, x):
             return taint_of(state, x), None
         return x
+
+    def complete(self, it: Head, state: State) -> bool:
+        """Makes all bytes unknown of a word that is computed and has a byte with any value: a carry reaches the others later. Returns whether a byte
+        changed."""
+        before = dict(it.cells)
+        for at in self.candidates(it):
+            now = self.present(state, at)
+            places: List[Place] = [at + k if isinstance(at, int) else "%s_%d" % (at, k) for k in range(4)]
+            cells = [it.cells.get(place, 0) for place in places]
+            if type(now) is Node and now.op != "word" and any(type(cell) is tuple and cell[1] is None for cell in cells):
+                for place, cell in zip(places, cells):
+                    it.cells[place] = (cell[0] if type(cell) is tuple else cell.taint if type(cell) is Node else INPUT), None
+        return any(it.cells[at] != before.get(at) for at in it.cells)
 
     def note_unknowns(self, it: Head) -> None:
         """Notes the variables of the unknowns."""
@@ -177,16 +221,39 @@ class LoopMerger(Merger):
         """Returns a state to explore from the head of a loop on."""
         assert isinstance(it, Head)
         self.rounds += 1
-        it.is_queued = False
+        it.is_queued, it.explored = False, dict(it.cells)
         state = it.state.fork(it.state.pc, True)
         begin(state, MERGED_LOOP)
         state.conds, state.public, state.model = list(it.conds), set(it.public), dict(it.model)
         state.inputs, state.fetched, state.head = it.loads, dict(it.fetched), state.pc
-        state.fetched_at = list(it.fetched_at)
-        state.round = self.prefix, 0
+        it.range_explored = it.sweep.entry(it.facts, self.words(it, it.cells))
+        state.fetched_at = it.fetched_at + it.range_explored
+        state.round, state.pending = (self.prefix, 0), it.state.pending
         self.fill(state, it)
         self.note_unknowns(it)
         return state
+
+    def widen(self, it: Merged, state: State, dropped: Set[Fact]) -> None:
+        """Drops the bounds of a word that this path would not keep if they were assumed in place of one that was dropped. A bound that stays so is
+        found at once, and not after as many rounds as there are numbers below it."""
+        assert isinstance(it, Head)
+        if not state.round or state.round[0] != self.prefix:
+            return
+        before, after, explored = self.words(it, it.cells), words_of(state), self.words(it, it.explored)
+        growing = {f._replace(bound=n) for f in (*it.facts, *dropped) if f.kind == MOST and it.drops[f[:3]] for n in self.bounds.limits.numbers}
+        bounds = {condition_of(f, before) for f in growing}
+        for old in dropped:
+            if old.kind != MOST or type(old.bound) is not int or before(old.x) is not explored(old.x):
+                continue
+            conds = [c for c in state.conds if c not in bounds]
+            wider = [f for f in it.facts if f[:4] == old[:4] and type(f.bound) is int]
+            lost = {f for f in wider if not self.is_kept(conds, condition_of(f, before), condition_of(f, after), state)}
+            it.facts = [f for f in it.facts if f not in lost]
+
+    def is_kept(self, conds: List[Node], assumed: Condition, wanted: Condition, state: State) -> bool:
+        """Returns whether a bound that is assumed holds again after a round, as far as is known."""
+        more = [assumed] if type(assumed) is Node else []
+        return self.search.is_late() or self.search.solver.satisfiable(conds + more, not_(wanted), state.model)[0] is not True
 
     # ---- whether the loop ends
 
@@ -208,15 +275,16 @@ class LoopMerger(Merger):
 
     def implied(self, state: State, condition: Condition) -> bool:
         """Returns whether the conditions of a path imply another one."""
-        if not state.holds(condition):
-            return False
+        if condition is True or not state.holds(condition):
+            return condition is True
         return self.search.solver.satisfiable(state.conds, not_(condition), state.model)[0] is False
 
     def candidates(self, it: Head) -> List[Place]:
-        """Returns the registers and words of memory that have an unknown byte."""
+        """Returns the registers and words of memory that have an unknown byte, as many as are tried."""
         places = [at for at, cell in it.cells.items() if type(cell) is tuple]
         words = {at.split("_")[0] if isinstance(at, str) else at & -4 for at in places}  # type: Set[Place]
-        return sorted((at for at in words if not (isinstance(at, str) and at.startswith("c"))), key=str)[:MOST_RANKS]
+        known = [at for at in words if not (isinstance(at, str) and at.startswith("c"))]
+        return sorted(known, key=lambda at: (isinstance(at, int), str(at)))[:MOST_RANKS]
 
     def word_at(self, it: Head, at: Place) -> Word:
         """Returns a word in the state in which a round begins."""

@@ -10,12 +10,13 @@ if TYPE_CHECKING:
 
 @dataclass(frozen=True)
 class Means:
-    """The means of a search: whether rare branches come first; after how many divisions in a loop its head is merged, 0 for never; and what replaces
-    --each and --activations."""
+    """The means of a search. `is_rare_first`: rare branches come first. `loops_from`: after so many divisions in a loop its head is merged, 0 for
+    never. `merges` and `activations` replace --each and --activations. `rounds`: so many times the rounds of --bound are followed."""
     is_rare_first: bool = False
     loops_from: int = 0
     merges: Optional[bool] = None
     activations: int = 0
+    rounds: int = 1
 
     @property
     def is_whole(self) -> bool:
@@ -25,4 +26,5 @@ class Means:
     def options(self, options: VerifyOptions) -> VerifyOptions:
         """Returns the options of the search."""
         merges = options.merges if self.merges is None else self.merges
-        return replace(options, merges=merges, activations=self.activations or options.activations)
+        bound = self.rounds * options.bound
+        return replace(options, merges=merges, activations=self.activations or options.activations, bound=bound)

@@ -12,7 +12,7 @@ from rvlook.symbolic.nodes import INPUT, M32, Byte, Node, Word, signed, variable
 from rvlook.symbolic.origins import NO_ORIGIN, How, Origin, Tag, known
 from rvlook.symbolic.words import byte, extended, not_, parts_of, plain, word
 
-MOST_TABLE, MOST_STORED = 4096, 256  # bytes of an object that is read or written at an index as a whole
+MOST_TABLE, MOST_STORED = 4096, 1024  # bytes of an object that is read or written at an index as a whole
 
 
 def assembled(b: List[Byte], width: int, is_signed: bool) -> Word:
@@ -204,6 +204,8 @@ class Memory(Accesses):
         w = self.search.world
         if it is not None and it.low == w.window[0]:
             return assembled(self.received(self.value(x), width, x), width, is_signed), 0
+        if it is not None and self.search.means.is_rare_first:
+            it = None  # on one path an index is a number: conditions stay short
         if it is not None and it.high - it.low <= MOST_TABLE and not (width == 4 and self.has_pointers(it.low, it.high)):
             raw, sym = self.mem[it.low - w.region[0]:it.high - w.region[0]], self.sym
             content = tuple(plain(sym.get(at, raw[at - it.low])) for at in range(it.low, it.high)) if sym else tuple(raw)
@@ -219,6 +221,8 @@ class Memory(Accesses):
         if it is not None and it.low == w.window[0]:
             self.sent(self.value(x), width, value, x)
             return None
+        if it is not None and self.search.means.is_rare_first:
+            it = None
         if it is not None and it.high - it.low <= MOST_STORED and tag is None and not self.has_pointers(it.low & -4, it.high):
             self.write_anywhere(x, width, value, it)
             return None

@@ -6,15 +6,15 @@ of them, while a finding in it may be none."""
 from __future__ import annotations
 
 from collections import Counter
-from typing import Any, Counter as Counts, Dict, FrozenSet, Iterator, List, Optional, Set, Tuple, TYPE_CHECKING, Union
+from typing import Any, Counter as Counts, Dict, FrozenSet, Iterable, Iterator, List, Optional, Set, Tuple, TYPE_CHECKING, Union
 
 from rvlook.symbolic.bounds import words_of, words_of_cells
 from rvlook.symbolic.conditions import any_of, eq
 from rvlook.symbolic.evaluation import evaluate
-from rvlook.symbolic.facts import MOST, SUM, active
+from rvlook.symbolic.facts import LEAST, MOST, SUM, active
 from rvlook.symbolic.fields import MERGED_STOPS
 from rvlook.symbolic.nodes import CHECK, INPUT, SECRET, Byte, Node, mask_of, names_of, variable
-from rvlook.symbolic.origins import NO_ORIGIN, Tag
+from rvlook.symbolic.origins import LOST, NO_ORIGIN, Tag
 from rvlook.symbolic.record import merged_place
 from rvlook.symbolic.words import byte, plain, word
 
@@ -25,7 +25,7 @@ if TYPE_CHECKING:
     from rvlook.symbolic.state import State
 
 MOST_VALUES, MOST_CHANGES = 16, 2  # of an unknown, before it may have any value
-MOST_DROPS = {MOST: 6, SUM: 2}  # times that the bound of a word, or of a sum, changes before it may have any value
+MOST_DROPS = {MOST: 6, SUM: 2, LEAST: 2}  # times that the bound of a word, or of a sum, changes before it may have any value
 Place = Union[int, str]  # an address, or a byte of a register
 Cell = Any  # an int, a node that depends on secrets alone, or an unknown: its taint, and the set of its values or None
 Key = Tuple[Any, ...]
@@ -76,7 +76,7 @@ class Merger:
         key = key_of(state)
         it = self.merged.get(key)
         is_changed = it is None
-        tags = tags_of(state)
+        tags = tags_of(state, self.zeros)
         if it is None:
             it = self.merged[key] = Merged(state.fork(state.pc + 4))
             it.cells, it.mem, it.tags = self.cells_of(state), bytes(state.mem), tags
@@ -195,9 +195,16 @@ class Merger:
             found = self.bounds.holding(assumed, found, words)
         it.facts = self.bounds.holding((state.conds, state.model), it.facts + found, words_of(state))
         dropped = set(kept) - set(it.facts)
+        if assumed and own is not None:
+            lost = {*kept, *found} - set(it.facts)
+            it.facts += self.bounds.holding(assumed, hulls_of(lost, words_of(state), own), words)
         it.drops.update({(fact.kind, fact.x, fact.y) for fact in dropped})
         it.facts = [fact for fact in it.facts if it.drops[fact.kind, fact.x, fact.y] <= MOST_DROPS.get(fact.kind, 0)]
+        self.widen(it, state, dropped)
         return bool(dropped)
+
+    def widen(self, it: Merged, state: State, dropped: Set[Fact]) -> None:
+        """Drops bounds that would be dropped later. Those of a stop stay."""
 
     def wanted(self, state: State) -> Set[Union[int, str]]:
         """Returns the places whose bounds decide something, and those from which their values in a state come."""
@@ -252,6 +259,12 @@ class Merger:
         return it
 
 
+def hulls_of(lost: Iterable[Fact], words: Words, own: int) -> List[Fact]:
+    """Returns looser bounds in place of those that a state does not fulfil: its own words. `own` has the variables of the loop."""
+    found = [it._replace(bound=words(it.x)) for it in lost if it.kind == LEAST or it.kind == MOST and type(it.bound) is Node]
+    return [it for it in found if not (type(it.bound) is Node and mask_of(it.bound) & own) and (it.kind == LEAST or type(it.bound) is Node)]
+
+
 def begin(state: State, first_visit: int) -> None:
     """Makes a state the beginning of a path."""
     state.memo, state.loads, state.stores, state.answers, state.trail, state.pcs, state.before = {}, [], [], [], None, [], 0
@@ -259,7 +272,7 @@ def begin(state: State, first_visit: int) -> None:
     state.visit, state.first_visit, state.released, state.rejoined, state.round = 1, first_visit, False, None, None
     state.search.openings += 1
     state.opening = state.search.openings
-    state.past, state.earlier, state.inputs, state.rounds, state.resumed = None, 0, 0, {}, None
+    state.past, state.earlier, state.inputs, state.rounds, state.resumed, state.is_covered = None, 0, 0, {}, None, False
 
 
 def raw_cells(state: State, zeros: Tuple[int, ...] = ()) -> Iterator[Tuple[Place, Byte]]:
@@ -313,10 +326,11 @@ def taint_and_values(x: Cell) -> Tuple[int, Optional[FrozenSet[int]]]:
 
 # ---- origins
 
-def tags_of(state: State) -> Dict[Place, Tag]:
-    """Returns the origins of registers and words. The calls are numbered by their depth, which is the same in all paths that are merged."""
+def tags_of(state: State, zeros: Tuple[int, ...]) -> Dict[Place, Tag]:
+    """Returns the origins of registers and words. The calls are numbered by their depth, which is the same in all paths that are merged. The
+    registers `zeros` are 0 and have none."""
     numbers = {call: depth for depth, call in enumerate(open_calls(state), 1)}
-    found: Dict[Place, Tag] = {"x%d" % n: renumbered(it, numbers) for n, it in enumerate(state.tags) if n not in RESULTS}
+    found: Dict[Place, Tag] = {"x%d" % n: renumbered(it, numbers) for n, it in enumerate(state.tags) if n not in zeros}
     found.update({"c%x" % n: renumbered(it, numbers) for n, it in state.csr_tags.items()})
     for at, it in state.mem_tags.items():
         found[at] = renumbered(it, numbers)
@@ -338,13 +352,14 @@ def renumbered(it: Tag, numbers: Dict[int, int]) -> Tag:
 
 
 def join_tags(old: Dict[Place, Tag], new: Dict[Place, Tag]) -> bool:
-    """Adds origins to merged ones; returns whether these changed. A word whose origins differ has none."""
+    """Adds origins to merged ones; returns whether these changed. The origin of a word is lost if it differs."""
     is_changed = False
     for at in [*old, *(at for at in new if at not in old)]:
-        if at in old and old[at] is NO_ORIGIN and type(at) is int:
+        if at in old and old[at] is LOST:
             continue
         if (at not in old or at not in new) and type(at) is int or old.get(at) != new.get(at):
-            none: Tag = NO_ORIGIN if type(at) is int else None
+            has_one = any(it is not None and it is not NO_ORIGIN for it in (old.get(at), new.get(at)))
+            none: Tag = LOST if has_one else NO_ORIGIN if type(at) is int else None
             is_changed = is_changed or old.get(at) is not none or at not in old
             old[at] = none
     return is_changed

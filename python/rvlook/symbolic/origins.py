@@ -32,6 +32,7 @@ class Origin(NamedTuple):
 
 
 NO_ORIGIN, MIXED = Origin(How.NONE, 0), Origin(How.MIXED, 0)
+LOST = Origin(How.NONE, 1)  # of a word that has an origin on some of the paths that were merged, and another or none on others
 Tag = Optional[Origin]
 
 
@@ -53,12 +54,15 @@ def moved_by_constant(it: Tag, offset: int, pc: int) -> Tag:
 
 def added(one: Tag, two: Tag) -> Tag:
     """Returns the origin of the sum of two words: that of the only pointer."""
+    if one is LOST or two is LOST:
+        other = two if one is LOST else one
+        return other if other is not None else LOST
     return one if two is None else two if one is None else None
 
 
 def subtracted(one: Tag, two: Tag) -> Tag:
     """Returns the origin of a difference: that of a pointer from which an offset is taken."""
-    return one if two is None else None
+    return one if two is None or two is LOST else None
 
 
 def masked(one: Tag, two: Tag) -> Tag:

@@ -104,11 +104,11 @@ class Outputs(Record):
         """Takes the value with which the enclave leaves, and the outputs that are public only with some answer."""
         for wanted, shown, pc in state.pending:
             other = differ(value, wanted)
-            answer, _ = self.solver.satisfiable(state.conds, other, state.model)
+            answer, model = self.solver.satisfiable(state.conds, other, state.model)
             if answer is False:
                 continue
             conds = state.conds + ([other] if type(other) is Node else [])
-            differs, one, two = self.solver.pair(conds, shown, set(), state.model)
+            differs, one, two = self.solver.pair(conds, shown, set(), model)
             if differs and one is not None:
                 self.report("window", state, "the output of %s is public only with the answer %d" % (self.world.place(pc), wanted), one, two)
             elif differs is None or answer is None:

@@ -63,6 +63,8 @@ class Paths(Fields):
             answer, model = s.solver.satisfiable(self.conds, not_(here), self.model)
             if answer is False:  # the conditions imply this side
                 self.count_implied()
+                if self.first_visit == MERGED_LOOP:
+                    self.conds.append(here)  # it may not be implied by a wider bound
                 return target if taken else following
             if answer:
                 self.leave_other_side(here, model, following if taken else target)

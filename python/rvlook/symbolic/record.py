@@ -5,6 +5,7 @@ from collections import Counter
 from dataclasses import dataclass, field, replace
 from typing import Any, Counter as Counts, Dict, List, Optional, Set, Tuple, TYPE_CHECKING, Union
 
+from rvlook.symbolic.fields import MERGED_LOOP
 from rvlook.symbolic.history import history_of
 from rvlook.symbolic.nodes import mask_of, names_of
 
@@ -70,6 +71,7 @@ class Record:
         self.given_written: Set[int] = set()
         self.limited: Set[int] = set()  # the places of --length that were loaded
         self.is_trial = False
+        self.rereads: List[int] = []  # the instructions of doubts about loads in merged loops
         self.wanted: Set[Union[int, str]] = set()  # places of merged states whose bounds decide something
 
     def report(self, what: str, state: State, text: str, one: Dict[str, int], two: Optional[Dict[str, int]] = None) -> None:
@@ -105,6 +107,17 @@ class Record:
         """Notes that a question is not decided at an instruction, and why."""
         if not self.is_trial:
             self.note((what, state.pc), reason)
+            if what == "reread" and state.first_visit == MERGED_LOOP:
+                self.rereads.append(state.pc)
+
+    def forget_rereads(self) -> None:
+        """Drops the doubts about loads in merged loops, before these are explored for the last time. Only then it is known which ranges of the window
+        the rounds load."""
+        for pc in self.rereads:
+            self.undecided["reread", pc] -= 1
+            if not self.undecided["reread", pc]:
+                del self.undecided["reread", pc], self.reasons["reread", pc]
+        self.rereads = []
 
     def note(self, key: Key, reason: str) -> None:
         """Notes that a question is not decided at an instruction."""

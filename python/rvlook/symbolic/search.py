@@ -64,7 +64,7 @@ class Search(Judge):
         self.bounds = Bounds(self)
         self.merger = Merger(self) if options.merges else None
         self.loops, self.loops_from, self.has_begun = Loops(self), means.loops_from, False
-        self.is_cut = self.is_outgrown = False  # is_outgrown: facts are needed about a word that is unknown for long
+        self.is_cut = self.is_outgrown = False  # is_outgrown: another search has to begin with what this one knows
 
     def is_late(self) -> bool:
         """Returns whether the time is over."""
@@ -82,7 +82,7 @@ class Search(Judge):
         it.winmem, it.win, it.inside, it.is_base, it.first_visit = bytearray(w.windows[0]), {}, {}, True, 0
         it.fetched, it.fetched_at, it.mem_tags, it.csr_tags, it.areas, it.pending, it.released = {}, [], {}, {}, (), (), False
         it.tags, it.bottom = [None] * 32, w.objects.stack
-        it.past, it.earlier, it.inputs, it.rounds, it.entry, it.opening, it.resumed = None, 0, 0, {}, w.pc, 0, None
+        (it.past, it.earlier, it.inputs, it.rounds, it.entry, it.opening, it.resumed, it.is_covered) = None, 0, 0, {}, w.pc, 0, None, False
         if w.window[0] < w.window[1] and it.regs[WINDOW_BASE] == w.window[0]:
             it.tags[WINDOW_BASE] = Origin(How.SYMBOL, w.window[0])
         for places, name, taint in ((w.secret, "k_%08x", SECRET), (w.check, "c_%08x", CHECK)):
@@ -92,8 +92,8 @@ class Search(Judge):
         return it
 
     def later(self, state: State) -> None:
-        """Adds a path."""
-        if not self.is_trial:
+        """Adds a path, unless a merged state includes it."""
+        if not self.is_trial and (state.is_base or not state.is_covered):
             self.queue.add(state)
 
     def note_flow(self, entry: int) -> None:

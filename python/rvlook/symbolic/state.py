@@ -49,14 +49,22 @@ class State(Traps):
             return str(end)
 
     def meet_head(self, pc: int) -> None:
-        """Merges paths at the head of a loop in which this one has divided several times."""
+        """Merges paths at the head of a loop in which this one has divided several times. The next search merges them from the first round on."""
         s, key = self.search, (pc, self.context)
         flow = s.flows.known.get(self.entry)
-        if self.is_base or s.is_trial or flow is None or flow.heads.get(pc, ())[-1:] != (pc,):
+        if s.is_trial or flow is None or flow.heads.get(pc, ())[-1:] != (pc,):
+            return
+        if self.is_base:
+            if key in s.heads and not self.is_covered:
+                s.take_loop(self)
+                self.is_covered = True
             return
         own = [n for (at, context), n in self.counts.items() if context == self.context and flow.heads.get(at, ())[-1:] == (pc,)]
         if key in s.heads or max(own, default=0) >= s.loops_from:
-            s.heads.add(key)
+            if key not in s.heads:
+                s.heads.add(key)
+                s.is_outgrown = True
+                raise Ended("late")
             s.take_loop(self)
             raise Ended("merged")
 

@@ -8,7 +8,7 @@
 from __future__ import annotations
 
 import time
-from typing import List, TYPE_CHECKING
+from typing import List, Set, Tuple, TYPE_CHECKING
 
 from rvlook.symbolic import questions
 from rvlook.symbolic.means import Means
@@ -22,7 +22,8 @@ if TYPE_CHECKING:
 
 FIRST, RARE, LOOPS, SEQUENCES, MOST = .4, .1, .4, .4, .8  # parts of the time that is left; MOST if the exact search has ended
 LOOPS_FROM = 3  # times that a path divides in a loop before its head is merged
-MOST_ACTIVATIONS, MOST_STARTS = 12, 5  # activations in a sequence; searches with facts about more words
+MORE_ROUNDS = 16  # times as many rounds of a loop are followed in a sequence of activations
+MOST_ACTIVATIONS, MOST_STARTS = 12, 60  # activations in a sequence; searches with more merged loops, or facts about more words
 
 
 class Strategy:
@@ -33,6 +34,7 @@ class Strategy:
         self.first = Search(world, options)
         self.began = time.perf_counter()
         self.searches: List[Search] = [self.first]
+        self.heads: Set[Tuple[int, int]] = set()  # of the loops that are merged: the pc and the call context
 
     def go(self, progress: Progress) -> None:
         """Searches until one search is complete, something is found, or the time is over."""
@@ -50,12 +52,14 @@ class Strategy:
             if self.is_done() or not self.run(self.another(Means(loops_from=LOOPS_FROM)), LOOPS, progress).is_outgrown:
                 break
         if not self.is_done() and self.merged_only():
-            self.run(self.another(Means(merges=False, activations=MOST_ACTIVATIONS)), SEQUENCES, progress)
+            self.run(self.another(Means(merges=False, activations=MOST_ACTIVATIONS, rounds=MORE_ROUNDS)), SEQUENCES, progress)
 
     def another(self, means: Means) -> Search:
         """Returns a further search, which shares the findings and the results of replays."""
         it = Search(self.world, self.options, means)
         it.found, it.wrong, it.replays, it.wanted = self.first.found, self.first.wrong, self.first.replays, self.first.wanted
+        if means.loops_from:
+            it.heads = self.heads
         self.searches.append(it)
         return it
 
@@ -77,7 +81,9 @@ class Strategy:
         return any(IN_MERGED in reason for it in self.searches for reasons in it.reasons.values() for reason in reasons)
 
     def result(self) -> Search:
-        """Returns the search that knows most: a complete one, else one that has left out no path, else the first."""
+        """Returns the search that knows most. This is a complete one, else one that has left out no path. Else it is one that has ended and names
+        the places that are open. Else it is the first."""
         whole = [it for it in self.searches if it.means.is_whole]
         complete = [it for it in whole if questions.is_complete(it)] or [it for it in whole if not questions.gone(it)]
-        return complete[0] if complete else self.first
+        ended = [it for it in whole if it.undecided and not (it.queue or it.merge_queue or it.is_outgrown or it.cut_loops)]
+        return complete[0] if complete else ended[0] if ended and not self.first.found else self.first
