@@ -1,5 +1,9 @@
-/* A parser of CBOR (RFC 8949) with definite lengths: the sum of all integers, the first byte string, and the depth. With PLANTED a byte
-   string may have one byte too many. */
+/* A parser of CBOR (RFC 8949) with definite lengths: the sum of all integers, the first byte string, and the depth. It has these bugs, each with
+   a macro:
+   PLANTED: a byte string may have one byte too many;
+   NESTED: the length of a string in the third array is not compared with the end;
+   WRAPS: the end of a string is a sum that wraps;
+   LAST: the first byte of an item is read behind the end. */
 enum major { UNSIGNED, NEGATIVE, BYTES, TEXT, ARRAY, MAP, TAG, SIMPLE };
 enum { DEEPEST = 4, FALSE = 20, NULL_VALUE = 22 };
 
@@ -12,8 +16,13 @@ unsigned blob_length, sum, has_blob, left[DEEPEST];
 
 static int read_head(unsigned at, unsigned end, struct head *head)
 {
+#ifdef LAST
+    if (at > end)
+        return 0;
+#else
     if (at == end)
         return 0;
+#endif
     unsigned first = message[at++], info = first & 31, more;
     head->major = first >> 5;
     if (info < 24) {
@@ -36,8 +45,13 @@ static int read_head(unsigned at, unsigned end, struct head *head)
 
 static int take_bytes(unsigned at, unsigned end, unsigned length, int is_text)
 {
+#ifdef WRAPS
+    if (at + length > end)
+        return 0;
+#else
     if (length > end - at)
         return 0;
+#endif
     if (is_text) {
         for (unsigned i = 0; i < length; i++)
             if (message[at + i] & 0x80)
@@ -85,6 +99,12 @@ static unsigned parse(unsigned length)
             break;
         case BYTES:
         case TEXT:
+#ifdef NESTED
+            if (depth == DEEPEST - 1) {
+                at += head.value;
+                break;
+            }
+#endif
             if (!take_bytes(at, length, head.value, head.major == TEXT))
                 return BAD_LENGTH;
             at += head.value;

@@ -1,5 +1,9 @@
-/* A parser of DER (X.690): a sequence with a version, a modulus, an exponent, further sequences and octet strings. With PLANTED the modulus may have
-   one byte too many, unless its first byte is zero. */
+/* A parser of DER (X.690): a sequence with a version, a modulus, an exponent, further sequences and octet strings. It has these bugs, each with a
+   macro:
+   PLANTED: the modulus may have one byte too many, unless its first byte is zero;
+   NESTED: an element in the third sequence is not compared with the end;
+   WRAPS: the end of an element is a sum that wraps in 16 bits;
+   LAST: the length of an element is read behind the end. */
 enum tag { BOOLEAN = 0x01, INTEGER = 0x02, OCTETS = 0x04, NOTHING = 0x05, OID = 0x06, SEQUENCE = 0x30 };
 enum { DEEPEST = 3, MOST_ARCS = 4 };
 
@@ -10,10 +14,16 @@ struct element {
 unsigned char modulus[4];
 unsigned modulus_length, integers, exponent, arcs[MOST_ARCS], arc_count, octets;
 
-static int read_element(unsigned at, unsigned end, struct element *found)
+static int read_element(unsigned at, unsigned end, unsigned depth, struct element *found)
 {
+#ifdef LAST
+    if (end == at)
+        return 0;
+#else
     if (end - at < 2)
         return 0;
+#endif
+    (void)depth;
     found->tag = message[at++];
     unsigned length = message[at++];
     if (length & 0x80) {
@@ -26,8 +36,16 @@ static int read_element(unsigned at, unsigned end, struct element *found)
         if (length < 0x80)
             return 0;
     }
+#if defined NESTED
+    if (depth < DEEPEST && length > end - at)
+        return 0;
+#elif defined WRAPS
+    if ((unsigned short)(at + length) > end)
+        return 0;
+#else
     if (length > end - at)
         return 0;
+#endif
     found->at = at;
     found->length = length;
     return 1;
@@ -86,7 +104,7 @@ static int take_sequence(unsigned at, unsigned end, unsigned depth)
 {
     struct element it;
     while (at != end) {
-        if (!read_element(at, end, &it))
+        if (!read_element(at, end, depth, &it))
             return 0;
         switch (it.tag) {
         case BOOLEAN:
@@ -124,7 +142,7 @@ static unsigned parse(unsigned length)
 {
     struct element whole;
     integers = modulus_length = exponent = arc_count = octets = 0;
-    if (!read_element(0, length, &whole) || whole.tag != SEQUENCE)
+    if (!read_element(0, length, 0, &whole) || whole.tag != SEQUENCE)
         return BAD_FIELD;
     if (whole.at + whole.length != length)
         return BAD_LENGTH;

@@ -1,5 +1,8 @@
-/* A parser of records: each field has a type, a length and a value, and containers have fields. With PLANTED a second list of items is stored behind
-   the array: its length is compared with the whole array. */
+/* A parser of records: each field has a type, a length and a value, and containers have fields. It has these bugs, each with a macro:
+   PLANTED: a second list of items is stored behind the array, because its length is compared with the whole array;
+   NESTED: a field in the third container is not compared with the end of the container;
+   WRAPS: the end of a field is computed as a byte;
+   LAST: the length of a field is read behind the end. */
 enum tlv { PADDING, NAME, NUMBER, LIST, CONTAINER, CHECKSUM };
 enum { DEEPEST = 3, ITEMS = 4 };
 
@@ -105,11 +108,21 @@ static unsigned parse(unsigned length)
         unsigned type = message[at++];
         if (type == PADDING)
             continue;
+#ifndef LAST
         if (at == ends[depth])
             return BAD_LENGTH;
+#endif
         unsigned size = message[at++];
+#if defined NESTED
+        if (depth + 1 < DEEPEST && size > ends[depth] - at)
+            return BAD_LENGTH;
+#elif defined WRAPS
+        if ((unsigned char)(at + size) > ends[depth])
+            return BAD_LENGTH;
+#else
         if (size > ends[depth] - at)
             return BAD_LENGTH;
+#endif
         if (type == CONTAINER) {
             if (depth + 1 == DEEPEST)
                 return BAD_DEPTH;
