@@ -8,7 +8,9 @@ pytest.importorskip("z3", reason="python3-z3 is not installed")
 from rvlook.__main__ import main
 from rvlook.symbolic.sweeps import Sweep
 
-LOOPS = {"COPY": "memory", "LENGTH": "memory", "COMPARE": "memory", "AGAIN": "double fetches", "HALVES": "returns"}
+LOOPS = {"COPY": "memory", "LENGTH": "memory", "COMPARE": "memory", "AGAIN": "double fetches", "HALVES": "returns", "SHOWN": "outputs"}
+SECONDS = 12
+SHOWN = ("--at", "key:4", "--public", "window_base+800:4@answer=3")
 
 
 @pytest.fixture
@@ -16,7 +18,8 @@ def verify(objects, built, monkeypatch):
     """Runs `verify` on a loop; returns its status, the answers, and the last object."""
     def run(*flags):
         monkeypatch.setenv("CFLAGS", " ".join("-D" + it for it in flags))
-        status, found = objects("verify", built("verify_loops", "--clang"), "--monitor", "--seconds", "20")
+        more = SHOWN if "SHOWN" in flags else ()
+        status, found = objects("verify", built("verify_loops", "--clang"), "--monitor", "--seconds", SECONDS, *more)
         return status, {it["name"]: it["verdict"] for it in found if it["object"] == "question"}, found[-1]
     return run
 
@@ -31,6 +34,11 @@ def test_right_loop_is_complete(verify, name):
 def test_planted_loop_is_not_proved(verify, name):
     status, answers, last = verify(name, "PLANTED")
     assert answers[LOOPS[name]] in ("FOUND", "NOT DECIDED") and status in (1, 3) and not last["complete"]
+
+
+def test_pointer_that_a_late_round_sets_is_not_taken_for_one_of_the_host(verify):
+    status, answers, last = verify("MOVED", "PLANTED")
+    assert answers["double fetches"] in ("FOUND", "NOT DECIDED") and status in (1, 3) and not last["complete"]
 
 
 def test_lost_loads_of_rounds_are_noticed(built, bench, monkeypatch, capsys):

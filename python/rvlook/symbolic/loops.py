@@ -59,7 +59,7 @@ class Loops:
             merger = LoopMerger(self.search, "v%d_" % len(self.heads))
             self.heads[key] = merger, Head(state.fork(state.pc, True))
             merger.first(self.heads[key][1], state)
-            is_changed = True
+            is_changed, self.is_final = True, False
         else:
             merger, head = self.heads[key]
             is_changed = merger.next(head, state)

@@ -1,6 +1,7 @@
 // Functions of the C library over up to ROOM bytes of the window: COPY, LENGTH or COMPARE, as a macro says. With PLANTED each has one byte too many.
 // AGAIN copies bytes one by one, and with PLANTED loads one of them twice. HALVES has a loop over an expression, which with PLANTED never ends for
-// some values.
+// some values. SHOWN stores a part of the key, which is public only with the answer 3, and then copies. With PLANTED one length has another answer.
+// MOVED with PLANTED loads a byte of the window again, by a pointer that a late round has set.
 #include "request.h"
 #include "services.h"
 
@@ -12,6 +13,9 @@ enum { MOST = ROOM };
 
 unsigned char buffer[ROOM];
 unsigned following = 1;
+unsigned char key[4] = "key";
+extern char window_base[];
+enum { SHOWN_AT = 0x800, ROUNDS = 4000, LATE = 2000, LATER = 2500 };
 
 void *memcpy(void *to, const void *from, __SIZE_TYPE__ size);
 int memcmp(const void *one, const void *other, __SIZE_TYPE__ size);
@@ -55,6 +59,40 @@ static unsigned answer(window w)
         buffer[i] = ((volatile unsigned char *)w->data)[i];
 #endif
     return length;
+}
+#elif defined SHOWN
+static unsigned answer(window w)
+{
+    unsigned length = *(volatile unsigned *)&w->length;
+    if (length > ROOM)
+        return 0;
+    *(volatile unsigned *)((char *)w + SHOWN_AT) = *(volatile unsigned *)key;
+    for (unsigned i = 0; i < length; i++)
+        buffer[i] = ((volatile unsigned char *)w->data)[i];
+#ifdef PLANTED
+    return length == 100 ? 4 : 3;
+#else
+    return 3;
+#endif
+}
+#elif defined MOVED
+static unsigned answer(window w)
+{
+    unsigned length = *(volatile unsigned *)&w->length, sum = 0;
+    if (length > ROUNDS)
+        return 0;
+    volatile unsigned char *data = w->data, *last = data + ROUNDS + 50;
+    for (unsigned i = 0; i < length; i++) {
+        sum += data[i];
+#ifdef PLANTED
+        if (i == LATE)
+            last = (volatile unsigned char *)(window_base + 10);
+#endif
+        __asm__ volatile("" : "+r"(last));
+    }
+    if (length > LATER && (char *)last >= window_base && (char *)last < window_base + 4090)
+        sum += *last;
+    return sum;
 }
 #else
 static unsigned answer(window w)
