@@ -9,17 +9,17 @@ from rvlook.__main__ import main
 from rvlook.symbolic.sweeps import Sweep
 
 LOOPS = {"COPY": "memory", "LENGTH": "memory", "COMPARE": "memory", "AGAIN": "double fetches", "HALVES": "returns", "SHOWN": "outputs"}
-SECONDS = 12
+PLANTED, RIGHT = 12, 60  # seconds
 SHOWN = ("--at", "key:4", "--public", "window_base+800:4@answer=3")
 
 
 @pytest.fixture
 def verify(objects, built, monkeypatch):
-    """Runs `verify` on a loop; returns its status, the answers, and the last object."""
+    """Runs `verify` on a loop; returns its status, the answers, and the last object. Only a right loop ends before the limit."""
     def run(*flags):
         monkeypatch.setenv("CFLAGS", " ".join("-D" + it for it in flags))
         more = SHOWN if "SHOWN" in flags else ()
-        status, found = objects("verify", built("verify_loops", "--clang"), "--monitor", "--seconds", SECONDS, *more)
+        status, found = objects("verify", built("verify_loops", "--clang"), "--monitor", "--seconds", PLANTED if "PLANTED" in flags else RIGHT, *more)
         return status, {it["name"]: it["verdict"] for it in found if it["object"] == "question"}, found[-1]
     return run
 

@@ -204,8 +204,6 @@ class Memory(Accesses):
         w = self.search.world
         if it is not None and it.low == w.window[0]:
             return assembled(self.received(self.value(x), width, x), width, is_signed), 0
-        if it is not None and self.search.means.is_rare_first:
-            it = None  # on one path an index is a number: conditions stay short
         if it is not None and it.high - it.low <= MOST_TABLE and not (width == 4 and self.has_pointers(it.low, it.high)):
             raw, sym = self.mem[it.low - w.region[0]:it.high - w.region[0]], self.sym
             content = tuple(plain(sym.get(at, raw[at - it.low])) for at in range(it.low, it.high)) if sym else tuple(raw)
@@ -221,8 +219,6 @@ class Memory(Accesses):
         if it is not None and it.low == w.window[0]:
             self.sent(self.value(x), width, value, x)
             return None
-        if it is not None and self.search.means.is_rare_first:
-            it = None
         if it is not None and it.high - it.low <= MOST_STORED and tag is None and not self.has_pointers(it.low & -4, it.high):
             self.write_anywhere(x, width, value, it)
             return None

@@ -20,7 +20,7 @@ if TYPE_CHECKING:
     from rvlook.symbolic.options import VerifyOptions
     from rvlook.symbolic.world import World
 
-FIRST, RARE, LOOPS, SEQUENCES, MOST = .4, .1, .4, .4, .8  # parts of the time that is left; MOST if the exact search has ended
+FIRST, RARE, LOOPS, SEQUENCES, MOST = .4, .25, .4, .4, .8  # parts of the time that is left; MOST if the exact search has ended
 LOOPS_FROM = 3  # times that a path divides in a loop before its head is merged
 MORE_ROUNDS = 16  # times as many rounds of a loop are followed in a sequence of activations
 MOST_ACTIVATIONS, MOST_STARTS = 12, 60  # activations in a sequence; searches with more merged loops, or facts about more words
