@@ -147,12 +147,12 @@ class LoopMerger(Merger):
             return False, grown  # the path comes from outside the loop
         loads = [x for x in loads if x not in it.range_explored]
         first: List[FetchedAt] = [(at, 1, *site, ()) for at, site in state.fetched.items() if is_own and at not in it.fetched]
-        before, now = self.words(it, it.explored), words_of(state)
-        sweep = it.sweep.extended(loads + first, it.facts, before, now, state, lambda c: self.implied(state, c))
+        before = self.words(it, it.explored)
+        sweep = it.sweep.extended(loads + first, it.facts, before, state, lambda c: self.implied(state, c))
         if not sweep.is_lost:
             grown = {at: x for at, x in grown.items() if at in it.fetched or not is_own}
         elif first:
-            sweep = it.sweep.extended(loads, it.facts, before, now, state, lambda c: self.implied(state, c))
+            sweep = it.sweep.extended(loads, it.facts, before, state, lambda c: self.implied(state, c))
         if sweep.is_lost:
             self.search.note(("reread", sweep.site[0]), MEETS)
             self.search.rereads.append(sweep.site[0])

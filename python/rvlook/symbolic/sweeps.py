@@ -4,6 +4,7 @@ from __future__ import annotations
 
 from typing import Callable, Dict, List, NamedTuple, Sequence, Tuple, TYPE_CHECKING
 
+from rvlook.symbolic.bounds import words_of
 from rvlook.symbolic.conditions import all_of, any_of, ult
 from rvlook.symbolic.facts import LEAST, Fact, WordPlace, Words
 from rvlook.symbolic.fields import FetchedAt
@@ -28,13 +29,12 @@ class Sweep(NamedTuple):
         """Returns whether there are loads and no word is known that is behind all of them."""
         return self.has_begun and not self.ends
 
-    def extended(self, loads: Sequence[FetchedAt], facts: Sequence[Fact], before: Words, now: Words, state: State,
-                 implied: Callable[[Condition], bool]) -> Sweep:
-        """Returns the range with the loads of a round: without each word that is not behind all of them. `before` and `now` have the words when the
-        round began and ended, in a state."""
+    def extended(self, loads: Sequence[FetchedAt], facts: Sequence[Fact], before: Words, state: State, implied: Callable[[Condition], bool]) -> Sweep:
+        """Returns the range with the loads of a round: without each word that is not behind all of them. `before` has the words when the round
+        began, and `state` is its end."""
         if not self.has_begun and not loads:
             return self
-        lows = lows_of(facts)
+        lows, now = lows_of(facts), words_of(state)
         ends = self.ends if self.has_begun else tuple((x, behind(loads, now(x), state)) for x in sorted(lows, key=str, reverse=True))
         left = tuple((x, n) for x, n in ends if x in lows and implied(all_of(*conditions_of(loads, lows[x] + n & M32, *moved(n, before(x), now(x))))))
         return Sweep(left, True, self.site if self.has_begun else (loads[0][2], loads[0][3]))
