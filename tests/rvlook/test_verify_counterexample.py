@@ -12,7 +12,7 @@ pytest.importorskip("z3", reason="python3-z3 is not installed")
 
 from conftest import EXAMPLES, ROOT
 from rvlook.symbolic import counterexample
-from rvlook.symbolic.counterexample import HINT, Row, table
+from rvlook.symbolic.counterexample import HINT, InputRow, table
 from support.gdb_client import Client
 from support.page_data import Steps, data_of
 
@@ -94,7 +94,7 @@ def test_hex_image_is_no_program_of_the_debugger(rvlook, tmp_path):
 
 @pytest.mark.parametrize("fields, sizes", [([(0, 4)], [4]), ([(0, 1), (1, 1), (2, 2)], [1, 1, 2]), ([(0, 2), (2, 2)], [2, 2]), ([], [4])])
 def test_bytes_of_one_field_are_put_together(monkeypatch, fields, sizes):
-    rows = [Row(1, 0x80030000 + n, bytes([n]), b"\0") for n in range(4)]
+    rows = [InputRow(1, 0x80030000 + n, bytes([n]), b"\0") for n in range(4)]
     monkeypatch.setattr(counterexample, "rows_of", lambda search, it: iter(rows))
     member = SimpleNamespace(member=lambda at: next((it for it in fields if it[0] <= at - 0x80030000 < sum(it)), None))
     found = table(SimpleNamespace(world=SimpleNamespace(fields=member)), None)
@@ -102,7 +102,7 @@ def test_bytes_of_one_field_are_put_together(monkeypatch, fields, sizes):
 
 
 def test_bytes_of_two_activations_stay_apart(monkeypatch):
-    monkeypatch.setattr(counterexample, "rows_of", lambda search, it: iter([Row(1, 0x80030000, b"a", b"b"), Row(2, 0x80030001, b"a", b"b")]))
+    monkeypatch.setattr(counterexample, "rows_of", lambda search, it: iter([InputRow(1, 0x80030000, b"a", b"b"), InputRow(2, 0x80030001, b"a", b"b")]))
     none = SimpleNamespace(member=lambda at: None)
     assert len(table(SimpleNamespace(world=SimpleNamespace(fields=none)), None)) == 2
 

@@ -26,13 +26,13 @@ MOST_STEPS, MOST_ROUNDS, MOST_MODELS = 30000, 4, 24  # steps of a path, rounds o
 MOST_TRACES = 16  # traces that are executed
 TIMEOUT, SECONDS = 2000, 60.0  # milliseconds of a query, and seconds of a path
 NEAR = 8  # unchanged bytes between two changes that are made at once
-Pair = Tuple[int, int]  # a branch, and the pc after it
+Turn = Tuple[int, int]  # a branch, and the pc after it
 
 
 class Model:
     """Values of the inputs of a path, and the branch that they turn, if it is one. `index` is that of its step."""
 
-    def __init__(self, state: AnyState, values: Mapping[str, int], pair: Optional[Pair] = None) -> None:
+    def __init__(self, state: AnyState, values: Mapping[str, int], pair: Optional[Turn] = None) -> None:
         self.loads: List[Load] = state.loads[:]
         self.ends: List[int] = [it[0] for it in state.answers]
         self.values, self.pair, self.index = values, pair, state.steps - (pair is not None)
@@ -61,7 +61,7 @@ class TracePath(Search):
     def __init__(self, world: World, options: VerifyOptions) -> None:
         super().__init__(world, options)
         self.models: List[Model] = []
-        self.accesses: Dict[Pair, int] = {}
+        self.accesses: Dict[Turn, int] = {}
 
     def is_new_access(self, pc: int, context: int) -> bool:
         """Returns whether an access has had no proposal."""

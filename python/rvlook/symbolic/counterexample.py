@@ -5,6 +5,7 @@ import shlex
 from typing import Any, Dict, Iterator, List, NamedTuple, TYPE_CHECKING
 
 from rvlook.output.printer import hex8
+from rvlook.protocol.run import Setup
 from rvlook.protocol.inputs import ELF_MAGIC
 from rvlook.symbolic.evaluation import evaluate
 from rvlook.symbolic.nodes import by_name, mask_of
@@ -15,11 +16,10 @@ if TYPE_CHECKING:
     from rvlook.symbolic.search import Search
 
 MOST_INPUTS = 24  # rows of the table of inputs
-RAM = 1 << 20  # bytes, if no option says otherwise
 HINT = "To run a finding, give --scripts DIR. It writes DIR/finding_N, which ./rvlook page and ./rvlook gdb show."
 
 
-class Row(NamedTuple):
+class InputRow(NamedTuple):
     """Bytes that a load takes from the host: the activation, the address, the values, and the values in the run itself."""
     visit: int
     at: int
@@ -27,7 +27,7 @@ class Row(NamedTuple):
     old: bytes
 
 
-def rows_of(search: Search, it: Finding) -> Iterator[Row]:
+def rows_of(search: Search, it: Finding) -> Iterator[InputRow]:
     """Yields the inputs that the path of a finding asks about, by load."""
     memo: Dict[Any, Any] = {}
     mask = 0
@@ -39,9 +39,9 @@ def rows_of(search: Search, it: Finding) -> Iterator[Row]:
         if not any(name in by_name and (by_name[name].mask or 0) & mask for _, name in names):
             continue
         visit, first = sum(end < step for end in ends), evaluate(at, it.one, memo)
-        parts: List[Row] = []
+        parts: List[InputRow] = []
         for n, name in names:
-            row = Row(visit + 1, first + n, bytes([it.one[name]]), bytes([own_byte(search, visit, first + n)]))
+            row = InputRow(visit + 1, first + n, bytes([it.one[name]]), bytes([own_byte(search, visit, first + n)]))
             is_next = bool(parts) and parts[-1].at + len(parts[-1].values) == row.at
             parts[len(parts) - is_next:] = [joined(parts[-1], row) if is_next else row]
         yield from parts
@@ -55,14 +55,15 @@ def own_byte(search: Search, visit: int, at: int) -> int:
     return w.memory[at - w.region[0]]
 
 
-def joined(one: Row, two: Row) -> Row:
+def joined(one: InputRow, two: InputRow) -> InputRow:
     """Returns two rows of adjacent bytes as one."""
     return one._replace(values=one.values + two.values, old=one.old + two.old)
 
 
-def table(search: Search, it: Finding) -> List[Row]:
+def table(search: Search, it: Finding) -> List[InputRow]:
     """Returns the inputs of a finding. Bytes that are loaded one by one are put together to aligned words of one field."""
-    fields, found = search.world.fields, []  # type: Any, List[Row]
+    fields = search.world.fields
+    found: List[InputRow] = []
     for row in rows_of(search, it):
         last = found[-1] if found else row
         size = len(last.values)
@@ -81,7 +82,7 @@ def input_lines(search: Search, it: Finding) -> List[str]:
     return (found[:MOST_INPUTS] or ["  input  none: the run itself"]) + more
 
 
-def line_of(search: Search, row: Row) -> str:
+def line_of(search: Search, row: InputRow) -> str:
     """Returns an input as a line."""
     value, old = (int.from_bytes(it, "little") for it in (row.values, row.old))
     count = "1 byte" if len(row.values) == 1 else "%d bytes" % len(row.values)
@@ -111,7 +112,7 @@ def commands(search: Search, number: int) -> List[str]:
     setup, path = search.world.run.setup, "%s/finding_%d" % (search.options.scripts, number)
     words = ["--monitor", path] + (["--symbols", search.options.symbols] if search.options.symbols else [])
     words += ["--harts", str(setup.harts)] if setup.harts > 1 else []
-    words += ["--ram", str(setup.ram)] if setup.ram != RAM else []
+    words += ["--ram", str(setup.ram)] if setup.ram != Setup.ram else []
     text = " ".join(map(shlex.quote, words))
     program = next((it for it in (search.options.symbols, setup.image.name) if it and is_elf_file(it)), None)
     debugger = ["gdb-multiarch", *([program] if program else []), "-ex", "target remote | ./rvlook gdb %s" % text]

@@ -18,8 +18,8 @@ AnyState = Any  # a State; its bases call functions that take one
 Calls = Optional[Tuple[Any, int, int, int, int]]  # the calls that are open: the outer ones, their number, the return address, sp, and the entry
 Load = Tuple[int, Word, Tuple[Tuple[int, str], ...]]  # the step, the address, and the offset and the variable of each byte
 Store = Tuple[int, Word, int, Word]  # the step, the address, the width and the value
-FetchedAt = Tuple[Word, Word, int, int, Tuple[Node, ...]]  # the address, the width (or the end, if it is an expression), the instruction, its
-# context, and conditions of joined paths
+# the address, the width (or the end, if it is an expression), the instruction, its context, and conditions of joined paths
+FetchedAt = Tuple[Word, Word, int, int, Tuple[Node, ...]]
 Answer = Tuple[int, int, Word, int, int]  # the step, the call, the value, and the numbers of loads and stores before
 
 
