@@ -5,6 +5,7 @@ use Rattle.rv_asm.specs.declared.mnemonic.Mnemonic.TheVariants.{Lui, Auipc, Jal,
 use Rattle.rv_asm.specs.declared.mnemonic.Mnemonic.TheVariants.{Ecall, Ebreak, Sret, Mret, Wfi, SfenceVma, Word, Nop, Ret, Li}
 use Rattle.rv_asm.specs.Statements.{statement_of}
 
+-- a statement with four operands or more is the same error, whatever follows
 more_do_not_matter : (m : Mnemonic) (u v w x : List ℕ) (more others : List (List ℕ))
     → statement_of m (u ∷ v ∷ w ∷ x ∷ more) ≡ statement_of m (u ∷ v ∷ w ∷ x ∷ others)
 more_do_not_matter Lui u v w x more others = refl
@@ -31,6 +32,7 @@ more_do_not_matter Nop u v w x more others = refl
 more_do_not_matter Ret u v w x more others = refl
 more_do_not_matter Li u v w x more others = refl
 
+-- the statement depends on the first four operands only, since more than three are an error
 pub statement_of-take : (m : Mnemonic) (operands : List (List ℕ)) → statement_of m (take 4 operands) ≡ statement_of m operands
 statement_of-take m [] = refl
 statement_of-take m (u ∷ []) = refl

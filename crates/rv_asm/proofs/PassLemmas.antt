@@ -16,20 +16,22 @@ pub record HasReadUpTo (pass : FirstPass) (text rest : List ℕ) : Type 0 where
   pub sound : first_line_fault own_fault [] (readings text) ≡ first_line_fault own_fault before (readings rest)
   pub none : first_line_fault own_fault [] before ≡ None
 
-pub reads_on : (pass new : FirstPass) (text rest after line : List ℕ) → (has : HasReadUpTo pass text rest) → lines_of rest ≡ line ∷ lines_of after
-    → HasRead new (has.before ++ line_read line ∷ []) → own_fault has.before (line_read line) ≡ None → HasReadUpTo new text after
-reads_on pass new text rest after line has is read sound = record {
-  before = has.before ++ line_read line ∷ [];
+-- after one more line without an error of its own, the first pass has read up to the line after it
+pub reads_on : (pass new : FirstPass) (text rest after line : List ℕ) → (so_far : HasReadUpTo pass text rest) → lines_of rest ≡ line ∷ lines_of after
+    → HasRead new (so_far.before ++ line_read line ∷ []) → own_fault so_far.before (line_read line) ≡ None → HasReadUpTo new text after
+reads_on pass new text rest after line so_far lines_are read sound = record {
+  before = so_far.before ++ line_read line ∷ [];
   read = read;
-  split = has.split ∙ ap (λ lines. has.before ++ map line_read lines) is ∙ sym (append_assoc has.before (line_read line ∷ []) (readings after));
+  split = so_far.split ∙ ap (λ lines. so_far.before ++ map line_read lines) lines_are ∙ sym (append_assoc so_far.before (line_read line ∷ []) (readings after));
   sound =
-      has.sound ∙ ap (λ lines. first_line_fault own_fault has.before (map line_read lines)) is
-      ∙ fault_later own_fault has.before (readings after) (line_read line) sound;
-  none = first_fault-push own_fault [] has.before (line_read line) ∙ rw (has.none, sound) refl;
+      so_far.sound ∙ ap (λ lines. first_line_fault own_fault so_far.before (map line_read lines)) lines_are
+      ∙ fault_later own_fault so_far.before (readings after) (line_read line) sound;
+  none = first_fault-push own_fault [] so_far.before (line_read line) ∙ rw (so_far.none, sound) refl;
 }
 
-pub is_line_of : (pass : FirstPass) (text rest after line : List ℕ) → (has : HasReadUpTo pass text rest) → lines_of rest ≡ line ∷ lines_of after
-    → length has.before + 1 ≤ length (readings text)
-is_line_of pass text rest after line has is =
-    let whole : readings text ≡ has.before ++ line_read line ∷ readings after = has.split ∙ ap (λ lines. has.before ++ map line_read lines) is in
-    rw whole (omega (arith, length-append has.before (line_read line ∷ readings after)))
+-- the number of the line is at most the number of lines of the text
+pub is_line_of : (pass : FirstPass) (text rest after line : List ℕ) → (so_far : HasReadUpTo pass text rest) → lines_of rest ≡ line ∷ lines_of after
+    → length so_far.before + 1 ≤ length (readings text)
+is_line_of pass text rest after line so_far lines_are =
+    let whole : readings text ≡ so_far.before ++ line_read line ∷ readings after = so_far.split ∙ ap (λ lines. so_far.before ++ map line_read lines) lines_are in
+    rw whole (omega (arith, length-append so_far.before (line_read line ∷ readings after)))

@@ -19,6 +19,7 @@ use Rattle.rv_asm.proofs.Plain.{is_piece, IsPiece, IsPiece-from_test}
 
 -- ---- the mnemonic of an instruction
 
+-- the mnemonic of an instruction
 abbrev pub mnemonic_of : Instr → Mnemonic
 mnemonic_of (instr.Lui a b) = mnemonic.Lui
 mnemonic_of (instr.Auipc a b) = mnemonic.Auipc
@@ -42,9 +43,11 @@ mnemonic_of (instr.SfenceVma a b) = mnemonic.SfenceVma
 
 -- ---- the mnemonic is a piece of a line
 
+-- the name of each instruction is a piece
 pub piece-name : (i : Instr) → IsPiece (name_of i)
 piece-name i = IsPiece-from_test (name_of i) (test i)
   where
+    -- the name passes the test of a piece
     test : (i : Instr) → is_piece (name_of i) ≡ true
     test (instr.Lui a b) = refl
     test (instr.Auipc a b) = refl
@@ -107,6 +110,7 @@ piece-name i = IsPiece-from_test (name_of i) (test i)
 
 -- ---- the mnemonic is read back
 
+-- the name of an instruction at the start of a line is read as its mnemonic
 pub read-name : (i : Instr) (rest : List ℕ) → statement_at (name_of i ++ 32 ∷ rest) ≡ statement_of (mnemonic_of i) (operands_in (32 ∷ rest))
 unfolding statement_at mnemonics is_name is_name_byte
 read-name (instr.Lui a b) rest = refl

@@ -20,6 +20,7 @@ use Rattle.rv_disassembler.proofs.HexTexts.{one_digit, two_digits, three_digits,
 
 -- ---- digits
 
+-- digits of a base pass the test
 list_all-digits : (base : ℕ) (text : List ℕ) → AllDigits base text → list_all (λ c. is_digit c base) text ≡ true
 list_all-digits base [] digits = refl
 list_all-digits base (c ∷ text) digits = and_from _ _ (below digits.0) (list_all-digits base text digits.1)
@@ -36,6 +37,7 @@ and_false : (t : Bool) → (t && false) ≡ false
 and_false true = refl
 and_false false = refl
 
+-- decimal digits do not begin with `0x`
 digits-no_hex : (text : List ℕ) → AllDigits 10 text → starts_with nat_eq text (codes "0x") ≡ false
 digits-no_hex [] each = refl
 digits-no_hex (c ∷ []) each = and_false (nat_eq 48 c)
@@ -44,6 +46,7 @@ digits-no_hex (c ∷ d ∷ text) each =
     let other : nat_eq 120 d ≡ false = grind (arith, nat_tests, between) in
     rw other (and_false (nat_eq 48 c))
 
+-- decimal digits do not begin with a minus
 digits-no_minus : (text : List ℕ) → AllDigits 10 text → starts_with nat_eq text (codes "-") ≡ false
 digits-no_minus [] each = refl
 digits-no_minus (c ∷ text) each =
@@ -53,6 +56,7 @@ digits-no_minus (c ∷ text) each =
 
 -- ---- decimal numbers
 
+-- the decimal digits of a number have its value
 decimal_digits-decimal : (n : ℕ) → n < 2 ^ 64 → decimal_digits (decimal n) ≡ Some n
 unfolding decimal_digits
 decimal_digits-decimal n fits =
@@ -61,6 +65,7 @@ decimal_digits-decimal n fits =
     let some : nat_lt 0 (length (decimal n)) ≡ true = grind (arith, nat_tests, numeral.0.0) in
     rw (some, all, numeral.1) (ap Some (omega (arith, fits)))
 
+-- the decimal digits of a number are read as the number
 pub written-decimal : (n : ℕ) → n < 2 ^ 64 → written_number (decimal n) ≡ Some (plus n)
 unfolding written_number
 written-decimal n fits =
@@ -70,15 +75,18 @@ written-decimal n fits =
     let value = decimal_digits-decimal n fits in
     rw (no_hex, no_minus, value) refl
 
+-- a minus and the decimal digits of a number are read as its negative
 pub written-minus : (n : ℕ) → n < 2 ^ 64 → written_number (45 ∷ decimal n) ≡ Some (minus n)
 unfolding written_number
 written-minus n fits = let value = decimal_digits-decimal n fits in rw value refl
 
 -- ---- signed numbers
 
+-- the number that a field of this width has as a signed number
 abbrev pub signed_number : ℕ → ℕ → Number
 signed_number width field = if nat_lt field (2 ^ (width - 1)) then plus field else minus (2 ^ width - field)
 
+-- the signed text of a field is read as the signed number of the field
 pub written-signed : (width field : ℕ) → field < 2 ^ 64 → 2 ^ width < 2 ^ 64 → written_number (signed_text width field) ≡ Some (signed_number width field)
 written-signed width field small wide = either (nat_lt field (2 ^ (width - 1))) (2 ^ width - field) (omega (arith, wide))
   where
@@ -87,38 +95,46 @@ written-signed width field small wide = either (nat_lt field (2 ^ (width - 1))) 
     either true left fits = written-decimal field small
     either false left fits = written-minus left fits
 
+-- the signed number of a 12-bit field is read back as the field
 pub immediate-signed : (field : ℕ) → field < 2 ^ 12 → immediate_of (signed_number 12 field) ≡ Ok field
 immediate-signed field small = grind (arith, nat_tests)
 
+-- the signed number of a branch offset is read back as the offset
 pub branch_offset-signed : (field : ℕ) → field < 2 ^ 13 → field % 2 ≡ 0 → branch_offset_of (signed_number 13 field) ≡ Ok field
 branch_offset-signed field small even = grind (arith, nat_tests)
 
+-- the signed number of a jump offset is read back as the offset
 pub jump_offset-signed : (field : ℕ) → field < 2 ^ 21 → field % 2 ≡ 0 → jump_offset_of (signed_number 21 field) ≡ Ok field
 jump_offset-signed field small even = grind (arith, nat_tests)
 
+-- a number below 32 is a 5-bit field
 pub five_bits-plus : (n : ℕ) → n < 32 → five_bits_of (plus n) ≡ Ok n
 five_bits-plus n small = grind (arith, nat_tests)
 
+-- a number below 4096 is the number of a CSR
 pub csr_number-plus : (n : ℕ) → n < 2 ^ 12 → csr_number_field (plus n) ≡ Ok n
 csr_number-plus n small = grind (arith, nat_tests)
 
+-- a number below 2 ^ 32 is a word
 pub word_of-plus : (n : ℕ) → n < 2 ^ 32 → word_of_number (plus n) ≡ Ok n
 word_of-plus n small = grind (arith, nat_tests)
 
+-- the upper 20 bits of an upper immediate are read back as the immediate
 pub upper-plus : (imm : ℕ) → imm < 2 ^ 32 → imm % 2 ^ 12 ≡ 0 → upper_immediate_of (plus (imm / 2 ^ 12)) ≡ Ok imm
 upper-plus imm small whole = grind (arith, nat_tests)
 
 -- ---- hexadecimal numbers
 
+-- `0x` and the hexadecimal digits of a number are read as the number
 pub written-hex : (places n : ℕ) → 0 < places → places ≤ 8 → n < 16 ^ places → written_number (48 ∷ 120 ∷ hex_digits places n) ≡ Some (plus n)
 unfolding written_number number_of_digits
 written-hex places n some few small =
     let all = list_all-digits 16 (hex_digits places n) (AllDigits-hex_digits places n) in
     let value = digits_value-hex_digits places n small in
-    let size = length-hex_digits places n in
+    let few_digits = length-hex_digits places n in
     let not_none : nat_lt 0 places ≡ true = grind (arith, nat_tests) in
     let not_many : nat_le places 8 ≡ true = grind (arith, nat_tests) in
-    rw (size, not_none, not_many, all, value) refl
+    rw (few_digits, not_none, not_many, all, value) refl
 
 -- a hexadecimal number of at most 20 bits, without leading zeros, is read back
 pub written-hex_text : (n : ℕ) → n < 2 ^ 20 → written_number (hex_text n) ≡ Some (plus n)

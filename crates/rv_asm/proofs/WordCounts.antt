@@ -14,39 +14,48 @@ use Rattle.rv_asm.specs.declared.statement.Statement.TheVariants.{Instruction, J
 use Rattle.rv_asm.specs.declared.fault.AsmFaultKind.{AsmFaultKind}
 use Rattle.rv_asm.specs.declared.fault.AsmFaultKind.TheVariants.{UnknownLabel}
 
+-- two equal results that are Ok have equal values
 ok_same : {A E : Type 0} (x y : A) → (let r : Result A E = Ok x in r ≡ Ok y) → x ≡ y
-ok_same x y is = cc
+ok_same x y Result_is = cc
 
+-- a statement of one word gives one word
 one_word : (r : Result ℕ AsmFaultKind) (word : ℕ → ℕ) (words : List ℕ) → (r >>= (λ n. Ok (word n ∷ []))) ≡ Ok words → length words ≡ 1
-one_word (Ok n) word words is = sym (ap length (ok_same _ _ is))
-one_word (Err kind) word words is = cc
+one_word (Ok n) word words words_are = sym (ap length (ok_same _ _ words_are))
+one_word (Err kind) word words words_are = cc
 
+-- a jump gives one word
 jump_word : (there : Result ℕ AsmFaultKind) (offset : ℕ → Result ℕ AsmFaultKind) (word : ℕ → ℕ) (words : List ℕ)
     → (there >>= (λ place. offset place >>= (λ n. Ok (word n ∷ [])))) ≡ Ok words → length words ≡ 1
-jump_word (Ok place) offset word words is = one_word (offset place) word words is
-jump_word (Err kind) offset word words is = cc
+jump_word (Ok place) offset word words words_are = one_word (offset place) word words words_are
+jump_word (Err kind) offset word words words_are = cc
 
+-- a statement has as many words as its size says
 length-statement_words : (labels : List ℕ → Option ℕ) (place : ℕ) (s : Statement) (words : List ℕ) → statement_words labels place s ≡ Ok words
     → length words ≡ statement_size s
 unfolding statement_words statement_size
-length-statement_words labels place (Instruction instruction) words is = sym (ap length (ok_same _ _ is))
-length-statement_words labels place (JumpTo rd name) words is =
-    jump_word (ok_or (labels name) UnknownLabel) (λ there. jump_offset_of (distance place there)) (λ offset. word_of (Jal rd offset)) words is
-length-statement_words labels place (BranchTo kind rs1 rs2 name) words is =
-    jump_word (ok_or (labels name) UnknownLabel) (λ there. branch_offset_of (distance place there)) (λ offset. word_of (Branch kind rs1 rs2 offset)) words is
-length-statement_words labels place (Li rd value) words is = sym (ap length (ok_same _ _ is)) ∙ length-map (li_code rd value) word_of
-length-statement_words labels place (Word word) words is = sym (ap length (ok_same _ _ is))
+length-statement_words labels place (Instruction instruction) words statement_words_is = sym (ap length (ok_same _ _ statement_words_is))
+length-statement_words labels place (JumpTo rd name) words statement_words_is =
+    jump_word (ok_or (labels name) UnknownLabel) (λ target. jump_offset_of (distance place target))
+    (λ offset. word_of (Jal rd offset)) words statement_words_is
+length-statement_words labels place (BranchTo kind rs1 rs2 name) words statement_words_is =
+    jump_word (ok_or (labels name) UnknownLabel) (λ target. branch_offset_of (distance place target))
+    (λ offset. word_of (Branch kind rs1 rs2 offset)) words statement_words_is
+length-statement_words labels place (Li rd value) words statement_words_is = sym (ap length (ok_same _ _ statement_words_is)) ∙ length-map (li_code rd value) word_of
+length-statement_words labels place (Word word) words statement_words_is = sym (ap length (ok_same _ _ statement_words_is))
 
+-- a line without a statement has no word
 length-optional : (labels : List ℕ → Option ℕ) (place : ℕ) (s : Option Statement) (words : List ℕ)
     → option_case s (Ok []) (statement_words labels place) ≡ Ok words → length words ≡ option_case s 0 statement_size
-length-optional labels place None words is = sym (ap length (ok_same _ _ is))
-length-optional labels place (Some s) words is = length-statement_words labels place s words is
+length-optional labels place None words choice_is = sym (ap length (ok_same _ _ choice_is))
+length-optional labels place (Some s) words choice_is = length-statement_words labels place s words choice_is
 
+-- a line has as many words as its size says
 pub length-line_words : (labels : List ℕ → Option ℕ) (place : ℕ) (line : Reading) (words : List ℕ) → line_words labels place line ≡ Ok words
     → length words ≡ line_size line
-length-line_words labels place (Ok line) words is = length-optional labels place line.statement words is
-length-line_words labels place (Err kind) words is = cc
+length-line_words labels place (Ok line) words line_words_is = length-optional labels place line.statement words line_words_is
+length-line_words labels place (Err kind) words line_words_is = cc
 
+-- each `li` has at least one instruction
 some_code : (b : Bool) (one two : Instr) (others : List Instr) → 0 < length (if b then one ∷ [] else two ∷ others)
 some_code true one two others = lit< tt
 some_code false one two others = omega (arith, length others)

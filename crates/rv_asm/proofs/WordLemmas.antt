@@ -25,118 +25,123 @@ pub record HasWrittenUpTo (labels : List ℕ → Option ℕ) (words : List ℕ) 
   pub none : first_line_fault (name_fault labels) [] before ≡ None
   pub written : words_from labels [] (readings text) ≡ words ++ words_from labels before (readings rest)
 
+-- if neither of two errors is found, there is neither the first nor the second
 pub no_fault : (o : Option AsmFaultKind) (f : AsmFaultKind → AsmFault) (rest : Option AsmFault) → option_case o rest (λ kind. Some (f kind)) ≡ None
     → (o ≡ None) × (rest ≡ None)
-no_fault None f rest is = (refl, is)
-no_fault (Some kind) f rest is = cc
+no_fault None f rest choice_is = (refl, choice_is)
+no_fault (Some kind) f rest choice_is = cc
 
 -- after a line without an error of its own there are at most 65536 words
 stays_few : (before : List Reading) (line : Reading) → own_fault before line ≡ None → words_in before + line_size line ≤ 65536
-stays_few before (Err kind) is = cc
-stays_few before (Ok line) is = few (nat_lt 65536 (words_in before + line_size (Ok line))) refl is where
+stays_few before (Err kind) own_fault_is = cc
+stays_few before (Ok line) no_fault = few (nat_lt 65536 (words_in before + line_size (Ok line))) refl no_fault where
   few : (b : Bool) → nat_lt 65536 (words_in before + line_size (Ok line)) ≡ b → (if b then Some TooLong else None) ≡ None
       → words_in before + line_size (Ok line) ≤ 65536
-  few true test is = cc
-  few false test is = grind (arith, nat_tests)
+  few true test no_fault = cc
+  few false test no_fault = grind (arith, nat_tests)
 
+-- after the words of one more line, the second pass has written up to the line after it
 pub writes_on : (labels : List ℕ → Option ℕ) (words new added : List ℕ) (lines : ℕ) (text rest after line : List ℕ)
-    → (has : HasWrittenUpTo labels words lines text rest) → lines_of rest ≡ line ∷ lines_of after
+    → (so_far : HasWrittenUpTo labels words lines text rest) → lines_of rest ≡ line ∷ lines_of after
     → line_words labels (length words) (line_read line) ≡ Ok added → new ≡ words ++ added → length new ≡ length words + line_size (line_read line)
     → HasWrittenUpTo labels new (lines + 1) text after
-writes_on labels words new added lines text rest after line has is gives made size =
+writes_on labels words new added lines text rest after line so_far lines_are words_are made same_length =
     let this = line_read line in
-    let more : readings rest ≡ this ∷ readings after = ap (map line_read) is in
+    let more : readings rest ≡ this ∷ readings after = ap (map line_read) lines_are in
     let none =
-    no_fault (own_fault has.before this) (fault_after (length has.before)) (first_line_fault own_fault (has.before ++ this ∷ []) (readings after))
-    (rw more at has.sound) in
-    let sum : words_in (has.before ++ this ∷ []) ≡ words_in has.before + line_size this = sum_by_push line_size has.before this in
-    let few = stays_few has.before this none.0 in
-    let here : line_words labels (words_in has.before) this ≡ Ok added = rw (← has.place) gives in
+    no_fault (own_fault so_far.before this) (fault_after (length so_far.before)) (first_line_fault own_fault (so_far.before ++ this ∷ []) (readings after))
+    (rw more at so_far.sound) in
+    let sum : words_in (so_far.before ++ this ∷ []) ≡ words_in so_far.before + line_size this = sum_by_push line_size so_far.before this in
+    let few = stays_few so_far.before this none.0 in
+    let here : line_words labels (words_in so_far.before) this ≡ Ok added = rw (← so_far.place) words_are in
     record {
-      before = has.before ++ this ∷ [];
-      count = omega (arith, has.count, length-append has.before (this ∷ []));
-      place = omega (arith, size, has.place, sum);
+      before = so_far.before ++ this ∷ [];
+      count = omega (arith, so_far.count, length-append so_far.before (this ∷ []));
+      place = omega (arith, same_length, so_far.place, sum);
       few = omega (arith, few, sum);
-      split = has.split ∙ ap (λ ls. has.before ++ ls) more ∙ sym (append_assoc has.before (this ∷ []) (readings after));
+      split = so_far.split ∙ ap (λ ls. so_far.before ++ ls) more ∙ sym (append_assoc so_far.before (this ∷ []) (readings after));
       sound = none.1;
       named =
-          has.named ∙ ap (first_line_fault (name_fault labels) has.before) more
-          ∙ fault_later (name_fault labels) has.before (readings after) this (rw here refl);
-      none = first_fault-push (name_fault labels) [] has.before this ∙ rw (has.none, here) refl;
+          so_far.named ∙ ap (first_line_fault (name_fault labels) so_far.before) more
+          ∙ fault_later (name_fault labels) so_far.before (readings after) this (rw here refl);
+      none = first_fault-push (name_fault labels) [] so_far.before this ∙ rw (so_far.none, here) refl;
       written =
-          has.written ∙ ap (λ ls. words ++ words_from labels has.before ls) more
-          ∙ rw (here, made) (sym (append_assoc words added (words_from labels (has.before ++ this ∷ []) (readings after))));
+          so_far.written ∙ ap (λ ls. words ++ words_from labels so_far.before ls) more
+          ∙ rw (here, made) (sym (append_assoc words added (words_from labels (so_far.before ++ this ∷ []) (readings after))));
     }
 
+-- an error of a label in the next line is the first error of a used label
 pub fails_at : (labels : List ℕ → Option ℕ) (words : List ℕ) (lines : ℕ) (text rest after line : List ℕ) (kind : AsmFaultKind)
-    → (has : HasWrittenUpTo labels words lines text rest) → lines_of rest ≡ line ∷ lines_of after
+    → (so_far : HasWrittenUpTo labels words lines text rest) → lines_of rest ≡ line ∷ lines_of after
     → line_words labels (length words) (line_read line) ≡ Err kind
     → first_line_fault (name_fault labels) [] (readings text) ≡ Some (record { line = lines + 1; kind = kind })
-fails_at labels words lines text rest after line kind has is gives =
-    let here : line_words labels (words_in has.before) (line_read line) ≡ Err kind = rw (← has.place) gives in
-    has.named ∙ ap (λ ls. first_line_fault (name_fault labels) has.before (map line_read ls)) is
-    ∙ fault_here (name_fault labels) has.before (readings after) (line_read line) kind (rw here refl) ∙ ap (λ n. Some (fault_after n kind)) (sym has.count)
+fails_at labels words lines text rest after line kind so_far lines_are fails =
+    let here : line_words labels (words_in so_far.before) (line_read line) ≡ Err kind = rw (← so_far.place) fails in
+    so_far.named ∙ ap (λ ls. first_line_fault (name_fault labels) so_far.before (map line_read ls)) lines_are
+    ∙ fault_here (name_fault labels) so_far.before (readings after) (line_read line) kind (rw here refl) ∙ ap (λ n. Some (fault_after n kind)) (sym so_far.count)
 
+-- words that are Ok have no error of a label
 no_name_fault : (words : Result (List ℕ) AsmFaultKind) → IsOk words → result_case words (λ found. None) Some ≡ None
 no_name_fault (Ok found) is = refl
 no_name_fault (Err kind) is = cc
 
 -- the lines up to and including this one
 lines_through : (labels : List ℕ → Option ℕ) (words : List ℕ) (lines : ℕ) (text rest after line : List ℕ)
-    → (has : HasWrittenUpTo labels words lines text rest) → lines_of rest ≡ line ∷ lines_of after
-    → take (lines + 1) (readings text) ≡ has.before ++ line_read line ∷ []
-lines_through labels words lines text rest after line has is =
+    → (so_far : HasWrittenUpTo labels words lines text rest) → lines_of rest ≡ line ∷ lines_of after
+    → take (lines + 1) (readings text) ≡ so_far.before ++ line_read line ∷ []
+lines_through labels words lines text rest after line so_far lines_are =
     let this = line_read line in
-    let whole : readings text ≡ (has.before ++ this ∷ []) ++ readings after =
-    has.split ∙ (ap (λ ls. has.before ++ map line_read ls) is ∙ sym (append_assoc has.before (this ∷ []) (readings after))) in
+    let whole : readings text ≡ (so_far.before ++ this ∷ []) ++ readings after =
+    so_far.split ∙ (ap (λ ls. so_far.before ++ map line_read ls) lines_are ∙ sym (append_assoc so_far.before (this ∷ []) (readings after))) in
     ap (take (lines + 1)) whole
-    ∙ take_at (has.before ++ this ∷ []) (readings after) (lines + 1) (omega (arith, has.count, length-append has.before (this ∷ [])))
+    ∙ take_at (so_far.before ++ this ∷ []) (readings after) (lines + 1) (omega (arith, so_far.count, length-append so_far.before (this ∷ [])))
 
 -- no line up to and including this one has an error in a name
 none_through : (labels : List ℕ → Option ℕ) (words : List ℕ) (lines : ℕ) (text rest after line : List ℕ)
-    → (has : HasWrittenUpTo labels words lines text rest) → lines_of rest ≡ line ∷ lines_of after
+    → (so_far : HasWrittenUpTo labels words lines text rest) → lines_of rest ≡ line ∷ lines_of after
     → IsOk (line_words labels (length words) (line_read line)) → first_line_fault (name_fault labels) [] (take (lines + 1) (readings text)) ≡ None
-none_through labels words lines text rest after line has is gives =
+none_through labels words lines text rest after line so_far lines_are passes =
     let this = line_read line in
-    let prefix = lines_through labels words lines text rest after line has is in
-    let here : name_fault labels has.before this ≡ None = no_name_fault (line_words labels (words_in has.before) this) (rw (← has.place) gives) in
-    ap (first_line_fault (name_fault labels) []) prefix ∙ (first_fault-push (name_fault labels) [] has.before this ∙ rw (has.none, here) refl)
+    let prefix = lines_through labels words lines text rest after line so_far lines_are in
+    let here : name_fault labels so_far.before this ≡ None = no_name_fault (line_words labels (words_in so_far.before) this) (rw (← so_far.place) passes) in
+    ap (first_line_fault (name_fault labels) []) prefix ∙ (first_fault-push (name_fault labels) [] so_far.before this ∙ rw (so_far.none, here) refl)
 
 -- this line has words, and they follow those of the lines before it
 words_through : (labels : List ℕ → Option ℕ) (words : List ℕ) (lines : ℕ) (text rest after line : List ℕ)
-    → (has : HasWrittenUpTo labels words lines text rest) → lines_of rest ≡ line ∷ lines_of after → 0 < line_size (line_read line)
+    → (so_far : HasWrittenUpTo labels words lines text rest) → lines_of rest ≡ line ∷ lines_of after → 0 < line_size (line_read line)
     → words_in (take (lines + 1 - 1) (readings text)) < words_in (take (lines + 1) (readings text))
-words_through labels words lines text rest after line has is some =
+words_through labels words lines text rest after line so_far lines_are some =
     let this = line_read line in
-    let whole : readings text ≡ has.before ++ this ∷ readings after = has.split ∙ ap (λ ls. has.before ++ map line_read ls) is in
-    let count : length has.before ≡ lines + 1 - 1 = omega (arith, has.count) in
-    let shorter : take (lines + 1 - 1) (readings text) ≡ has.before = ap (take (lines + 1 - 1)) whole
-    ∙ take_at has.before (this ∷ readings after) (lines + 1 - 1) count in
-    let sum : words_in (has.before ++ this ∷ []) ≡ words_in has.before + line_size this = sum_by_push line_size has.before this in
-    let fewer : words_in (take (lines + 1 - 1) (readings text)) ≡ words_in has.before = ap words_in shorter in
-    let more : words_in (take (lines + 1) (readings text)) ≡ words_in (has.before ++ this ∷ []) =
-    ap words_in (lines_through labels words lines text rest after line has is) in
+    let whole : readings text ≡ so_far.before ++ this ∷ readings after = so_far.split ∙ ap (λ ls. so_far.before ++ map line_read ls) lines_are in
+    let count : length so_far.before ≡ lines + 1 - 1 = omega (arith, so_far.count) in
+    let shorter : take (lines + 1 - 1) (readings text) ≡ so_far.before = ap (take (lines + 1 - 1)) whole
+    ∙ take_at so_far.before (this ∷ readings after) (lines + 1 - 1) count in
+    let sum : words_in (so_far.before ++ this ∷ []) ≡ words_in so_far.before + line_size this = sum_by_push line_size so_far.before this in
+    let fewer : words_in (take (lines + 1 - 1) (readings text)) ≡ words_in so_far.before = ap words_in shorter in
+    let more : words_in (take (lines + 1) (readings text)) ≡ words_in (so_far.before ++ this ∷ []) =
+    ap words_in (lines_through labels words lines text rest after line so_far lines_are) in
     omega (arith, fewer, more, sum, some)
 
 -- the second pass fails at a line because of its error, or because memory is exhausted
 pub fails_or_out_of_memory : (labels : List ℕ → Option ℕ) (words : List ℕ) (lines : ℕ) (text rest after line : List ℕ) (kind : AsmFaultKind)
-    → (has : HasWrittenUpTo labels words lines text rest) → lines_of rest ≡ line ∷ lines_of after
+    → (so_far : HasWrittenUpTo labels words lines text rest) → lines_of rest ≡ line ∷ lines_of after
     → (line_words labels (length words) (line_read line) ≡ Err kind)
     ⊎ ((kind ≡ NoMemory) × IsOk (line_words labels (length words) (line_read line)) × (0 < line_size (line_read line)))
     → (first_line_fault (name_fault labels) [] (readings text) ≡ Some (record { line = lines + 1; kind = kind }))
     ⊎ ((kind ≡ NoMemory) × (first_line_fault (name_fault labels) [] (take (lines + 1) (readings text)) ≡ None)
     × (words_in (take (lines + 1 - 1) (readings text)) < words_in (take (lines + 1) (readings text))))
-fails_or_out_of_memory labels words lines text rest after line kind has is (inl gives) =
-    inl (fails_at labels words lines text rest after line kind has is gives)
-fails_or_out_of_memory labels words lines text rest after line kind has is (inr out_of_memory) =
+fails_or_out_of_memory labels words lines text rest after line kind so_far lines_are (inl fails) =
+    inl (fails_at labels words lines text rest after line kind so_far lines_are fails)
+fails_or_out_of_memory labels words lines text rest after line kind so_far lines_are (inr out_of_memory) =
     inr (
       out_of_memory.0,
-      none_through labels words lines text rest after line has is out_of_memory.1,
-      words_through labels words lines text rest after line has is out_of_memory.2,
+      none_through labels words lines text rest after line so_far lines_are out_of_memory.1,
+      words_through labels words lines text rest after line so_far lines_are out_of_memory.2,
     )
 
+-- the number of the line is at most the number of lines of the text
 pub is_line_of : (labels : List ℕ → Option ℕ) (words : List ℕ) (lines : ℕ) (text rest after line : List ℕ)
-    → (has : HasWrittenUpTo labels words lines text rest) → lines_of rest ≡ line ∷ lines_of after → lines + 1 ≤ length (readings text)
-is_line_of labels words lines text rest after line has is =
-    let whole : readings text ≡ has.before ++ line_read line ∷ readings after = has.split ∙ ap (λ ls. has.before ++ map line_read ls) is in
-    rw whole (omega (arith, has.count, length-append has.before (line_read line ∷ readings after)))
+    → (so_far : HasWrittenUpTo labels words lines text rest) → lines_of rest ≡ line ∷ lines_of after → lines + 1 ≤ length (readings text)
+is_line_of labels words lines text rest after line so_far lines_are =
+    let whole : readings text ≡ so_far.before ++ line_read line ∷ readings after = so_far.split ∙ ap (λ ls. so_far.before ++ map line_read ls) lines_are in
+    rw whole (omega (arith, so_far.count, length-append so_far.before (line_read line ∷ readings after)))

@@ -16,6 +16,7 @@ after_blanks (b ∷ text) = if is_blank b then after_blanks text else b ∷ text
 abbrev pub before_blanks : List ℕ → List ℕ
 before_blanks text = reverse (after_blanks (reverse text))
 
+-- the text without the blanks at its start and at its end
 unfoldable pub trimmed : List ℕ → List ℕ
 trimmed text = before_blanks (after_blanks text)
 
@@ -33,6 +34,7 @@ operands_in text = if length (trimmed text) == 0 then [] else comma_fields text
 abbrev pub before_comment : List ℕ → List ℕ
 before_comment line = take (position_or_len (λ b. b == number_sign) line) line
 
+-- the index of the first `:`, or the length of the text
 abbrev pub colon_place : List ℕ → ℕ
 colon_place text = position_or_len (λ b. b == colon) text
 
@@ -50,6 +52,7 @@ statement_text text = after_blanks (if nat_lt (colon_place text) (length text) t
 abbrev pub first_word : List ℕ → List ℕ
 first_word text = take (position_or_len is_blank text) text
 
+-- the bytes of a statement from the first blank on
 abbrev pub after_word : List ℕ → List ℕ
 after_word text = drop (position_or_len is_blank text) text
 

@@ -2,6 +2,7 @@
 -- memory writes 1.
 use Rattle.std.specs.Prelude.{ℕ, List, [], ◌∷◌, codes}
 
+-- each set of accesses as fence names it, and its four bits i, o, r and w
 unfoldable pub fence_sets : List (List ℕ × ℕ)
 fence_sets =
     (codes "0", 0) ∷ (codes "w", 1) ∷ (codes "r", 2) ∷ (codes "rw", 3)

@@ -36,6 +36,7 @@ mnemonic_name Nop = codes "nop"
 mnemonic_name Ret = codes "ret"
 mnemonic_name Li = codes "li"
 
+-- every mnemonic of an instruction, in the order of the manual's listing
 abbrev pub all_mnemonics : List Mnemonic
 all_mnemonics =
     -- RV32I
@@ -50,7 +51,7 @@ all_mnemonics =
     -- names that the assembler adds
     ++ Word ∷ Nop ∷ Ret ∷ Li ∷ []
 
--- the table of names
+-- the table of names, each with its mnemonic
 unfoldable pub mnemonics : List (List ℕ × Mnemonic)
 mnemonics = map (λ mnemonic. (mnemonic_name mnemonic, mnemonic)) all_mnemonics
 

@@ -11,6 +11,7 @@ use Rattle.rv_asm.specs.declared.number.Number.{Number}
 abbrev pub plus : ℕ → Number
 plus magnitude = record { is_negative = false; magnitude = magnitude }
 
+-- a negative number, by its magnitude
 abbrev pub minus : ℕ → Number
 minus magnitude = record { is_negative = true; magnitude = magnitude }
 

@@ -21,9 +21,11 @@ use Rattle.rv_asm.specs.declared.fault.AsmFaultKind.TheVariants.{BadOperand}
 abbrev pub operand : {A : Type 0} → Option A → Result A AsmFaultKind
 operand read = ok_or read BadOperand
 
+-- the number of the register that the text names
 abbrev pub register_at : List ℕ → Result ℕ AsmFaultKind
 register_at text = operand (register_named text)
 
+-- the number that the text writes
 abbrev pub number_operand : List ℕ → Result Number AsmFaultKind
 number_operand text = operand (written_number text)
 
@@ -38,6 +40,7 @@ base_of text =
     then (if ends_with nat_eq (drop 1 text) (codes ")") then register_named (take (length (drop 1 text) - 1) (drop 1 text)) else None)
     else None
 
+-- the index of the first `(`, or the length of the text
 abbrev pub opening : List ℕ → ℕ
 opening text = position_or_len (λ b. b == left_parenthesis) text
 
@@ -47,6 +50,7 @@ offset_and_base text =
     option_and_then (λ offset. option_map (λ base. (offset, base)) (base_of (drop (opening text) text)))
     (written_number (take (opening text) text))
 
+-- the offset and the base register of an operand such as `8(x2)`
 abbrev pub address_operand : List ℕ → Result (Number × ℕ) AsmFaultKind
 address_operand text = operand (offset_and_base text)
 
@@ -54,5 +58,6 @@ address_operand text = operand (offset_and_base text)
 unfoldable pub target_at : List ℕ → Result Target AsmFaultKind
 target_at text = if is_name text then Ok (Label text) else operand (option_map Offset (written_number text))
 
+-- the bits of the set of accesses that an operand of fence names
 abbrev pub fence_set_at : List ℕ → Result ℕ AsmFaultKind
 fence_set_at text = operand (looked_up fence_sets text)

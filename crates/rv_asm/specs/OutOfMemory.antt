@@ -5,6 +5,7 @@ use Rattle.rv_asm.specs.declared.fault.AsmFault.{AsmFault}
 use Rattle.rv_asm.specs.declared.fault.AsmFaultKind.{AsmFaultKind}
 use Rattle.rv_asm.specs.declared.fault.AsmFaultKind.TheVariants.{NoMemory}
 
+-- whether a line that can be read has a label
 abbrev pub is_labelled : Reading → Bool
 is_labelled (Ok line) = is_some line.label
 is_labelled (Err kind) = false
@@ -43,5 +44,6 @@ pub record OutOfMemoryForWords (lines : List Reading) (fault : AsmFault) : Type 
 abbrev pub RunsOutOfMemory : List ℕ → AsmFault → Type 0
 RunsOutOfMemory text fault = OutOfMemoryForLabel (readings text) fault ⊎ OutOfMemoryForWords (readings text) fault
 
+-- the assembler fails for the text with this error: the error of the text, or that memory ran out
 abbrev pub FailsFor : List ℕ → AsmFault → Type 0
 FailsFor text fault = (assembled text ≡ Err fault) ⊎ RunsOutOfMemory text fault

@@ -7,6 +7,7 @@ use Rattle.rv_asm.specs.declared.first_pass.FirstPass.{FirstPass}
 use Rattle.rv_asm.specs.declared.fault.AsmFault.{AsmFault}
 use Rattle.rv_asm.specs.declared.fault.AsmFaultKind.TheVariants.{LabelTwice}
 
+-- the error of a label that an earlier line has too
 abbrev pub label_twice : ℕ → AsmFault
 label_twice line = record { line = line; kind = LabelTwice }
 

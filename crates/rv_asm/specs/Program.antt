@@ -30,9 +30,11 @@ use Rattle.rv_asm.specs.declared.fault.AsmFaultKind.TheVariants.{UnknownLabel, L
 abbrev pub is_short : ℕ → Bool
 is_short value = nat_lt value 2048 || nat_le (2 ^ 32 - 2048) value
 
+-- the value that lui must give so that an addi of the low 12 bits completes it
 abbrev pub without_low_part : ℕ → ℕ
 without_low_part value = (value + 2 ^ 32 - sign_extended value 12) % 2 ^ 32
 
+-- the instructions of `li`: addi alone for a short value, otherwise lui, and addi unless the low 12 bits are 0
 unfoldable pub li_code : ℕ → ℕ → List Instr
 li_code rd value =
     if is_short value then OpImm Addi rd 0 (value % 2 ^ 12) ∷ []
@@ -66,12 +68,15 @@ statement_words labels place (Word word) = Ok (word ∷ [])
 
 -- ---- lines, each an error or its content
 
+-- a line as it is read: its label and statement, or its error
 abbrev pub Reading : Type 0
 Reading = Result Line AsmFaultKind
 
+-- the readings of all lines of a text
 abbrev pub readings : List ℕ → List Reading
 readings text = map line_read (lines_of text)
 
+-- the number of words of a line
 abbrev pub line_size : Reading → ℕ
 line_size (Ok line) = option_case line.statement 0 statement_size
 line_size (Err kind) = 0
@@ -80,10 +85,12 @@ line_size (Err kind) = 0
 abbrev pub words_in : List Reading → ℕ
 words_in lines = sum_by line_size lines
 
+-- whether the label, if there is one, is this name
 abbrev pub is_label : List ℕ → Option (List ℕ) → Bool
 is_label name None = false
 is_label name (Some label) = bytes_eq label name
 
+-- whether a line has the label with this name
 abbrev pub has_label : List ℕ → Reading → Bool
 has_label name (Ok line) = is_label name line.label
 has_label name (Err kind) = false
@@ -94,6 +101,7 @@ place_from before [] name = None
 place_from before (line ∷ lines) name =
     if has_label name line then Some (words_in before) else place_from (before ++ line ∷ []) lines name
 
+-- the address of a label: that of the first line that has it
 abbrev pub place_in : List Reading → List ℕ → Option ℕ
 place_in lines name = place_from [] lines name
 
@@ -114,6 +122,7 @@ abbrev pub repeated_name : List Reading → Option (List ℕ) → Option AsmFaul
 repeated_name before None = None
 repeated_name before (Some name) = if is_some (place_in before name) then Some LabelTwice else None
 
+-- the error of the label of a line, if a line before has the label too
 abbrev pub label_fault : List Reading → Reading → Option AsmFaultKind
 label_fault before (Ok line) = repeated_name before line.label
 label_fault before (Err kind) = None
@@ -137,6 +146,7 @@ fault_in lines =
 
 -- ---- the words of a text
 
+-- the words of a line, or none if it has an error
 abbrev pub words_or_none : Result (List ℕ) AsmFaultKind → List ℕ
 words_or_none words = result_case words (λ found. found) (λ kind. [])
 
@@ -146,6 +156,7 @@ words_from labels before [] = []
 words_from labels before (line ∷ lines) =
     words_or_none (line_words labels (words_in before) line) ++ words_from labels (before ++ line ∷ []) lines
 
+-- the words of all lines, with the labels of these lines
 abbrev pub words_of_lines : List Reading → List ℕ
 words_of_lines lines = words_from (place_in lines) [] lines
 

@@ -2,6 +2,7 @@
 use Rattle.std.specs.Prelude.{ℕ, List, [], ◌∷◌, codes, Option}
 use Rattle.rv_asm.specs.Tables.{looked_up}
 
+-- each name of a register, and its number
 unfoldable pub registers : List (List ℕ × ℕ)
 registers =
     -- the names by number

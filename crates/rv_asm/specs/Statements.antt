@@ -44,6 +44,7 @@ jump_statement rd (Offset number) = do
   offset ← jump_offset_of number
   Ok (Instruction (instr.Jal rd offset))
 
+-- the statement of jal: a register and a target
 abbrev pub jal_statement : List (List ℕ) → Result Statement AsmFaultKind
 jal_statement (rd ∷ t ∷ []) = do
   rd ← register_at rd
@@ -58,6 +59,7 @@ branch kind rs1 rs2 (Offset number) = do
   offset ← branch_offset_of number
   Ok (Instruction (instr.Branch kind rs1 rs2 offset))
 
+-- the statement of a branch: two registers and a target
 abbrev pub branch_statement : BranchKind → List (List ℕ) → Result Statement AsmFaultKind
 branch_statement kind (rs1 ∷ rs2 ∷ t ∷ []) = do
   rs1 ← register_at rs1

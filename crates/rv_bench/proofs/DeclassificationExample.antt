@@ -4,7 +4,7 @@ use Rattle.std.proofs.Common.{◌≡◌, inl, inr, List, [], ℕ, ◌++◌, code
 use Rattle.std.specs.Option.{option_map}
 use Rattle.std.specs.Prelude.{IfSome}
 use Rattle.rv_word.specs.Cases.{option_case}
-use Rattle.rv_platform.specs.Blocks.{has}
+use Rattle.rv_memory.specs.Blocks.{has}
 use Rattle.rv_text.specs.GoodLines.{is_text}
 use Rattle.rv_text.specs.Lines.{lines_of, through_last_feed}
 use Rattle.rv_text.specs.Numbers.{number_of_digits}
@@ -31,9 +31,11 @@ use Rattle.rv_bench.specs.Output.{bench_in}
 use Rattle.rv_bench.specs.Replies.{bench_line, state_after}
 use Rattle.rv_bench.proofs.Declassified.{secret_declassification}
 
+-- a script that pokes a secret, sets a register of the enclave, and shows the registers
 abbrev script : List ℕ
 script = codes "poke 80020000 41\nsetreg 9 5ec2e701\nregs\n"
 
+-- the same script with another secret
 abbrev other_script : List ℕ
 other_script = codes "poke 80020ffc 5a\nsetreg 5 0badc0de\nregs\n"
 
@@ -45,22 +47,27 @@ pub record RunsEnclave (bench : BenchState) : Type 0 where
 
 -- ---- the commands
 
+-- the line pokes 41 into the region
 first_poke : parse_of (codes "poke 80020000 41") ≡ Ok (Poke 0x80020000 0x41)
 unfolding parse_of is_text meaning_of words_of keyword_of hexadecimal_of number_of_digits byte_of_text
 first_poke = refl
 
+-- the line pokes 5a into the region
 second_poke : parse_of (codes "poke 80020ffc 5a") ≡ Ok (Poke 0x80020ffc 0x5a)
 unfolding parse_of is_text meaning_of words_of keyword_of hexadecimal_of number_of_digits byte_of_text
 second_poke = refl
 
+-- the line sets register 9
 first_setreg : parse_of (codes "setreg 9 5ec2e701") ≡ Ok (SetReg 9 0x5ec2e701)
 unfolding parse_of is_text meaning_of words_of keyword_of hexadecimal_of decimal_of number_of_digits
 first_setreg = refl
 
+-- the line sets register 5
 second_setreg : parse_of (codes "setreg 5 0badc0de") ≡ Ok (SetReg 5 0x0badc0de)
 unfolding parse_of is_text meaning_of words_of keyword_of hexadecimal_of decimal_of number_of_digits
 second_setreg = refl
 
+-- the line shows the registers
 regs : parse_of (codes "regs") ≡ Ok Regs
 unfolding parse_of is_text meaning_of words_of keyword_of
 regs = refl
@@ -75,20 +82,24 @@ poked_selected (Bare machine) (Some memory) = refl
 poked_selected (Monitored selected) None = refl
 poked_selected (Monitored selected) (Some memory) = refl
 
+-- a command without steps has the steps of no moves
 no_steps : (one other : Option MonitoredMachine) → IfSome one (λ a. IfSome other (λ b. StepsAreMoves 0 a b [] []))
 no_steps (Some one) (Some other) = record { moves = []; steps = refl; first = refl; second = refl; are = tt }
 no_steps (Some one) None = tt
 no_steps None other = tt
 
+-- two lines are alike if their commands are
 parsed_alike : (first second : BenchState) (a b : Result Command CommandFault) (here there : Command) → a ≡ Ok here → b ≡ Ok there
     → CommandsAlike 0 first second here there → ParsedAlike 0 first second a b
 parsed_alike first second a b here there a_is b_is alike = rw (a_is, b_is) alike
 
+-- a poke leaves the enclave on the selected hart
 runs_after : (bench : BenchState) (parsed : Result Command CommandFault) (address byte : ℕ) → parsed ≡ Ok (Poke address byte)
     → is_selected 0 bench.target ≡ true → is_selected 0 (execute_or_fault bench parsed).state.target ≡ true
 unfolding execute
-runs_after bench parsed address byte is runs = rw is (poked_selected bench.target _ ∙ runs)
+runs_after bench parsed address byte parsed_is runs = rw parsed_is (poked_selected bench.target _ ∙ runs)
 
+-- the lines of both scripts are alike
 is_alike : (bench : BenchState) → RunsEnclave bench → LinesAlike 0 bench bench (lines_of script) (lines_of other_script)
 unfolding execute_line
 is_alike bench there = (
@@ -100,12 +111,14 @@ is_alike bench there = (
   ),
 )
 
+-- the lines of both scripts are alike after any lines before them
 from_bench : (bench : Result BenchState BenchFault) (before : List (List ℕ)) → IfOk bench (λ bench. RunsEnclave (state_after bench_line bench before))
     → IfOk bench (λ bench.
     let start = state_after bench_line bench before in LinesAlike 0 start start (lines_of script) (lines_of other_script))
 from_bench (Ok bench) before there = is_alike (state_after bench_line bench before) there
 from_bench (Err fault) before there = tt
 
+-- two secrets in the script of the example have the same observed output, whatever the lines before it
 pub secrets_are_concealed : (setup : Setup) (prefix : List ℕ) → through_last_feed prefix ≡ prefix → has_separator prefix ≡ true
     → IfOk (bench_in setup prefix) (λ bench. RunsEnclave (state_after bench_line bench (lines_of (after_separator prefix))))
     → observed_output 0 setup (prefix ++ script) ≡ observed_output 0 setup (prefix ++ other_script)

@@ -34,10 +34,12 @@ use Rattle.rv_bench.proofs.Starts.{started_keeps}
 module _ (e : ℕ) where
   -- ---- one line of each bench
 
+  -- two lines have equal observations, and leave related benches
   record LineObserved (first second : BenchState) (line other : List ℕ) : Type 0 where
     pub text : (observed_line e first line).reply ≡ (observed_line e second other).reply
     pub state : BenchesAreRelated e (execute_line first line).state (execute_line second other).state
 
+  -- two lines that are alike have equal observations, and leave related benches
   line_observed : (first second : BenchState) (line other : List ℕ) → TargetInvariant first.target → TargetInvariant second.target
       → BenchesAreRelated e first second → ParsedAlike e first second (parse_of line) (parse_of other) → LineObserved first second line other
   unfolding execute_line
@@ -46,26 +48,28 @@ module _ (e : ℕ) where
         go : (parsed parsed' : Result Command CommandFault) → ParsedAlike e first second parsed parsed'
             → (result_case parsed (observed e first) command_fault_text ≡ result_case parsed' (observed e second) command_fault_text)
             × BenchesAreRelated e (execute_or_fault first parsed).state (execute_or_fault second parsed').state
-        go (Ok here) (Ok there) alike = let both = declassification e first second here there kept kept' related alike in (both.observed, both.state)
+        go (Ok here) (Ok there) alike = let alike_after = declassification e first second here there kept kept' related alike in (alike_after.observed, alike_after.state)
         go (Err here) (Err there) alike = (ap command_fault_text alike, related)
         go (Ok here) (Err there) alike = absurd alike
         go (Err here) (Ok there) alike = absurd alike
 
   -- ---- lines
 
+  -- lines that are alike have equal observations on related benches, and leave them related
   pub lines_observed : (first second : BenchState) (lines others : List (List ℕ)) → TargetInvariant first.target → TargetInvariant second.target
       → BenchesAreRelated e first second → LinesAlike e first second lines others → LinesObservedAlike e first second lines others
   lines_observed first second [] [] kept kept' related alike = record { text = refl; state = related }
   lines_observed first second [] (other ∷ others) kept kept' related alike = absurd alike
   lines_observed first second (line ∷ lines) [] kept kept' related alike = absurd alike
   lines_observed first second (line ∷ lines) (other ∷ others) kept kept' related alike =
-      let both = line_observed first second line other kept kept' related alike.0 in
+      let alike_after = line_observed first second line other kept kept' related alike.0 in
       let rest = lines_observed (execute_line first line).state (execute_line second other).state lines others (keeps_line first line kept)
-      (keeps_line second other kept') both.state alike.1 in
-      record { text = ap₂ (λ (one others : List ℕ). one ++ others) both.text rest.text; state = rest.state }
+      (keeps_line second other kept') alike_after.state alike.1 in
+      record { text = ap₂ (λ (one others : List ℕ). one ++ others) alike_after.text rest.text; state = rest.state }
 
   -- ---- low lines
 
+  -- a line that is low is alike in both benches, and leaves equal windows
   line_low : (first second : BenchState) (line : List ℕ) → TargetInvariant first.target → TargetInvariant second.target
       → BenchesAreRelated e first second → WindowsAreEqual e first second → LineIsLow e first line
       → ParsedAlike e first second (parse_of line) (parse_of line) × WindowsAreEqual e (execute_line first line).state (execute_line second line).state
@@ -74,22 +78,24 @@ module _ (e : ℕ) where
     go : (parsed : Result Command CommandFault)
         → IfOk parsed (λ command. RunsOnNoneIn e (harts_named first.target command) first.target × (is_entered e (execute first command).entered ≡ false))
         → ParsedAlike e first second parsed parsed × WindowsAreEqual e (execute_or_fault first parsed).state (execute_or_fault second parsed).state
-    go (Ok command) low = let is = low_command e first second command kept kept' related equal low.0 low.1 in (inl (inl is.same), is.window)
+    go (Ok command) low = let low_alike = low_command e first second command kept kept' related equal low.0 low.1 in (inl (inl low_alike.same), low_alike.window)
     go (Err fault) low = (refl, equal)
 
+  -- lines that are low in the first bench are alike, if the windows are equal
   pub lines_low : (first second : BenchState) (lines : List (List ℕ)) → TargetInvariant first.target → TargetInvariant second.target
       → BenchesAreRelated e first second → WindowsAreEqual e first second → LinesAreLow e first lines → LinesAlike e first second lines lines
   lines_low first second [] kept kept' related equal low = tt
   lines_low first second (line ∷ lines) kept kept' related equal low =
       let (alike, windows) = line_low first second line kept kept' related equal low.0 in
-      let both = line_observed first second line line kept kept' related alike in (
+      let alike_after = line_observed first second line line kept kept' related alike in (
         alike,
         lines_low (execute_line first line).state (execute_line second line).state lines (keeps_line first line kept) (keeps_line second line kept')
-            both.state windows low.1,
+            alike_after.state windows low.1,
       )
 
   -- ---- the same lines, after an enclave has ended
 
+  -- after an enclave has ended, the same line is alike for every slot
   line_ended : (first second : BenchState) (line : List ℕ) → TargetInvariant first.target → TargetInvariant second.target → AreRelatedForAll first second
       → ParsedAlike e first second (parse_of line) (parse_of line) × AreRelatedForAll (execute_line first line).state (execute_line second line).state
   unfolding execute_line
@@ -102,6 +108,7 @@ module _ (e : ℕ) where
     )
     go (Err fault) = (refl, related)
 
+  -- after an enclave has ended in related benches, the same lines are alike for every slot
   pub lines_ended : (first second : BenchState) (lines : List (List ℕ)) → TargetInvariant first.target → TargetInvariant second.target
       → AreRelatedForAll first second → LinesAlike e first second lines lines
   lines_ended first second [] kept kept' related = tt
@@ -118,6 +125,7 @@ module _ (e : ℕ) where
   same_state bench [] = refl
   same_state bench (line ∷ lines) = same_state (bench_line bench line).state lines
 
+  -- two scripts that are alike after the same lines have equal observations
   script_observed : (bench : BenchState) (before lines others : List (List ℕ)) → TargetInvariant bench.target
       → (let start = state_after bench_line bench before in LinesAlike e start start lines others)
       → replies (observed_line e) bench (before ++ lines) ≡ replies (observed_line e) bench (before ++ others)
@@ -132,6 +140,7 @@ module _ (e : ℕ) where
       ∙ ap (λ (state : BenchState). text state others) (sym (same_state bench before))
       ∙ sym (replies-append (observed_line e) bench before others)
 
+-- a bench with the invariant has the properties of declassification
 declassification_through : (bench : BenchState) → TargetInvariant bench.target → ScriptDeclassification bench
 declassification_through bench kept = record {
   alike = λ e before lines others other kept' related alike.
@@ -144,24 +153,29 @@ declassification_through bench kept = record {
       lines_ended k start other lines keeps kept' (ended_law.ended e start other keeps related ended);
 }
 
+-- a bench that starts has the properties of declassification
 declassified_from : (bench : Result BenchState BenchFault) → IfOk bench (λ state. TargetInvariant state.target) → IfOk bench ScriptDeclassification
 declassified_from (Ok state) kept = declassification_through state kept
 declassified_from (Err fault) kept = tt
 
+-- each bench that starts has the properties of declassification
 pub started_declassification : (image : List ℕ) (setup : Setup) → IfOk (started image setup) ScriptDeclassification
 started_declassification image setup = declassified_from (started image setup) (started_keeps image setup)
 
 -- ---- inputs
 
 module _ (setup : Setup) (e : ℕ) (prefix : List ℕ) (whole : through_last_feed prefix ≡ prefix) (separated : has_separator prefix ≡ true) where
+  -- the observed output of a script, if the bench starts
   abbrev Observed : Result BenchState BenchFault → List (List ℕ) → Result (List ℕ) BenchFault
   Observed bench script = result_case bench (λ state. Ok (replies (observed_line e) state script)) Err
 
+  -- the observed output of an input is that of its lines
   observed_is : (rest : List ℕ)
       → observed_output e setup (prefix ++ rest) ≡ Observed (bench_in setup prefix) (lines_of (after_separator prefix) ++ lines_of rest)
   observed_is rest =
       ap₂ Observed (bench_in-prefix prefix whole separated setup rest) (script_lines-prefix prefix whole separated rest)
 
+  -- two rests of a script that are alike have equal observed outputs
   from_bench : (bench : Result BenchState BenchFault) (rest another : List ℕ) → IfOk bench (λ state. TargetInvariant state.target)
       → IfOk bench (λ bench.
       let start = state_after bench_line bench (lines_of (after_separator prefix)) in LinesAlike e start start (lines_of rest) (lines_of another))
@@ -170,6 +184,7 @@ module _ (setup : Setup) (e : ℕ) (prefix : List ℕ) (whole : through_last_fee
       ap Ok (script_observed e bench (lines_of (after_separator prefix)) (lines_of rest) (lines_of another) kept alike)
   from_bench (Err fault) rest another kept alike = refl
 
+-- proves that inputs which differ only in secrets have equal observed outputs
 pub secret_declassification : (setup : Setup) (input : List ℕ) → SecretDeclassification setup input
 secret_declassification setup input e other differ =
     ap (observed_output e setup) differ.input_is

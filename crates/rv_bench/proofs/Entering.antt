@@ -31,6 +31,7 @@ use Rattle.rv_bench.proofs.Runs.{RespondsToNext-going, RespondsToNext-state, Res
 
 -- ---- the same, for equal written bytes
 
+-- a failed read has the same meaning after equal earlier output
 StopsAtRead-after : {A : Type 0} {by : Responding A} {start : A} {unread left kept old other new : List ℕ}
     → old ≡ other → StopsAtRead by Input start unread left kept old new → StopsAtRead by Input start unread left kept other new
 StopsAtRead-after {by = by} {start = start} same stops = record {
@@ -45,12 +46,14 @@ StopsAtRead-after {by = by} {start = start} same stops = record {
   written = stops.written ∙ ap (λ (t : List ℕ). t ++ replies by.respond start (lines_of stops.text)) same;
 }
 
+-- a source that fails in the second script leaves equal output after equal earlier output
 pub read_after : (slot : ℕ) (pair : Option Pair) (unread left kept old other new : List ℕ) → old ≡ other
     → IsSomeAnd pair (λ pair. StopsAtRead (both_benches slot) Input pair unread left kept old new)
     → IsSomeAnd pair (λ pair. StopsAtRead (both_benches slot) Input pair unread left kept other new)
 read_after slot None unread left kept old other new same never = never
 read_after slot (Some pair) unread left kept old other new same stops = StopsAtRead-after same stops
 
+-- a failed write has the same meaning after equal earlier output
 StopsAtWrite-after : {A : Type 0} {by : Responding A} {start : A} {unread left old other new : List ℕ} → old ≡ other
     → StopsAtWrite by Input start unread left old new → StopsAtWrite by Input start unread left other new
 StopsAtWrite-after {by = by} {start = start} {new = new} same stops =
@@ -67,6 +70,7 @@ StopsAtWrite-after {by = by} {start = start} {new = new} same stops =
           stops.written;
     }
 
+-- a sink that fails in the second script has a prefix of the output after equal earlier output
 pub write_after : (slot : ℕ) (pair : Option Pair) (unread left old other new : List ℕ) → old ≡ other
     → StopsSecondAtWrite slot pair unread left old new → StopsSecondAtWrite slot pair unread left other new
 write_after slot None unread left old other new same stopped =
@@ -86,20 +90,23 @@ pub told_entered : (slot : ℕ) (now after : Pair) (line reply : List ℕ) → p
     → now.entered ≡ false → after.entered ≡ true
     → reply ≡ entered_text after.ran
 unfolding pair_line
-told_entered slot now after line reply is going over =
+told_entered slot now after line reply line_is going over =
     let both = both_execute_line slot now.first now.second line in
-    by both.line both (sym (ap (λ b. cond b (record { state = now; reply = [] }) (pair_replied now both)) going) ∙ is) where
+    by both.line both (sym (ap (λ b. cond b (record { state = now; reply = [] }) (pair_replied now both)) going) ∙ line_is) where
+      -- a reply after which the slot is entered is the text of the entry
       Gives : Replied Pair → Type 0
       Gives replied = replied ≡ record { state = after; reply = reply }
 
+      -- a line whose reply is the text of the entry has entered the slot
       enters : (replied : Replied Pair) → Gives replied → replied.state.entered ≡ true
-      enters replied is = ap (λ (r : Replied Pair). r.state.entered) is ∙ over
+      enters replied replied_is = ap (λ (r : Replied Pair). r.state.entered) replied_is ∙ over
 
+      -- the reply by the result of the line
       by : (what : BothLine) (both : BothLineExecuted) → Gives (done_by what both now.ran) → reply ≡ entered_text after.ran
-      by (Given Entered blank) both is = ap (λ (r : Replied Pair). r.reply) (sym is) ∙ ap (λ (r : Replied Pair). entered_text r.state.ran) is
-      by (Given All blank) both is = absurd (false≢true (enters (done_by (Given All blank) both now.ran) is))
-      by (Given NotBlind blank) both is = absurd (false≢true (enters (done_by (Given NotBlind blank) both now.ran) is))
-      by Faulty both is = absurd (false≢true (enters (done_by Faulty both now.ran) is))
+      by (Given Entered blank) both replied_is = ap (λ (r : Replied Pair). r.reply) (sym replied_is) ∙ ap (λ (r : Replied Pair). entered_text r.state.ran) replied_is
+      by (Given All blank) both replied_is = absurd (false≢true (enters (done_by (Given All blank) both now.ran) replied_is))
+      by (Given NotBlind blank) both replied_is = absurd (false≢true (enters (done_by (Given NotBlind blank) both now.ran) replied_is))
+      by Faulty both replied_is = absurd (false≢true (enters (done_by Faulty both now.ran) replied_is))
 
 -- ---- the script that both benches respond to
 
@@ -124,19 +131,23 @@ two_benches-stop h slot start old new before after _ stops = absurd stops
 module _ {S W : Type 0} {g : SourceGhosts S} (h : SinkGhosts W) (slot : ℕ) {start now : Pair} {old new : Lines S g} {before mid : W} where
   -- to the end of the script
   module _ (run : RespondsToEnd h (both_benches slot) Input start now old new before mid) (follows : g.follows_input new.source) where
+    -- the pair is that after all lines of the script
     all_state : now ≡ state_after (pair_line slot) start (lines_of (unread old))
     all_state =
         RespondsToLines-state (run.responded follows) (FindsEnd-whole old run.last new Input _ run.found (run.responded follows).taken follows)
 
+    -- the output is the replies to all lines of the script
     all_wrote : h.taken mid ≡ h.taken before ++ replies (pair_line slot) start (lines_of (unread old))
     all_wrote =
         RespondsToLines-all (run.responded follows) (FindsEnd-whole old run.last new Input _ run.found (run.responded follows).taken follows)
 
+    -- no line of the script entered the slot
     never_entered : (state_after (pair_line slot) start (lines_of (unread old))).entered ≡ false
     never_entered = ap (λ (pair : Pair). pair.entered) (sym all_state) ∙ run.going
 
   -- to the line that enters the slot
   module _ (run : RespondsUntilOver h (both_benches slot) Input start now old new before mid) where
+    -- the line that was read last entered the slot
     enters : g.follows_input new.source → EntersSlot slot start (unread old) (unread new) new.is_at_end
     enters follows = let next = run.next follows in record {
       lines = next.so_far.lines;
@@ -146,23 +157,28 @@ module _ {S W : Type 0} {g : SourceGhosts S} (h : SinkGhosts W) (slot : ℕ) {st
       entered = ap (λ (pair : Pair). pair.entered) (sym (RespondsToNext-state next)) ∙ run.over;
     }
 
+    -- the output is that of the whole script
     over_wrote : g.follows_input new.source → h.taken mid ≡ h.taken before ++ script_text slot start (lines_of (unread old))
     over_wrote follows =
         let all = RespondsToNext-wrote (run.next follows) run.told in
         entered_all slot start now _ _ _ _ _ _ all.taken.reads all.state run.over all.written
 
-  -- and the last text
+  -- the second script with its last text
   module _ (responds : RespondsToAll h (both_benches slot) Input start now old new before mid) {last : List ℕ} (last_is : last ≡ last_text now) where
+    -- without an entry, the last text reports the end
     last_going : now.entered ≡ false → last ≡ end_text now.ran
     last_going going = last_is ∙ ap (λ b. cond b [] (end_text now.ran)) going
 
+    -- after an entry, the last text is empty
     last_over : now.entered ≡ true → last ≡ []
     last_over over = last_is ∙ ap (λ b. cond b [] (end_text now.ran)) over
 
     module _ {after : W} (ends : EndsWithSource old new) (wrote : h.taken after ≡ h.taken mid ++ last) where
+      -- after an entry, the last text writes nothing
       nothing_more : now.entered ≡ true → h.taken after ≡ h.taken mid
       nothing_more over = wrote ∙ (ap (λ t. h.taken mid ++ t) (last_over over) ∙ append-nil (h.taken mid))
 
+      -- the second script ended, and its last line was written: the meaning of an Ok result
       pub two_benches-report : SinkFlushed h mid after → RunsSecond h slot (Some start) old new before after (Ok tt)
       two_benches-report last = record {
         source = responds.source;
@@ -196,9 +212,11 @@ module _ {S W : Type 0} {g : SourceGhosts S} (h : SinkGhosts W) (slot : ℕ) {st
 
     -- the sink fails in the last text
     module _ {after : W} (stops : WritesPrefix (h.taken mid) (h.taken after) last) where
+      -- after an entry, a failure in the last text has written nothing
       nothing_wrote : now.entered ≡ true → h.taken after ≡ h.taken mid
       nothing_wrote over = prefix_none (h.taken mid) (h.taken after) (subst (WritesPrefix (h.taken mid) (h.taken after)) (last_over over) stops)
 
+      -- the sink failed in the last line: the meaning of a write error
       pub two_benches-fail : SinkFailed h mid after → RunsSecond h slot (Some start) old new before after (Err Write)
       two_benches-fail failed = (
         record {

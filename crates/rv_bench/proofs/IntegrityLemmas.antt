@@ -31,6 +31,7 @@ after_lines bench (line ∷ lines) = go (λ next. after_lines next lines) (parse
   go later (Ok command) = later (execute bench command).state
   go later (Err fault) = later bench
 
+-- a line preserves the invariant of the target
 pub keeps_line : (bench : BenchState) (line : List ℕ) → TargetInvariant bench.target → TargetInvariant (execute_line bench line).state.target
 unfolding execute_line
 keeps_line bench line kept = go (parse_of line) where
@@ -38,10 +39,12 @@ keeps_line bench line kept = go (parse_of line) where
   go (Ok command) = keeps_monitor bench command kept
   go (Err fault) = kept
 
+-- lines preserve the invariant of the target
 pub keeps_lines : (bench : BenchState) (lines : List (List ℕ)) → TargetInvariant bench.target → TargetInvariant (state_after bench_line bench lines).target
 keeps_lines bench [] kept = kept
 keeps_lines bench (line ∷ lines) kept = keeps_lines (execute_line bench line).state lines (keeps_line bench line kept)
 
+-- a bench with the invariant preserves every enclave that its lines leave undisturbed
 integrity_through : (bench : BenchState) → TargetInvariant bench.target → PreservesThrough bench
 integrity_through bench kept k before part not_running =
     let start = state_after bench_line bench before in
@@ -49,13 +52,16 @@ integrity_through bench kept k before part not_running =
     subst (λ (end : BenchState). IsPreservedIn k start.target end.target) (sym after)
     (integrity k start (commands_of part) (keeps_lines bench before kept) not_running)
 
+-- a bench that starts preserves every enclave that its lines leave undisturbed
 from_start : (bench : Result BenchState BenchFault) → IfOk bench (λ state. TargetInvariant state.target) → IfOk bench PreservesThrough
 from_start (Ok state) kept = integrity_through state kept
 from_start (Err fault) kept = tt
 
+-- each bench that starts preserves every enclave that its lines leave undisturbed
 pub started_integrity : (image : List ℕ) (setup : Setup) → IfOk (started image setup) PreservesThrough
 started_integrity image setup = from_start (started image setup) (started_keeps image setup)
 
+-- each bench that an input starts preserves every enclave that its lines leave undisturbed
 pub stream_integrity : (setup : Setup) (input : List ℕ) → IfOk (bench_in setup input) PreservesThrough
 stream_integrity setup input = go (image_in input) where
   go : (image : Result (List ℕ) BenchFault) → IfOk (result_case image (λ bytes. started bytes setup) Err) PreservesThrough

@@ -21,12 +21,15 @@ use Rattle.rv_bench.specs.Stream.{RunsStream}
 use Rattle.rv_bench.specs.Twin.{RunsTwin}
 
 module _ {S W : Type 0} (g : SourceGhosts S) (h : SinkGhosts W) (source left : S) (before after : W) where
+  -- the sink took exactly this text
   abbrev Wrote : List ℕ → Type 0
   Wrote text = h.taken after ≡ h.taken before ++ text
 
+  -- the sink took a prefix of this text
   abbrev WrotePrefix : List ℕ → Type 0
   WrotePrefix text = WritesPrefix (h.taken before) (h.taken after) text
 
+  -- a source that gave bytes had some
   some_read : length (g.remaining left) < length (g.remaining source) → 0 < length (g.remaining source)
   some_read less = omega (arith, less)
 
@@ -35,9 +38,11 @@ module _ {S W : Type 0} (g : SourceGhosts S) (h : SinkGhosts W) (source left : S
     input_is : unread old ≡ g.remaining source
     input_is = ap (λ bytes. bytes ++ g.remaining old.source) lines.empty ∙ ap g.remaining lines.made
 
+    -- the source of the lines follows the input, if the source does
     follows : g.follows_input left → g.follows_input new.source
     follows = subst g.follows_input lines.back
 
+    -- a failure of the source of the lines is one of the source
     failed : SourceFailed g old.source new.source → SourceFailed g source left
     failed risen = subst (λ left. SourceFailed g source left) (sym lines.back) (subst (λ source. SourceFailed g source new.source) lines.made risen)
 
@@ -46,6 +51,7 @@ module _ {S W : Type 0} (g : SourceGhosts S) (h : SinkGhosts W) (source left : S
     of_input P holds agrees = subst P input_is (holds (follows agrees))
 
     module _ (setup : Setup) where
+      -- the results of a run are those of the job
       stream_meets : (outcome : Outcome) → RunsStream h setup old new before after outcome → MeetsOutput g h source left before after (Run setup) outcome
       stream_meets (Ok done) (size, run) = (run.sink, of_input (λ input. IsOkAnd (job_output (Run setup) input) Wrote) run.written)
       stream_meets (Err Read) (run, stops) = failed run.source
@@ -63,9 +69,11 @@ module _ {S W : Type 0} (g : SourceGhosts S) (h : SinkGhosts W) (source left : S
       stream_meets (Err (AsmText fault)) never = absurd never
 
       module _ (slot : ℕ) where
+        -- the job of a twin run
         abbrev twin : Job
         twin = Twin setup slot
 
+        -- the results of a twin run are those of the job
         twin_meets : (outcome : Outcome) → RunsTwin h setup slot old new before after outcome → MeetsOutput g h source left before after twin outcome
         twin_meets (Ok done) (size, run) = (run.sink, of_input (λ input. IsOkAnd (job_output twin input) Wrote) run.written)
         twin_meets (Err Read) (run, stops) = failed run.source
@@ -81,6 +89,7 @@ module _ {S W : Type 0} (g : SourceGhosts S) (h : SinkGhosts W) (source left : S
             (unwritten, of_input (λ input. FailsBy twin input (Image fault)) (λ agrees. inl (told agrees)))
         twin_meets (Err (AsmText fault)) never = absurd never
 
+    -- the results of a disassembly are those of the job
     dis_meets : (outcome : Outcome) → RunsDis h old new before after outcome → MeetsOutput g h source left before after Dis outcome
     dis_meets (Ok done) (reads, sink, written) = (sink, of_input (λ input. IsOkAnd (job_output Dis input) Wrote) written)
     dis_meets (Err Read) (fails, unwritten) = failed fails.source
@@ -92,6 +101,7 @@ module _ {S W : Type 0} (g : SourceGhosts S) (h : SinkGhosts W) (source left : S
     dis_meets (Err (Image fault)) never = absurd never
     dis_meets (Err (AsmText fault)) never = absurd never
 
+  -- the results of an assembly are those of the job
   asm_meets : (outcome : Outcome) → RunsAsm g h source left before after outcome → MeetsOutput g h source left before after Asm outcome
   asm_meets (Ok done) (reads, sink, written) = (sink, written)
   asm_meets (Err Read) (fails, unwritten) = fails.source
@@ -103,7 +113,7 @@ module _ {S W : Type 0} (g : SourceGhosts S) (h : SinkGhosts W) (source left : S
   asm_meets (Err (Image fault)) never = absurd never
   asm_meets (Err (AsmText fault)) (reads, line, fails, unwritten) = (unwritten, fails)
 
-  -- every job
+  -- the results of each job are those of its output
   pub does_meets : (job : Job) (outcome : Outcome) → DoesJob g h source left before after job outcome
       → MeetsOutput g h source left before after job outcome
   does_meets (Run setup) outcome does = stream_meets does.0 does.1 does.2 setup outcome does.3
@@ -111,6 +121,7 @@ module _ {S W : Type 0} (g : SourceGhosts S) (h : SinkGhosts W) (source left : S
   does_meets Asm outcome does = asm_meets outcome does
   does_meets Dis outcome does = dis_meets does.0 does.1 does.2 outcome does.3
 
+  -- an assembly does not change the input of the source
   asm_same : (outcome : Outcome) → RunsAsm g h source left before after outcome → g.input left ≡ g.input source
   asm_same (Ok done) (reads, sink, written) = reads.same
   asm_same (Err Read) (fails, unwritten) = fails.same
@@ -122,6 +133,7 @@ module _ {S W : Type 0} (g : SourceGhosts S) (h : SinkGhosts W) (source left : S
   asm_same (Err (Image fault)) never = absurd never
   asm_same (Err (AsmText fault)) (reads, line, fails, unwritten) = reads.same
 
+  -- reading by lines does not change the input of the source
   lines_same : (old new : Lines S g) → ReadsByLines g source left old new → g.input left ≡ g.input source
   lines_same old new lines = ap g.input lines.back ∙ (lines.end.same ∙ ap g.input lines.made)
 

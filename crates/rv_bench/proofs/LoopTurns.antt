@@ -41,6 +41,7 @@ module _ {S W : Type 0} {g : SourceGhosts S} (h : SinkGhosts W) {A : Type 0} (by
 
 module _ {S W : Type 0} {g : SourceGhosts S} {h : SinkGhosts W} {A : Type 0} {by : Responding A} {end : ScriptEnd} {start : A}
     {old : Lines S g} {before : W} where
+  -- before the first line, no line has a response
   pub SoFar-none : by.is_over start ≡ false → SoFar h by end start old before start old before
   SoFar-none going = record {
     responded = λ _. RespondsToLines-none;
@@ -66,7 +67,7 @@ module _ {S W : Type 0} {g : SourceGhosts S} {h : SinkGhosts W} {A : Type 0} {by
       });
     }
 
-    -- the source fails
+    -- if the source fails in the next line, the lines so far have their replies
     pub SoFar-read : (new : Lines S g) → SoFar h by end start old before now mid between → (mid.is_at_end ≡ false) × (new.is_at_end ≡ false)
         → EndsWithSource mid new → SourceFailed g mid.source new.source → (g.follows_input new.source → ReadsLineText (unread mid) (g.remaining new.source) (held new))
         → FailsIn h by end start old new before between Read
@@ -78,6 +79,7 @@ module _ {S W : Type 0} {g : SourceGhosts S} {h : SinkGhosts W} {A : Type 0} {by
         )
 
     module _ {after : A} {new : Lines S g} {reply : List ℕ} (turn : Turn h by end start old before now mid between after new reply) where
+      -- after one more line, its response follows those so far
       next : g.follows_input new.source
           → RespondsToNext by end start (unread old) (h.taken before) (h.taken between) after (unread new) new.is_at_end reply
       next follows = record {
@@ -91,7 +93,7 @@ module _ {S W : Type 0} {g : SourceGhosts S} {h : SinkGhosts W} {A : Type 0} {by
         responds = turn.responds;
       }
 
-      -- the sink fails
+      -- if the sink fails in the reply to this line, the replies before it are written
       pub Turn-stops : (last : W) → SinkFailed h between last → WritesPrefix (h.taken between) (h.taken last) reply
           → FailsIn h by end start old new before last Write
       Turn-stops last failed prefix = (
@@ -105,7 +107,7 @@ module _ {S W : Type 0} {g : SourceGhosts S} {h : SinkGhosts W} {A : Type 0} {by
       )
 
       module _ {last : W} (worked : SinkWorked h between last) (wrote : h.taken last ≡ h.taken between ++ reply) where
-        -- the loop continues
+        -- after the reply to this line, the loop continues if the responder is not over
         pub Turn-goes : by.is_over after ≡ false → SoFar h by end start old before after new last
         Turn-goes going = record {
           responded = λ follows. RespondsToNext-wrote (next follows) wrote;
@@ -115,7 +117,7 @@ module _ {S W : Type 0} {g : SourceGhosts S} {h : SinkGhosts W} {A : Type 0} {by
           sink = SinkWorked-more h turn.so_far.sink worked;
         }
 
-        -- the responder is over
+        -- after the reply to this line, the script ends if the responder is over
         pub Turn-over : by.is_over after ≡ true → RespondsToAll h by end start after old new before last
         Turn-over over = record {
           source = turn.source ∙ turn.so_far.source;

@@ -12,15 +12,16 @@ module _ {S W : Type 0} (g : SourceGhosts S) (h : SinkGhosts W) (source left : S
   text_is : (output : ProgramOutput) (status : ℕ) → h.taken before ≡ [] → Writes g h source left before after output status → h.taken after ≡ output.text
   text_is output status nothing writes = writes.written ∙ ap (λ taken. taken ++ output.text) nothing
 
+  -- without a failure of the source or the sink, the program writes the whole output for the input
   pub runs_in_memory : (given : List Text) (input : List ℕ) (status : ℕ) → g.follows_input left → g.remaining source ≡ input
       → (SourceFailed g source left → ⊥) → (SinkFailed h before after → ⊥) → h.taken before ≡ []
       → RunsProgram g h source left before after (Means given) status → RunsInMemory given input (h.taken after) status
-  runs_in_memory given input status follows is gave took nothing runs = elim (runs.writes follows) [
+  runs_in_memory given input status follows input_is gave took nothing runs = elim (runs.writes follows) [
     | inl (inl writes) ↦ record {
       read = runs.read;
       means = runs.means;
       output = program_output runs.read (g.remaining source);
-      is = inl (ap (program_output runs.read) is);
+      is = inl (ap (program_output runs.read) input_is);
       text_is = text_is _ status nothing writes;
       status_is = writes.status_is;
     }
@@ -28,10 +29,10 @@ module _ {S W : Type 0} (g : SourceGhosts S) (h : SinkGhosts W) (source left : S
       read = runs.read;
       means = runs.means;
       output = output;
-      is = inr (subst (λ input. StopsOutOfMemory runs.read input output) is stops);
+      is = inr (subst (λ input. StopsOutOfMemory runs.read input output) input_is stops);
       text_is = text_is output status nothing writes;
       status_is = writes.status_is;
     }
-    | inr (inl failed, is) ↦ absurd (gave failed)
-    | inr (inr failed, is) ↦ absurd (took failed)
+    | inr (inl failed, status_is) ↦ absurd (gave failed)
+    | inr (inr failed, status_is) ↦ absurd (took failed)
   ]

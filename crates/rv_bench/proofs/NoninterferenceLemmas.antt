@@ -36,6 +36,7 @@ module _ (e : ℕ) where
 
   -- ---- lines that avoid the enclave
 
+  -- a line that avoids the enclave and its hart is executed alike
   line_alike : (first second : BenchState) (line : List ℕ) → TargetInvariant first.target → TargetInvariant second.target → BenchesEquivExcept e first second
       → LineAvoidsEnclave e first line → LineAvoidsHart e first line → Alike (execute_line first line) (execute_line second line)
   unfolding execute_line
@@ -43,18 +44,19 @@ module _ (e : ℕ) where
     go : (parsed : Result Command CommandFault) → IfOk parsed (AvoidsEnclave e first) → IfOk parsed (AvoidsHart e first)
         → Alike (execute_or_fault first parsed) (execute_or_fault second parsed)
     go (Ok command) over by =
-        let both = noninterference e first second command kept kept' equiv over.blind by in
-        let passed = both.passed over.past in (passed.reply, (let state = passed.state in state.but))
+        let alike_after = noninterference e first second command kept kept' equiv over.blind by in
+        let passed = alike_after.passed over.past in (passed.reply, (let state = passed.state in state.but))
     go (Err fault) over by = (refl, equiv)
 
   -- a property of equivalent benches while the enclave is live holds after its end too, if it holds of equal benches
   while_live : (first second : BenchState) → TargetInvariant first.target → TargetInvariant second.target → BenchesEquivExcept e first second
       → (P : BenchState → BenchState → Type 0) → (live : Bool) → is_live_in e first.target ≡ live
       → (is_live_in e first.target ≡ true → P first second) → (TargetInvariant first.target → P first first) → P first second
-  while_live first second kept kept' equiv P true is differ same = differ is
-  while_live first second kept kept' equiv P false is differ same =
-      subst (P first) ((equiv_again e first second kept equiv).gone is) (same kept)
+  while_live first second kept kept' equiv P true test_is differ same = differ test_is
+  while_live first second kept kept' equiv P false test_is differ same =
+      subst (P first) ((equiv_again e first second kept equiv).gone test_is) (same kept)
 
+  -- lines that avoid the enclave and its hart have equal replies
   lines_alike : (first second : BenchState) (lines : List (List ℕ)) → TargetInvariant first.target → TargetInvariant second.target
       → BenchesEquivExcept e first second → LinesAvoidEnclave e first lines → LinesAvoidHart e first lines → RepliesAlike e first second lines
   lines_alike first second [] kept kept' equiv over by = record { text = refl; state = equiv_again e first second kept equiv }
@@ -73,6 +75,7 @@ module _ (e : ℕ) where
 
   -- ---- an enclave that runs on no hart at first
 
+  -- a line that avoids the enclave leaves it on no hart, and avoids its hart
   line_rests : (bench : BenchState) (line : List ℕ) → TargetInvariant bench.target → RunsOnNoHart e bench.target → LineAvoidsEnclave e bench line
       → LineAvoidsHart e bench line × RunsOnNoHart e (execute_line bench line).state.target
   unfolding execute_line
@@ -82,12 +85,14 @@ module _ (e : ℕ) where
     go (Ok command) over = let stays = rest_law e bench command kept not_running in (stays.by, stays.not_running over.past)
     go (Err fault) over = (tt, not_running)
 
+  -- while the enclave runs on no hart, each line avoids its hart
   by_at_rest : (bench : BenchState) (line : List ℕ) → TargetInvariant bench.target → RunsOnNoHart e bench.target → LineAvoidsHart e bench line
   by_at_rest bench line kept not_running = go (parse_of line) where
     go : (parsed : Result Command CommandFault) → IfOk parsed (AvoidsHart e bench)
     go (Ok command) = (rest_law e bench command kept not_running).by
     go (Err fault) = tt
 
+  -- while the enclave runs on no hart, lines that avoid it avoid its hart
   lines_rest : (bench : BenchState) (lines : List (List ℕ)) → TargetInvariant bench.target → RunsOnNoHart e bench.target → LinesAvoidEnclave e bench lines
       → LinesAvoidHart e bench lines
   lines_rest bench [] kept not_running over = tt
@@ -97,6 +102,7 @@ module _ (e : ℕ) where
 
   -- ---- lines that poke into its region
 
+  -- two pokes into the region are executed alike
   poke_alike : (first second : BenchState) (line line' : List ℕ) → TargetInvariant first.target → TargetInvariant second.target
       → BenchesEquivExcept e first second
       → IsOkAnd (parse_of line) (PokesInto e first) → IsOkAnd (parse_of line') (PokesInto e second)
@@ -110,6 +116,7 @@ module _ (e : ℕ) where
     go (Ok here) (Err fault) pokes pokes' = absurd pokes'
     go (Err fault) there pokes pokes' = absurd pokes
 
+  -- two lines that poke into the region, or one that avoids the enclave, are executed alike
   poke_or_pass_alike : (first second : BenchState) (line other : List ℕ) → TargetInvariant first.target → TargetInvariant second.target
       → BenchesEquivExcept e first second → LineAvoidsHart e first line → PokeOrPass e first second line other
       → Alike (execute_line first line) (execute_line second other)
@@ -123,6 +130,7 @@ module _ (e : ℕ) where
     pub text : replies bench_line first lines ≡ replies bench_line second others
     pub equiv : BenchesEquivExcept e (state_after bench_line first lines) (state_after bench_line second others)
 
+  -- lists of such lines have equal replies
   pokes_alike : (first second : BenchState) (lines others : List (List ℕ)) → TargetInvariant first.target → TargetInvariant second.target
       → BenchesEquivExcept e first second → EachLineAvoidsHart e first lines → DifferInPokes e first second lines others → PokedAlike first second lines others
   pokes_alike first second [] [] kept kept' equiv by differ = record { text = refl; equiv = equiv }
@@ -143,6 +151,7 @@ module _ (e : ℕ) where
     go (Ok command) pokes = poked_rests e bench command kept not_running pokes
     go (Err fault) pokes = absurd pokes
 
+  -- such a line leaves the enclave on no hart
   poke_or_pass_rests : (first second : BenchState) (line other : List ℕ) → TargetInvariant first.target → RunsOnNoHart e first.target
       → PokeOrPass e first second line other → LineAvoidsHart e first line × RunsOnNoHart e (execute_line first line).state.target
   poke_or_pass_rests first second line other kept not_running (inl pokes) =
@@ -154,6 +163,7 @@ module _ (e : ℕ) where
     pub by : EachLineAvoidsHart e bench lines
     pub not_running : RunsOnNoHart e (state_after bench_line bench lines).target
 
+  -- lists of such lines leave the enclave on no hart
   pokes_rest : (first second : BenchState) (lines others : List (List ℕ)) → TargetInvariant first.target → RunsOnNoHart e first.target
       → DifferInPokes e first second lines others → RestsThrough first lines
   pokes_rest first second [] [] kept not_running differ = record { by = tt; not_running = not_running }
@@ -166,6 +176,7 @@ module _ (e : ℕ) where
 
   -- ---- a script with a secret in it
 
+  -- the lines avoid the hart of the enclave, by either condition of the premise
   passes_by : (bench : BenchState) (secret another rest : List (List ℕ)) → TargetInvariant bench.target → AreSecret e bench secret another rest
       → EachLineAvoidsHart e bench secret × LinesAvoidHart e (state_after bench_line bench secret) rest
   passes_by bench secret another rest kept are = elim are.by [
@@ -175,6 +186,7 @@ module _ (e : ℕ) where
     | inr by ↦ by
   ]
 
+  -- two scripts that poke secrets have equal replies
   script_alike : (bench : BenchState) (before secret another rest : List (List ℕ)) → TargetInvariant bench.target
       → AreSecret e (state_after bench_line bench before) secret another rest
       → replies bench_line bench (before ++ (secret ++ rest)) ≡ replies bench_line bench (before ++ (another ++ rest))
@@ -193,6 +205,7 @@ module _ (e : ℕ) where
 
 -- ---- scripts
 
+-- a bench with the invariant has the properties of noninterference
 noninterference_through : (bench : BenchState) → TargetInvariant bench.target → ScriptNoninterference bench
 noninterference_through bench kept = record {
   alike = λ e before part other kept' equiv over by.
@@ -200,13 +213,16 @@ noninterference_through bench kept = record {
   not_running = λ e before part not_running over. lines_rest e (state_after bench_line bench before) part (keeps_lines bench before kept) not_running over;
 }
 
+-- a bench that starts has the properties of noninterference
 from_start : (bench : Result BenchState BenchFault) → IfOk bench (λ state. TargetInvariant state.target) → IfOk bench ScriptNoninterference
 from_start (Ok state) kept = noninterference_through state kept
 from_start (Err fault) kept = tt
 
+-- each bench that starts has the properties of noninterference
 pub started_noninterference : (image : List ℕ) (setup : Setup) → IfOk (started image setup) ScriptNoninterference
 started_noninterference image setup = from_start (started image setup) (started_keeps image setup)
 
+-- each bench that an input starts has the invariant
 pub bench_keeps : (setup : Setup) (input : List ℕ) → IfOk (bench_in setup input) (λ state. TargetInvariant state.target)
 bench_keeps setup input = go (image_in input) where
   go : (image : Result (List ℕ) BenchFault) → IfOk (result_case image (λ bytes. started bytes setup) Err) (λ state. TargetInvariant state.target)
@@ -226,9 +242,11 @@ module _ (setup : Setup) (e : ℕ) (prefix secret another rest : List ℕ) (whol
       (script_lines-prefix prefix whole separated (text ++ rest)
       ∙ ap (λ (lines : List (List ℕ)). lines_of (after_separator prefix) ++ lines) (lines_of-append text rest all))
 
+  -- the replies to the secret and the rest, if the bench starts
   abbrev Told : Result BenchState BenchFault → List ℕ → Result (List ℕ) BenchFault
   Told bench text = replies_of bench (lines_of (after_separator prefix) ++ (lines_of text ++ lines_of rest))
 
+  -- the replies with both secrets are equal
   told_alike : (bench : Result BenchState BenchFault) → IfOk bench (λ state. TargetInvariant state.target)
       → IfOk bench
       (λ bench. AreSecret e (state_after bench_line bench (lines_of (after_separator prefix))) (lines_of secret) (lines_of another) (lines_of rest))
@@ -237,12 +255,14 @@ module _ (setup : Setup) (e : ℕ) (prefix secret another rest : List ℕ) (whol
       (lines_of rest) kept are)
   told_alike (Err fault) kept are = refl
 
+  -- the outputs with both secrets are equal
   outputs_alike : IfOk (bench_in setup prefix)
       (λ bench. AreSecret e (state_after bench_line bench (lines_of (after_separator prefix))) (lines_of secret) (lines_of another) (lines_of rest))
       → output setup (prefix ++ (secret ++ rest)) ≡ output setup (prefix ++ (another ++ rest))
   outputs_alike are =
       output_is secret whole_secret ∙ told_alike (bench_in setup prefix) (bench_keeps setup prefix) are ∙ sym (output_is another whole_another)
 
+-- proves that inputs which differ only in the secret that they poke have equal outputs
 pub secret_noninterference : (setup : Setup) (input : List ℕ) → SecretNoninterference setup input
 secret_noninterference setup input e other differ =
     ap (output setup) differ.input_is

@@ -4,6 +4,7 @@ use Rattle.std.proofs.Common.{refl, sym, ◌∙◌, ap, ap₂, subst, inl, inr, 
 use Rattle.std.proofs.lemmas.Bool.{false≢true}
 use Rattle.std.proofs.lemmas.List.{drop_more}
 use Rattle.rv_text.specs.Characters.{line_feed}
+use Rattle.rv_text.specs.GoodLines.{significant_bytes}
 use Rattle.rv_text.specs.Lines.{lines_of}
 use Rattle.rv_debug.proofs.Execution.{both_line-prefix}
 use Rattle.rv_streams.specs.declared.device.Source.{Ghosts}
@@ -32,8 +33,8 @@ marked_step mark begins text k was joined now inside marks pushed =
 
 -- ---- a line
 
--- lines that begin with the same 121 bytes have the same effect and reply
-pub pair_line-prefix : (slot : ℕ) (pair : Pair) (other line : List ℕ) → take 121 other ≡ take 121 line
+-- lines that begin with the same significant bytes have the same effect and reply
+pub pair_line-prefix : (slot : ℕ) (pair : Pair) (other line : List ℕ) → take significant_bytes other ≡ take significant_bytes line
     → pair_line slot pair other ≡ pair_line slot pair line
 unfolding pair_line
 pair_line-prefix slot pair other line same =
@@ -45,10 +46,12 @@ silent : (slot : ℕ) (pair : Pair) (line : List ℕ) → pair.entered ≡ true 
 unfolding pair_line
 silent slot pair line over = rw over refl
 
+-- after an entry, lines have no replies
 silent_replies : (slot : ℕ) (pair : Pair) (lines : List (List ℕ)) → pair.entered ≡ true → replies (pair_line slot) pair lines ≡ []
 silent_replies slot pair [] over = refl
 silent_replies slot pair (line ∷ lines) over = rw (silent slot pair line over) (silent_replies slot pair lines over)
 
+-- after an entry, lines leave the pair as it is
 silent_state : (slot : ℕ) (pair : Pair) (lines : List (List ℕ)) → pair.entered ≡ true → state_after (pair_line slot) pair lines ≡ pair
 silent_state slot pair [] over = refl
 silent_state slot pair (line ∷ lines) over = rw (silent slot pair line over) (silent_state slot pair lines over)
@@ -58,9 +61,9 @@ silent_state slot pair (line ∷ lines) over = rw (silent slot pair line over) (
 -- the text of a script with a line that entered the slot
 pub entered_script : (slot : ℕ) (start now : Pair) (lines others : List (List ℕ)) (unread : List ℕ) → now ≡ state_after (pair_line slot) start lines
     → now.entered ≡ true → lines_of unread ≡ lines ++ others → script_text slot start (lines_of unread) ≡ replies (pair_line slot) start lines
-entered_script slot start now lines others unread is over all =
+entered_script slot start now lines others unread now_is over all =
     let mid = state_after (pair_line slot) start lines in
-    let over' : mid.entered ≡ true = ap (λ (pair : Pair). pair.entered) (sym is) ∙ over in
+    let over' : mid.entered ≡ true = ap (λ (pair : Pair). pair.entered) (sym now_is) ∙ over in
     let texts : replies (pair_line slot) start (lines ++ others) ≡ replies (pair_line slot) start lines =
     replies-append (pair_line slot) start lines others
     ∙ (ap (λ t. replies (pair_line slot) start lines ++ t) (silent_replies slot mid others over') ∙ append-nil (replies (pair_line slot) start lines)) in
@@ -75,8 +78,8 @@ entered_script slot start now lines others unread is over all =
 pub entered_all : (slot : ℕ) (start now : Pair) (unread left : List ℕ) (is_at_end : Bool) (lines : List (List ℕ)) (old new : List ℕ)
     → ReadsLines unread left is_at_end lines → now ≡ state_after (pair_line slot) start lines → now.entered ≡ true
     → new ≡ old ++ replies (pair_line slot) start lines → new ≡ old ++ script_text slot start (lines_of unread)
-entered_all slot start now unread left is_at_end lines old new reads is over wrote =
-    wrote ∙ ap (λ t. old ++ t) (sym (entered_script slot start now lines (lines_of left) unread is over reads.all))
+entered_all slot start now unread left is_at_end lines old new reads now_is over wrote =
+    wrote ∙ ap (λ t. old ++ t) (sym (entered_script slot start now lines (lines_of left) unread now_is over reads.all))
 
 -- ---- the written bytes
 
@@ -87,35 +90,38 @@ prefix_more old new text more (rest, (prefix, wrote, split)) =
 
 -- a prefix of the text that follows a written text
 pub prefix_after : (old mid new text more : List ℕ) → mid ≡ old ++ text → WritesPrefix mid new more → WritesPrefix old new (text ++ more)
-prefix_after old mid new text more is (rest, (prefix, wrote, split)) = (
+prefix_after old mid new text more mid_is (rest, (prefix, wrote, split)) = (
   rest,
   (
     text ++ prefix,
-    wrote ∙ (ap (λ t. t ++ prefix) is ∙ append_assoc old text prefix),
+    wrote ∙ (ap (λ t. t ++ prefix) mid_is ∙ append_assoc old text prefix),
     ap (λ t. text ++ t) split
         ∙ sym (append_assoc text prefix rest),
   ),
 )
 
--- all of a text
+-- a text that was written completely is a prefix of itself
 pub prefix_all : (old new text : List ℕ) → new ≡ old ++ text → WritesPrefix old new text
-prefix_all old new text is = ([], (text, is, sym (append-nil text)))
+prefix_all old new text new_is = ([], (text, new_is, sym (append-nil text)))
 
--- none of it
+-- a prefix of the empty text writes nothing
 pub prefix_none : (old new : List ℕ) → WritesPrefix old new [] → new ≡ old
 prefix_none old new (rest, ([], wrote, split)) = wrote ∙ append-nil old
 prefix_none old new (rest, (byte ∷ prefix, wrote, split)) = cc
 
 -- the last text follows the replies to all lines of the script
-module _ (slot : ℕ) (start now : Pair) (lines : List (List ℕ)) (old mid last : List ℕ) (is : now ≡ state_after (pair_line slot) start lines)
+module _ (slot : ℕ) (start now : Pair) (lines : List (List ℕ)) (old mid last : List ℕ) (now_is : now ≡ state_after (pair_line slot) start lines)
     (wrote : mid ≡ old ++ replies (pair_line slot) start lines) (reports : last ≡ last_text now) where
+  -- the last text is that of the pair after all lines
   last_is : last ≡ last_text (state_after (pair_line slot) start lines)
-  last_is = reports ∙ ap last_text is
+  last_is = reports ∙ ap last_text now_is
 
+  -- the replies to all lines and the last line are the output of the script
   pub ended_all : mid ++ last ≡ old ++ script_text slot start lines
   ended_all = ap₂ (λ (m l : List ℕ). m ++ l) wrote last_is
       ∙ append_assoc old (replies (pair_line slot) start lines) (last_text (state_after (pair_line slot) start lines))
 
+  -- a sink that fails in the last line has a prefix of the output of the script
   pub ended_prefix : (new : List ℕ) → WritesPrefix mid new last → WritesPrefix old new (script_text slot start lines)
   ended_prefix new stops = prefix_after old mid new (replies (pair_line slot) start lines) _ wrote (subst (WritesPrefix mid new) last_is stops)
 

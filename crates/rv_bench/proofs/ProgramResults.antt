@@ -27,9 +27,9 @@ module _ {S W : Type 0} (g : SourceGhosts S) (h : SinkGhosts W) (source left : S
       → (Writes g h source left before after (record { text = text; status = status }) status → WritesOutput g h source left before after read (g.remaining source) status)
       → status ≡ failed_status read → Ends read status
   tries read text status (inl wrote) into is = inl (into (record { sink = wrote.sink; written = wrote.written; status_is = refl }))
-  tries read text status (inr stopped) into is = inr (inr stopped.sink, is)
+  tries read text status (inr stopped) into status_is = inr (inr stopped.sink, status_is)
 
-  -- the job succeeded
+  -- a job that succeeded has written its text, with exit status 0
   succeeds : (job : Job) (result : Result (List ℕ) BenchFault) → SinkFlushed h before after
       → IsOkAnd result (λ text. h.taken after ≡ h.taken before ++ text) → Writes g h source left before after (output_of result) 0
   succeeds job (Ok text) sink written = record { sink = sink; written = written; status_is = refl }

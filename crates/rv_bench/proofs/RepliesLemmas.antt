@@ -3,6 +3,7 @@ use Rattle.std.proofs.Common.{◌≡◌, ℕ, List, [], ◌∷◌, ◌++◌, ref
 use Rattle.rv_bench.specs.Replies.{Replied, replies, state_after}
 
 module _ {A : Type 0} (respond : A → List ℕ → Replied A) where
+  -- the replies to two lists of lines are those to the first, and then those to the second from the state after the first
   pub replies-append : (start : A) (xs ys : List (List ℕ))
       → replies respond start (xs ++ ys) ≡ replies respond start xs ++ replies respond (state_after respond start xs) ys
   replies-append start [] ys = refl
@@ -11,6 +12,7 @@ module _ {A : Type 0} (respond : A → List ℕ → Replied A) where
       ap (λ t. first.reply ++ t) (replies-append first.state xs ys)
       ∙ sym (append_assoc first.reply (replies respond first.state xs) (replies respond (state_after respond first.state xs) ys))
 
+  -- the state after two lists of lines is that after the second, from the state after the first
   pub state_after-append : (start : A) (xs ys : List (List ℕ)) → state_after respond start (xs ++ ys) ≡ state_after respond (state_after respond start xs) ys
   state_after-append start [] ys = refl
   state_after-append start (x ∷ xs) ys = state_after-append (respond start x).state xs ys

@@ -24,6 +24,7 @@ use Rattle.rv_bench.specs.Responses.{RespondsToAll, RespondsToLine, RespondsToLi
 use Rattle.rv_bench.specs.Replies.{Responding, Replied, bench_line, one_bench, replies, state_after}
 use Rattle.rv_bench.specs.Run.{FailsIn, RunsScript, StopsAtRead, StopsAtWrite}
 use Rattle.rv_debug.specs.BenchState.{BenchState}
+use Rattle.rv_text.specs.GoodLines.{significant_bytes}
 use Rattle.rv_text.specs.Lines.{lines_of}
 use Rattle.rv_bench.proofs.RepliesLemmas.{replies-append, state_after-append, replies-more}
 
@@ -38,6 +39,7 @@ RespondsToLine-same {old = old} {now = now} {line = line} {responded = responded
 -- ---- the lines so far
 
 module _ {A : Type 0} {by : Responding A} {end : ScriptEnd} {start : A} {unread old : List ℕ} where
+  -- before the first line, the responses are those to no lines
   pub RespondsToLines-none : {is_at_end : Bool} → RespondsToLines by end start unread old start unread is_at_end old
   RespondsToLines-none {is_at_end = is_at_end} = record {
     lines = [];
@@ -77,7 +79,7 @@ module _ {A : Type 0} {by : Responding A} {end : ScriptEnd} {start : A} {unread 
       pub RespondsToLines-state : now ≡ state_after by.respond start (script_lines end (lines_of unread))
       RespondsToLines-state = so_far.state ∙ ap (state_after by.respond start) (sym whole.all)
 
-      -- and if the sink fails then, they have their replies
+      -- if the sink fails after the last line, all lines of the script have their replies
       pub RespondsToLines-written : {last : List ℕ} → by.is_over now ≡ false → last ≡ new
           → StopsAtWrite by end start unread rest old last
       RespondsToLines-written going kept = let reads = whole.reads in record {
@@ -118,6 +120,7 @@ module _ {A : Type 0} {by : Responding A} {end : ScriptEnd} {start : A} {unread 
 
 module _ {A : Type 0} {by : Responding A} {end : ScriptEnd} {start : A} {unread old mid : List ℕ} {after : A} {rest : List ℕ}
     {ends : Bool} {reply : List ℕ} (next : RespondsToNext by end start unread old mid after rest ends reply) where
+  -- the lines so far, with one more
   abbrev lines : List (List ℕ)
   lines = next.so_far.lines ++ next.takes.line ∷ []
 
@@ -125,14 +128,18 @@ module _ {A : Type 0} {by : Responding A} {end : ScriptEnd} {start : A} {unread 
   next_response : by.respond (state_after by.respond start next.so_far.lines) next.takes.line ≡ record { state = after; reply = reply }
   next_response = let line = next.takes.line in
       ap (λ s. by.respond s line) (sym next.so_far.state)
-      ∙ (next.responds.1 line (sym (ap (take 121) next.takes.prefix ∙ take-take 121 121 line (lit≤ tt))) ∙ next.responds.0)
+      ∙ (next.responds.1 line (sym (ap (take significant_bytes) next.takes.prefix
+      ∙ take-take significant_bytes significant_bytes line (lit≤ tt))) ∙ next.responds.0)
 
+  -- the responder was not over before the line
   pub RespondsToNext-going : by.is_over (state_after by.respond start next.so_far.lines) ≡ false
   RespondsToNext-going = ap by.is_over (sym next.so_far.state) ∙ next.going
 
+  -- the state is that after all lines, with the last one
   pub RespondsToNext-state : after ≡ state_after by.respond start lines
   RespondsToNext-state = sym (state_after-append by.respond start next.so_far.lines (next.takes.line ∷ []) ∙ ap (λ (a : Replied A). a.state) next_response)
 
+  -- the lines taken from the source are those of the script so far, with the last one
   pub RespondsToNext-taken : TakesScript end unread rest ends lines
   RespondsToNext-taken = record {
     reads = ReadsLines-more unread next.left rest ends next.shown next.so_far.lines next.so_far.taken.reads next.takes;
@@ -140,7 +147,7 @@ module _ {A : Type 0} {by : Responding A} {end : ScriptEnd} {start : A} {unread 
         (ap not (ends_script-shown end next.left rest ends next.shown next.takes ∙ next.inside));
   }
 
-  -- its reply is written
+  -- after the reply to one more line is written, the lines so far include this line
   pub RespondsToNext-wrote : {new : List ℕ} → new ≡ mid ++ reply → RespondsToLines by end start unread old after rest ends new
   RespondsToNext-wrote wrote = let so_far = next.so_far in record {
     lines = lines;
@@ -182,6 +189,7 @@ module _ {W : Type 0} (h : SinkGhosts W) where
   SinkAt Input = SinkFlushed h
   SinkAt Separator = SinkWorked h
 
+  -- the state of the sink after the end of a script, after earlier writes
   SinkAt-after : (end : ScriptEnd) (old mid new : W) → SinkWorked h old mid → SinkAt end mid new → SinkAt end old new
   SinkAt-after Input old mid new = SinkFlushed-after h
   SinkAt-after Separator old mid new = SinkWorked-more h
@@ -209,6 +217,7 @@ module _ {S W : Type 0} {g : SourceGhosts S} (h : SinkGhosts W) where
   -- The sink may be flushed after the replies; if it fails then, it has all replies.
   module _ {end : ScriptEnd} {start now : BenchState} {old new : Lines S g} {before mid : W}
       (responds : RespondsToAll h one_bench end start now old new before mid) (ends : EndsWithSource old new) where
+    -- the bench after the run is that after all lines of the script
     pub one_bench-state : g.follows_input new.source → now ≡ state_after bench_line start (script_lines end (lines_of (unread old)))
     one_bench-state follows = elim responds.stopped [
       | inl run ↦ RespondsToLines-state (run.responded follows)
@@ -217,6 +226,7 @@ module _ {S W : Type 0} {g : SourceGhosts S} (h : SinkGhosts W) where
     ]
 
     module _ {after : W} (same : h.taken after ≡ h.taken mid) where
+      -- all replies were written: the meaning of an Ok result
       pub one_bench-runs : SinkAt h end mid after → RunsScript h end (Ok (replies bench_line start (script_lines end (lines_of (unread old))))) old new before after
       one_bench-runs sink = elim responds.stopped [
         | inl run ↦
@@ -227,6 +237,7 @@ module _ {S W : Type 0} {g : SourceGhosts S} (h : SinkGhosts W) where
         | inr run ↦ absurd (false≢true run.over)
       ]
 
+      -- the sink failed after the replies: the meaning of a write error
       pub one_bench-fails : SinkFailed h mid after → FailsIn h one_bench end start old new before after Write
       one_bench-fails failed = elim responds.stopped [
         | inl run ↦

@@ -1,7 +1,7 @@
 -- An example of the law of secrets: a script pokes a key into the enclave of slot 0, and its other lines avoid that enclave. The output is the
 -- same for every key.
 use Rattle.std.proofs.Common.{◌≡◌, inl, inr, List, ℕ, ◌++◌, codes, IfOk, Result, Ok, Err, refl, true}
-use Rattle.rv_platform.specs.Blocks.{has}
+use Rattle.rv_memory.specs.Blocks.{has}
 use Rattle.rv_text.specs.GoodLines.{is_text}
 use Rattle.rv_text.specs.Lines.{lines_of, through_last_feed}
 use Rattle.rv_text.specs.Numbers.{number_of_digits}
@@ -21,12 +21,15 @@ use Rattle.rv_bench.specs.Replies.{bench_line, state_after}
 use Rattle.rv_streams.proofs.Mapped.{IsOkAnd-at}
 use Rattle.rv_bench.proofs.NoninterferenceLemmas.{secret_noninterference}
 
+-- lines that poke a key
 abbrev key : List ℕ
 key = codes "poke 80020000 41\n# that was the key\n"
 
+-- lines that poke another key
 abbrev other_key : List ℕ
 other_key = codes "poke 80020ffc 5a\n# that was the key\n"
 
+-- the rest of the script
 abbrev rest : List ℕ
 rest = codes "enclaves\nregs\n"
 
@@ -36,26 +39,32 @@ pub record HasEnclave (bench : BenchState) : Type 0 where
   pub first : has (region_in 0 bench.target) 0x80020000 ≡ true
   pub second : has (region_in 0 bench.target) 0x80020ffc ≡ true
 
+-- a comment avoids the enclave
 comment_passes : (bench : BenchState) → LineAvoidsEnclave 0 bench (codes "# that was the key")
 unfolding parse_of is_text meaning_of words_of is_blind execute
 comment_passes bench = record { blind = refl; past = refl }
 
+-- `enclaves` avoids the enclave
 enclaves_pass : (bench : BenchState) → LineAvoidsEnclave 0 bench (codes "enclaves")
 unfolding parse_of is_text meaning_of words_of keyword_of is_blind execute
 enclaves_pass bench = record { blind = refl; past = refl }
 
+-- `regs` avoids the enclave
 regs_pass : (bench : BenchState) → LineAvoidsEnclave 0 bench (codes "regs")
 unfolding parse_of is_text meaning_of words_of keyword_of is_blind execute
 regs_pass bench = record { blind = refl; past = refl }
 
+-- the line pokes 41 into the region
 first_poke : parse_of (codes "poke 80020000 41") ≡ Ok (Poke 0x80020000 0x41)
 unfolding parse_of is_text meaning_of words_of keyword_of hexadecimal_of number_of_digits byte_of_text
 first_poke = refl
 
+-- the line pokes 5a into the region
 second_poke : parse_of (codes "poke 80020ffc 5a") ≡ Ok (Poke 0x80020ffc 0x5a)
 unfolding parse_of is_text meaning_of words_of keyword_of hexadecimal_of number_of_digits byte_of_text
 second_poke = refl
 
+-- the keys are secrets: the other lines avoid the enclave
 is_secret : (bench : BenchState) → HasEnclave bench → AreSecret 0 bench (lines_of key) (lines_of other_key) (lines_of rest)
 is_secret bench there = record {
   pokes = (inl (IsOkAnd-at _ _ _ first_poke there.first, IsOkAnd-at _ _ _ second_poke there.second), (inr (refl, comment_passes _), tt));
@@ -63,11 +72,13 @@ is_secret bench there = record {
   by = inl there.idle;
 }
 
+-- the keys are secrets after any lines before them
 from_bench : (bench : Result BenchState BenchFault) (before : List (List ℕ)) → IfOk bench (λ bench. HasEnclave (state_after bench_line bench before))
     → IfOk bench (λ bench. AreSecret 0 (state_after bench_line bench before) (lines_of key) (lines_of other_key) (lines_of rest))
 from_bench (Ok bench) before there = is_secret (state_after bench_line bench before) there
 from_bench (Err fault) before there = tt
 
+-- two keys that the script pokes into the enclave have the same output, whatever the lines before and after
 pub key_is_concealed : (setup : Setup) (prefix : List ℕ) → through_last_feed prefix ≡ prefix → has_separator prefix ≡ true
     → IfOk (bench_in setup prefix) (λ bench. HasEnclave (state_after bench_line bench (lines_of (after_separator prefix))))
     → output setup (prefix ++ (key ++ rest)) ≡ output setup (prefix ++ (other_key ++ rest))

@@ -12,12 +12,15 @@ use Rattle.rv_elf.specs.Segments.{has_address, occupying, raw_segments}
 use Rattle.rv_elf.specs.declared.segment.Segment.{Segment}
 use Rattle.rv_debug.specs.SecretRun.{calling_host}
 
+-- the memory after the load: the host's code at 80010000, and zeros elsewhere
 abbrev pub loaded : List ℕ
 loaded = replicate 65536 0 ++ (calling_host ++ replicate 65512 0)
 
+-- the segment of the raw image
 abbrev segment : Segment
 segment = record { offset = 0; address = 0x80010000; file_size = 24; memory_size = 24 }
 
+-- the byte at an address after the load
 abbrev byte_at_index : ℕ → ℕ
 byte_at_index address = byte_after calling_host (segment ∷ []) (replicate 131072 0) address
 
@@ -27,6 +30,7 @@ outside i inside none =
     let index : ram_base + i - ram_base ≡ i = omega arith in
     rw (none, index) (get_or-replicate {A = ℕ} 131072 i 0 0 inside)
 
+-- each byte after the load is that of `loaded`
 byte_is : (i : ℕ) → i < 131072 → byte_at_index (ram_base + i) ≡ get_or loaded i 0
 byte_is i inside = elim (cases_lt i 65536) [
   | inl below ↦
@@ -50,6 +54,7 @@ byte_is i inside = elim (cases_lt i 65536) [
       ]
 ]
 
+-- the loader puts the image where the instance of the law has the host's code
 pub memory_is : loaded_memory calling_host (raw_segments 24 true) (replicate 131072 0) ≡ loaded
 unfolding loaded_memory occupying
 memory_is =

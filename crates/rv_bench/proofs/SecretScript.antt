@@ -4,7 +4,6 @@ use Rattle.std.proofs.Common.{◌≡◌, ℕ, List, codes, IfOk, Result, Ok, Err
 use Rattle.std.specs.Prelude.{IsOkAnd}
 use Rattle.rv_word.specs.Cases.{result_case}
 use Rattle.rv_memory.specs.Memory.{write}
-use Rattle.rv_platform.specs.declared.harts.Harts.TheVariants.{One}
 use Rattle.rv_text.specs.GoodLines.{is_text}
 use Rattle.rv_text.specs.Lines.{lines_of}
 use Rattle.rv_text.specs.Numbers.{number_of_digits}
@@ -32,29 +31,35 @@ use Rattle.rv_bench.proofs.SecretImage.{loaded, memory_is}
 
 -- ---- the bench
 
+-- the image is the host's code
 image_is : image_in secret_prefix ≡ Ok calling_host
 unfolding bytes_of_digits line_word is_text words_of
 image_is = refl
 
-started_is : started calling_host secret_setup ≡ Ok (monitored (at_start loaded 0x80010000 One))
+-- the image starts the bench at reset with `loaded`
+started_is : started calling_host secret_setup ≡ Ok (monitored (at_start loaded 0x80010000 1))
 unfolding started place_faults occupying meets_reserved
 started_is =
-    let bench : List ℕ → Result BenchState BenchFault = λ memory. Ok (monitored (at_start memory 0x80010000 One)) in
+    let bench : List ℕ → Result BenchState BenchFault = λ memory. Ok (monitored (at_start memory 0x80010000 1)) in
     ap bench memory_is
 
-bench_is : bench_in secret_setup secret_prefix ≡ Ok (monitored (at_start loaded 0x80010000 One))
+-- the first lines start the bench at reset with `loaded`
+bench_is : bench_in secret_setup secret_prefix ≡ Ok (monitored (at_start loaded 0x80010000 1))
 bench_is = ap (λ (image : Result (List ℕ) BenchFault). result_case image (λ bytes. started bytes secret_setup) Err) image_is ∙ started_is
 
-lines_are : state_after bench_line (monitored (at_start loaded 0x80010000 One)) (lines_of (after_separator secret_prefix)) ≡ secret_bench
+-- the lines before the script lead to the bench of the instance for commands
+lines_are : state_after bench_line (monitored (at_start loaded 0x80010000 1)) (lines_of (after_separator secret_prefix)) ≡ secret_bench
 unfolding at_start execute execute_line write line_word parse_of is_text meaning_of words_of keyword_of hexadecimal_of number_of_digits byte_of_text decimal_of
 lines_are = refl
 
 -- ---- the lines
 
+-- the lines of both scripts are alike
 are : LinesAlike 0 secret_bench secret_bench (lines_of (secret_script (codes "41"))) (lines_of (secret_script (codes "5a")))
 unfolding execute_line parse_of is_text meaning_of words_of keyword_of hexadecimal_of number_of_digits byte_of_text decimal_of
 are = commands_alike 0x41 0x5a
 
+-- the inputs differ only in the secret
 differ : DifferInEnclave 0 secret_setup (secret_input (codes "41")) (secret_input (codes "5a"))
 unfolding line_word is_text words_of
 differ = record {
@@ -73,6 +78,7 @@ differ = record {
       are);
 }
 
+-- proves the instance of the law for two inputs, by computation
 pub secret_script_law : SecretScriptLaw
 secret_script_law = record {
   starts =

@@ -26,6 +26,7 @@ pub record LogsSink {W : Type 0} (h : SinkGhosts W) (before after : W) (log : Ca
 
 module _ {S W : Type 0} (g : SourceGhosts S) (h : SinkGhosts W) (source left : S) (before after : W) (writer : CallLog)
     (logs : LogsSink h before after writer) where
+  -- the program's output passed to standard output
   passed : (output : ProgramOutput) (status : ℕ) → Writes g h source left before after output status → Passed writer output status
   passed output status writes = let worked = writes.sink.worked in record {
     bytes = sym logs.taken ∙ (writes.written ∙ ap (λ taken. taken ++ output.text) logs.nothing);
@@ -36,32 +37,35 @@ module _ {S W : Type 0} (g : SourceGhosts S) (h : SinkGhosts W) (source left : S
     status_is = writes.status_is;
   }
 
+  -- the output for the arguments passed to standard output, or memory ran out
   outputs : (read : Result Job WordsFault) (input : List ℕ) (status : ℕ) → WritesOutput g h source left before after read input status
       → Passed writer (program_output read input) status
       ⊎ ((output : ProgramOutput) × StopsOutOfMemory read input output × Passed writer output status)
   outputs read input status (inl writes) = inl (passed (program_output read input) status writes)
   outputs read input status (inr (output, stops, writes)) = inr (output, stops, passed output status writes)
 
+  -- a failure of the sink is one of standard output
   sink_failed : SinkFailed h before after → (0 < writer.failures) ⊎ (0 < writer.empty_calls)
   sink_failed (inl risen) = inl (omega (arith, risen, logs.unfailed, logs.failures))
   sink_failed (inr risen) = inr (omega (arith, risen, logs.unrefused, logs.refusals))
 
-  -- nothing was read
+  -- for refused arguments, no byte of the input was read
   read_nothing : (read : Result Job WordsFault) (Nothing : Type 0) → (left ≡ source → Nothing) → OnErr read (left ≡ source) → OnErr read Nothing
   read_nothing (Ok job) Nothing none same = tt
   read_nothing (Err fault) Nothing none same = none same
 
+  -- the result over standard input and output, for arguments that are read or refused
   pub runs_over : (given : Result (List Text) WordsFault) (input : List ℕ) (reader : CallLog) (status : ℕ)
       → (g.input left ≡ g.input source → Gave reader input → g.follows_input left) → g.remaining source ≡ input → g.failures source ≡ 0 → g.failures left ≡ reader.failures
       → (left ≡ source → reader ≡ no_call input)
       → RunsProgram g h source left before after (MeansGiven given) status → RunsOverStreams given input reader writer status
-  runs_over given input reader status gave is unfailed failures none runs = record {
+  runs_over given input reader status gave input_is unfailed failures none runs = record {
     read = runs.read;
     means = runs.means;
     untouched = read_nothing runs.read (reader ≡ no_call input) none runs.untouched;
     writes = λ by. elim (runs.writes (gave runs.same by)) [
-      | inl writes ↦ inl (outputs runs.read input status (subst (λ input. WritesOutput g h source left before after runs.read input status) is writes))
-      | inr (inl risen, is) ↦ let some : 0 < reader.failures = omega (arith, risen, unfailed, failures) in inr (inl some, is)
-      | inr (inr failed, is) ↦ inr (inr (sink_failed failed), is)
+      | inl writes ↦ inl (outputs runs.read input status (subst (λ input. WritesOutput g h source left before after runs.read input status) input_is writes))
+      | inr (inl risen, status_is) ↦ let some : 0 < reader.failures = omega (arith, risen, unfailed, failures) in inr (inl some, status_is)
+      | inr (inr failed, status_is) ↦ inr (inr (sink_failed failed), status_is)
     ];
   }

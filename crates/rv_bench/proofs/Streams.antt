@@ -26,26 +26,30 @@ use Rattle.rv_bench.specs.Run.{RunsBench, StopsAtRead, StopsAtWrite}
 use Rattle.rv_bench.specs.Stream.{RunsStream}
 use Rattle.rv_bench.proofs.Starts.{no_ram, has_ram, fault_has_ram}
 
+-- a result that is Ok and has a property is Ok with a value that has it
 ok_and : {A E : Type 0} (r : Result A E) (P : A → Type 0) → IsOkAnd r P → (x : A) × (r ≡ Ok x) × P x
 ok_and (Ok x) P h = (x, refl, h)
 ok_and (Err e) P h = absurd h
 
 module _ {S W : Type 0} {g : SourceGhosts S} (h : SinkGhosts W) (setup : Setup) (image : List ℕ) (old mid new : Lines S g) (before after : W)
-    (reads : ReadsThroughSeparator old mid) (is : g.follows_input mid.source → image_in (unread old) ≡ Ok image) (image_end : EndsWithSource old mid)
+    (reads : ReadsThroughSeparator old mid) (image_is : g.follows_input mid.source → image_in (unread old) ≡ Ok image) (image_end : EndsWithSource old mid)
     (script_end : EndsWithSource mid new) where
   -- the bench of the input is that of the image
   bench_is : (r : Result BenchState BenchFault) → started image setup ≡ r → g.follows_input mid.source → bench_in setup (unread old) ≡ r
-  bench_is r starts follows = rw (is follows) starts
+  bench_is r starts follows = rw (image_is follows) starts
 
+  -- the output of an input is the replies to the lines of its script
   output_is : (state : BenchState) → started image setup ≡ Ok state → g.follows_input mid.source
       → output setup (unread old) ≡ Ok (replies bench_line state (lines_of (unread mid)))
   output_is state starts follows =
       ap (λ m. replies_of m (lines_of (after_separator (unread old)))) (bench_is (Ok state) starts follows)
       ∙ ap (λ t. Ok (replies bench_line state (lines_of t))) (sym (reads.rest follows))
 
+  -- the error of an input is that of the start
   fault_is : (fault : BenchFault) → started image setup ≡ Err fault → g.follows_input mid.source → output setup (unread old) ≡ Err fault
   fault_is fault starts follows = ap (λ m. replies_of m (lines_of (after_separator (unread old)))) (bench_is (Err fault) starts follows)
 
+  -- a failure of the source after the image is one of the whole source
   failed : SourceFailed g mid.source new.source → SourceFailed g old.source new.source
   failed risen = let same = reads.source in omega (arith, risen, same)
 
@@ -95,7 +99,7 @@ module _ {S W : Type 0} {g : SourceGhosts S} (h : SinkGhosts W) (setup : Setup) 
   streamed (Err (Ram BadSize)) (none, same, unwritten) =
       (none, subst (ReadsThroughSeparator old) (sym same) reads, λ follows. fault_is (Ram BadSize) (no_ram image setup none) (script_end.before follows), unwritten)
   streamed (Err (Ram (NoRamMemory refused))) (some, size, same, unwritten) =
-      (some, size, subst (ReadsThroughSeparator old) (sym same) reads, λ follows. rw (is (script_end.before follows)) refl, unwritten)
+      (some, size, subst (ReadsThroughSeparator old) (sym same) reads, λ follows. rw (image_is (script_end.before follows)) refl, unwritten)
   streamed (Err (Image fault)) (faulty, same, unwritten) =
       (fault_has_ram image setup fault faulty, subst (ReadsThroughSeparator old) (sym same) reads, λ follows. fault_is (Image fault) faulty (script_end.before follows), unwritten)
   streamed (Err _) runs = absurd (ok_and (started image setup) _ runs).2

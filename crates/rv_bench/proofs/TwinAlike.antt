@@ -49,6 +49,7 @@ with_line after line =
 module _ (slot : ℕ) where
   -- ---- one command
 
+  -- both benches after a command that both execute
   abbrev done : BenchState → BenchState → Command → BothExecuted
   done a b c = both_do slot (execute a c) (execute b c)
 
@@ -69,18 +70,22 @@ module _ (slot : ℕ) where
     pub first : after.first ≡ after_commands a (done_by_both after.why c)
     pub second : after.second ≡ after_commands b (done_by_both after.why c)
 
+  -- each bench after a command that both execute is that after the command
   ended : (x : Bool) (a : BenchState) (c : Command) → (execute a c).state ≡ after_commands a (done_by_both (if x then Entered else All) c)
   ended true a c = refl
   ended false a c = refl
 
+  -- a command that both execute is not blocked
   never_blind : (x : Bool) → (if x then Entered else All) ≡ NotBlind → ⊥
   never_blind true is = cc
   never_blind false is = cc
 
+  -- if neither entered, the first did not
   not_entered : (x y : Bool) → (if x || y then Entered else All) ≡ All → x ≡ false
   not_entered true y is = cc
   not_entered false y is = refl
 
+  -- one command for both keeps the benches together, or ends the list
   becomes : (a b : BenchState) (c : Command) → TargetInvariant a.target → TargetInvariant b.target → Together a b
       → Becomes a b c (both_execute slot a b c)
   unfolding both_execute
@@ -89,19 +94,19 @@ module _ (slot : ℕ) where
     go true alike = record {
       first_kept = keeps_monitor a c kept;
       second_kept = keeps_monitor b c kept';
-      all = λ is.
+      all = λ all_compared.
           let stays = rest_law slot a c kept together.1 in
-          let passed = subst (λ (why : BothWhy). AlikeBy slot a b c (done a b c) why) is (alike together.0 stays.by) in
-          (passed.reply, ((let state = passed.state in state.but), stays.not_running (not_entered _ _ is)));
-      blind = λ is. absurd (never_blind _ is);
+          let passed = subst (λ (why : BothWhy). AlikeBy slot a b c (done a b c) why) all_compared (alike together.0 stays.by) in
+          (passed.reply, ((let state = passed.state in state.but), stays.not_running (not_entered _ _ all_compared)));
+      blind = λ blind_is. absurd (never_blind _ blind_is);
       first = ended _ a c;
       second = ended _ b c;
     }
     go false alike = record {
       first_kept = kept;
       second_kept = kept';
-      all = λ is. cc;
-      blind = λ is. together;
+      all = λ all_compared. cc;
+      blind = λ blind_is. together;
       first = refl;
       second = refl;
     }
@@ -118,19 +123,22 @@ module _ (slot : ℕ) where
   abbrev of_command : Command → BothExecuted → BothWhy → Pair → Replied Pair
   of_command command after why pair = done_by (Given why (has_no_command command)) (with_line after (Given after.why (has_no_command command))) pair.ran
 
+  -- after a command, the pair goes on or is entered
   done_going : (pair : Pair) (command : Command) (after : BothExecuted) (why : BothWhy) → after.why ≡ why
       → Becomes pair.first pair.second command after → Going (of_command command after why pair).state
-  done_going pair command after All is both = record { equiv = λ going. (both.all is).1; first = both.first_kept; second = both.second_kept }
-  done_going pair command after Entered is both = record { equiv = λ never. cc; first = both.first_kept; second = both.second_kept }
-  done_going pair command after NotBlind is both = record { equiv = λ going. both.blind is; first = both.first_kept; second = both.second_kept }
+  done_going pair command after All why_is becomes = record { equiv = λ going. (becomes.all why_is).1; first = becomes.first_kept; second = becomes.second_kept }
+  done_going pair command after Entered why_is becomes = record { equiv = λ never. cc; first = becomes.first_kept; second = becomes.second_kept }
+  done_going pair command after NotBlind why_is becomes = record { equiv = λ going. becomes.blind why_is; first = becomes.first_kept; second = becomes.second_kept }
 
+  -- after a line, the pair goes on or is entered
   told_going : (pair : Pair) (parsed : Result Command CommandFault) → pair.entered ≡ false → Going pair
       → Going (pair_replied pair (both_line_executed slot pair.first pair.second parsed)).state
-  told_going pair (Ok command) is going =
+  told_going pair (Ok command) unentered going =
       done_going pair command (both_execute slot pair.first pair.second command) _ refl
-      (becomes pair.first pair.second command going.first going.second (going.equiv is))
-  told_going pair (Err fault) is going = record { equiv = λ still. going.equiv is; first = going.first; second = going.second }
+      (becomes pair.first pair.second command going.first going.second (going.equiv unentered))
+  told_going pair (Err fault) unentered going = record { equiv = λ still. going.equiv unentered; first = going.first; second = going.second }
 
+  -- a line keeps a pair that goes on
   line_going : (pair : Pair) (line : List ℕ) → Going pair → Going (pair_line slot pair line).state
   unfolding pair_line
   line_going pair line going = go pair.entered refl where
@@ -139,20 +147,23 @@ module _ (slot : ℕ) where
     go true is = going
     go false is = told_going pair (parse_of line) is going
 
+  -- lines keep a pair that goes on
   lines_going : (pair : Pair) (lines : List (List ℕ)) → Going pair → Going (state_after (pair_line slot) pair lines)
   lines_going pair [] going = going
   lines_going pair (line ∷ lines) going = lines_going (pair_line slot pair line).state lines (line_going pair line going)
 
   -- ---- noninterference
 
+  -- the replies of both benches to a line are equal
   told_alike : (pair : Pair) (line : List ℕ) → Going pair → pair.entered ≡ false → RepliesAlikeTo slot pair line
-  told_alike pair line going is = go (parse_of line) where
+  told_alike pair line going unentered = go (parse_of line) where
     go : (parsed : Result Command CommandFault) → IfOk parsed (λ command.
         let after = both_execute slot pair.first pair.second command in
         after.why ≡ All → after.first_reply ≡ after.second_reply)
-    go (Ok command) = λ all. ((becomes pair.first pair.second command going.first going.second (going.equiv is)).all all).0
+    go (Ok command) = λ all. ((becomes pair.first pair.second command going.first going.second (going.equiv unentered)).all all).0
     go (Err fault) = tt
 
+  -- the two benches of the pair stay together
   stay_together : (start : Pair) → Going start → StayTogether slot start
   stay_together start going lines line is =
       let pair = lines_going start lines going in
@@ -166,17 +177,20 @@ module _ (slot : ℕ) where
     pub first : end.first ≡ after_commands pair.first commands
     pub second : end.second ≡ after_commands pair.second commands
 
+  -- the benches after a command are those after the commands that both executed
   done_follows : (pair : Pair) (command : Command) (after : BothExecuted) (why : BothWhy) → after.why ≡ why
       → Becomes pair.first pair.second command after → Follows pair (done_by_both why command) (of_command command after why pair).state
-  done_follows pair command after why is both = record {
-    first = (left why).0 ∙ both.first ∙ ap (λ (why : BothWhy). after_commands pair.first (done_by_both why command)) is;
-    second = (left why).1 ∙ both.second ∙ ap (λ (why : BothWhy). after_commands pair.second (done_by_both why command)) is;
+  done_follows pair command after why why_is becomes = record {
+    first = (left why).0 ∙ becomes.first ∙ ap (λ (why : BothWhy). after_commands pair.first (done_by_both why command)) why_is;
+    second = (left why).1 ∙ becomes.second ∙ ap (λ (why : BothWhy). after_commands pair.second (done_by_both why command)) why_is;
   } where
+    -- the benches of the pair after the command
     left : (why : BothWhy) → (let end = (of_command command after why pair).state in (end.first ≡ after.first) × (end.second ≡ after.second))
     left All = (refl, refl)
     left Entered = (refl, refl)
     left NotBlind = (refl, refl)
 
+  -- the benches after a line are those after the commands that both executed
   line_follows : (pair : Pair) (line : List ℕ) → Going pair → Follows pair (done_in_line slot pair line) (pair_line slot pair line).state
   unfolding pair_line
   line_follows pair line going = go pair.entered refl (parse_of line) where
@@ -190,10 +204,12 @@ module _ (slot : ℕ) where
         (becomes pair.first pair.second command going.first going.second (going.equiv is))
     go false is (Err fault) = record { first = refl; second = refl }
 
+  -- the bench after two lists of commands, one after the other
   commands-append : (bench : BenchState) (xs ys : List Command) → after_commands bench (xs ++ ys) ≡ after_commands (after_commands bench xs) ys
   commands-append bench [] ys = refl
   commands-append bench (x ∷ xs) ys = commands-append (execute bench x).state xs ys
 
+  -- the benches after lines are those after the commands that both executed
   lines_follow : (pair : Pair) (lines : List (List ℕ)) → Going pair
       → Follows pair (commands_done slot pair lines) (state_after (pair_line slot) pair lines)
   lines_follow pair [] going = record { first = refl; second = refl }
@@ -209,6 +225,7 @@ module _ (slot : ℕ) where
             ∙ sym (commands-append pair.second (done_in_line slot pair line) commands);
       }
 
+  -- both benches preserve the enclaves that the commands leave undisturbed
   both_spare : (start : Pair) → Going start → BothPreserve slot start
   both_spare start going k before part =
       let pair = state_after (pair_line slot) start before in
@@ -224,12 +241,14 @@ module _ (slot : ℕ) where
 
   -- ---- the two benches at the start of the second script
 
+  -- a target is equivalent to its scrambled copy, which has the invariant
   targets_pair : (target : Target) → TargetInvariant target → can_scramble_in slot target ≡ true
       → TargetsEquivExcept slot target (scrambled_in slot target) × TargetInvariant (scrambled_in slot target)
   targets_pair (Bare machine) kept may = cc
   targets_pair (Monitored selected) kept may =
       (record { hart = refl; state = scramble_equiv selected.state slot kept may }, scramble_invariant selected.state slot kept may)
 
+  -- the pair of a bench and its scrambled copy goes on
   start_going : (bench : BenchState) → TargetInvariant bench.target → IfSome (make_pair slot bench) Going
   start_going bench kept = go (can_scramble slot bench) refl where
     go : (may : Bool) → can_scramble slot bench ≡ may
@@ -245,9 +264,11 @@ module _ (slot : ℕ) where
 
 -- ---- whole inputs
 
+-- a law of each pair that goes on holds of the pair of an input
 of_pair : (Law : Pair → Type 0) (slot : ℕ) → ((pair : Pair) → Going slot pair → Law pair) → (setup : Setup) (input : List ℕ)
     → OfPair setup slot input Law
 of_pair Law slot law setup input = go (bench_in (monitored_setup setup) input) (bench_keeps (monitored_setup setup) input) where
+  -- the law for the pair of the slot, if it has one
   some : (pair : Option Pair) → IfSome pair (Going slot) → IfSome pair Law
   some (Some pair) going = law pair going
   some None going = tt
@@ -259,9 +280,11 @@ of_pair Law slot law setup input = go (bench_in (monitored_setup setup) input) (
       (start_going slot (after_first_script bench (after_separator input)) (keeps_lines bench (before_separator (lines_of (after_separator input))) kept))
   go (Err fault) kept = tt
 
+-- proves that the benches of a twin run stay equivalent and reply the same
 pub twin_noninterference : (setup : Setup) (slot : ℕ) (input : List ℕ) → TwinNoninterference setup slot input
 twin_noninterference setup slot input = of_pair (StayTogether slot) slot (stay_together slot) setup input
 
+-- proves that both benches of a twin run preserve the enclaves that the commands leave undisturbed
 pub twin_integrity : (setup : Setup) (slot : ℕ) (input : List ℕ) → TwinIntegrity setup slot input
 twin_integrity setup slot input = record {
   first = stream_integrity (monitored_setup setup) input;

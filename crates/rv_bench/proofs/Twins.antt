@@ -48,10 +48,12 @@ use Rattle.rv_bench.proofs.Starts.{no_ram, has_ram, fault_has_ram}
 pub not_pair : (slot : ℕ) (bench : BenchState) → can_scramble slot bench ≡ false → None ≡ make_pair slot bench
 not_pair slot bench none = rw none refl
 
+-- the bench and its scrambled copy are the pair of the slot, if the slot can be scrambled
 pub are_pair : (slot : ℕ) (bench second : BenchState) → can_scramble slot bench ≡ true → second ≡ scrambled slot bench
     → Some (record { first = bench; second = second; ran = 0; entered = false }) ≡ make_pair slot bench
-are_pair slot bench second can is = rw can (ap (λ (second : BenchState). Some (record { first = bench; second = second; ran = 0; entered = false })) is)
+are_pair slot bench second can second_is = rw can (ap (λ (second : BenchState). Some (record { first = bench; second = second; ran = 0; entered = false })) second_is)
 
+-- a number that is not the number of a slot cannot be scrambled
 none_numbered : (number : ℕ) (target : Target) → TargetInvariant target → slot_numbered number ≡ None → can_scramble_in number target ≡ false
 none_numbered number (Bare machine) kept none = refl
 none_numbered number (Monitored selected) kept none = ap is_held (none_past selected.state.shared.table number kept.shared.valid.count none)
@@ -62,6 +64,7 @@ pub make_pair_at : (P : ℕ → Option Pair → Type 0) (number : ℕ) (bench : 
 make_pair_at P number bench found is holds =
     subst (λ (slot : ℕ). P slot (make_pair number bench)) is.0 (subst (P found.slot) (sym is.1) holds)
 
+-- a number that is not the number of a slot has no pair
 pub not_numbered : (number : ℕ) (bench : BenchState) → TargetInvariant bench.target → slot_numbered number ≡ None → make_pair number bench ≡ None
 not_numbered number bench kept none = sym (not_pair number bench (none_numbered number bench.target kept none))
 
@@ -88,11 +91,13 @@ module _ {S W : Type 0} {g : SourceGhosts S} (h : SinkGhosts W) (setup : Setup) 
   bench_is : (r : Result BenchState BenchFault) → started image (monitored_setup setup) ≡ r → g.follows_input mid.source → bench_in (monitored_setup setup) (unread old) ≡ r
   bench_is r starts follows = rw (read.gives follows) starts
 
+  -- the error of an input is that of the start
   fault_is : (fault : BenchFault) → started image (monitored_setup setup) ≡ Err fault → g.follows_input mid.source → twin_output setup slot (unread old) ≡ Err fault
   fault_is fault starts follows =
       ap (λ (m : Result BenchState BenchFault). result_case m (λ bench. Ok (scripts_text slot bench (after_separator (unread old)))) Err)
       (bench_is (Err fault) starts follows)
 
+  -- the output of an input is that of both scripts
   output_is : (bench : BenchState) → started image (monitored_setup setup) ≡ Ok bench → g.follows_input mid.source
       → twin_output setup slot (unread old) ≡ Ok (scripts_text slot bench (unread mid))
   output_is bench starts follows =
@@ -108,6 +113,7 @@ module _ {S W : Type 0} {g : SourceGhosts S} (h : SinkGhosts W) (setup : Setup) 
   not_started _ never = absurd never
 
   module _ (bench : BenchState) (starts : started image (monitored_setup setup) ≡ Ok bench) where
+    -- the RAM has a permitted size, since the bench starts
     has_size : is_ram_size setup.ram ≡ true
     has_size = has_ram image (monitored_setup setup) bench starts
 
@@ -147,6 +153,7 @@ module _ {S W : Type 0} {g : SourceGhosts S} (h : SinkGhosts W) (setup : Setup) 
             (read.through.rest (script_end.before follows)) (run.1 follows))),
       )
 
+      -- an error in the first script is the error of the twin run
       pub first_fails : (fault : BenchFault) → RunsLines h Separator bench mid new before after (Err fault)
           → RunsTwin h setup slot old new before after (Err fault)
       first_fails Read run = first_read run
@@ -156,21 +163,27 @@ module _ {S W : Type 0} {g : SourceGhosts S} (h : SinkGhosts W) (setup : Setup) 
     -- ---- after the first script, the slot is scrambled in the second bench
 
     module _ (ran : RunsFirst h bench mid before) (new : Lines S g) (after : W) (second_end : EndsWithSource ran.next new) where
+      -- the lines after the first script
       abbrev next : Lines S g
       next = ran.next
 
+      -- the bench after the first script
       abbrev then : BenchState
       then = ran.then
 
+      -- the first script was executed to its separator
       abbrev first : RunsLines h Separator bench mid ran.next before ran.between (Ok tt)
       first = ran.runs
 
+      -- the pair after the first script of the text
       abbrev pair_at : List ℕ → Option Pair
       pair_at scripts = make_pair slot (after_first_script bench scripts)
 
+      -- the pair after the first script is that of the text
       pair_is : g.follows_input next.source → make_pair slot then ≡ pair_at (unread mid)
       pair_is follows = ap (make_pair slot) (ran.state follows)
 
+      -- the replies to the first script and the second text are those of both scripts
       text_is : (text : List ℕ) → (follows : g.follows_input next.source) → second_text slot (make_pair slot then) (unread next) ≡ text
           → first_text bench (unread mid) ++ text ≡ scripts_text slot bench (unread mid)
       text_is text follows same =
@@ -178,6 +191,7 @@ module _ {S W : Type 0} {g : SourceGhosts S} (h : SinkGhosts W) (setup : Setup) 
           (sym same ∙ (ap (λ (pair : Option Pair). second_text slot pair (unread next)) (pair_is follows)
           ∙ ap (second_text slot (pair_at (unread mid))) (first.reads.rest follows)))
 
+      -- the source ended after both scripts, or has more
       rest_end : EndsWithSource mid new
       rest_end = EndsWithSource-more mid next new ran.ends second_end
 
@@ -187,7 +201,7 @@ module _ {S W : Type 0} {g : SourceGhosts S} (h : SinkGhosts W) (setup : Setup) 
       of_rest follows P holds =
           subst (P (pair_at (unread mid))) (first.reads.rest follows) (subst (λ (pair : Option Pair). P pair (unread next)) (pair_is follows) holds)
 
-      -- and of the whole input
+      -- a property of the second script and the pair is one of the whole input
       of_scripts : g.follows_input next.source → (P : Option Pair → List ℕ → Type 0) → P (make_pair slot then) (unread next)
           → IsOkAnd (bench_in (monitored_setup setup) (unread old))
           (λ bench. P (make_pair slot (after_first_script bench (after_separator (unread old)))) (after_separator (after_separator (unread old))))
@@ -197,6 +211,7 @@ module _ {S W : Type 0} {g : SourceGhosts S} (h : SinkGhosts W) (setup : Setup) 
           (bench_is (Ok bench) starts (ran.ends.before follows)))
           (subst (λ (t : List ℕ). P (pair_at t) (after_separator t)) (read.through.rest (ran.ends.before follows)) (of_rest follows P holds))
 
+      -- the result of the second script is the result of the twin run
       pub second_part : (outcome : Outcome) → RunsSecond h slot (make_pair slot then) next new ran.between after outcome
           → RunsTwin h setup slot old new before after outcome
       second_part (Ok done) run = (
@@ -244,6 +259,7 @@ module _ {S W : Type 0} {g : SourceGhosts S} (h : SinkGhosts W) (setup : Setup) 
                   ))),
             ),
           ) where
+            -- a failed read in the second script, by the pair and the text
             Stops : Option Pair → List ℕ → Type 0
             Stops pair script = IsSomeAnd pair
                 (λ pair. StopsAtRead (both_benches slot) Input pair script (g.remaining new.source) (held new)
@@ -268,6 +284,7 @@ module _ {S W : Type 0} {g : SourceGhosts S} (h : SinkGhosts W) (setup : Setup) 
             (inr (of_rest (second_end.before follows) Stops
             (write_after slot (make_pair slot then) _ _ _ _ _ (first.written (second_end.before follows)) (run.1 follows))))),
       ) where
+        -- a failed write in the second script, by the pair and the text
         Stops : Option Pair → List ℕ → Type 0
         Stops pair script = StopsSecondAtWrite slot pair script (unread new) (h.taken before ++ first_text bench (unread mid)) (h.taken after)
       second_part (Err _) run = absurd run

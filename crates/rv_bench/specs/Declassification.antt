@@ -59,6 +59,7 @@ abbrev pub LineIsLow : ℕ → BenchState → List ℕ → Type 0
 LineIsLow e bench line = IfOk (parse_of line) (λ command.
     RunsOnNoneIn e (harts_named bench.target command) bench.target × (is_entered e (execute bench command).entered ≡ false))
 
+-- each line is low in the bench that the lines before it lead to
 abbrev pub LinesAreLow : ℕ → BenchState → List (List ℕ) → Type 0
 LinesAreLow e bench [] = Unit {0}
 LinesAreLow e bench (line ∷ lines) = LineIsLow e bench line × LinesAreLow e (bench_line bench line).state lines
@@ -98,8 +99,10 @@ SecretDeclassification setup input =
 
 -- ---- the laws
 
+-- from each bench that starts, scripts that are alike have equal observations
 abbrev pub ScriptDeclassificationLaw : Type 0
 ScriptDeclassificationLaw = (image : List ℕ) (setup : Setup) → IfOk (started image setup) ScriptDeclassification
 
+-- inputs that differ only in secrets have equal observed outputs
 abbrev pub SecretDeclassificationLaw : Type 0
 SecretDeclassificationLaw = (setup : Setup) (input : List ℕ) → SecretDeclassification setup input

@@ -22,6 +22,6 @@ PreservesThrough bench =
     (k : ℕ) (before part : List (List ℕ)) → UndisturbedByAll k (state_after bench_line bench before) (commands_of part)
     → IsPreservedIn k (state_after bench_line bench before).target (state_after bench_line bench (before ++ part)).target
 
--- the same for the bench that an image starts
+-- each bench that an image starts preserves every enclave that its lines leave undisturbed
 abbrev pub ScriptIntegrityLaw : Type 0
 ScriptIntegrityLaw = (image : List ℕ) (setup : Setup) → IfOk (started image setup) PreservesThrough

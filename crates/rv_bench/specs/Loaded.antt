@@ -4,6 +4,7 @@ use Rattle.std.specs.Str.{bytes_eq}
 use Rattle.rv_word.specs.Cases.{result_case}
 use Rattle.rv_pmp.specs.declared.mode.Mode.TheVariants.{M}
 use Rattle.rv_hart.specs.Hart.{at_reset}
+use Rattle.rv_memory.specs.Harts.{number_of_harts}
 use Rattle.rv_memory.specs.Memory.{is_ram_size}
 use Rattle.rv_memory.specs.declared.ram_fault.RamFault.TheVariants.{BadSize, NoMemory as NoRamMemory}
 use Rattle.rv_monitor.specs.MonitoredMachine.{at_start}
@@ -36,7 +37,7 @@ memory_loaded image setup plan = loaded_memory image plan.segments (replicate se
 -- the bench at reset with a memory: the image on one hart in mode M, or the host on each hart above the monitor, with hart 0 selected
 abbrev pub reset_over : Setup → List ℕ → ℕ → BenchState
 reset_over setup memory entry =
-    if setup.monitored then monitored_bench (at_start memory entry setup.harts)
+    if setup.monitored then monitored_bench (at_start memory entry (number_of_harts setup.harts))
     else bare (record { hart = at_reset entry M; memory = memory })
 
 -- the bench at reset, with the image in its RAM, or the error of the image

@@ -98,8 +98,10 @@ SecretNoninterference setup input = (e : ℕ) (other : List ℕ) → DifferInSec
 
 -- ---- the laws
 
+-- from each bench that starts, a part of the script that avoids an enclave has equal replies on every equivalent bench
 abbrev pub ScriptNoninterferenceLaw : Type 0
 ScriptNoninterferenceLaw = (image : List ℕ) (setup : Setup) → IfOk (started image setup) ScriptNoninterference
 
+-- inputs that differ only in the secret that they poke have equal outputs
 abbrev pub SecretNoninterferenceLaw : Type 0
 SecretNoninterferenceLaw = (setup : Setup) (input : List ℕ) → SecretNoninterference setup input

@@ -20,15 +20,19 @@ marked mark begins (byte ∷ text) = (if begins then mark else []) ++ byte ∷ m
 abbrev pub both_text : List ℕ → List ℕ → List ℕ
 both_text first second = marked (codes "a: ") true first ++ marked (codes "b: ") true second
 
+-- the reply to a command that is blocked
 abbrev pub blind_text : List ℕ
 blind_text = codes "error blind\n"
 
+-- the reply if the slot cannot be scrambled
 abbrev pub no_slot_text : List ℕ
 no_slot_text = codes "twin no slot\n"
 
+-- the reply to the command that enters the slot, with the number of executed commands
 unfoldable pub entered_text : ℕ → List ℕ
 entered_text ran = codes "twin entered " ++ (decimal ran ++ codes "\n")
 
+-- the last line, with the number of executed commands
 unfoldable pub end_text : ℕ → List ℕ
 end_text ran = codes "twin end " ++ (decimal ran ++ codes "\n")
 
@@ -61,6 +65,7 @@ done_by (Given NotBlind is_blank) both ran = record {
   reply = blind_text;
 }
 
+-- the pair of benches after a line, and the reply of both
 abbrev pub pair_replied : Pair → BothLineExecuted → Replied Pair
 pair_replied pair both = done_by both.line both pair.ran
 
@@ -79,6 +84,7 @@ both_benches slot = record { respond = pair_line slot; is_over = λ pair. pair.e
 abbrev pub last_text : Pair → List ℕ
 last_text pair = if pair.entered then [] else end_text pair.ran
 
+-- the output of the second script: the replies to its lines, and the last line
 abbrev pub script_text : ℕ → Pair → List (List ℕ) → List ℕ
 script_text slot pair script = replies (pair_line slot) pair script ++ last_text (state_after (pair_line slot) pair script)
 

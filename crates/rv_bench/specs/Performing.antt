@@ -19,6 +19,7 @@ use Rattle.rv_bench.specs.Jobs.{DoesJob}
 
 -- ---- exit statuses
 
+-- the exit status: 0 after success, and 1 after an error
 abbrev pub exit_status : Outcome → ℕ
 exit_status (Ok _) = 0
 exit_status (Err fault) = 1

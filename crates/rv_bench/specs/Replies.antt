@@ -13,7 +13,7 @@ pub record Responding (A : Type 0) : Type 0 where
   pub respond : A → List ℕ → Replied A
   pub is_over : A → Bool
 
--- the replies to lines
+-- the replies to the lines, one after another, each in the state that the lines before it lead to
 abbrev pub replies : {A : Type 0} → (A → List ℕ → Replied A) → A → List (List ℕ) → List ℕ
 replies respond state [] = []
 replies respond state (line ∷ script) =

@@ -1,6 +1,7 @@
 -- The responses to the lines of a script, as far as it is read: to its end, or to the line after which the responder is over. (This project's
 -- own streams.)
 use Rattle.std.specs.Prelude.{◌≡◌, ◌⊎◌, ℕ, Bool, true, false, List, [], ◌++◌, take, Ok, Err}
+use Rattle.rv_text.specs.GoodLines.{significant_bytes}
 use Rattle.rv_streams.specs.declared.device.Sink.{Ghosts as SinkGhosts}
 use Rattle.rv_streams.specs.declared.device.Source.{Ghosts as SourceGhosts}
 use Rattle.rv_streams.specs.declared.lines.Lines.{Lines}
@@ -13,10 +14,11 @@ use Rattle.rv_streams.specs.Unread.{held, unread}
 use Rattle.rv_bench.specs.Replies.{Responding, Replied, replies, state_after}
 use Rattle.rv_bench.specs.Run.{FailsIn}
 
--- a line has this response, and so has every line that begins with the same 121 bytes
+-- a line has this response, and so has every line that begins with the same significant bytes
 abbrev pub RespondsToLine : {A : Type 0} → Responding A → A → List ℕ → Replied A → Type 0
 RespondsToLine by now line responded =
-    (by.respond now line ≡ responded) × ((other : List ℕ) → take 121 other ≡ take 121 line → by.respond now other ≡ by.respond now line)
+    (by.respond now line ≡ responded)
+    × ((other : List ℕ) → take significant_bytes other ≡ take significant_bytes line → by.respond now other ≡ by.respond now line)
 
 module _ {A : Type 0} (by : Responding A) (end : ScriptEnd) (start : A) (unread old : List ℕ) where
   -- The lines of the script that were taken have their replies.

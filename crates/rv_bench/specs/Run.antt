@@ -1,5 +1,6 @@
 -- A run over the lines of a script, result by result. (This project's own streams.)
 use Rattle.std.specs.Prelude.{◌≡◌, ℕ, ◌+◌, ◌≤◌, true, false, List, [], ◌++◌, length, take, IsOkAnd, Result, Ok, Err}
+use Rattle.rv_text.specs.GoodLines.{kept_bytes}
 use Rattle.rv_text.specs.Lines.{has_feed, lines_of, through_last_feed}
 use Rattle.rv_debug.specs.BenchState.{BenchState}
 use Rattle.rv_memory.specs.Memory.{is_ram_size}
@@ -21,15 +22,15 @@ use Rattle.rv_bench.specs.Loaded.{started}
 use Rattle.rv_bench.specs.Replies.{Responding, bench_line, one_bench, replies, state_after}
 
 module _ {A : Type 0} (by : Responding A) where
-  -- The source failed. A text of whole lines of the script has its replies, and the responder is not over after it. At most 122 bytes of the
-  -- line that was begun are held, so that a later call continues from there.
+  -- The source failed. A text of whole lines of the script has its replies, and the responder is not over after it. At most `kept_bytes`
+  -- bytes of the line that was begun are held, so that a later call continues from there.
   pub record StopsAtRead (end : ScriptEnd) (start : A) (unread left kept old new : List ℕ) : Type 0 where
     pub text : List ℕ
     pub begun : List ℕ
     pub split : unread ≡ text ++ (begun ++ left)
     pub whole : through_last_feed text ≡ text
     pub unfinished : has_feed begun ≡ false
-    pub prefix : kept ≡ take 122 begun
+    pub prefix : kept ≡ take kept_bytes begun
     pub inside : script_lines end (lines_of text) ≡ lines_of text
     pub going : by.is_over (state_after by.respond start (lines_of text)) ≡ false
     pub written : new ≡ old ++ replies by.respond start (lines_of text)

@@ -2,7 +2,7 @@
 -- timer interrupts it there, and the host resumes it. (An instance of this project's own law; declassification: Sabelfeld and Sands, JCS 2009.)
 use Rattle.std.specs.Prelude.{◌≡◌, ℕ, true, List, ◌++◌, codes, IsOkAnd}
 use Rattle.rv_text.specs.Lines.{lines_of}
-use Rattle.rv_platform.specs.declared.harts.Harts.TheVariants.{One}
+use Rattle.rv_memory.specs.declared.harts.Harts.TheVariants.{One}
 use Rattle.rv_debug.specs.SecretRun.{secret_bench}
 use Rattle.rv_command_line.specs.declared.image_kind.ImageKind.TheVariants.{Raw}
 use Rattle.rv_command_line.specs.declared.setup.Setup.{Setup}
@@ -27,6 +27,7 @@ abbrev pub secret_script : List ℕ → List ℕ
 secret_script digits =
     codes "step 1\npoke 80018100 " ++ (digits ++ codes "\nstep 2\nstep 1\ntimer on\nstep 1\nregs\nstep 3\nstep 1\n")
 
+-- an input: the image and the first lines, and then the script with the secret
 abbrev pub secret_input : List ℕ → List ℕ
 secret_input digits = secret_prefix ++ secret_script digits
 

@@ -39,6 +39,7 @@ monitored_setup setup = record setup { monitored = true }
 abbrev pub after_first_script : BenchState → List ℕ → BenchState
 after_first_script bench input = state_after bench_line bench (before_separator (lines_of input))
 
+-- the replies of one bench to the first script
 abbrev pub first_text : BenchState → List ℕ → List ℕ
 first_text bench input = replies bench_line bench (before_separator (lines_of input))
 
@@ -152,6 +153,7 @@ module _ {S W : Type 0} {g : SourceGhosts S} (h : SinkGhosts W) (setup : Setup) 
       ⊎ StopsSecondAtWrite slot (make_pair slot (after_first_script bench scripts)) (after_separator scripts) (unread new)
       (h.taken before ++ first_text bench scripts) (h.taken after)
 
+  -- the sink failed in a script of an input that starts a bench
   abbrev pub StopsTwinAtWrite : Type 0
   StopsTwinAtWrite = IsOkAnd (bench_in (monitored_setup setup) (unread old)) (StopsInScriptsAtWrite (after_separator (unread old)))
 

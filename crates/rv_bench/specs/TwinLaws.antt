@@ -41,6 +41,7 @@ abbrev pub done_by_both : BothWhy → Command → List Command
 done_by_both NotBlind command = []
 done_by_both _ command = command ∷ []
 
+-- the command of a line that both benches execute; none after the slot was entered, or if the line has an error
 abbrev pub done_in_line : ℕ → Pair → List ℕ → List Command
 done_in_line slot pair line =
     if pair.entered then []
@@ -70,16 +71,18 @@ abbrev pub OfPair : Setup → ℕ → List ℕ → (Pair → Type 0) → Type 0
 OfPair setup slot input Law =
     IfOk (bench_in (monitored_setup setup) input) (λ bench. IfSome (make_pair slot (after_first_script bench (after_separator input))) Law)
 
+-- the two benches of a twin run stay equivalent, and reply the same to each line
 abbrev pub TwinNoninterference : Setup → ℕ → List ℕ → Type 0
 TwinNoninterference setup slot input = OfPair setup slot input (StayTogether slot)
 
--- for the first script, and for both benches in the second
+-- the first script, and in the second script both benches, preserve the enclaves that the commands leave undisturbed
 pub record TwinIntegrity (setup : Setup) (slot : ℕ) (input : List ℕ) : Type 0 where
   pub first : IfOk (bench_in (monitored_setup setup) input) PreservesThrough
   pub second : OfPair setup slot input (BothPreserve slot)
 
 -- ---- the laws
 
+-- the laws of a twin run, for every input
 pub record TwinLaw : Type 0 where
   pub noninterference : (setup : Setup) (slot : ℕ) (input : List ℕ) → TwinNoninterference setup slot input
   pub integrity : (setup : Setup) (slot : ℕ) (input : List ℕ) → TwinIntegrity setup slot input

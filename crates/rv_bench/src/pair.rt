@@ -2,6 +2,7 @@
 
 ghost use Rattle.std.specs.Prelude.{◌≡◌, ◌+◌, ◌*◌, ◌≤◌, ◌++◌, ℕ, List, false, [], true, take, length};
 ghost use Rattle.arrayvec.specs.ArrayVec.{array_vec_len};
+ghost use Rattle.rv_text.specs.GoodLines.{significant_bytes};
 ghost use Rattle.rv_bench.specs.Pair.{pair_line, end_text, entered_text, last_text, marked, pair_replied, both_benches};
 
 use crate::responder::Responder;
@@ -84,7 +85,8 @@ impl Pair {
     fn respond_to_line(&mut self, slot: Slot, line: &[u8], out: &mut Told)
         requires { self.old.entered ≡ false }
         ensures respond { pair_line slot self.old line.now ≡ record { state = self.new; reply = out.new.items } }
-        ensures prefix { (other : List ℕ) → take 121 other ≡ take 121 line.now → pair_line slot self.old other ≡ pair_line slot self.old line.now }
+        ensures prefix { (other : List ℕ) → take significant_bytes other ≡ take significant_bytes line.now
+            → pair_line slot self.old other ≡ pair_line slot self.old line.now }
     {
         out.clear();
         let mut first = Reply::new();

@@ -6,7 +6,7 @@ ghost use Rattle.rv_bench.specs.Loaded.{is_read_as_elf as is_read_as_elf_of, pla
 use rv_command_line::{ImageKind, Setup};
 use rv_debug::Bench;
 use rv_elf::{ElfFault, Plan, is_elf, load, plan, plan_raw};
-use rv_hart::{BoxedCache, Machine};
+use rv_fast_path::{BoxedCache, Machine};
 use rv_memory::Ram;
 use rv_monitor::MonitoredMachine;
 use rv_pmp::Mode;

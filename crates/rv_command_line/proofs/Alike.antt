@@ -27,16 +27,20 @@ use Rattle.rv_command_line.specs.CommandLine.{kind_names, lent, Names}
 
 -- ---- the names of an option at another address
 
+-- the names of the image kinds at the address of the definition
 abbrev pub first : Names
 first = lent (map lent kind_names)
 
+-- the parser with its names at another address; a parser without names is unchanged
 abbrev pub with_names : Names → ValueParser → ValueParser
 with_names names (parser.Names other) = parser.Names names
 with_names names p = p
 
+-- the rule with the names of its parser at another address
 abbrev pub rule_at : Names → Rule → Rule
 rule_at names a = record a { parser = option_map (with_names names) a.parser }
 
+-- the shape with the names of its rules at another address
 abbrev pub shape_at : Names → Shape → Shape
 shape_at names s = record s { rules = map (rule_at names) s.rules }
 
@@ -47,12 +51,15 @@ pub record Alike (here : Names) {X : Type 0} (rows : X → List Row) (before : L
   pub same : met here ≡ met first
   pub kept : fault first ≡ [] → Good before → Good (rows (met first))
 
+-- the rows themselves, for a step whose result is rows
 abbrev pub itself : List Row → List Row
 itself rows = rows
 
+-- the rows that are held
 abbrev of_held : Held → List Row
 of_held h = h.rows
 
+-- the rows of a walk over the arguments
 abbrev of_walk : Walk → List Row
 of_walk w = w.held.rows
 
@@ -64,16 +71,17 @@ pub record Fits (here : Names) (a : Rule) : Type 0 where
 
 -- if a sequence of two has no error, neither part has one
 pub parts : (a b : Kinds) → or_else a b ≡ [] → (a ≡ []) × (b ≡ [])
-parts [] b e = (refl, e)
-parts (k ∷ ks) b e = cc
+parts [] b or_else_is = (refl, or_else_is)
+parts (k ∷ ks) b or_else_is = cc
 
 module _ {here : Names} {X Y : Type 0} {rows : X → List Row} {rows' : Y → List Row} {before : List Row} {f : Names → Kinds} {m : Names → X} where
+  -- two steps that are alike, one after the other, are alike
   then : {g : Names → X → Kinds} {m' : Names → X → Y} → Alike here rows before f m
       → ((x : X) → Alike here rows' (rows x) (λ n. g n x) (λ n. m' n x)) → Alike here rows' before (λ n. or_else (f n) (g n (m n))) (λ n. m' n (m n))
   then {g = g} one two = record {
     faults = rw (one.same, one.faults, (two (m first)).faults) refl;
     same = rw (one.same, (two (m first)).same) refl;
-    kept = λ e good. let both = parts (f first) (g first (m first)) e in (two (m first)).kept both.1 (one.kept both.0 good);
+    kept = λ e good. let and_parts = parts (f first) (g first (m first)) e in (two (m first)).kept and_parts.1 (one.kept and_parts.0 good);
   }
 
   -- a step without an error of its own, followed by another
@@ -85,15 +93,18 @@ module _ {here : Names} {X Y : Type 0} {rows : X → List Row} {rows' : Y → Li
     kept = λ e good. (two (m first)).kept refl (one.kept e good);
   }
 
+  -- a step is alike with a function of its result
   lift : (of : X → Y) → ((x : X) → rows' (of x) ≡ rows x) → Alike here rows before f m → Alike here rows' before f (λ n. of (m n))
   lift of same one = record { faults = one.faults; same = ap of one.same; kept = λ e good. rw (same (m first)) (one.kept e good) }
 
 module _ {here : Names} {X : Type 0} {rows : X → List Row} where
+  -- the choice of two steps that are alike is alike
   either : (b : Bool) {before : List Row} {f g : Names → Kinds} {m other : Names → X} → Alike here rows before f m → Alike here rows before g other
       → Alike here rows before (λ n. cond b (f n) (g n)) (λ n. cond b (m n) (other n))
   either true one two = one
   either false one two = two
 
+  -- a step that does not depend on the names is alike
   stays : {fault : Kinds} {x : X} → Alike here rows (rows x) (λ _. fault) (λ _. x)
   stays = record { faults = refl; same = refl; kept = λ e good. good }
 
@@ -112,22 +123,28 @@ found at Is P test same none some (x ∷ xs) all = go (test x) (λ n. same n x) 
 -- ---- reading the arguments of a subcommand
 
 module _ (here : Names) (s : Shape) (fits : AllByRecursion (Fits here) s.rules) where
+  -- the shape with the names at an address
   abbrev shape : Names → Shape
   shape n = shape_at n s
 
+  -- the rules with the names at an address
   abbrev rules : Names → List Rule
   rules n = (shape n).rules
 
+  -- whether a later use of an option replaces an earlier one
   abbrev again : Bool
   again = s.args_override_self
 
+  -- the meeting of a word is alike
   abbrev Met : {X : Type 0} → Held → (Names → Kinds) → (Names → Held × X) → Type 0
   Met h = Alike here (λ m. m.0.rows) h.rows
 
+  -- the claim for a rule that is found, or none
   by : (P : (Names → Option Rule) → Type 0) (test : Rule → Bool) → ((n : Names) (a : Rule) → test (rule_at n a) ≡ test a) → P (λ _. None)
       → ((a : Rule) → Fits here a → P (λ n. Some (rule_at n a))) → P (λ n. find test (rules n))
   by P test same none some = found rule_at (Fits here) P test same none some s.rules fits
 
+  -- the end of a waiting option is alike
   settles : (h : Held) → Alike here of_held h.rows (λ n. settle_fault (rules n) again h) (λ n. settled (rules n) h)
   settles h = lift (λ rows. record h { rows = rows; pending = None }) (λ _. refl) (go h.pending)
     where
@@ -140,27 +157,33 @@ module _ (here : Names) (s : Shape) (fits : AllByRecursion (Fits here) s.rules) 
           (λ a. bytes_eq a.id x.0) (λ n a. refl) stays (λ a fit. fit.uses again x.1 h.rows)
 
   module _ (a : Rule) (fit : Fits here a) where
+    -- the use of a rule is alike
     reacts : (values : List Text) (h : Held)
         → Alike here of_held h.rows (λ n. react_fault (rules n) again (rule_at n a) values h) (λ n. reacted (rules n) (rule_at n a) values h)
     reacts values h = then (settles h) (λ s. lift (λ rows. record s { rows = rows }) (λ _. refl) (fit.uses again values s.rows))
 
+    -- an option with a value is alike
     opts : (v : Option Text) (h : Held) → Met h (λ n. option_fault (rules n) again (rule_at n a) v h) (λ n. option_met (rules n) (rule_at n a) v h)
     opts (Some v) h = lift (λ s. (s, done)) (λ _. refl) (reacts (v ∷ []) h)
     opts None h = lift (λ s. (record s { pending = Some (a.id, []) }, waits a.id)) (λ _. refl) (settles h)
 
+    -- a flag is alike
     flags : (v : Option Text) (h : Held)
         → Met h (λ n. cond (is_some v) (kind.TooManyValues ∷ []) (react_fault (rules n) again (rule_at n a) [] h)) (λ n. flag_met (rules n) (rule_at n a) v h)
     flags (Some v) h = stays
     flags None h = lift (λ s. (s, done)) (λ _. refl) (reacts [] h)
 
+  -- an option by its long name is alike
   longs : (name : Text) (v : Option Text) (h : Held)
       → Met h (λ n. long_fault (rules n) again (arg_by_long (rules n) name) v h) (λ n. long_met (rules n) (arg_by_long (rules n) name) v h)
   longs name v h = by (λ o. Met h (λ n. long_fault (rules n) again (o n) v h) (λ n. long_met (rules n) (o n) v h))
       (λ a. not (is_some a.index) && clap.has_long a name) (λ n a. refl) stays (λ a fit. either (takes_values a) (opts a fit v h) (flags a fit v h))
 
+  -- a bundle of short options is alike
   abbrev Bundle : (k : ℕ) (flags : Text) (skip : ℕ) (so_far : Outcome) (h : Held) → Type 0
   Bundle k flags skip so_far h = Met h (λ n. flags_fault (rules n) again k flags skip h) (λ n. bundle_met (rules n) k flags skip so_far h)
 
+  -- each bundle of short options is alike
   bundles : (k : ℕ) (flags : Text) (skip : ℕ) (so_far : Outcome) (h : Held) → Bundle k flags skip so_far h
   unfolding flags_fault bundle_met
   bundles zero flags skip so_far h = stays
@@ -179,38 +202,45 @@ module _ (here : Names) (s : Shape) (fits : AllByRecursion (Fits here) s.rules) 
       go (Some x) (suc i) later = later _ i so_far h
 
   module _ (waiting : Waiting) (word : Text) where
+    -- a plain word is alike
     plains : (w : Waiting) (h : Held) → Met h (λ _. []) (λ n. plain_word (rules n) w word h)
     plains (option id) h = by (λ o. Met h (λ _. []) (λ n. ((clap.option_word (o n) id word h).0, next (clap.option_word (o n) id word h).1)))
         (λ a. bytes_eq a.id id) (λ n a. refl) stays (λ a fit. stays)
     plains idle h = stays
     plains positional h = stays
 
+    -- what follows a flag is alike
     after : (m : Held × Outcome) → Met m.0 (λ _. []) (λ n. clap.after_flag (rules n) waiting word m.0 m.1)
     after (h, done) = stays
     after (h, waits id) = stays
     after (h, plain) = plains waiting h
     after (h, refused) = plains waiting h
 
+    -- a word of short options is alike
     short_words : (flags : Option Text) (h : Held)
         → Met h (λ n. option_map_or (λ flags. bundle_fault (rules n) again flags h) flags []) (λ n. short_or_plain (rules n) waiting word flags h)
     short_words (Some flags) h = thence (bundles (length flags) flags h.skip plain (record h { skip = 0 })) after
     short_words None h = plains waiting h
 
+    -- a word of a long option is alike
     flag_words : (name : Option (Text × Option Text)) (h : Held)
         → Met h (λ n. flag_word_fault (rules n) again name word h) (λ n. clap.long_or_other (rules n) waiting word name h)
     flag_words (Some x) h = thence (longs x.0 x.1 h) after
     flag_words None h = short_words (short_of word) h
 
+    -- another word is alike
     others : (name : Option Text) (position : ℕ) (h : Held)
         → Met h (λ n. other_fault (shape n) name word h) (λ n. clap.subcommand_or_other (rules n) name waiting position word h)
     others (Some name) position h = stays
     others None position h = either (bytes_eq word (45 ∷ 45 ∷ [])) stays (flag_words (long_of word) h)
 
+    -- each word is alike
     words : (names : clap.Names) (is_trailing : Bool) (position : ℕ) (h : Held)
         → Met h (λ n. word_fault (shape n) names is_trailing waiting word h) (λ n. word_met (rules n) names is_trailing waiting position word h)
     words names true position h = stays
     words names false position h = others (clap.subcommand_met names waiting word) position h
 
+  -- a step after a word is alike
   steps : (word : Text) (w : Walk) (m : Held × Step)
       → Alike here of_walk m.0.rows (λ n. step_fault (shape n) w.position m.0 m.1) (λ n. after_step (rules n) word w m.0 m.1)
   steps word w (h, next waiting) = stays
@@ -229,6 +259,7 @@ module _ (here : Names) (s : Shape) (fits : AllByRecursion (Fits here) s.rules) 
       (λ a fit. lift (placed a) (λ _. refl) (either (clap.is_pending a h.pending && clap.takes_several a) stays (settles h)))
 
   module _ (names : clap.Names) where
+    -- a word of the walk is alike
     turns : (stopped : Option (Text × List Text)) (w : Walk) (word : Text) → Alike here of_walk w.held.rows
         (λ n. let met = word_met (rules n) names w.is_trailing w.waiting w.position word w.held in cond (is_some stopped) []
         (or_else (word_fault (shape n) names w.is_trailing w.waiting word w.held) (step_fault (shape n) w.position met.0 met.1)))
@@ -236,23 +267,27 @@ module _ (here : Names) (s : Shape) (fits : AllByRecursion (Fits here) s.rules) 
     turns (Some x) w word = stays
     turns None w word = then (words w.waiting word names w.is_trailing w.position w.held) (steps word w)
 
+    -- the walk over the words is alike
     walks : (w : Walk) (words : List Text)
         → Alike here of_walk w.held.rows (λ n. walk_fault (shape n) names w words) (λ n. fold (walked (rules n) names) w words)
     unfolding walk_fault walked
     walks w [] = stays
     walks w (word ∷ words) = then (turns w.stopped w word) (λ x. walks x words)
 
+  -- the default values are alike
   defaults : (rest : List Rule) → AllByRecursion (Fits here) rest → (rows : List Row)
       → Alike here itself rows (λ n. defaults_fault rows (map (rule_at n) rest)) (λ n. fold with_default rows (map (rule_at n) rest))
   unfolding defaults_fault
   defaults [] all rows = stays
   defaults (a ∷ rest) all rows = then (all.0.default rows) (defaults rest all.1)
 
+  -- the check for required options is alike
   checks : (has_subcommand : Bool) (rows : List Row) → Alike here itself rows (λ n. check_fault (shape n) rows has_subcommand) (λ _. rows)
   checks has_subcommand rows =
       let none = λ (n : Names). sym (list_any-map (λ (a : Rule). a.required && not (is_given a.id rows)) (rule_at n) s.rules) in
       record { faults = rw (none here, none first) refl; same = refl; kept = λ e good. good }
 
+  -- the reading of one level of the arguments is alike
   level : (names : clap.Names) (words : List Text) (has_subcommand : Bool)
       → Alike here itself [] (λ n. level_fault (shape n) names nothing_held words has_subcommand []) (λ n. rows_after (rules n) names words)
   level names words has_subcommand = then (walks names (walk_from nothing_held) words)
@@ -260,9 +295,11 @@ module _ (here : Names) (s : Shape) (fits : AllByRecursion (Fits here) s.rules) 
 
 -- ---- the subcommand that is entered
 
+-- the rows of the subcommand that was entered; none without a subcommand
 abbrev pub entered_rows : Option (Text × List Row) → List Row
 entered_rows met = option_map_or (λ x. x.1) met []
 
+-- the rows and the errors of the entered subcommand do not depend on the address of the names
 pub entered_alike : (here : Names) (subs : List Shape) → AllByRecursion (λ s. AllByRecursion (Fits here) s.rules) subs
     → (stop : Option (Text × List Text)) → Alike here entered_rows []
     (λ n. option_map_or (λ x. option_map_or (λ s. level_fault s [] nothing_held x.1 false [])

@@ -22,17 +22,21 @@ got read f id r none some = rw (sym (one_text-rows f id)) (go (one_text f id) re
     go None e = none e
     go (Some text) e = some text e
 
+-- digits pass the test of a decimal number
 digits : (ds : List ℕ) → Decides (list_all (λ d. nat_lt (digit_value d) 10) ds) (AllDigits 10 ds)
 digits [] = ((λ e. tt), (λ h. refl))
 digits (d ∷ ds) = Decides-and _ _ (Decides-ltb (digit_value d) 10) (digits ds)
 
 module _ (bits : ℕ) (text : Text) where
+  -- the value of the digits
   abbrev value : ℕ
   value = digits_value 10 (without_leading_plus text)
 
+  -- whether the text is a number of so many bits
   abbrev is_word : Bool
   is_word = is_numeral (without_leading_plus text) && nat_lt value (2 ^ bits)
 
+  -- the test decides whether the text is a number of so many bits
   word : Decides is_word (IsNumeral 10 (without_leading_plus text) × (value < 2 ^ bits))
   word = Decides-and _ _ (Decides-and _ _ (Decides-ltb 0 (length (without_leading_plus text))) (digits (without_leading_plus text)))
       (Decides-ltb value (2 ^ bits))
@@ -40,7 +44,7 @@ module _ (bits : ℕ) (text : Text) where
   -- the value that `get_one` returns for a text as a number of `bits` bits
   pub reads_number : {E : Type 0} (G : Text → Result ℕ E → Type 0) (r : Option ℕ) → ReadsOne G text r
       → ((x : Result ℕ E) → G text x → ParsesUnsigned bits 10 text x) → r ≡ number_in_text bits text
-  reads_number G (Some n) read only = let is = only (Ok n) read in rw (word.1 is.0) (ap Some is.1)
+  reads_number G (Some n) read only = let only_one = only (Ok n) read in rw (word.1 only_one.0) (ap Some only_one.1)
   reads_number G None read only = go is_word refl
     where
       go : (b : Bool) → is_word ≡ b → None ≡ cond b (Some value) None

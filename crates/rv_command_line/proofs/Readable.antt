@@ -27,19 +27,24 @@ is_read id text =
     (cond (bytes_eq id (codes "monitor")) (is_some (truth_in_text text))
     (cond (bytes_eq id (codes "slot")) (is_slot text) true))))
 
+-- each of these texts is a readable value of the option
 abbrev pub are_values : Text → List Text → Bool
 are_values id = list_all (λ v. is_read id (read_as (how id) v))
 
+-- a row has the reading of its option, and readable values
 abbrev pub GoodRow : Row → Type 0
 GoodRow r = (r.reading ≡ how r.id) × (are_values r.id r.values ≡ true)
 
+-- each row has the reading of its option, and readable values
 abbrev pub Good : List Row → Type 0
 Good = AllByRecursion GoodRow
 
+-- the rows of a choice are good if those of both branches are
 pub either_good : (b : Bool) (rows others : List Row) → Good rows → Good others → Good (cond b rows others)
 either_good true rows others good other = good
 either_good false rows others good other = other
 
+-- the rows without those of one option stay good
 pub without_good : (id : Text) (rows : List Row) → Good rows → Good (without id rows)
 without_good id [] good = tt
 without_good id (r ∷ rs) good = go (bytes_eq r.id id) (without_good id rs good.1)
@@ -48,6 +53,7 @@ without_good id (r ∷ rs) good = go (bytes_eq r.id id) (without_good id rs good
     go true rest = good.1
     go false rest = (good.0, rest)
 
+-- the rows with readable values of one option stay good
 pub values_good : (id : Text) (s : ValueSource) (values : List Text) (rows : List Row) → are_values id values ≡ true → Good rows
     → Good (with_values id (how id) s values rows)
 values_good id s values [] new good = ((refl, new), tt)
@@ -74,12 +80,14 @@ row_read id text each (r ∷ rs) good = go (bytes_eq r.id id) refl (row_read id 
 -- the first of several readable values is readable
 first_read : (id : Text) (vs : List Text) → are_values id vs ≡ true
     → option_map_or (is_read id) (option_map (read_as (how id)) (slice_get vs 0)) true ≡ true
-first_read id [] e = refl
-first_read id (v ∷ vs) e = (both (is_read id (read_as (how id) v)) (are_values id vs) e).0
+first_read id [] values = refl
+first_read id (v ∷ vs) values = (both (is_read id (read_as (how id) v)) (are_values id vs) values).0
 
+-- in good rows, the value of an option is readable, if it has one
 pub one_read : (id : Text) (rows : List Row) → Good rows → option_map_or (is_read id) (one_of id rows) true ≡ true
 one_read id = row_read id row_text (λ r same good. rw (good.0, sym same) (first_read r.id r.values good.1))
 
+-- in good rows, the value of `--kind` is readable, if it has one
 pub kind_read : (rows : List Row) → Good rows → option_map_or (is_read (codes "kind")) (first_of (codes "kind") rows) true ≡ true
 kind_read = row_read (codes "kind") (λ r. slice_get r.values 0) (λ r same good. first r.values (rw same at good.1))
   where

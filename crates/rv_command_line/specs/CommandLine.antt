@@ -13,6 +13,7 @@ use Rattle.rv_command_line.specs.declared.image_kind.ImageKind.TheVariants as im
 abbrev pub kinds : List (Text × ImageKind)
 kinds = (codes "auto", image.Auto) ∷ (codes "raw", image.Raw) ∷ (codes "elf", image.Elf) ∷ []
 
+-- the names of the image kinds
 abbrev pub kind_names : List Text
 kind_names = map (λ row. row.0) kinds
 
@@ -24,6 +25,7 @@ Names = Bor (List (Bor Text))
 abbrev pub valued : Text → ValueParser → Rule
 valued name parser = record (new_rule name) { long = Some name; value_names = 1; parser = Some parser }
 
+-- a flag: an option without a value
 abbrev pub flag_rule : Text → Rule
 flag_rule name = record (new_rule name) { long = Some name; action = Some action.SetTrue }
 

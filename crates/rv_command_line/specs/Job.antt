@@ -6,9 +6,9 @@ use Rattle.std.specs.Str.{bytes_eq}
 use Rattle.std.specs.Str.Parse.{digits_value, without_leading_plus}
 use Rattle.clap.specs.ValueTests.{is_numeral}
 use Rattle.clap.specs.Words.{Row, Text, first_of, one_of, subcommand_of}
-use Rattle.rv_platform.specs.Harts.{counted_harts, number_of_harts}
-use Rattle.rv_platform.specs.declared.harts.Harts.{Harts}
-use Rattle.rv_platform.specs.declared.harts.Harts.TheVariants as harts
+use Rattle.rv_memory.specs.Harts.{counted_harts, number_of_harts}
+use Rattle.rv_memory.specs.declared.harts.Harts.{Harts}
+use Rattle.rv_memory.specs.declared.harts.Harts.TheVariants as harts
 use Rattle.rv_command_line.specs.CommandLine.{kinds, rvbench}
 use Rattle.rv_command_line.specs.declared.image_kind.ImageKind.{ImageKind}
 use Rattle.rv_command_line.specs.declared.image_kind.ImageKind.TheVariants as image
@@ -75,12 +75,15 @@ abbrev pub is_image_read : List Row → Bool
 is_image_read options = option_map_or (λ text. is_some (kind_of text)) (first_of (codes "kind") options) true
     && option_map_or (λ text. is_some (number_in_text 32 text)) (one_of (codes "ram") options) true
 
+-- the value of `--harts`, if it is given, is readable
 abbrev pub are_harts_read : List Row → Bool
 are_harts_read options = option_map_or (λ text. is_some (harts_in_text text)) (one_of (codes "harts") options) true
 
+-- the values of `--kind`, `--ram` and `--harts`, if they are given, are readable
 abbrev pub is_setup_read : List Row → Bool
 is_setup_read options = is_image_read options && are_harts_read options
 
+-- the value of `--monitor`, if it is given, is readable
 abbrev pub is_monitor_read : List Row → Bool
 is_monitor_read options = option_map_or (λ text. is_some (truth_in_text text)) (one_of (codes "monitor") options) true
 
@@ -88,12 +91,15 @@ is_monitor_read options = option_map_or (λ text. is_some (truth_in_text text)) 
 abbrev pub is_slot : Text → Bool
 is_slot text = option_map_or (λ n. nat_lt n 13) (number_in_text 8 text) false
 
+-- the value of `--slot`, if it is given, is a number from 0 to 12
 abbrev pub is_slot_read : List Row → Bool
 is_slot_read options = option_map_or is_slot (one_of (codes "slot") options) true
 
+-- the values of the options of `run` are readable
 abbrev pub are_run_read : List Row → Bool
 are_run_read options = is_setup_read options && is_monitor_read options
 
+-- the values of the options of `twin` are readable
 abbrev pub are_twin_read : List Row → Bool
 are_twin_read options = is_setup_read options && is_slot_read options
 
@@ -110,7 +116,7 @@ is_valid_job _ = true
 abbrev pub has_valid_harts : Setup → Bool
 has_valid_harts setup = setup.monitored || number_of_harts setup.harts == 1
 
--- the same for the setup of a job
+-- a job whose setup has two harts has the monitor
 abbrev pub has_its_monitor : Job → Bool
 has_its_monitor (job.Run setup) = has_valid_harts setup
 has_its_monitor (job.Twin setup slot) = has_valid_harts setup

@@ -32,6 +32,6 @@ mod words_fault;
 pub use image_kind::ImageKind;
 pub use job::Job;
 pub use reading::read_words;
-pub use rv_platform::Harts;
+pub use rv_memory::Harts;
 pub use setup::Setup;
 pub use words_fault::WordsFault;

@@ -16,7 +16,7 @@ use crate::setup::Setup;
 use crate::words_fault::WordsFault;
 use clap::error::ErrorKind;
 use clap::{ArgMatches, Error};
-use rv_platform::Harts;
+use rv_memory::Harts;
 use std::alloc::Global;
 
 /// Returns the image format in the options, if it is given.

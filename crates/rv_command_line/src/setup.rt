@@ -3,7 +3,7 @@
 ghost use Rattle.std.specs.Prelude.{◌≡◌, false};
 
 use crate::image_kind::ImageKind;
-use rv_platform::Harts;
+use rv_memory::Harts;
 
 /// The setup of a bench.
 #[derive(Clone, Copy, Debug, PartialEq, Eq)]

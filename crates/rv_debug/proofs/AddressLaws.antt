@@ -5,6 +5,7 @@ use Rattle.std.proofs.lemmas.List.Folds.{list_any-append}
 use Rattle.std.proofs.Math.Bool.{and-false}
 use Rattle.rv_debug.proofs.Prelude.{is_among, nat_tests, with_address, without_address}
 
+-- an address is in a filtered set if it is in the set and passes the filter
 among-filter : (p : ℕ → Bool) (x : ℕ) (xs : List ℕ) → is_among x (filter p xs) ≡ (p x && is_among x xs)
 among-filter p x [] = sym (and-false (p x))
 among-filter p x (y ∷ ys) = go (p y) refl (y == x) refl (among-filter p x ys) where
@@ -20,6 +21,7 @@ pub among-with : (x address : ℕ) (xs : List ℕ) → is_among x (with_address 
 among-with x address xs =
     list_any-append (λ a. a == x) (filter (λ a. ltb a address) xs) (address ∷ filter (λ a. ltb address a) xs)
     ∙ rw (among-filter (λ a. ltb a address) x xs, among-filter (λ a. ltb address a) x xs) (joined (is_among x xs)) where
+      -- the parts of the set below and above an address, with the address, have the same members
       joined : (there : Bool) → ((ltb x address && there) || ((address == x) || (ltb address x && there))) ≡ ((address == x) || there)
       joined there = grind (arith, nat_tests)
 

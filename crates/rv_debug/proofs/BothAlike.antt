@@ -10,9 +10,11 @@ use Rattle.rv_debug.proofs.ExecuteAlike.{equiv_again, noninterference}
 use Rattle.rv_debug.proofs.EffectsInvariant.{keeps_monitor}
 
 module _ (e : ℕ) where
+  -- both benches unchanged, after a command that is not blind
   abbrev pub stopped : BenchState → BenchState → BothExecuted
   stopped a b = record { first = a; second = b; first_reply = []; second_reply = []; why = NotBlind }
 
+  -- both benches after a command that both execute
   abbrev pub done : BenchState → BenchState → Command → BothExecuted
   done a b c = both_do e (execute a c) (execute b c)
 
@@ -28,6 +30,7 @@ module _ (e : ℕ) where
     | inr other ↦ inl (other, rw other refl)
   ]
 
+  -- the region of slot e is the same in equivalent targets
   same_region : (c : Command) (one other : Target) → TargetsEquivExcept e one other
       → meets (bytes_named c) (region_in e one) ≡ meets (bytes_named c) (region_in e other)
   same_region c (Monitored one) (Monitored other) equiv =
@@ -36,10 +39,12 @@ module _ (e : ℕ) where
   same_region c (Bare one) (Monitored other) equiv = absurd equiv
   same_region c (Monitored one) (Bare other) equiv = absurd equiv
 
+  -- a command is blind in both equivalent benches or in neither
   same_blind : (a b : BenchState) (c : Command) → BenchesEquivExcept e a b → is_blind e a c ≡ is_blind e b c
   unfolding is_blind
   same_blind a b c equiv = ap (λ (met : Bool). not met) (same_region c a.target b.target equiv.target)
 
+  -- if an and of two equal tests fails, the first fails
   neither : (x y : Bool) → x ≡ y → (x && y) ≡ false → x ≡ false
   neither true y same none = same ∙ none
   neither false y same none = refl
@@ -47,8 +52,9 @@ module _ (e : ℕ) where
   -- the reason after a command that both executed
   why_is : (a b : BenchState) (c : Command) (x y : Bool) → is_entered e (execute a c).entered ≡ x → is_entered e (execute b c).entered ≡ y
       → (done a b c).why ≡ (if x || y then Entered else All)
-  why_is a b c x y here there = ap₂ (λ (x y : Bool). if x || y then Entered else All) here there
+  why_is a b c x y here test_is = ap₂ (λ (x y : Bool). if x || y then Entered else All) here test_is
 
+  -- two executions that are alike by the law are so for the reason that the command gives
   done_alike : (a b : BenchState) (c : Command) → ExecuteAlike e (execute a c) (execute b c) → AlikeBy e a b c (done a b c) (done a b c).why
   done_alike a b c alike = elim (cases_Bool (is_entered e (execute a c).entered)) [
     | inl here ↦
@@ -60,6 +66,7 @@ module _ (e : ℕ) where
         (record { reply = passed.reply; state = passed.state })
   ]
 
+  -- proves that one command for both benches is alike for each reason to go on or to end
   pub both_alike : (a b : BenchState) (c : Command) → TargetInvariant a.target → TargetInvariant b.target → StayAlike e a b c (both_execute e a b c)
   both_alike a b c kept kept' equiv by = elim (one_cases a b c) [
     | inl stop ↦
@@ -73,13 +80,15 @@ module _ (e : ℕ) where
 
   -- ---- a list of commands
 
+  -- a list of commands goes on by the reason of the first command
   goes_by : (a b : BenchState) (c : Command) (cs : List Command) (after : BothExecuted) (why : BothWhy) → both_execute e a b c ≡ after → after.why ≡ why
       → both_run e a b (c ∷ cs) ≡ go_on why after (both_run e after.first after.second cs)
   unfolding both_run
-  goes_by a b c cs after why is because =
-      ap (λ (after : BothExecuted). go_on after.why after (both_run e after.first after.second cs)) is
+  goes_by a b c cs after why both_execute_is because =
+      ap (λ (after : BothExecuted). go_on after.why after (both_run e after.first after.second cs)) both_execute_is
       ∙ ap (λ (why : BothWhy). go_on why after (both_run e after.first after.second cs)) because
 
+  -- no commands leave both benches as they are
   none_by : (a b : BenchState) → both_run e a b [] ≡ record { first = a; second = b; ran = 0; why = All }
   unfolding both_run
   none_by a b = refl
@@ -88,16 +97,19 @@ module _ (e : ℕ) where
   abbrev pub Folded : BenchState → BenchState → List Command → BothRan → Type 0
   Folded a b cs end = (end.first ≡ after_commands a (take end.ran cs)) × (end.second ≡ after_commands b (take end.ran cs))
 
+  -- the result for the first command, and then for the remaining ones
   folded_by : (a b : BenchState) (c : Command) (cs : List Command) (why : BothWhy) (rest : BothRan)
       → (why ≡ NotBlind → ⊥) → Folded (execute a c).state (execute b c).state cs rest → Folded a b (c ∷ cs) (go_on why (done a b c) rest)
   folded_by a b c cs All rest goes more = more
   folded_by a b c cs Entered rest goes more = (refl, refl)
   folded_by a b c cs NotBlind rest goes more = absurd (goes refl)
 
+  -- a command that both execute is not blocked
   not_stopped : (x : Bool) → (if x then Entered else All) ≡ NotBlind → ⊥
   not_stopped true is = cc
   not_stopped false is = cc
 
+  -- a list of commands for both is the result of the first command, and then of the remaining ones
   pub folded : (a b : BenchState) (cs : List Command) → Folded a b cs (both_run e a b cs)
   folded a b [] = subst (Folded a b []) (sym (none_by a b)) (refl, refl)
   folded a b (c ∷ cs) = elim (one_cases a b c) [
@@ -109,12 +121,15 @@ module _ (e : ℕ) where
 
   -- ---- equivalence of both
 
+  -- the executed commands of both are alike, if they avoid the hart of slot e
   abbrev pub EndAlike : BenchState → BenchState → List Command → BothRan → Type 0
   EndAlike a b cs end = CommandsAvoidHart e a (take end.ran cs) → DoneAlike e a b cs end.ran end.why
 
+  -- no commands are alike
   none_passed : (a b : BenchState) → TargetInvariant a.target → BenchesEquivExcept e a b → AllAlike e a b []
   none_passed a b kept equiv = record { replies = refl; state = equiv_again e a b kept equiv }
 
+  -- one command with equal replies, and remaining commands that are alike
   one_passed : (a b : BenchState) (c : Command) (cs : List Command) → (execute a c).reply ≡ (execute b c).reply
       → AllAlike e (execute a c).state (execute b c).state cs → AllAlike e a b (c ∷ cs)
   one_passed a b c cs reply more = record {
@@ -122,6 +137,7 @@ module _ (e : ℕ) where
     state = more.state;
   }
 
+  -- one command with equal replies, and then the executed ones among the remaining commands
   more_passed : (a b : BenchState) (c : Command) (cs : List Command) (ran : ℕ) (why : BothWhy) → (execute a c).reply ≡ (execute b c).reply
       → DoneAlike e (execute a c).state (execute b c).state cs ran why → DoneAlike e a b (c ∷ cs) (suc ran) why
   more_passed a b c cs ran All reply more = one_passed a b c (take ran cs) reply more
@@ -131,9 +147,10 @@ module _ (e : ℕ) where
   -- the last executed command entered the slot
   entered_last : (a b : BenchState) (c : Command) (cs : List Command) → TargetInvariant a.target → BenchesEquivExcept e a b
       → both_execute e a b c ≡ done a b c → (done a b c).why ≡ Entered → EndAlike a b (c ∷ cs) (both_run e a b (c ∷ cs))
-  entered_last a b c cs kept equiv goes why =
-      subst (EndAlike a b (c ∷ cs)) (sym (goes_by a b c cs (done a b c) Entered goes why)) (λ by. (0, refl, none_passed a b kept equiv))
+  entered_last a b c cs kept equiv both_execute_is why =
+      subst (EndAlike a b (c ∷ cs)) (sym (goes_by a b c cs (done a b c) Entered both_execute_is why)) (λ by. (0, refl, none_passed a b kept equiv))
 
+  -- proves that a list of commands for both is alike in both
   pub run_alike : (a b : BenchState) (cs : List Command) → TargetInvariant a.target → TargetInvariant b.target → BenchesEquivExcept e a b
       → EndAlike a b cs (both_run e a b cs)
   run_alike a b [] kept kept' equiv = subst (EndAlike a b []) (sym (none_by a b)) (λ by. none_passed a b kept equiv)
@@ -160,35 +177,41 @@ module _ (e : ℕ) where
   abbrev pub later : ℕ → BothRan → BothRan
   later n rest = record { first = rest.first; second = rest.second; ran = n + rest.ran; why = rest.why }
 
+  -- the commands from index n on are the one at n and those after it
   next_command : (cs : List Command) (n : ℕ) (c : Command) → n < length cs → c ≡ get_or cs n c → drop n cs ≡ c ∷ drop (n + 1) cs
-  next_command cs n c inside is = drop_more cs n c inside ∙ ap (λ (first : Command). first ∷ drop (n + 1) cs) (sym is)
+  next_command cs n c inside command_is = drop_more cs n c inside ∙ ap (λ (first : Command). first ∷ drop (n + 1) cs) (sym command_is)
 
   module _ (a b : BenchState) (cs : List Command) (n : ℕ) (c : Command) (all : BothRan) (after : BothExecuted)
-      (inside : n < length cs) (is : c ≡ get_or cs n c)
+      (inside : n < length cs) (command_is : c ≡ get_or cs n c)
       (so_far : later n (both_run e a b (drop n cs)) ≡ all) (executed : both_execute e a b c ≡ after) where
+    -- the result of all commands, by the reason of the command at n
     goes_at : (why : BothWhy) → after.why ≡ why → all ≡ later n (go_on why after (both_run e after.first after.second (drop (n + 1) cs)))
     goes_at why because =
-        sym so_far ∙ ap (λ (rest : List Command). later n (both_run e a b rest)) (next_command cs n c inside is)
+        sym so_far ∙ ap (λ (rest : List Command). later n (both_run e a b rest)) (next_command cs n c inside command_is)
         ∙ ap (later n) (goes_by a b c (drop (n + 1) cs) after why executed because)
 
+    -- after a command that enters slot e, the list ends with this command counted
     pub at_entered : after.why ≡ Entered → all ≡ record { first = after.first; second = after.second; ran = n + 1; why = Entered }
     at_entered why = goes_at Entered why
 
+    -- at a command that is not blind, the list ends with this command not counted
     pub at_blind : after.why ≡ NotBlind → all ≡ record { first = after.first; second = after.second; ran = n; why = NotBlind }
     at_blind why =
         let count : n + 0 ≡ n = omega arith in
         goes_at NotBlind why ∙ ap (λ (ran : ℕ). record { first = after.first; second = after.second; ran = ran; why = NotBlind }) count
 
+    -- after any other command, the result is that of the remaining commands
     pub at_more : after.why ≡ All → later (n + 1) (both_run e after.first after.second (drop (n + 1) cs)) ≡ all
     at_more why =
         let rest = both_run e after.first after.second (drop (n + 1) cs) in
         let count : n + 1 + rest.ran ≡ n + suc rest.ran = omega arith in
         ap (λ (ran : ℕ). record { first = rest.first; second = rest.second; ran = ran; why = rest.why }) count ∙ sym (goes_at All why)
 
+  -- after the last command, the result is that all were executed
   pub at_last : (a b : BenchState) (cs : List Command) (n : ℕ) (all : BothRan) → n ≡ length cs → later n (both_run e a b (drop n cs)) ≡ all
       → all ≡ record { first = a; second = b; ran = length cs; why = All }
-  at_last a b cs n all is so_far =
+  at_last a b cs n all at_end so_far =
       let none : drop n cs ≡ [] = drop_all n cs (omega arith) in
-      let count : n + 0 ≡ length cs = omega (arith, is) in
+      let count : n + 0 ≡ length cs = omega (arith, at_end) in
       sym so_far ∙ ap (λ (rest : List Command). later n (both_run e a b rest)) none ∙ ap (later n) (none_by a b)
       ∙ ap (λ (r : ℕ). record { first = a; second = b; ran = r; why = All }) count

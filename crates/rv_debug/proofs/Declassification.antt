@@ -38,17 +38,21 @@ SecretsOrSame e first second here there =
 
 module _ (e hart : ℕ) (one other : MonitoredMachine) (here : Invariant one) (there : Invariant other) (related : AreRelated e one other)
     (breaks watches : List ℕ) where
+  -- the target with the machine, and with the same selected hart
   abbrev at : MonitoredMachine → Target
   at machine = selected_at hart machine
 
+  -- the bench with the machine
   abbrev on : MonitoredMachine → BenchState
   on machine = over (at machine) breaks watches
 
+  -- the targets are related
   both : TargetsAreRelated e (at one) (at other)
   both = record { hart = refl; state = related }
 
   -- ---- effects
 
+  -- the targets are related after steps that are those of moves
   stepped : (harts others : List ℕ) (selected : ℕ) → StepsAreMoves e one other harts others
       → TargetsAreRelated e (done (at one) (Steps harts selected)) (done (at other) (Steps others selected))
   stepped harts others selected steps =
@@ -58,46 +62,52 @@ module _ (e hart : ℕ) (one other : MonitoredMachine) (here : Invariant one) (t
       (subst (TargetsAreRelated e (selected_at selected (sched harts one).state))
       (sym (schedule_is_sched others (record { hart = hart; state = other }) _ selected)) (record { hart = refl; state = moved.state }))
 
+  -- the targets are related after the same write of a register
   register_written : (number value : ℕ)
       → TargetsAreRelated e (done (at one) (effect (on one) (SetReg number value))) (done (at other) (effect (on other) (SetReg number value)))
   register_written number value = record {
     hart = refl;
     state = changed_related e hart (reg_set number value) (reg_set number value) one other related (record {
       world = refl;
-      state = λ is. record { world = is.world; same = λ low. ap (reg_set number value) (is.same low) };
-      host = λ is. record { host = is.host; rest = is.rest };
+      state = λ hart_related. record { world = hart_related.world; same = λ low. ap (reg_set number value) (hart_related.same low) };
+      host = λ hart_related. record { host = hart_related.host; rest = hart_related.rest };
     });
   }
 
+  -- the targets are related after any writes of registers of the enclave on its own hart
   own_register_written : (number value number_too value_too : ℕ) → runs_on e hart one ≡ true
       → TargetsAreRelated e (done (at one) (effect (on one) (SetReg number value))) (done (at other) (effect (on other) (SetReg number_too value_too)))
   own_register_written number value number_too value_too runs_here = record {
     hart = refl;
     state = changed_related e hart (reg_set number value) (reg_set number_too value_too) one other related (record {
       world = refl;
-      state = λ is. record { world = is.world; same = λ low. let never : true ≡ false = sym runs_here ∙ low in cc };
-      host = λ is. record { host = is.host; rest = is.rest };
+      state = λ hart_related. record { world = hart_related.world; same = λ low. let never : true ≡ false = sym runs_here ∙ low in cc };
+      host = λ hart_related. record { host = hart_related.host; rest = hart_related.rest };
     });
   }
 
+  -- the targets are related after the same change of the timer line
   timer_written : (raised : Bool)
       → TargetsAreRelated e (done (at one) (effect (on one) (Timer raised))) (done (at other) (effect (on other) (Timer raised)))
   timer_written raised = record {
     hart = refl;
     state = changed_related e hart (timer_line_set raised) (timer_line_set raised) one other related (record {
       world = refl;
-      state = λ is. record { world = is.world; same = λ low. ap (timer_line_set raised) (is.same low) };
-      host = λ is. record { host = is.host; rest = ap (λ (c : CsrState). record c { timer = raised }) is.rest };
+      state = λ hart_related. record { world = hart_related.world; same = λ low. ap (timer_line_set raised) (hart_related.same low) };
+      host = λ hart_related. record { host = hart_related.host; rest = ap (λ (c : CsrState). record c { timer = raised }) hart_related.rest };
     });
   }
 
+  -- the reply to a poke, by the memory after it
   abbrev poked_text : MonitoredMachine → Option (List ℕ) → List ℕ
   poked_text machine memory = option_case (option_map (over_memory (at machine)) memory) outside_text (λ after. ok_text)
 
+  -- two pokes leave related targets and have equal replies
   record PokedAlike (m n : Option (List ℕ)) : Type 0 where
     state : TargetsAreRelated e (poke_of (at one) m) (poke_of (at other) n)
     reply : poked_text one m ≡ poked_text other n
 
+  -- the same poke leaves related targets and has equal replies
   poked_alike : (address byte : ℕ) → PokedAlike (write one.shared.memory address (byte ∷ [])) (write other.shared.memory address (byte ∷ []))
   poked_alike address byte =
       let memory = related.memory in
@@ -128,7 +138,7 @@ module _ (e hart : ℕ) (one other : MonitoredMachine) (here : Invariant one) (t
   secrets_poked address byte address_too byte_too within within_too =
       let first = written one e address byte here within in
       let second = written other e address_too byte_too there within_too in
-      let hidden : (a : ℕ) → has (region one.shared.table e) a ≡ true → may_differ one.shared.table e a ≡ true = λ a is. rw is refl in
+      let hidden : (a : ℕ) → has (region one.shared.table e) a ≡ true → may_differ one.shared.table e a ≡ true = λ a within_region. rw within_region refl in
       let in_first : has (region one.shared.table e) address_too ≡ true = ap (λ (t : Slots). has (region t e) address_too) related.table ∙ within_too in
       let memory = hidden_writes (may_differ one.shared.table e) one.shared.memory other.shared.memory address address_too byte byte_too _ _ related.memory
       first second (hidden address within) (hidden address_too in_first) in
@@ -150,9 +160,11 @@ module _ (e hart : ℕ) (one other : MonitoredMachine) (here : Invariant one) (t
   hart_chosen number true false same = cc
   hart_chosen number false true same = cc
 
+  -- the effect of a schedule, by whether its harts exist
   abbrev sched_of : List ℕ → Bool → Effect
   sched_of harts has = if has then Steps harts hart else Nothing
 
+  -- the targets are related after a schedule whose steps are those of moves
   scheduled : (harts : List ℕ) (has has_too : Bool) → has ≡ has_too
       → StepsAreMoves e one other (harts_stepped (sched_of harts has)) (harts_stepped (sched_of harts has_too))
       → TargetsAreRelated e (done (at one) (sched_of harts has)) (done (at other) (sched_of harts has_too))
@@ -161,9 +173,11 @@ module _ (e hart : ℕ) (one other : MonitoredMachine) (here : Invariant one) (t
   scheduled harts true false same steps = cc
   scheduled harts false true same steps = cc
 
+  -- the targets are related after the same command
   abbrev Ends : Command → Type 0
   Ends command = TargetsAreRelated e (done (at one) (effect (on one) command)) (done (at other) (effect (on other) command))
 
+  -- the same command leaves related targets, if the enclave hands over the same
   ends : (command : Command) → HandsOverAlike e (on one) (on other) command → Ends command
   ends (Step count) steps = stepped _ _ hart steps
   ends (Run count) steps = stepped _ _ hart steps
@@ -178,10 +192,12 @@ module _ (e hart : ℕ) (one other : MonitoredMachine) (here : Invariant one) (t
 
   -- ---- observations
 
+  -- what is observed of a schedule, by whether its harts exist
   abbrev sched_observed : MonitoredMachine → List ℕ → Bool → List ℕ
   sched_observed machine harts has =
       if has then observed_harts e (scheduled_steps harts (schedule_start (at machine))) else no_hart_text
 
+  -- the same schedule has equal observations, if its steps are those of moves
   schedule_observed : (harts : List ℕ) (has has_too : Bool) → has ≡ has_too
       → StepsAreMoves e one other (harts_stepped (sched_of harts has)) (harts_stepped (sched_of harts has_too))
       → sched_observed one harts has ≡ sched_observed other harts has_too
@@ -190,9 +206,11 @@ module _ (e hart : ℕ) (one other : MonitoredMachine) (here : Invariant one) (t
   schedule_observed harts true false same steps = cc
   schedule_observed harts false true same steps = cc
 
+  -- the observations of the same command are equal
   abbrev Shows : Command → Type 0
   Shows command = observed e (on one) command ≡ observed e (on other) command
 
+  -- the same command has equal observations, if the enclave hands over the same and both stop alike
   shows : (command : Command) → HandsOverAlike e (on one) (on other) command → stop_of (on one) command ≡ stop_of (on other) command → Shows command
   shows (Step count) steps stop = runs_alike e hart one other [] [] count here there related steps stop
   shows (Run count) steps stop = runs_alike e hart one other breaks watches count here there related steps stop
@@ -220,9 +238,11 @@ module _ (e hart : ℕ) (one other : MonitoredMachine) (here : Invariant one) (t
 
   -- ---- a command of each
 
+  -- two commands have equal observations, and leave related benches
   abbrev Alike : Command → Command → Type 0
   Alike command command_too = ObservedAlike e (on one) (on other) command command_too
 
+  -- the same command is observed alike, if the enclave hands over the same and both stop alike
   same_command : (command : Command) → HandsOverAlike e (on one) (on other) command → stop_of (on one) command ≡ stop_of (on other) command
       → Alike command command
   unfolding execute
@@ -230,16 +250,19 @@ module _ (e hart : ℕ) (one other : MonitoredMachine) (here : Invariant one) (t
     observed = shows command steps stop;
     state = record { target = ends command steps; breaks = breaks_same command; watches = watches_same command };
   } where
+    -- the breakpoints after the same command are equal
     breaks_same : (command : Command) → breaks_after (on one) command ≡ breaks_after (on other) command
     breaks_same (Break address) = refl
     breaks_same (Clear address) = refl
     breaks_same _ = refl
 
+    -- the watchpoints after the same command are equal
     watches_same : (command : Command) → watches_after (on one) command ≡ watches_after (on other) command
     watches_same (Watch address) = refl
     watches_same (Unwatch address) = refl
     watches_same _ = refl
 
+  -- two pokes of secrets into the region are observed alike
   secrets : (command command_too : Command) → PokesInto e (on one) command → PokesInto e (on other) command_too → Alike command command_too
   unfolding execute
   secrets (Poke address byte) (Poke address_too byte_too) pokes pokes_too =
@@ -248,6 +271,7 @@ module _ (e hart : ℕ) (one other : MonitoredMachine) (here : Invariant one) (t
   secrets (Poke address byte) _ pokes pokes_too = absurd pokes_too
   secrets _ command_too pokes pokes_too = absurd pokes
 
+  -- two writes of registers of the enclave are observed alike
   own_registers : (command command_too : Command) → SetsOwnRegister e (on one) command → SetsOwnRegister e (on other) command_too → Alike command command_too
   unfolding execute
   own_registers (SetReg number value) (SetReg number_too value_too) sets sets_too =
@@ -255,6 +279,7 @@ module _ (e hart : ℕ) (one other : MonitoredMachine) (here : Invariant one) (t
   own_registers (SetReg number value) _ sets sets_too = absurd sets_too
   own_registers _ command_too sets sets_too = absurd sets
 
+  -- two commands that are alike are observed alike
   commands_alike : (command command_too : Command) → SecretsOrSame e (on one) (on other) command command_too → Alike command command_too
   commands_alike command command_too (inl is) =
       subst (Alike command) is.same (same_command command is.steps is.stop)
@@ -265,9 +290,11 @@ module _ (e hart : ℕ) (one other : MonitoredMachine) (here : Invariant one) (t
 
 -- a command of a bare bench
 module _ (e : ℕ) (machine : Machine) (breaks watches : List ℕ) where
+  -- the bench over the bare machine
   abbrev bench : BenchState
   bench = over (Bare machine) breaks watches
 
+  -- the same command on the same bare machine is observed alike
   bare_itself : (command : Command) → ObservedAlike e bench bench command command
   unfolding execute
   bare_itself command = record {
@@ -279,19 +306,23 @@ module _ (e : ℕ) (machine : Machine) (breaks watches : List ℕ) where
     };
   }
 
+  -- a bare machine has no region, so no command pokes into it
   bare_pokes : (command : Command) → PokesInto e bench command → ⊥
   bare_pokes (Poke address byte) pokes = let never = has_live None address pokes in cc
   bare_pokes _ pokes = pokes
 
+  -- a bare machine has no enclave, so no command sets its registers
   bare_sets : (command : Command) → SetsOwnRegister e bench command → ⊥
   bare_sets (SetReg number value) sets = cc
   bare_sets _ sets = sets
 
+  -- two commands that are alike on the same bare machine are observed alike
   bare_alike : (command command_too : Command) → SecretsOrSame e bench bench command command_too → ObservedAlike e bench bench command command_too
   bare_alike command command_too (inl is) = subst (ObservedAlike e bench bench command) is.same (bare_itself command)
   bare_alike command command_too (inr (inl pokes)) = absurd (bare_pokes command pokes.0)
   bare_alike command command_too (inr (inr sets)) = absurd (bare_sets command sets.0)
 
+-- two commands that are alike are observed alike, for related targets
 targets_alike : (e : ℕ) (one other : Target) (breaks watches : List ℕ) (command command_too : Command) → TargetInvariant one → TargetInvariant other
     → TargetsAreRelated e one other → SecretsOrSame e (over one breaks watches) (over other breaks watches) command command_too
     → ObservedAlike e (over one breaks watches) (over other breaks watches) command command_too
@@ -299,8 +330,9 @@ targets_alike e (Monitored one) (Monitored other) breaks watches command command
     let go : (hart : ℕ) → one.hart ≡ hart
     → SecretsOrSame e (over (Monitored one) breaks watches) (over (selected_at hart other.state) breaks watches) command command_too
     → ObservedAlike e (over (Monitored one) breaks watches) (over (selected_at hart other.state) breaks watches) command command_too =
-    λ hart is. subst (λ (h : ℕ). SecretsOrSame e (over (Monitored one) breaks watches) (over (selected_at h other.state) breaks watches) command command_too
-    → ObservedAlike e (over (Monitored one) breaks watches) (over (selected_at h other.state) breaks watches) command command_too) is
+    λ hart hart_is.
+    subst (λ (h : ℕ). SecretsOrSame e (over (Monitored one) breaks watches) (over (selected_at h other.state) breaks watches) command command_too
+    → ObservedAlike e (over (Monitored one) breaks watches) (over (selected_at h other.state) breaks watches) command command_too) hart_is
     (commands_alike e one.hart one.state other.state here there related.state breaks watches command command_too) in
     go other.hart related.hart alike
 targets_alike e (Bare one) (Bare other) breaks watches command command_too here there related alike =
@@ -320,6 +352,7 @@ secrets_or_same e first second command command_too here there related =
     → ObservedAlike e first (over second.target first.breaks watches) command command_too) related.watches
     (targets_alike e first.target second.target first.breaks first.watches command command_too here there related.target))
 
+-- proves the law of declassification for a command, by the kinds of pairs of commands
 pub declassification : CommandDeclassificationLaw
 declassification e first second command command_too here there related (inl (inl is)) =
     secrets_or_same e first second command command_too here there related (inl is)
@@ -332,22 +365,25 @@ declassification e first second command command_too here there related (inr secr
 
 -- ---- lists of commands
 
+-- proves the law of declassification for lists of commands, by induction
 pub list_declassification : ListDeclassificationLaw
 list_declassification e first second [] [] here there related alike = record { observed = refl; state = related }
 list_declassification e first second [] (command_too ∷ others) here there related alike = absurd alike
 list_declassification e first second (command ∷ commands) [] here there related alike = absurd alike
 list_declassification e first second (command ∷ commands) (command_too ∷ others) here there related alike =
-    let both = declassification e first second command command_too here there related alike.0 in
+    let alike_after = declassification e first second command command_too here there related alike.0 in
     let rest = list_declassification e (execute first command).state (execute second command_too).state commands others
-    (keeps_monitor first command here) (keeps_monitor second command_too there) both.state alike.1 in
-    record { observed = ap₂ (λ (text : List ℕ) (texts : List (List ℕ)). text ∷ texts) both.observed rest.observed; state = rest.state }
+    (keeps_monitor first command here) (keeps_monitor second command_too there) alike_after.state alike.1 in
+    record { observed = ap₂ (λ (text : List ℕ) (texts : List (List ℕ)). text ∷ texts) alike_after.observed rest.observed; state = rest.state }
 
 -- ---- where the relation begins
 
+-- each target is related to itself
 targets_itself : (e : ℕ) (target : Target) → TargetsAreRelated e target target
 targets_itself e (Bare machine) = refl
 targets_itself e (Monitored selected) = record { hart = refl; state = related_itself e selected.state }
 
+-- equivalent targets are related, if the enclave runs on no hart
 targets_begin : (e : ℕ) (one other : Target) → TargetsEquivExcept e one other → RunsOnNoHart e one → TargetsAreRelated e one other
 targets_begin e (Bare one) (Bare other) equiv idle = equiv
 targets_begin e (Monitored one) (Monitored other) equiv idle =
@@ -356,6 +392,7 @@ targets_begin e (Monitored one) (Monitored other) equiv idle =
 targets_begin e (Bare one) (Monitored other) equiv idle = absurd equiv
 targets_begin e (Monitored one) (Bare other) equiv idle = absurd equiv
 
+-- proves when equivalent benches are related, and related benches equivalent
 pub relation_law : BenchRelationLaw
 relation_law = record {
   itself = λ e bench. record { target = targets_itself e bench.target; breaks = refl; watches = refl };

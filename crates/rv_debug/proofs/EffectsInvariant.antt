@@ -13,10 +13,12 @@ poke_of target memory = option_case (option_map (over_memory target) memory) tar
 
 -- ---- a bare machine stays bare
 
+-- a poke leaves a bare machine bare
 bare_poked : (machine : Machine) (memory : Option (List ℕ)) → IsBare (poke_of (Bare machine) memory)
 bare_poked machine None = tt
 bare_poked machine (Some memory) = tt
 
+-- every effect leaves a bare machine bare
 pub bare_done : (machine : Machine) (d : Effect) → IsBare (done (Bare machine) d)
 bare_done machine (Steps harts selected) = step_scheduled_bare selected _ (stays_bare harts (schedule_start (Bare machine)) tt)
 bare_done machine (OneByte address byte) = bare_poked machine (write machine.memory address (byte ∷ []))
@@ -24,14 +26,16 @@ bare_done machine _ = tt
 
 -- ---- a monitored machine
 
+-- a poke preserves the invariant of a target
 poke_keeps : (machine : Selected) (address byte : ℕ) (memory : Option (List ℕ)) → write machine.state.shared.memory address (byte ∷ []) ≡ memory
     → Invariant machine.state → TargetInvariant (poke_of (Monitored machine) memory)
-poke_keeps machine address byte None is kept = kept
-poke_keeps machine address byte (Some memory) is kept =
-    invariant_by_size machine.state memory kept (sym (length-write machine.state.shared.memory address (byte ∷ []) memory is))
+poke_keeps machine address byte None written kept = kept
+poke_keeps machine address byte (Some memory) written kept =
+    invariant_by_size machine.state memory kept (sym (length-write machine.state.shared.memory address (byte ∷ []) memory written))
 
 -- ---- any target
 
+-- every effect preserves the invariant of a target
 pub effect_keeps : (target : Target) (d : Effect) → TargetInvariant target → TargetInvariant (done target d)
 effect_keeps (Bare machine) d kept = by_bare TargetInvariant (λ alone. tt) _ (bare_done machine d)
 effect_keeps (Monitored machine) Nothing kept = kept

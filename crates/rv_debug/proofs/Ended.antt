@@ -46,9 +46,11 @@ use Rattle.rv_debug.proofs.LowCommands.{low_command}
 
 -- ---- a machine has no enclave of this number
 
+-- no slot has a number after the last
 never_at : (machine : MonitoredMachine) → Invariant machine → slot_at machine.shared.table slot_count ≡ None
 never_at machine kept = let count = kept.shared.valid.count in get_or_past {X = Option SlotInfo} machine.shared.table slot_count None (omega (arith, count))
 
+-- no hart runs a slot after the last
 never_runs : (machine : MonitoredMachine) → Invariant machine → (hart : ℕ) → runs_on slot_count hart machine ≡ false
 never_runs machine kept hart = elim (cases_Bool (runs_on slot_count hart machine)) [
   | inr low ↦ low
@@ -57,6 +59,7 @@ never_runs machine kept hart = elim (cases_Bool (runs_on slot_count hart machine
       absurd (both_ways _ dead (running_is_live slot_count hart machine kept high))
 ]
 
+-- no step enters a slot after the last
 never_enters : (hart : ℕ) (machine : MonitoredMachine) → Invariant machine → enters slot_count (step_of hart machine).outcome.entered ≡ false
 never_enters hart machine kept = entered_by slot_count (step_of hart machine).outcome.entered (λ is. elim (cases_lt hart (count_of machine)) [
   | inr past ↦
@@ -70,6 +73,7 @@ never_enters hart machine kept = entered_by slot_count (step_of hart machine).ou
 
 -- ---- a command does not enter it
 
+-- a slot that was not entered still was not, after a step that does not enter it
 keeps_out : (slots : ℕ) (o : Option ℕ) → enters slot_count o ≡ false → is_entered slot_count slots ≡ false → is_entered slot_count (slots_with slots o) ≡ false
 keeps_out slots None passes out = out
 keeps_out slots (Some k) passes out =
@@ -78,6 +82,7 @@ keeps_out slots (Some k) passes out =
     let same : bit_at (slots_with slots (Some k)) slot_count ≡ bit_at slots slot_count = bit_at_or slots (2 ^ k) slot_count ∙ omega (arith, clear) in
     ap (λ (bit : ℕ). bit == 1) same ∙ out
 
+-- no step of a schedule enters a slot after the last
 monitored_out : (harts : List ℕ) (machine : Selected) (did : Scheduled) → Invariant machine.state → is_entered slot_count did.entered ≡ false
     → is_entered slot_count (scheduled_steps harts (after_schedule (Monitored machine) did)).did.entered ≡ false
 unfolding scheduled_steps
@@ -87,12 +92,14 @@ monitored_out (hart ∷ harts) machine did kept out =
     monitored_out harts (record { hart = hart; state = after.state }) _ (invariant_law hart machine.state kept)
     (keeps_out did.entered after.outcome.entered (never_enters hart machine.state kept) out)
 
+-- no step of a bare machine enters a slot
 bare_out : (harts : List ℕ) (machine : Machine) (did : Scheduled) → is_entered slot_count did.entered ≡ false
     → is_entered slot_count (scheduled_steps harts (after_schedule (Bare machine) did)).did.entered ≡ false
 unfolding scheduled_steps
 bare_out [] machine did out = out
 bare_out (hart ∷ harts) machine did out = bare_out harts _ _ out
 
+-- no effect enters a slot after the last
 effect_out : (target : Target) (d : Effect) → TargetInvariant target → is_entered slot_count (entered_by_effect target d) ≡ false
 effect_out (Bare machine) (Steps harts selected) kept = bare_out harts machine _ refl
 effect_out (Monitored machine) (Steps harts selected) kept = monitored_out harts machine _ kept refl
@@ -101,14 +108,17 @@ effect_out target (Register number value) kept = refl
 effect_out target (TimerLine raised) kept = refl
 effect_out target (OneByte address byte) kept = refl
 
+-- a slot after the last runs on no hart
 not_in : (target : Target) → TargetInvariant target → RunsOnNoHart slot_count target
 not_in (Bare machine) kept = tt
 not_in (Monitored machine) kept = never_runs machine.state kept
 
+-- no command enters a slot after the last
 passed : (bench : BenchState) (command : Command) → TargetInvariant bench.target → is_entered slot_count (execute bench command).entered ≡ false
 unfolding execute
 passed bench command kept = effect_out bench.target (effect bench command) kept
 
+-- a slot after the last has no window
 windows : (first second : Target) → TargetInvariant first
     → IfSome (machine_in first) (λ one. IfSome (machine_in second) (λ other. runs one.shared.table slot_count ≡ true → SameWindow slot_count one other))
 windows (Bare machine) second kept = tt
@@ -120,15 +130,18 @@ windows (Monitored machine) (Monitored other) kept =
 -- ---- two machines that are equal in the guest view are related for every slot
 
 module _ (e k : ℕ) (one other : MonitoredMachine) (here : Invariant one) (related : AreRelated e one other) (ended : is_live one.shared.table e ≡ false) where
+  -- after the enclave has ended, the shared states are equal
   shared : one.shared ≡ other.shared
   shared = related.gone ended
 
+  -- after the enclave has ended, the guest states of the harts are equal
   state : (hart : ℕ) → guest_state (hart_state_of hart one) ≡ guest_state (hart_state_of hart other)
   state hart = elim (cases_Bool (runs_on e hart one)) [
     | inr low ↦ (related.hart_states hart).same low
     | inl high ↦ absurd (both_ways _ ended (running_is_live e hart one here high))
   ]
 
+  -- after the enclave has ended, the machines are related for every slot
   machines_related : AreRelated k one other
   machines_related = record {
     harts = related.harts;
@@ -143,6 +156,7 @@ module _ (e k : ℕ) (one other : MonitoredMachine) (here : Invariant one) (rela
     gone = λ dead. shared;
   }
 
+-- after the enclave has ended, the targets are related for every slot
 targets_related : (e k : ℕ) (one other : Target) → TargetInvariant one → TargetsAreRelated e one other → EnclaveHasEnded e one → TargetsAreRelated k one other
 targets_related e k (Bare one) (Bare other) here related ended = related
 targets_related e k (Monitored one) (Monitored other) here related ended =
@@ -155,6 +169,7 @@ never_in : (target : Target) → TargetInvariant target → EnclaveHasEnded slot
 never_in (Bare machine) kept = tt
 never_in (Monitored machine) kept = ap (λ (o : Option SlotInfo). is_some o) (never_at machine.state kept)
 
+-- after the enclave has ended, the benches are related for every slot
 ended_for_all : (e : ℕ) (first second : BenchState) → TargetInvariant first.target → BenchesAreRelated e first second → EnclaveHasEnded e first.target
     → AreRelatedForAll first second
 ended_for_all e first second here related ended k =
@@ -170,6 +185,7 @@ record ExitsNow (hart : ℕ) (machine : MonitoredMachine) : Type 0 where
 
 module _ (e hart : ℕ) (machine : MonitoredMachine) (kept : Invariant machine) (runs : runs_on e hart machine ≡ true)
     (out : runs_on e hart (step_of hart machine).state ≡ false) where
+  -- an exit leaves the host on the hart
   to_host : (hart_state_of hart (step_of hart machine).state).world ≡ Host
   to_host =
       let place : Place = record { slot = e; hart = hart } in
@@ -177,15 +193,18 @@ module _ (e hart : ℕ) (machine : MonitoredMachine) (kept : Invariant machine) 
       record { first = runs; second = runs; hart = refl; slot = refl; memory = record { size = refl; bytes = λ i shown. refl } } in
       ((enclave_step place place machine machine kept kept itself).state.exits out).first.world
 
+  -- a step of the enclave exits now, by its trap
   by_trap : (o : Option Trap) → (step_of hart machine).outcome.step.trap ≡ o → ExitsNow hart machine
-  by_trap (Some trap) traps = record { trap = trap; traps = traps; world = to_host }
+  by_trap (Some trap) trapped = record { trap = trap; traps = trapped; world = to_host }
   by_trap None none =
       let world = world_is e (hart_state_of hart machine).world runs in
       not_host _ e _ ((exits_law hart machine kept e world).quiet none) to_host
 
+  -- the enclave exits by its next step
   exits_now : ExitsNow hart machine
   exits_now = by_trap (step_of hart machine).outcome.step.trap refl
 
+-- the same steps of machines that are related for no enclave are those of moves
 guest_moves : (e : ℕ) (harts : List ℕ) (one other : MonitoredMachine) → Invariant one → Invariant other → AreRelated slot_count one other
     → StepsAreMoves e one other harts harts
 guest_moves e [] one other here there related = record { moves = []; steps = refl; first = refl; second = refl; are = tt }
@@ -195,14 +214,14 @@ guest_moves e (hart ∷ harts) one other here there related =
     let shared = related.gone (ap (λ (o : Option SlotInfo). is_some o) (never_at one here)) in
     let window : (k : ℕ) → SameWindow k one other = λ k.
     record { size = related.memory.size; bytes = λ i shown. ap (λ (s : Shared). slice_index s.memory i) shared } in
-    let both = declassification_law slot_count (Both (StepOf hart) ∷ []) one other here there related
+    let alike_after = declassification_law slot_count (Both (StepOf hart) ∷ []) one other here there related
     (inl (record { low = idle; window = λ running. window_read slot_count hart one other (window slot_count) }), tt) in
     let rest = guest_moves e harts (step_of hart one).state (step_of hart other).state (invariant_law hart one here) (invariant_law hart other there)
-    both.state in
+    alike_after.state in
     let first = ap (λ (hs : List ℕ). hart ∷ hs) rest.first in
     let second = ap (λ (hs : List ℕ). hart ∷ hs) rest.second in
     let there_before = ap (is_world_of e) (sym (related.hart_states hart).world) in
-    let there_after = ap (is_world_of e) (sym (both.state.hart_states hart).world) in
+    let there_after = ap (is_world_of e) (sym (alike_after.state.hart_states hart).world) in
     elim (cases_Bool (runs_on e hart one)) [
       | inr low ↦ record {
         moves = Both (StepOf hart) ∷ rest.moves;
@@ -236,9 +255,9 @@ guest_moves e (hart ∷ harts) one other here there related =
                   });
                   trap = exit.trap;
                   first = exit.traps;
-                  second = sym (ap (λ (o : Outcome). o.step.trap) (both.outcomes.0 idle)) ∙ exit.traps;
+                  second = sym (ap (λ (o : Outcome). o.step.trap) (alike_after.outcomes.0 idle)) ∙ exit.traps;
                   first_exits = exit.world;
-                  second_exits = sym (both.state.hart_states hart).world ∙ exit.world;
+                  second_exits = sym (alike_after.state.hart_states hart).world ∙ exit.world;
                 }),
                 rest.are,
               );
@@ -259,6 +278,7 @@ steps_of_both (Both (StepOf hart) ∷ moves) one other here there are =
     ap (λ (hs : List ℕ). hart ∷ hs)
     (steps_of_both moves (step_of hart one).state (step_of hart other).state (invariant_law hart one here) (invariant_law hart other there) are.1)
 
+-- the same steps of related targets are those of moves for every slot
 moves_again : (e : ℕ) (one other : Target) (harts others : List ℕ) → TargetInvariant one → TargetInvariant other → TargetsAreRelated slot_count one other
     → IfSome (machine_in one) (λ m. IfSome (machine_in other) (λ n. StepsAreMoves slot_count m n harts others))
     → IfSome (machine_in one) (λ m. IfSome (machine_in other) (λ n. StepsAreMoves e m n harts others))
@@ -268,6 +288,7 @@ moves_again e (Monitored one) (Monitored other) harts others here there related 
     let same = sym steps.first ∙ steps_of_both steps.moves one.state other.state here there steps.are ∙ steps.second in
     subst (StepsAreMoves e one.state other.state harts) same (guest_moves e harts one.state other.state here there related.state)
 
+-- the same command on related benches satisfies the condition on its steps
 same_command : (k : ℕ) (first second : BenchState) (command : Command) → TargetInvariant first.target → TargetInvariant second.target
     → AreRelatedForAll first second → IsSameCommand k first second command command
 same_command k first second command here there related =
@@ -280,6 +301,7 @@ same_command k first second command here there related =
       stop = low.same.stop;
     }
 
+-- proves what commands observe after the enclave of the slot was destroyed
 pub ended_law : EndedLaw
 ended_law = record {
   ended = ended_for_all;

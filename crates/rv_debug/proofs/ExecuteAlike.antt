@@ -34,15 +34,18 @@ use Rattle.rv_debug.proofs.ScheduledSteps.{after_schedule, by_bare}
 
 -- ---- equal replies and equivalent states, before it is proved that they are equal once the enclave has ended
 
+-- two executions have equal replies and entered slots, and leave equivalent benches
 record Passes (e : ℕ) (first second : Executed) : Type 0 where
   pub reply : first.reply ≡ second.reply
   pub entered : first.entered ≡ second.entered
   pub state : BenchesEquivExcept e first.state second.state
 
+-- two executions enter slot e both or neither; if neither, they pass alike
 record Alike (e : ℕ) (first second : Executed) : Type 0 where
   pub entered : is_entered e first.entered ≡ is_entered e second.entered
   pub passed : is_entered e first.entered ≡ false → Passes e first second
 
+-- the bench over a target, with these breakpoints and watchpoints
 abbrev pub over : Target → List ℕ → List ℕ → BenchState
 over target breaks watches = record { target = target; breaks = breaks; watches = watches }
 
@@ -50,6 +53,7 @@ over target breaks watches = record { target = target; breaks = breaks; watches 
 abbrev executed_with : Target → List ℕ → List ℕ → List ℕ → Executed
 executed_with target breaks watches reply = record { state = over target breaks watches; reply = reply; entered = 0 }
 
+-- a command that steps no hart and has equal replies is alike
 passes : (e : ℕ) (one other : Target) (breaks watches reply reply' : List ℕ) → TargetsEquivExcept e one other → reply ≡ reply'
     → Alike e (executed_with one breaks watches reply) (executed_with other breaks watches reply')
 passes e one other breaks watches reply reply' equiv same = record {
@@ -59,6 +63,7 @@ passes e one other breaks watches reply reply' equiv same = record {
 
 -- ---- steps of named harts, with the same summary for both
 
+-- the summaries of a hart are equal in equivalent machines, if no hart runs the enclave
 same_line : (e hart : ℕ) (ran : HartRan) (one other : Selected) → SelectedEquivExcept e one other → RunsOnNoHart e (Monitored one)
     → hart_summary_text (Monitored one) hart ran ≡ hart_summary_text (Monitored other) hart ran
 same_line e hart ran one other equiv not_running =
@@ -66,6 +71,7 @@ same_line e hart ran one other equiv not_running =
     ap (λ (hart_state : HartState). hart_text hart hart_state.hart.pc hart_state.hart.mode (world_name hart_state.world) ran)
     (hart_states.same (not_running hart))
 
+-- the summaries of all harts are equal in equivalent machines, if no hart runs the enclave
 same_lines : (e : ℕ) (did : Scheduled) (one other : Selected) → SelectedEquivExcept e one other → RunsOnNoHart e (Monitored one)
     → harts_summary_text (after_schedule (Monitored one) did) ≡ harts_summary_text (after_schedule (Monitored other) did)
 same_lines e did one other equiv not_running =
@@ -78,6 +84,7 @@ abbrev pub schedule_executed : ℕ → List ℕ → List ℕ → AfterSchedule �
 schedule_executed hart breaks watches after =
     record { state = over (with_selected hart after.state) breaks watches; reply = harts_summary_text after; entered = after.did.entered }
 
+-- two schedules with equal steps that do not enter the enclave are alike
 past_alike : (e hart : ℕ) (breaks watches : List ℕ) (did did' : Scheduled) (one other : Selected) → did ≡ did' → SelectedEquivExcept e one other
     → RunsOnNoHart e (Monitored one)
     → Alike e (schedule_executed hart breaks watches (after_schedule (Monitored one) did))
@@ -94,6 +101,7 @@ past_alike e hart breaks watches did did' one other same equiv not_running =
       };
     })
 
+-- two schedules that are alike and do not enter the enclave are executed alike
 both_past : (e hart : ℕ) (breaks watches : List ℕ) (start : Selected) (one other : AfterSchedule) → RunsOnNoHart e (Monitored start)
     → BothPast e start one other
     → Alike e (schedule_executed hart breaks watches one) (schedule_executed hart breaks watches other)
@@ -106,9 +114,11 @@ both_past e hart breaks watches start one other idle past =
 
 -- ---- a run
 
+-- the execution of a run, by its result
 abbrev steps_execute : List ℕ → List ℕ → AfterRun Target → Executed
 steps_execute breaks watches after = record { state = over after.state breaks watches; reply = ran_reply after; entered = after.ran.entered }
 
+-- the execution of a run with these breakpoints and watchpoints
 abbrev run_execute : Target → List ℕ → List ℕ → List ℕ → List ℕ → ℕ → Executed
 run_execute target breaks watches at_breaks at_watches count =
     let d = run_effect target at_breaks at_watches count in
@@ -133,6 +143,7 @@ on_none e (suc n) first j machine none low high = elim (cases_eq j first) [
   | inr other ↦ on_none e n (first + 1) j machine none.1 (omega (arith, low, other)) (omega (arith, high))
 ]
 
+-- an enclave that runs on none of the harts of the machine runs on no hart
 all_rest : (e : ℕ) (machine : MonitoredMachine) → RunsOnNone e (range_with_len 0 (count_of machine)) machine → (hart : ℕ) → runs_on e hart machine ≡ false
 all_rest e machine none hart = elim (cases_lt hart (count_of machine)) [
   | inl has ↦ on_none e (count_of machine) 0 hart machine none (omega arith) (omega (arith, has))
@@ -140,18 +151,23 @@ all_rest e machine none hart = elim (cases_lt hart (count_of machine)) [
 ]
 
 module _ (e hart : ℕ) (one other : MonitoredMachine) (equiv : EquivExcept e one other) (breaks watches : List ℕ) where
+  -- the target with the machine, and with the same selected hart
   abbrev at : MonitoredMachine → Target
   at machine = selected_at hart machine
 
+  -- the machine with the selected hart
   abbrev on : MonitoredMachine → Selected
   on machine = record { hart = hart; state = machine }
 
+  -- the first bench
   abbrev here : BenchState
   here = over (at one) breaks watches
 
+  -- the second bench
   abbrev there : BenchState
   there = over (at other) breaks watches
 
+  -- the targets are equivalent
   both : TargetsEquivExcept e (at one) (at other)
   both = record { hart = refl; state = equiv }
 
@@ -162,6 +178,7 @@ module _ (e hart : ℕ) (one other : MonitoredMachine) (equiv : EquivExcept e on
 
   -- ---- replies about a hart that does not run the enclave
 
+  -- a command that shows the selected hart shows equal hart states, if it avoids the hart of the enclave
   hart_states : AvoidsHart e here Regs → hart_state_of hart one ≡ hart_state_of hart other
   hart_states by = let own = equiv.hart_states hart in own.same by.0
 
@@ -169,23 +186,25 @@ module _ (e hart : ℕ) (one other : MonitoredMachine) (equiv : EquivExcept e on
   same_entries : Invariant one → Invariant other → (hart_state_of hart one).hart.csrs.pmp ≡ (hart_state_of hart other).hart.csrs.pmp
   same_entries kept kept' =
       let own = equiv.hart_states hart in
-      let size = equiv.harts in
+      let same_harts = equiv.harts in
       let entries : HartState → Entries = λ hart_state. hart_state.hart.csrs.pmp in
       elim (cases_lt hart (count_of one)) [
-        | inr past ↦ ap entries (past_hart_state one.hart_states hart past ∙ sym (past_hart_state other.hart_states hart (omega (arith, size, past))))
+        | inr past ↦ ap entries (past_hart_state one.hart_states hart past ∙ sym (past_hart_state other.hart_states hart (omega (arith, same_harts, past))))
         | inl has ↦
             let tables = (let shared = equiv.shared in shared.table) in
             let of : Slots → World → Entries = λ slots world. layout slots world in
             let mine = (hart_view_invariant hart one kept has).hart.layout.entries in
-            let theirs = (hart_view_invariant hart other kept' (omega (arith, size, has))).hart.layout.entries in
+            let theirs = (hart_view_invariant hart other kept' (omega (arith, same_harts, has))).hart.layout.entries in
             mine ∙ ap₂ of tables own.world ∙ sym theirs
       ]
 
   -- ---- replies about memory
 
+  -- the memories are equal outside the region of e
   abbrev memory_equiv : EqualOutside (is_private one.shared.table e) one.shared.memory other.shared.memory
   memory_equiv = let shared = equiv.shared in shared.memory
 
+  -- a read of a block that does not meet the region is equal in both memories
   seen-read : (block : Block) → meets block (region one.shared.table e) ≡ false
       → read one.shared.memory block.base block.size ≡ read other.shared.memory block.base block.size
   seen-read block apart =
@@ -212,10 +231,12 @@ module _ (e hart : ℕ) (one other : MonitoredMachine) (equiv : EquivExcept e on
 
   -- ---- a poked byte
 
+  -- the execution of a poke, by the memory after it
   abbrev poke_execute : MonitoredMachine → Option (List ℕ) → Executed
   poke_execute machine memory =
       executed_with (poke_of (at machine) memory) breaks watches (option_case (option_map (over_memory (at machine)) memory) outside_text (λ after. ok_text))
 
+  -- the same poke is alike in both
   poke-alike : (address byte : ℕ)
       → Alike e (poke_execute one (write one.shared.memory address (byte ∷ []))) (poke_execute other (write other.shared.memory address (byte ∷ [])))
   poke-alike address byte =
@@ -245,6 +266,7 @@ module _ (e hart : ℕ) (one other : MonitoredMachine) (equiv : EquivExcept e on
 
   -- ---- steps
 
+  -- two runs that are alike are executed alike
   steps-alike : (first second : AfterRun MonitoredMachine) → RunAlike e hart first second
       → Alike e (steps_execute breaks watches (target_of (selected_at hart) first)) (steps_execute breaks watches (target_of (selected_at hart) second))
   steps-alike first second (inl both_in) = record {
@@ -271,6 +293,7 @@ module _ (e hart : ℕ) (one other : MonitoredMachine) (equiv : EquivExcept e on
       run_told (at machine) breaks watches at_breaks at_watches count
       ∙ ap (steps_execute breaks watches) (run_monitored hart at_breaks at_watches count (no_steps machine))
 
+  -- a run that avoids the hart of the enclave is executed alike
   run-answers : (at_breaks at_watches : List ℕ) (count : ℕ) → Invariant one → Invariant other → AvoidsHart e here Regs
       → Alike e (run_execute (at one) breaks watches at_breaks at_watches count) (run_execute (at other) breaks watches at_breaks at_watches count)
   run-answers at_breaks at_watches count kept kept' by =
@@ -281,6 +304,7 @@ module _ (e hart : ℕ) (one other : MonitoredMachine) (equiv : EquivExcept e on
 
   -- ---- harts
 
+  -- the selection of a hart is alike, if both have the same harts
   hart-answers : (number : ℕ) (has has' : Bool) (reply : Bool → List ℕ) → has ≡ has'
       → (let answers : MonitoredMachine → Bool → Executed =
       λ machine known.
@@ -294,6 +318,7 @@ module _ (e hart : ℕ) (one other : MonitoredMachine) (equiv : EquivExcept e on
   hart-answers number true false reply same = cc
   hart-answers number false true reply same = cc
 
+  -- the execution of a schedule, by whether its harts exist
   abbrev sched-told : MonitoredMachine → List ℕ → Bool → Executed
   sched-told machine harts has =
       let d : Effect = (if has then Steps harts hart else Nothing) in
@@ -303,6 +328,7 @@ module _ (e hart : ℕ) (one other : MonitoredMachine) (equiv : EquivExcept e on
         entered = entered_by (at machine) d;
       }
 
+  -- a schedule is executed alike, if the enclave runs on no hart
   sched-answers : (harts : List ℕ) (has has' : Bool) → has ≡ has' → Invariant one → Invariant other → RunsOnNoHart e (at one)
       → Alike e (sched-told one harts has) (sched-told other harts has')
   sched-answers harts true true same kept kept' not_running =
@@ -319,6 +345,7 @@ module _ (e hart : ℕ) (one other : MonitoredMachine) (equiv : EquivExcept e on
 
   -- ---- a command
 
+  -- each command that is blind and avoids the hart of the enclave is executed alike
   alike : (command : Command) → Invariant one → Invariant other → is_blind e here command ≡ true → AvoidsHart e here command
       → Alike e (execute here command) (execute there command)
   unfolding execute is_blind
@@ -361,6 +388,7 @@ module _ (e hart : ℕ) (one other : MonitoredMachine) (equiv : EquivExcept e on
 
 -- ---- any two benches
 
+-- a blind command that avoids the hart is executed alike, for two monitored targets
 monitored-alike : (e : ℕ) (one other : Selected) (breaks watches : List ℕ) (command : Command) → Invariant one.state → Invariant other.state
     → SelectedEquivExcept e one other
     → is_blind e (over (Monitored one) breaks watches) command ≡ true → AvoidsHart e (over (Monitored one) breaks watches) command
@@ -384,6 +412,7 @@ alike-itself e after bare =
       passed = λ none. record { reply = refl; entered = refl; state = record { target = same; breaks = refl; watches = refl } };
     }
 
+-- a blind command that avoids the hart is executed alike, for two targets
 targets-alike : (e : ℕ) (one other : Target) (breaks watches : List ℕ) (command : Command) → TargetInvariant one → TargetInvariant other
     → TargetsEquivExcept e one other
     → is_blind e (over one breaks watches) command ≡ true → AvoidsHart e (over one breaks watches) command
@@ -398,6 +427,7 @@ targets-alike e (Monitored one) (Bare other) breaks watches command kept kept' e
 
 -- ---- the benches are equal once the enclave has ended
 
+-- equivalent targets remain equivalent, with the invariant
 again : (e : ℕ) (one other : Target) (breaks watches : List ℕ) → TargetInvariant one → TargetsEquivExcept e one other
     → RemainEquiv e (over one breaks watches) (over other breaks watches)
 again e (Bare one) (Bare other) breaks watches kept equiv = record {
@@ -412,12 +442,14 @@ again e (Monitored one) (Monitored other) breaks watches kept equiv = record {
 again e (Bare one) (Monitored other) breaks watches kept equiv = absurd equiv
 again e (Monitored one) (Bare other) breaks watches kept equiv = absurd equiv
 
+-- equivalent benches remain equivalent, with the invariant
 pub equiv_again : (e : ℕ) (one other : BenchState) → TargetInvariant one.target → BenchesEquivExcept e one other → RemainEquiv e one other
 equiv_again e one other kept equiv =
     subst (λ (breaks : List ℕ). RemainEquiv e one (over other.target breaks other.watches)) equiv.breaks
     (subst (λ (watches : List ℕ). RemainEquiv e one (over other.target one.breaks watches)) equiv.watches
     (again e one.target other.target one.breaks one.watches kept equiv.target))
 
+-- proves the noninterference law for a command, by the kinds of commands
 pub noninterference : NoninterferenceLaw
 noninterference e first second command kept kept' equiv blind by =
     let both = subst (λ (breaks : List ℕ). Alike e (execute first command) (execute (over second.target breaks second.watches) command)) equiv.breaks

@@ -11,7 +11,7 @@ use Rattle.rv_hart.specs.Step.{from_access, from_decode, from_fetch, retired_or_
 use Rattle.rv_hart.specs.Instructions.{executed, request}
 use Rattle.rv_hart.specs.CsrInstructions.{csr_changed, written_csr}
 use Rattle.rv_enclaves.specs.Layout.{entry_at, layout}
-use Rattle.rv_platform.specs.Blocks.{has}
+use Rattle.rv_memory.specs.Blocks.{has}
 use Rattle.rv_enclaves.specs.SharedEquivExcept.{EqualOutside}
 use Rattle.rv_enclaves.specs.Table.{free_slot, is_live, is_window, region, window}
 use Rattle.rv_enclaves.specs.Create.{create_refusals, created, is_entry, overlaps}
@@ -24,8 +24,6 @@ use Rattle.rv_state.specs.Bits.{aligned_to_4}
 use Rattle.rv_state.specs.SContexts.{s_context}
 use Rattle.rv_monitor.specs.declared.hart_state.HartState.{HartState}
 use Rattle.rv_enclaves.specs.declared.context.Context.{Context}
-use Rattle.rv_platform.specs.declared.harts.Harts.{Harts}
-use Rattle.rv_platform.specs.declared.harts.Harts.TheVariants.{One, Two}
 use Rattle.rv_monitor.specs.Debugger.{with_timer}
 use Rattle.rv_monitor.specs.EquivExcept.{runs_on}
 use Rattle.rv_monitor.specs.Events.{StepOf}
@@ -49,18 +47,23 @@ use Rattle.rv_debug.specs.HostRun.{HostRunLaw, after_byte, hosted_asking, before
 abbrev entered : ℕ → MonitoredMachine
 entered a = hosted_next 0 (hosted_next 0 (first a))
 
+-- the first machine after the load
 abbrev loaded : ℕ → MonitoredMachine
 loaded a = with_timer 0 (hosted_next 0 (entered a)) true
 
+-- the first machine after the timer interrupt
 abbrev interrupted : ℕ → MonitoredMachine
 interrupted a = hosted_next 0 (loaded a)
 
+-- the first machine after resume
 abbrev resumed : ℕ → MonitoredMachine
 resumed a = hosted_next 0 (hosted_next 0 (hosted_next 0 (interrupted a)))
 
+-- the second machine after run
 abbrev entered_too : ℕ → MonitoredMachine
 entered_too b = hosted_next 1 (hosted_next 1 (second b))
 
+-- the second machine after the refused call of the other hart
 abbrev beside : ℕ → MonitoredMachine
 beside b = hosted_next 0 (hosted_next 1 (entered_too b))
 
@@ -77,6 +80,7 @@ record IsOwn (hart byte : ℕ) (machine : MonitoredMachine) : Type 0 where
   clear : (hart_state_of hart machine).hart.csrs.timer ≡ false
   memory : machine.shared.memory ≡ hosted_ram byte
 
+-- the load reads the byte of the host's choice in the window
 abbrev reads_choice : ℕ → MonitoredMachine → Bool
 reads_choice hart machine = not (has (window machine.shared.table 0) 0x80014010 && reads_byte (step_of hart machine).outcome.step.touched 0x80014010)
 
@@ -90,8 +94,9 @@ context = first_context (record {
   state = Fresh;
 })
 
+-- the facts of the first machine that are computed
 record FirstIs (a : ℕ) : Type 0 where
-  size : length (hosted_next 0 (hosted_start One 0)).shared.memory ≡ length (hosted_ram a)
+  size : length (hosted_next 0 (hosted_start 1 0)).shared.memory ≡ length (hosted_ram a)
   live : is_live (first a).shared.table 0 ≡ true
   saved : context_at (first a).shared.contexts 0 ≡ Some context
   hidden : not (has (region (first a).shared.table 0) 0x80014010) ≡ true
@@ -108,8 +113,9 @@ record FirstIs (a : ℕ) : Type 0 where
   stores_other : reads_choice 0 (resumed a) ≡ true
   stored : slice_index (hosted_next 0 (resumed a)).shared.memory 0x14008 ≡ 7
 
+-- the facts of the second machine that are computed
 record SecondIs (b : ℕ) : Type 0 where
-  size : length (hosted_next 1 (hosted_start Two 1)).shared.memory ≡ length (hosted_ram b)
+  size : length (hosted_next 1 (hosted_start 2 1)).shared.memory ≡ length (hosted_ram b)
   saved : context_at (second b).shared.contexts 0 ≡ Some context
   before_run : IsOther 1 (second b)
   run : IsOther 1 (hosted_next 1 (second b))
@@ -118,6 +124,7 @@ record SecondIs (b : ℕ) : Type 0 where
   stores : IsOwn 1 b (beside b)
   stored : slice_index (hosted_next 1 (beside b)).shared.memory 0x14008 ≡ 7
 
+-- the facts of the first machine, for each byte
 first_is : (a : ℕ) → FirstIs a
 unfolding at_start step_of monitored_step handled call_handled called performed created create_refusals is_valid_block is_window overlaps is_entry
     free_slot call_requested first_context layout entry_at step request executed retired_or_trapped from_access from_decode from_fetch written_csr csr_changed
@@ -141,6 +148,7 @@ first_is a = record {
   stored = refl;
 }
 
+-- the facts of the second machine, for each byte
 second_is : (b : ℕ) → SecondIs b
 unfolding at_start step_of monitored_step handled call_handled called performed created create_refusals is_valid_block is_window overlaps is_entry
     free_slot call_requested first_context layout entry_at step request executed retired_or_trapped from_access from_decode from_fetch written_csr csr_changed
@@ -165,12 +173,14 @@ same_identity a b = refl
 
 -- ---- the two machines
 
-kept_at : (harts : Harts) (hart byte : ℕ) → length (hosted_next hart (hosted_start harts hart)).shared.memory ≡ length (hosted_ram byte) → Invariant (hosted_new harts hart byte)
-kept_at harts hart byte size =
+-- the machine after create has the invariant
+kept_at : (harts hart byte : ℕ) → length (hosted_next hart (hosted_start harts hart)).shared.memory ≡ length (hosted_ram byte) → Invariant (hosted_new harts hart byte)
+kept_at harts hart byte same_length =
     invariant_by_size (hosted_next hart (hosted_start harts hart)) (hosted_ram byte)
-    (invariant_law hart (hosted_start harts hart) (written_invariant hart hosted_asking false (hosted_reset harts) (start_invariant (hosted_ram 0) 0x80010000 harts refl))) size
+    (invariant_law hart (hosted_start harts hart) (written_invariant hart hosted_asking false (hosted_reset harts) (start_invariant (hosted_ram 0) 0x80010000 harts refl))) same_length
 
-legal_start : (harts : Harts) (hart : ℕ) → IsLegalMachine (hosted_start harts hart)
+-- the machine before create is legal
+legal_start : (harts hart : ℕ) → IsLegalMachine (hosted_start harts hart)
 legal_start harts hart =
     let legal = legal_law.start (hosted_ram 0) 0x80010000 harts refl in
     record {
@@ -184,7 +194,8 @@ legal_start harts hart =
       contexts = legal.contexts;
     }
 
-legal_at : (harts : Harts) (hart byte : ℕ) → IsLegalMachine (hosted_new harts hart byte)
+-- the machine after create is legal
+legal_at : (harts hart byte : ℕ) → IsLegalMachine (hosted_new harts hart byte)
 legal_at harts hart byte =
     let after = event_stored (StepOf hart) (hosted_start harts hart) (written_invariant hart hosted_asking false (hosted_reset harts) (start_invariant (hosted_ram 0) 0x80010000 harts refl))
     (legal_start harts hart) in
@@ -192,12 +203,14 @@ legal_at harts hart byte =
 
 -- ---- the bytes
 
+-- two lists that differ at one index are equal at every other
 other_byte : (xs ys : List ℕ) (a b i : ℕ) → i ≢ length xs → slice_index (xs ++ (a ∷ ys)) i ≡ slice_index (xs ++ (b ∷ ys)) i
 other_byte [] ys a b zero other = absurd (other refl)
 other_byte [] ys a b (suc i) other = refl
 other_byte (x ∷ xs) ys a b zero other = refl
 other_byte (x ∷ xs) ys a b (suc i) other = other_byte xs ys a b i (λ same. other (ap suc same))
 
+-- the byte of the host's choice is at offset 81936 in RAM
 place : length before_byte ≡ 81936
 place = refl
 
@@ -211,24 +224,27 @@ equal_but hidden a b hides = record {
   ];
 }
 
+-- two memories that differ in the byte of the host's choice are equal outside it
 equal_of : (hidden : ℕ → Bool) (a b : ℕ) (m n : List ℕ) → m ≡ hosted_ram a → n ≡ hosted_ram b → hidden 0x80014010 ≡ true → EqualOutside hidden m n
 equal_of hidden a b m n one other hides = rw (one, other) (equal_but hidden a b hides)
 
 -- ---- the law
 
+-- both enclaves are at one point after create
 at_one_point : (a b : ℕ) → AreAtOnePoint 0 0 (first a) (second b)
 at_one_point a b =
     let x = first_is a in
     let y = second_is b in
     record {
       context = context;
-      first = saved_continues 0 (first a) context (kept_at One 0 a x.size) x.saved;
-      second = saved_continues 0 (second b) context (kept_at Two 1 b y.size) y.saved;
+      first = saved_continues 0 (first a) context (kept_at 1 0 a x.size) x.saved;
+      second = saved_continues 0 (second b) context (kept_at 2 1 b y.size) y.saved;
       live = x.live;
       identity = same_identity a b;
       memory = equal_but (λ byte. not (has (region (first a).shared.table 0) byte)) a b x.hidden;
     }
 
+-- the load is a step of the enclave in both, for the byte that each window has
 own_step : (a b : ℕ) (one other : MonitoredMachine) → IsOwn 0 a one → IsOwn 1 b other → reads_choice 0 one ≡ true → IsOwnStep (at 0 0) (at 0 1) one other
 own_step a b one other x y reads = record {
   first = x.runs;
@@ -238,6 +254,7 @@ own_step a b one other x y reads = record {
   window = equal_of _ a b one.shared.memory other.shared.memory x.memory y.memory reads;
 }
 
+-- the moves of the example are permitted, for any two bytes
 are_moves : (a b : ℕ) → AreLifeMoves 0 0 hosted_moves (first a) (second b)
 are_moves a b =
     let x = first_is a in
@@ -273,13 +290,14 @@ are_moves a b =
       ),
     )
 
+-- proves the example of a host's influence, by computation of its steps
 pub host_run : HostRunLaw
 host_run a b =
     let x = first_is a in
     let y = second_is b in
     record {
       are = are_moves a b;
-      alike = life_law 0 0 hosted_moves (first a) (second b) (kept_at One 0 a x.size) (kept_at Two 1 b y.size) (legal_at One 0 a) (legal_at Two 1 b)
+      alike = life_law 0 0 hosted_moves (first a) (second b) (kept_at 1 0 a x.size) (kept_at 2 1 b y.size) (legal_at 1 0 a) (legal_at 2 1 b)
           (at_one_point a b) (are_moves a b);
       stored = x.stored;
       stored_too = y.stored;

@@ -15,36 +15,41 @@ use Rattle.rv_debug.proofs.ScheduledSteps.{schedule_is_sched}
 
 -- ---- access control
 
+-- proves that access reports exactly what is accessible to the world of the selected hart
 pub tells_reach : (target : Target) (command : Command) → TargetInvariant target → selected_of target < harts_of target → ReportsAccess target command
 unfolding read
-tells_reach (Monitored selected) (Access mode access address width) kept has = λ below inside. record {
+tells_reach (Monitored selected) (Access mode access address width) kept in_range = λ below inside. record {
   told = rw inside refl;
   exact = access_control_law (hart_view selected.hart selected.state) mode access address width
-      (hart_view_invariant selected.hart selected.state kept has) below inside;
+      (hart_view_invariant selected.hart selected.state kept in_range) below inside;
 }
-tells_reach _ _ kept has = tt
+tells_reach _ _ kept in_range = tt
 
 -- ---- preservation
 
+-- each enclave is preserved without a change
 itself : (k : ℕ) (selected : Selected) → IsPreservedIn k (Monitored selected) (Monitored selected)
 itself k selected = record { slot = refl; bytes = λ byte own. refl; context = refl }
 
+-- another address is before the byte or after it
 beside : (byte address : ℕ) → byte ≢ address → byte < address ⊎ address + 1 ≤ byte
 beside byte address other = elim (cases_lt byte address) [ inl below ↦ inl below | inr above ↦ inr (omega (arith, other)) ]
 
+-- a poke outside the region preserves the enclave
 poke_integrity : (k address byte : ℕ) (machine : Selected) (memory : Option (List ℕ)) → write machine.state.shared.memory address (byte ∷ []) ≡ memory
     → has (region machine.state.shared.table k) address ≡ false → IsPreservedIn k (Monitored machine) (poke_of (Monitored machine) memory)
-poke_integrity k address byte machine None is apart = itself k machine
-poke_integrity k address byte machine (Some memory) is apart =
+poke_integrity k address byte machine None written apart = itself k machine
+poke_integrity k address byte machine (Some memory) written apart =
     let own_block = region machine.state.shared.table k in
     record {
       slot = refl;
       bytes = λ at own.
           let other : at ≢ address = λ same. let never : true ≡ false = sym (subst (λ (a : ℕ). has own_block a ≡ true) same own) ∙ apart in cc in
-          byte_at-write machine.state.shared.memory address (byte ∷ []) memory at is (beside at address other);
+          byte_at-write machine.state.shared.memory address (byte ∷ []) memory at written (beside at address other);
       context = refl;
     }
 
+-- an effect preserves each enclave that it leaves undisturbed
 preserves : (target : Target) (d : Effect) → TargetInvariant target → (k : ℕ)
     → IsSomeAnd (machine_in target) (λ machine. UndisturbedByEffect k machine d) → IsPreservedIn k target (done target d)
 preserves (Bare machine) d kept k not_running = absurd not_running
@@ -55,6 +60,7 @@ preserves (Monitored machine) (OneByte address byte) kept k not_running =
     poke_integrity k address byte machine (write machine.state.shared.memory address (byte ∷ [])) refl not_running.1
 preserves (Monitored machine) _ kept k not_running = itself k machine
 
+-- proves that a command preserves each enclave that it leaves undisturbed
 pub integrity_resting : (bench : BenchState) (command : Command) → TargetInvariant bench.target
     → PreservesUndisturbed bench command (execute bench command).state
 unfolding execute
@@ -62,12 +68,14 @@ integrity_resting bench command kept = preserves bench.target (effect bench comm
 
 -- ---- an enclave that runs on a hart that does not step
 
+-- an effect of other harts leaves a running enclave undisturbed
 rests_by : (k own : ℕ) (machine : MonitoredMachine) (d : Effect) → Invariant machine → runs_on k own machine ≡ true
     → RunsOnNone k (harts_stepped d) machine → PokesNone k machine d → UndisturbedByEffect k machine d
 rests_by k own machine (Steps harts last) kept runs none pokes = running_law k own harts machine kept runs none
 rests_by k own machine (OneByte address byte) kept runs none pokes = (running_law k own [] machine kept runs tt, pokes)
 rests_by k own machine _ kept runs none pokes = running_law k own [] machine kept runs tt
 
+-- proves that commands that step other harts and poke no byte of the region leave a running enclave undisturbed
 pub running : RunningLaw
 running k own bench command = by (machine_in bench.target) where
   by : (found : Option MonitoredMachine) → IfSome found Invariant
@@ -83,15 +91,17 @@ running k own bench command = by (machine_in bench.target) where
 abbrev ByteIsOr : ℕ → Target → Target → Type 0 → Type 0
 ByteIsOr byte before after other = byte_at (memory_of after) byte ≡ byte_at (memory_of before) byte ⊎ other
 
+-- a poke changes its byte only
 poke_changes : (address value byte : ℕ) (machine : Selected) (memory : Option (List ℕ))
     → write machine.state.shared.memory address (value ∷ []) ≡ memory
     → ByteIsOr byte (Monitored machine) (poke_of (Monitored machine) memory) (byte ≡ address)
-poke_changes address value byte machine None is = inl refl
-poke_changes address value byte machine (Some memory) is = elim (cases_eq byte address) [
+poke_changes address value byte machine None written = inl refl
+poke_changes address value byte machine (Some memory) written = elim (cases_eq byte address) [
   | inl same ↦ inr same
-  | inr other ↦ inl (byte_at-write machine.state.shared.memory address (value ∷ []) memory byte is (beside byte address other))
+  | inr other ↦ inl (byte_at-write machine.state.shared.memory address (value ∷ []) memory byte written (beside byte address other))
 ]
 
+-- an effect changes only bytes that it may change
 changes : (target : Target) (d : Effect) → TargetInvariant target → (byte : ℕ)
     → IfSome (machine_in target) (λ machine. ByteIsOr byte target (done target d) (MayChange machine d byte))
 changes (Bare machine) d kept byte = tt
@@ -103,6 +113,7 @@ changes (Monitored machine) (OneByte address value) kept byte =
     poke_changes address value byte machine (write machine.state.shared.memory address (value ∷ [])) refl
 changes (Monitored machine) _ kept byte = inl refl
 
+-- proves that a command changes only bytes that its effect may change
 pub changes_memory : (bench : BenchState) (command : Command) → TargetInvariant bench.target → ChangesMemory bench command (execute bench command).state
 unfolding execute
 changes_memory bench command kept byte = by bench.target (effect bench command) kept where
@@ -113,6 +124,7 @@ changes_memory bench command kept byte = by bench.target (effect bench command) 
 
 -- ---- a list of commands
 
+-- an enclave that two effects in turn preserve is preserved by both together
 preserved_after : (k : ℕ) (before between after : Target) → IsPreservedIn k before between → IsPreservedIn k between after → IsPreservedIn k before after
 preserved_after k (Monitored before) (Monitored between) (Monitored after) first last =
     preserved_twice k before.state.shared between.state.shared after.state.shared first last
@@ -120,11 +132,13 @@ preserved_after k (Bare before) between after first last = absurd first
 preserved_after k (Monitored before) (Bare between) after first last = absurd first
 preserved_after k (Monitored before) (Monitored between) (Bare after) first last = absurd last
 
+-- an enclave that is live is preserved by no commands
 preserved_itself : (k : ℕ) (target : Target) → IsSomeAnd (machine_in target) (λ machine. is_live machine.shared.table k ≡ true)
     → IsPreservedIn k target target
 preserved_itself k (Monitored machine) not_running = itself k machine
 preserved_itself k (Bare machine) not_running = not_running
 
+-- proves the integrity law for lists of commands, by induction
 pub integrity : IntegrityLaw
 integrity k bench [] kept not_running = preserved_itself k bench.target not_running
 integrity k bench (command ∷ commands) kept not_running =

@@ -49,6 +49,7 @@ same_window e one other here equiv =
       ];
     }
 
+-- a step of a hart without the enclave is a low step
 low_step : (e hart : ℕ) (one other : MonitoredMachine) → Invariant one → EquivToGuests e one other → runs_on e hart one ≡ false → IsLowStep e hart one other
 low_step e hart one other here equiv low = record { low = low; window = λ running. window_read e hart one other (same_window e one other here equiv) }
 
@@ -57,14 +58,17 @@ abbrev both : List ℕ → List Move
 both [] = []
 both (hart ∷ harts) = Both (StepOf hart) ∷ both harts
 
+-- steps of both machines change no timer line
 both_steps : (harts : List ℕ) → are_steps (both harts) ≡ true
 both_steps [] = refl
 both_steps (hart ∷ harts) = both_steps harts
 
+-- the steps in the first machine are those of the list
 both_first : (harts : List ℕ) → first_steps (both harts) ≡ harts
 both_first [] = refl
 both_first (hart ∷ harts) = ap (λ (hs : List ℕ). hart ∷ hs) (both_first harts)
 
+-- the steps in the second machine are those of the list
 both_second : (harts : List ℕ) → second_steps (both harts) ≡ harts
 both_second [] = refl
 both_second (hart ∷ harts) = ap (λ (hs : List ℕ). hart ∷ hs) (both_second harts)
@@ -75,19 +79,23 @@ pub record AreLowMoves (e : ℕ) (harts : List ℕ) (one other : MonitoredMachin
   moves : AreMoves e (both harts) one other
   state : EquivToGuests e (sched harts one).state (sched harts other).state
 
+-- no steps are low moves
 no_moves : (e : ℕ) (one other : MonitoredMachine) → EquivToGuests e one other → AreLowMoves e [] one other
 no_moves e one other equiv = record { low = tt; moves = tt; state = equiv }
 
+-- one more low step before low moves
 one_more_move : (e hart : ℕ) (harts : List ℕ) (one other : MonitoredMachine) → Invariant one → EquivToGuests e one other → runs_on e hart one ≡ false
     → AreLowMoves e harts (step_of hart one).state (step_of hart other).state → AreLowMoves e (hart ∷ harts) one other
 one_more_move e hart harts one other here equiv low rest =
     record { low = (low, rest.low); moves = (inl (low_step e hart one other here equiv low), rest.moves); state = rest.state }
 
+-- low moves are moves
 steps_alike : (e : ℕ) (harts : List ℕ) (one other : MonitoredMachine) → AreLowMoves e harts one other → StepsAreMoves e one other harts harts
 steps_alike e harts one other low = record { moves = both harts; steps = both_steps harts; first = both_first harts; second = both_second harts; are = low.moves }
 
 -- ---- schedules
 
+-- a schedule of harts without the enclave that does not enter it is of low moves
 low_schedule : (e : ℕ) (harts : List ℕ) (one other : Selected) (did : Scheduled) → Invariant one.state → Invariant other.state
     → EquivToGuests e one.state other.state → RunsOnNone e harts one.state
     → is_entered e (scheduled_steps harts (after_schedule (Monitored one) did)).did.entered ≡ false → AreLowMoves e harts one.state other.state
@@ -96,12 +104,12 @@ low_schedule e [] one other did here there equiv none passed = no_moves e one.st
 low_schedule e (hart ∷ harts) one other did here there equiv none passed =
     let first = step_of hart one.state in
     let second = step_of hart other.state in
-    let both = guest_step_equiv e hart one.state other.state here there equiv none.0 in
+    let alike_after = guest_step_equiv e hart one.state other.state here there equiv none.0 in
     elim (cases_Bool (enters e first.outcome.entered)) [
       | inl enters_it ↦ absurd (both_ways _ passed (entered_next e hart harts did first.state first.outcome (entered_some e first.outcome.entered enters_it)))
       | inr passes ↦ one_more_move e hart harts one.state other.state here equiv none.0
           (low_schedule e harts (record { hart = hart; state = first.state }) (record { hart = hart; state = second.state }) _
-          (invariant_law hart one.state here) (invariant_law hart other.state there) both.state (none_after e hart harts one.state passes none.1) passed)
+          (invariant_law hart one.state here) (invariant_law hart other.state there) alike_after.state (none_after e hart harts one.state passes none.1) passed)
     ]
 
 -- ---- runs
@@ -114,23 +122,29 @@ record IsLowRun (e hart before : ℕ) (one other : MonitoredMachine) (a b : Afte
   low : AreLowMoves e (replicate count hart) one other
 
 module _ (e hart : ℕ) (breaks watches : List ℕ) where
+  -- the run of a machine from the steps so far
   abbrev on : ℕ → AfterSteps MonitoredMachine → AfterRun MonitoredMachine
   on left before = run (hart_stepped hart) (hart_pc hart) breaks watches left before
 
+  -- the same steps so far, with another machine
   abbrev with_state : AfterSteps MonitoredMachine → MonitoredMachine → AfterSteps MonitoredMachine
   with_state before state = record before { state = state }
 
+  -- the steps so far with one more step
   abbrev after_step : AfterSteps MonitoredMachine → Outcome → MonitoredMachine → AfterSteps MonitoredMachine
   after_step before outcome state = with_step before (record { state = state; outcome = outcome.step; entered = outcome.entered })
 
+  -- the run after one more step
   abbrev next_run : ℕ → AfterSteps MonitoredMachine → Outcome → MonitoredMachine → AfterRun MonitoredMachine
   next_run left before outcome state =
       let after = after_step before outcome state in
       next_of after (on left after) (lowest_accessed watches outcome.step.touched) (left == 0) (is_among (hart_pc hart state) breaks)
 
+  -- two runs are equal, and their steps are low
   abbrev Low : AfterSteps MonitoredMachine → MonitoredMachine → AfterRun MonitoredMachine → AfterRun MonitoredMachine → Type 0
   Low before other a b = is_entered e a.ran.entered ≡ false → IsLowRun e hart before.steps before.state other a b
 
+  -- both harts are at the same pc
   pc_alike : (one other : MonitoredMachine) → EquivToGuests e one other → runs_on e hart one ≡ false → hart_pc hart one ≡ hart_pc hart other
   pc_alike one other equiv low =
       let pc : HartState → ℕ = λ s. s.hart.pc in
@@ -138,6 +152,7 @@ module _ (e hart : ℕ) (breaks watches : List ℕ) where
       sym (ap pc (guest_hart_state hart one)) ∙ ap pc (own.same (ap (λ (s : HartState). is_world_of e s.world) (guest_hart_state hart one) ∙ low))
       ∙ ap pc (guest_hart_state hart other)
 
+  -- a run of a hart without the enclave is equal in both, and its steps are low
   low-run : (left : ℕ) (before : AfterSteps MonitoredMachine) (other : MonitoredMachine) → Invariant before.state → Invariant other
       → EquivToGuests e before.state other → runs_on e hart before.state ≡ false
       → Low before other (on left before) (on left (with_state before other))
@@ -148,15 +163,15 @@ module _ (e hart : ℕ) (breaks watches : List ℕ) where
       let one = step_of hart before.state in
       let two = step_of hart other in
       let after = after_step before one.outcome one.state in
-      let both = guest_step_equiv e hart before.state other here there equiv low in
+      let alike_after = guest_step_equiv e hart before.state other here there equiv low in
       elim (cases_Bool (enters e one.outcome.entered)) [
         | inl enters_it ↦ absurd (both_ways _ passed
             (entered-next e hart breaks watches left before one.outcome one.state (entered_some e one.outcome.entered enters_it)))
         | inr passes ↦
             let still = entry_law e hart hart before.state low passes in
-            let more = low-run left after two.state (invariant_law hart before.state here) (invariant_law hart other there) both.state still in
+            let more = low-run left after two.state (invariant_law hart before.state here) (invariant_law hart other there) alike_after.state still in
             let first : AreLowMoves e (hart ∷ []) before.state other =
-            one_more_move e hart [] before.state other here equiv low (no_moves e one.state two.state both.state) in
+            one_more_move e hart [] before.state other here equiv low (no_moves e one.state two.state alike_after.state) in
             let alike = next_cases (Low before other) after (with_state after two.state) (on left after) (on left (with_state after two.state))
             (lowest_accessed watches one.outcome.step.touched) (left == 0) (is_among (hart_pc hart one.state) breaks)
             (λ stop passed. record { count = 1; steps = omega arith; ran = refl; low = first })
@@ -166,9 +181,9 @@ module _ (e hart : ℕ) (breaks watches : List ℕ) where
               ran = rest.ran;
               low = one_more_move e hart (replicate rest.count hart) before.state other here equiv low rest.low;
             }) in
-            let place = ap (λ (pc : ℕ). is_among pc breaks) (pc_alike one.state two.state both.state still) in
+            let place = ap (λ (pc : ℕ). is_among pc breaks) (pc_alike one.state two.state alike_after.state still) in
             subst (λ (outcome : Outcome). Low before other (next_run left before one.outcome one.state)
-            (next_run left (with_state before other) outcome two.state)) both.outcome
+            (next_run left (with_state before other) outcome two.state)) alike_after.outcome
             (subst (λ (at_break : Bool). Low before other (next_run left before one.outcome one.state)
             (next_of (with_state after two.state) (on left (with_state after two.state)) (lowest_accessed watches one.outcome.step.touched) (left == 0) at_break))
             place alike) passed
@@ -178,12 +193,15 @@ module _ (e hart : ℕ) (breaks watches : List ℕ) where
 
 module _ (e hart : ℕ) (one other : MonitoredMachine) (here : Invariant one) (there : Invariant other) (related : AreRelated e one other)
     (window_equal : runs one.shared.table e ≡ true → SameWindow e one other) (breaks watches : List ℕ) where
+  -- the target with the machine, and with the same selected hart
   abbrev pub at : MonitoredMachine → Target
   at machine = selected_at hart machine
 
+  -- the bench with the machine
   abbrev bench : MonitoredMachine → BenchState
   bench machine = over (at machine) breaks watches
 
+  -- both machines are equivalent in the guest view
   equiv : EquivToGuests e one other
   equiv = related_equiv e one other related window_equal
 
@@ -191,6 +209,7 @@ module _ (e hart : ℕ) (one other : MonitoredMachine) (here : Invariant one) (t
   abbrev SameAfter : Target → Target → Type 0
   SameAfter first second = WindowsAreEqual e (over first breaks watches) (over second breaks watches)
 
+  -- the windows are equal after low steps
   after_steps : (harts : List ℕ) (selected : ℕ) → AreLowMoves e harts one other
       → SameAfter (done (at one) (Steps harts selected)) (done (at other) (Steps harts selected))
   after_steps harts selected low =
@@ -200,6 +219,7 @@ module _ (e hart : ℕ) (one other : MonitoredMachine) (here : Invariant one) (t
       (sym (schedule_is_sched harts (record { hart = hart; state = other }) _ selected))
       (λ running. same_window e (sched harts one).state (sched harts other).state (sched_invariant harts one here) low.state))
 
+  -- the summary of a run of the machine
   abbrev pub runs_of : MonitoredMachine → List ℕ → List ℕ → ℕ → Ran
   runs_of machine at_breaks at_watches count = (steps_of (at machine) at_breaks at_watches count).ran
 
@@ -208,6 +228,7 @@ module _ (e hart : ℕ) (one other : MonitoredMachine) (here : Invariant one) (t
     ran : runs_of one at_breaks at_watches count ≡ runs_of other at_breaks at_watches count
     pub low : AreLowMoves e (replicate (runs_of one at_breaks at_watches count).steps hart) one other
 
+  -- a run that is low in the first machine and does not enter the enclave is the same in both, and its steps are low
   pub low_runs : (at_breaks at_watches : List ℕ) (count : ℕ) → runs_on e hart one ≡ false
       → is_entered e (entered_by (at one) (run_effect (at one) at_breaks at_watches count)) ≡ false → LowRuns at_breaks at_watches count
   low_runs at_breaks at_watches count low passed =
@@ -215,13 +236,14 @@ module _ (e hart : ℕ) (one other : MonitoredMachine) (here : Invariant one) (t
       let one_is = ap ran (run_monitored hart at_breaks at_watches count (no_steps one)) in
       let other_is = ap ran (run_monitored hart at_breaks at_watches count (no_steps other)) in
       let none = sym (ap (λ (r : Ran). is_entered e r.entered) one_is) ∙ sym (ap (is_entered e) (run_entered (at one) at_breaks at_watches count)) ∙ passed in
-      let both = low-run e hart at_breaks at_watches count (no_steps one) other here there equiv low none in
-      let number : (runs_of one at_breaks at_watches count).steps ≡ both.count = ap (λ (r : Ran). r.steps) one_is ∙ both.steps ∙ omega arith in
+      let alike_after = low-run e hart at_breaks at_watches count (no_steps one) other here there equiv low none in
+      let number : (runs_of one at_breaks at_watches count).steps ≡ alike_after.count = ap (λ (r : Ran). r.steps) one_is ∙ alike_after.steps ∙ omega arith in
       record {
-        ran = one_is ∙ both.ran ∙ sym other_is;
-        low = subst (λ (n : ℕ). AreLowMoves e (replicate n hart) one other) (sym number) both.low;
+        ran = one_is ∙ alike_after.ran ∙ sym other_is;
+        low = subst (λ (n : ℕ). AreLowMoves e (replicate n hart) one other) (sym number) alike_after.low;
       }
 
+  -- the run command is low: its steps are moves, and the windows are equal after it
   abbrev LowRunCommand : List ℕ → List ℕ → ℕ → Type 0
   LowRunCommand at_breaks at_watches count =
       let numbers : MonitoredMachine → List ℕ = λ machine. replicate (runs_of machine at_breaks at_watches count).steps hart in
@@ -229,6 +251,7 @@ module _ (e hart : ℕ) (one other : MonitoredMachine) (here : Invariant one) (t
       × ((runs_of one at_breaks at_watches count).stop ≡ (runs_of other at_breaks at_watches count).stop)
       × SameAfter (done (at one) (Steps (numbers one) hart)) (done (at other) (Steps (numbers other) hart))
 
+  -- a low run is a low command
   low_run_command : (at_breaks at_watches : List ℕ) (count : ℕ) → LowRuns at_breaks at_watches count → LowRunCommand at_breaks at_watches count
   low_run_command at_breaks at_watches count runs =
       let harts = replicate (runs_of one at_breaks at_watches count).steps hart in (
@@ -238,16 +261,20 @@ module _ (e hart : ℕ) (one other : MonitoredMachine) (here : Invariant one) (t
             (after_steps harts hart runs.low),
       )
 
+  -- the effect of a schedule, by whether its harts exist
   abbrev sched_of : List ℕ → Bool → Effect
   sched_of harts has = if has then Steps harts hart else Nothing
 
+  -- the schedule is low: its steps are moves, and the windows are equal after it
   abbrev LowSched : Effect → Effect → Type 0
   LowSched first second =
       StepsAreMoves e one other (harts_stepped first) (harts_stepped second) × SameAfter (done (at one) first) (done (at other) second)
 
+  -- no steps are those of no moves
   no_steps_at_all : StepsAreMoves e one other [] []
   no_steps_at_all = record { moves = []; steps = refl; first = refl; second = refl; are = tt }
 
+  -- a schedule of harts without the enclave that does not enter it is low
   low_sched : (harts : List ℕ) (has has_too : Bool) → has ≡ has_too → RunsOnNone e harts one
       → is_entered e (entered_by (at one) (sched_of harts has)) ≡ false → LowSched (sched_of harts has) (sched_of harts has_too)
   low_sched harts true true same none passed =
@@ -257,6 +284,7 @@ module _ (e hart : ℕ) (one other : MonitoredMachine) (here : Invariant one) (t
   low_sched harts true false same none passed = cc
   low_sched harts false true same none passed = cc
 
+  -- the selection of a hart is low
   low_hart : (number : ℕ) (has has_too : Bool) → LowSched (if has then Steps [] number else Nothing) (if has_too then Steps [] number else Nothing)
   unfolding scheduled_steps
   low_hart number true true = (no_steps_at_all, window_equal)
@@ -264,6 +292,7 @@ module _ (e hart : ℕ) (one other : MonitoredMachine) (here : Invariant one) (t
   low_hart number false true = (no_steps_at_all, window_equal)
   low_hart number false false = (no_steps_at_all, window_equal)
 
+  -- the windows are equal after the same poke
   low_poke : (address byte : ℕ)
       → SameAfter (poke_of (at one) (write one.shared.memory address (byte ∷ []))) (poke_of (at other) (write other.shared.memory address (byte ∷ [])))
   low_poke address byte =
@@ -282,9 +311,11 @@ module _ (e hart : ℕ) (one other : MonitoredMachine) (here : Invariant one) (t
             rw (first, second) window_equal
       ]
 
+  -- the command is low
   abbrev IsLow : Command → Type 0
   IsLow command = IsLowCommand e (bench one) (bench other) command
 
+  -- each command that steps no hart of the enclave and does not enter it is low
   low : (command : Command) → RunsOnNoneIn e (harts_named (at one) command) (at one)
       → is_entered e (execute (bench one) command).entered ≡ false → IsLow command
   unfolding execute
@@ -307,6 +338,7 @@ module _ (e hart : ℕ) (one other : MonitoredMachine) (here : Invariant one) (t
 
 -- ---- any two benches
 
+-- each command is low on a bare machine
 bare_low : (e : ℕ) (machine other : Machine) (breaks watches : List ℕ) (command : Command) → machine ≡ other
     → IsLowCommand e (over (Bare machine) breaks watches) (over (Bare other) breaks watches) command
 unfolding execute
@@ -318,6 +350,7 @@ bare_low e machine other breaks watches command same =
           (bare_done machine (effect (over (Bare machine) breaks watches) command));
     })
 
+-- each command that is low in the first target is low, for two targets
 targets_low : (e : ℕ) (one other : Target) (breaks watches : List ℕ) (command : Command) → TargetInvariant one → TargetInvariant other
     → TargetsAreRelated e one other → WindowsAreEqual e (over one breaks watches) (over other breaks watches)
     → RunsOnNoneIn e (harts_named one command) one → is_entered e (execute (over one breaks watches) command).entered ≡ false
@@ -329,6 +362,7 @@ targets_low e (Bare one) (Bare other) breaks watches command here there related 
 targets_low e (Bare one) (Monitored other) breaks watches command here there related equal none passed = absurd related
 targets_low e (Monitored one) (Bare other) breaks watches command here there related equal none passed = absurd related
 
+-- proves the law of low commands, by the kinds of commands
 pub low_command : LowCommandLaw
 low_command e first second command here there related equal none passed =
     subst (λ (breaks : List ℕ). IsLowCommand e first (over second.target breaks second.watches) command) related.breaks

@@ -14,12 +14,14 @@ use Rattle.rv_debug.proofs.ScheduledSteps.{by_bare}
 
 -- ---- every command avoids its hart
 
+-- an enclave that runs on no hart runs on none of these harts of the target
 pub on_none_in : (e : ℕ) (harts : List ℕ) (target : Target) → RunsOnNoHart e target → RunsOnNoneIn e harts target
 on_none_in e harts (Bare machine) not_running = tt
 on_none_in e harts (Monitored selected) not_running = on_none_of e harts selected.state not_running
 
 -- ---- the effect enters it, or it still runs on no hart
 
+-- steps that do not enter the enclave leave it on no hart
 steps_rest : (e selected : ℕ) (harts : List ℕ) (machine : Selected) → TargetInvariant (Monitored machine) → RunsOnNoHart e (Monitored machine)
     → is_entered e (scheduled_steps harts (schedule_start (Monitored machine))).did.entered ≡ false
     → RunsOnNoHart e (done (Monitored machine) (Steps harts selected))
@@ -29,6 +31,7 @@ steps_rest e selected harts machine kept not_running none =
       | inl both ↦ absurd (let never : true ≡ false = sym both.here ∙ none in cc)
       | inr past ↦ selected_rests _ (subst (RunsOnNoHart e) (sym past.here_is) (past.not_running not_running))
     ] where
+      -- the selection of a hart leaves the enclave on no hart
       selected_rests : (target : Target) → RunsOnNoHart e target → RunsOnNoHart e (with_selected selected target)
       selected_rests (Bare machine) not_running = tt
       selected_rests (Monitored machine) not_running = not_running
@@ -41,10 +44,12 @@ written_rests e machine change same not_running hart =
     changed_of (λ (hart_state : HartState). is_world_of e hart_state.world) change
     (λ hart_state. ap (is_world_of e) (same hart_state)) machine.hart hart machine.state ∙ not_running hart
 
+-- a poke leaves the enclave on no hart
 poke_rests : (e : ℕ) (machine : Selected) (memory : Option (List ℕ)) → RunsOnNoHart e (Monitored machine) → RunsOnNoHart e (poke_of (Monitored machine) memory)
 poke_rests e machine None not_running = not_running
 poke_rests e machine (Some memory) not_running = not_running
 
+-- an effect that does not enter the enclave leaves it on no hart
 effect_rests : (e : ℕ) (target : Target) (d : Effect) → TargetInvariant target → RunsOnNoHart e target → is_entered e (entered_by target d) ≡ false
     → RunsOnNoHart e (done target d)
 effect_rests e (Bare machine) d kept not_running none = by_bare (RunsOnNoHart e) (λ alone. tt) _ (bare_done machine d)
@@ -56,6 +61,7 @@ effect_rests e (Monitored machine) (TimerLine raised) kept not_running none = wr
 effect_rests e (Monitored machine) (OneByte address byte) kept not_running none =
     poke_rests e machine (write machine.state.shared.memory address (byte ∷ [])) not_running
 
+-- proves that an enclave that runs on no hart stays so after each command that does not enter it
 pub rest_law : RunsOnNoHartLaw
 unfolding execute
 rest_law e bench command kept not_running = record {
@@ -63,6 +69,7 @@ rest_law e bench command kept not_running = record {
   not_running = λ none. effect_rests e bench.target (effect bench command) kept not_running none;
 }
 
+-- while the enclave runs on no hart, each command avoids its hart
 pub rest_all : (e : ℕ) (bench : BenchState) (commands : List Command) → TargetInvariant bench.target → RunsOnNoHart e bench.target
     → CommandsAvoidHart e bench commands
 rest_all e bench [] kept not_running = tt
@@ -75,6 +82,7 @@ pub poked_rests : (e : ℕ) (bench : BenchState) (command : Command) → TargetI
     → RunsOnNoHart e (execute bench command).state.target
 unfolding execute
 poked_rests e bench (Poke address byte) kept not_running pokes = written bench.target kept not_running where
+  -- a write of a byte leaves the enclave on no hart
   written : (target : Target) → TargetInvariant target → RunsOnNoHart e target → RunsOnNoHart e (done target (OneByte address byte))
   written (Bare machine) kept not_running = by_bare (RunsOnNoHart e) (λ alone. tt) _ (bare_done machine (OneByte address byte))
   written (Monitored machine) kept not_running = poke_rests e machine (write machine.state.shared.memory address (byte ∷ [])) not_running

@@ -23,26 +23,30 @@ use Rattle.rv_debug.proofs.RunSchedules.{run_done}
 
 -- ---- an enclave that does not run
 
+-- an enclave that is not Running runs on no hart
 idle : (e : ℕ) (machine : MonitoredMachine) → Invariant machine → runs machine.shared.table e ≡ false → (hart : ℕ) → runs_on e hart machine ≡ false
 idle e machine kept none hart = elim (cases_Bool (runs_on e hart machine)) [
   | inl here ↦ absurd (both_ways _ none (kept.shared.running e ∙ runs_among e hart machine here))
   | inr away ↦ away
 ]
 
+-- an enclave that runs on no hart is not on the selected hart
 not_selected : (e : ℕ) (target : Target) → RunsOnNoHart e target → is_selected e target ≡ false
 not_selected e (Bare machine) none = refl
 not_selected e (Monitored selected) none = none selected.hart
 
+-- whether an enclave runs on no hart does not depend on the selected hart
 any_selected : (e hart other : ℕ) (target : Target) → RunsOnNoHart e (with_selected hart target) → RunsOnNoHart e (with_selected other target)
 any_selected e hart other (Bare machine) none = tt
 any_selected e hart other (Monitored selected) none = none
 
+-- a text that is not hidden is shown
 shown : (hidden : Bool) (text : List ℕ) → hidden ≡ false → unless hidden text ≡ text
 shown hidden text none = rw none refl
 
 -- ---- runs
 
--- each low step counts
+-- the observed number of low steps is their number
 all_count : (e hart count : ℕ) (machine : MonitoredMachine) (ran : HartRan) → AreLowSteps e (replicate count hart) machine
     → (observed_steps e hart (replicate count hart) machine ran).steps ≡ ran.steps + count
 all_count e hart zero machine ran low = omega arith
@@ -51,6 +55,7 @@ all_count e hart (suc count) machine ran low =
     let one : (with_observed_step e hart hart machine ran).steps ≡ ran.steps + 1 = rw (own, low.0) refl in
     all_count e hart count (step_of hart machine).state (with_observed_step e hart hart machine ran) low.1 ∙ omega (arith, one)
 
+-- a run whose steps all count is observed as its reply
 run_shown : (e : ℕ) (target : Target) (after : AfterRun Target) → is_selected e after.state ≡ false → observed_count e target after.ran.steps ≡ after.ran.steps
     → observed_run e target after ≡ ran_reply after
 unfolding ran_text
@@ -59,17 +64,20 @@ run_shown e target after none all = rw (none, all) refl
 -- ---- schedules
 
 module _ (e hart : ℕ) (target : Target) where
+  -- the summary of a hart without the enclave is observed
   line_shown : (after : AfterSchedule) (own : ℕ) (ran : HartRan) → RunsOnNoHart e (with_selected hart after.state)
       → observed_hart e after.state own ran ≡ hart_summary_text after.state own ran
   line_shown after own ran rests =
       shown (is_selected e (with_selected own after.state)) (hart_summary_text after.state own ran)
       (not_selected e (with_selected own after.state) (any_selected e hart own after.state rests))
 
+  -- all summaries are observed, if the enclave runs on no hart
   lines_shown : (after : AfterSchedule) → RunsOnNoHart e (with_selected hart after.state) → observed_harts e after ≡ harts_summary_text after
   lines_shown after rests =
       ap₂ (λ (first second : List ℕ). first ++ (if nat_lt 1 (harts_of after.state) then second else []))
       (line_shown after 0 after.did.first rests) (line_shown after 1 after.did.second rests)
 
+  -- a schedule is observed as its reply, if the enclave runs on no hart after it
   sched_shown : (harts : List ℕ) (has : Bool) (refused : List ℕ) → RunsOnNoHart e (done target (if has then Steps harts hart else Nothing))
       → (let after = scheduled_steps harts (schedule_start target) in
       (if has then observed_harts e after else refused) ≡ (if has then harts_summary_text after else refused))
@@ -79,15 +87,19 @@ module _ (e hart : ℕ) (target : Target) where
 -- ---- a monitored bench
 
 module _ (e hart : ℕ) (machine : MonitoredMachine) (kept : Invariant machine) (none : runs machine.shared.table e ≡ false) (breaks watches : List ℕ) where
+  -- the target
   abbrev at : Target
   at = selected_at hart machine
 
+  -- the bench
   abbrev bench : BenchState
   bench = over at breaks watches
 
+  -- the enclave runs on no hart
   away : (own : ℕ) → runs_on e own machine ≡ false
   away = idle e machine kept none
 
+  -- a run that does not enter the enclave is observed as its reply
   run_observed : (at_breaks at_watches : List ℕ) (count : ℕ) → is_entered e (entered_by at (run_effect at at_breaks at_watches count)) ≡ false
       → RunsOnNoHart e (done at (run_effect at at_breaks at_watches count))
       → observed_run e at (steps_of at at_breaks at_watches count) ≡ ran_reply (steps_of at at_breaks at_watches count)
@@ -100,9 +112,11 @@ module _ (e hart : ℕ) (machine : MonitoredMachine) (kept : Invariant machine) 
 
   -- ---- every command
 
+  -- a block that does not meet the region is not private, since the enclave does not run
   not_named : (here beyond : Bool) → here ≡ false → (here || (runs machine.shared.table e && beyond)) ≡ false
-  not_named here beyond is = rw (is, none) refl
+  not_named here beyond not_here = rw (not_here, none) refl
 
+  -- each command that avoids the enclave is observed as its reply
   observed_all : (command : Command) → AvoidsEnclave e bench command → IsObserved e bench command
   unfolding execute is_blind
   observed_all (Step count) avoids = run_observed [] [] count avoids.past ((rest_law e bench (Step count) kept away).not_running avoids.past)
@@ -120,15 +134,18 @@ module _ (e hart : ℕ) (machine : MonitoredMachine) (kept : Invariant machine) 
 -- ---- a bare bench
 
 module _ (e : ℕ) (machine : Machine) (breaks watches : List ℕ) where
+  -- the bench over the bare machine
   abbrev bare : BenchState
   bare = over (Bare machine) breaks watches
 
+  -- a run of a bare machine is observed as its reply
   bare_run : (at_breaks at_watches : List ℕ) (count : ℕ) → RunsOnNoHart e (done (Bare machine) (run_effect (Bare machine) at_breaks at_watches count))
       → observed_run e (Bare machine) (steps_of (Bare machine) at_breaks at_watches count) ≡ ran_reply (steps_of (Bare machine) at_breaks at_watches count)
   bare_run at_breaks at_watches count rests =
       let after = steps_of (Bare machine) at_breaks at_watches count in
       run_shown e (Bare machine) after (not_selected e after.state (subst (RunsOnNoHart e) (run_done (Bare machine) at_breaks at_watches count) rests)) refl
 
+  -- each command on a bare machine is observed as its reply
   bare_observed : (command : Command) → AvoidsEnclave e bare command → IsObserved e bare command
   unfolding execute
   bare_observed (Step count) avoids = bare_run [] [] count ((rest_law e bare (Step count) tt tt).not_running avoids.past)
@@ -144,11 +161,13 @@ module _ (e : ℕ) (machine : Machine) (breaks watches : List ℕ) where
 
 -- ---- any bench
 
+-- each command that avoids an enclave that does not run is observed as its reply, for each target
 any_observed : (e : ℕ) (target : Target) (breaks watches : List ℕ) (command : Command) → TargetInvariant target → DoesNotRun e target
     → AvoidsEnclave e (over target breaks watches) command → IsObserved e (over target breaks watches) command
 any_observed e (Bare machine) breaks watches command kept none avoids = bare_observed e machine breaks watches command avoids
 any_observed e (Monitored selected) breaks watches command kept none avoids =
     observed_all e selected.hart selected.state kept none breaks watches command avoids
 
+-- proves that a whole reply is observed, if the enclave does not run and the command avoids it
 pub observation : ObservationLaw
 observation e bench command kept none avoids = any_observed e bench.target bench.breaks bench.watches command kept none avoids

@@ -53,6 +53,7 @@ run_text e hart machine after =
       entered = 0;
     }))
 
+-- the observed text of a run is that of its result
 run_text_is : (e hart : ℕ) (breaks watches : List ℕ) (count : ℕ) (machine : MonitoredMachine)
     → observed_run e (selected_at hart machine) (steps_of (selected_at hart machine) breaks watches count)
     ≡ run_text e hart machine (run (hart_stepped hart) (hart_pc hart) breaks watches count (no_steps machine))
@@ -65,16 +66,17 @@ ran_with hart stop ran hart_state =
     ran_text hart_state.hart.pc hart_state.hart.mode (world_name hart_state.world)
     (record { steps = ran.steps; trap = ran.trap; stop = stop; entered = 0 })
 
+-- two runs whose steps are those of moves, and that stop alike, have the same observed text
 run_texts : (e hart : ℕ) (one other : MonitoredMachine) (a b : AfterRun MonitoredMachine) → RunObserved e hart one a → RunObserved e hart other b
     → Moved e hart (replicate a.ran.steps hart) (replicate b.ran.steps hart) one other nothing_ran nothing_ran → a.ran.stop ≡ b.ran.stop
     → run_text e hart one a ≡ run_text e hart other b
-run_texts e hart one other a b first second both stop =
+run_texts e hart one other a b first second both_moved stop =
     let ran_a = observed_steps e hart (replicate a.ran.steps hart) one nothing_ran in
     let ran_b = observed_steps e hart (replicate b.ran.steps hart) other nothing_ran in
     let related : AreRelated e a.state b.state =
-    subst (λ (m : MonitoredMachine). AreRelated e m b.state) first.state (subst (AreRelated e _) second.state both.state) in
+    subst (λ (m : MonitoredMachine). AreRelated e m b.state) first.state (subst (AreRelated e _) second.state both_moved.state) in
     let same : runs_on e hart a.state ≡ false → ran_a ≡ ran_b =
-    λ low. both.ran (ap (runs_on e hart) first.state ∙ low) in
+    λ low. both_moved.ran (ap (runs_on e hart) first.state ∙ low) in
     let own = related.hart_states hart in
     elim (cases_Bool (runs_on e hart a.state)) [
       | inl runs_here ↦ let there : runs_on e hart b.state ≡ true = sym (ap (is_world_of e) own.world) ∙ runs_here in rw (runs_here, there) refl
@@ -88,6 +90,7 @@ run_texts e hart one other a b first second both stop =
           ∙ ap₂ (text (guest_state (hart_state_of hart b.state)) ran_b.steps) trap stop)
     ]
 
+-- two runs of related machines whose steps are those of moves, and that stop alike, have equal observations
 pub runs_alike : (e hart : ℕ) (one other : MonitoredMachine) (breaks watches : List ℕ) (count : ℕ) → Invariant one → Invariant other
     → AreRelated e one other
     → StepsAreMoves e one other (replicate (steps_of (selected_at hart one) breaks watches count).ran.steps hart)
@@ -116,6 +119,7 @@ record IsScheduled (harts : List ℕ) (machine : MonitoredMachine) (after : Targ
   hart : ℕ
   is : after ≡ selected_at hart (sched harts machine).state
 
+-- the machine after a schedule is that after its steps
 scheduled : (harts : List ℕ) (machine : Selected) (did : Scheduled)
     → IsScheduled harts machine.state (scheduled_steps harts (after_schedule (Monitored machine) did)).state
 unfolding scheduled_steps
@@ -126,13 +130,16 @@ scheduled (hart ∷ harts) machine did =
     (with_scheduled_step hart before (target_stepped (with_selected hart before.state))).did in
     record { hart = rest.hart; is = rest.is }
 
+-- the observed summary of a hart
 abbrev hart_line : ℕ → MonitoredMachine → ℕ → HartRan → List ℕ
 hart_line e machine hart ran =
     let s = hart_state_of hart machine in unless (runs_on e hart machine) (hart_text hart s.hart.pc s.hart.mode (world_name s.world) ran)
 
+-- the observed summaries of all harts
 abbrev hart_lines : ℕ → MonitoredMachine → HartRan → HartRan → List ℕ
 hart_lines e machine first second = hart_line e machine 0 first ++ (if nat_lt 1 (count_of machine) then hart_line e machine 1 second else [])
 
+-- the observed text of a schedule is that of the summaries
 harts_are : (e : ℕ) (harts : List ℕ) (machine : Selected) (did : Scheduled)
     → observed_harts e (scheduled_steps harts (after_schedule (Monitored machine) did))
     ≡ hart_lines e (sched harts machine.state).state (own_steps 0 harts machine.state did.first) (own_steps 1 harts machine.state did.second)
@@ -147,13 +154,14 @@ harts_are e harts machine did =
 
 module _ (e : ℕ) (harts : List ℕ) (one other : MonitoredMachine)
     (moves : (own : ℕ) → Moved e own harts harts one other nothing_ran nothing_ran) where
+  -- the observed summaries of a hart are equal
   same_line : (own : ℕ) → hart_line e (sched harts one).state own (own_steps own harts one nothing_ran)
       ≡ hart_line e (sched harts other).state own (own_steps own harts other nothing_ran)
   same_line own =
-      let both = moves own in
+      let moved_alike = moves own in
       let a = own_steps own harts one nothing_ran in
       let b = own_steps own harts other nothing_ran in
-      let hart_states = both.state.hart_states own in
+      let hart_states = moved_alike.state.hart_states own in
       elim (cases_Bool (runs_on e own (sched harts one).state)) [
         | inl runs_here ↦
             let there : runs_on e own (sched harts other).state ≡ true = sym (ap (is_world_of e) hart_states.world) ∙ runs_here in
@@ -161,7 +169,7 @@ module _ (e : ℕ) (harts : List ℕ) (one other : MonitoredMachine)
         | inr low ↦
             let there : runs_on e own (sched harts other).state ≡ false = sym (ap (is_world_of e) hart_states.world) ∙ low in
             let steps : a.steps ≡ b.steps = same_numbers own harts one other nothing_ran nothing_ran refl in
-            let trap : a.trap ≡ b.trap = same_traps e own harts one nothing_ran nothing_ran refl ∙ ap (λ (r : HartRan). r.trap) (both.ran low)
+            let trap : a.trap ≡ b.trap = same_traps e own harts one nothing_ran nothing_ran refl ∙ ap (λ (r : HartRan). r.trap) (moved_alike.ran low)
             ∙ sym (same_traps e own harts other nothing_ran nothing_ran refl) in
             let text : HartState → ℕ → Option Trap → List ℕ = λ s n t.
             hart_text own s.hart.pc s.hart.mode (world_name s.world) (record { steps = n; trap = t }) in
@@ -169,13 +177,15 @@ module _ (e : ℕ) (harts : List ℕ) (one other : MonitoredMachine)
             ∙ ap₂ (text (guest_state (hart_state_of own (sched harts other).state))) steps trap)
       ]
 
+  -- the observed summaries of all harts are equal
   same_lines : hart_lines e (sched harts one).state (own_steps 0 harts one nothing_ran) (own_steps 1 harts one nothing_ran)
       ≡ hart_lines e (sched harts other).state (own_steps 0 harts other nothing_ran) (own_steps 1 harts other nothing_ran)
   same_lines =
-      let both = moves 0 in
+      let moved_alike = moves 0 in
       ap₂ (λ (line lines : List ℕ). line ++ lines) (same_line 0)
-      (ap₂ (λ (n : ℕ) (line : List ℕ). if nat_lt 1 n then line else []) both.state.harts (same_line 1))
+      (ap₂ (λ (n : ℕ) (line : List ℕ). if nat_lt 1 n then line else []) moved_alike.state.harts (same_line 1))
 
+-- two schedules of related machines whose steps are those of moves have equal observations
 pub schedules_alike : (e hart : ℕ) (harts : List ℕ) (one other : MonitoredMachine) → Invariant one → Invariant other → AreRelated e one other
     → StepsAreMoves e one other harts harts
     → observed_harts e (scheduled_steps harts (schedule_start (selected_at hart one)))
@@ -187,6 +197,7 @@ schedules_alike e hart harts one other here there related steps =
 
 -- ---- registers
 
+-- a CSR of related machines has equal observations: none if the enclave runs on the hart
 pub csrs_alike : (e hart : ℕ) (one other : MonitoredMachine) (number : ℕ) → AreRelated e one other
     → unless (runs_on e hart one) (csr_reply (guest_target (selected_at hart one)) number)
     ≡ unless (runs_on e hart other) (csr_reply (guest_target (selected_at hart other)) number)
@@ -202,28 +213,31 @@ pub entries_alike : (e hart : ℕ) (one other : MonitoredMachine) → Invariant 
     → (hart_state_of hart one).hart.csrs.pmp ≡ (hart_state_of hart other).hart.csrs.pmp
 entries_alike e hart one other here there related =
     let own = related.hart_states hart in
-    let size = related.harts in
+    let same_harts = related.harts in
     let entries : HartState → Entries = λ hart_state. hart_state.hart.csrs.pmp in
     elim (cases_lt hart (count_of one)) [
-      | inr past ↦ ap entries (past_hart_state one.hart_states hart past ∙ sym (past_hart_state other.hart_states hart (omega (arith, size, past))))
+      | inr past ↦ ap entries (past_hart_state one.hart_states hart past ∙ sym (past_hart_state other.hart_states hart (omega (arith, same_harts, past))))
       | inl has ↦
           let of : Slots → World → Entries = λ slots world. layout slots world in
           let mine = (hart_view_invariant hart one here has).hart.layout.entries in
-          let theirs = (hart_view_invariant hart other there (omega (arith, size, has))).hart.layout.entries in
+          let theirs = (hart_view_invariant hart other there (omega (arith, same_harts, has))).hart.layout.entries in
           mine ∙ ap₂ of related.table own.world ∙ sym theirs
     ]
 
 -- ---- memory
 
+-- if an or fails, both parts fail
 neither : (a b : Bool) → (a || b) ≡ false → (a ≡ false) × (b ≡ false)
 neither false b is = (refl, is)
 neither true b is = cc
 
 module _ (e : ℕ) (one other : MonitoredMachine) (related : AreRelated e one other) where
+  -- whether a block names private bytes of the enclave
   abbrev names : MonitoredMachine → Block → Bool
   names machine block =
       meets block (region machine.shared.table e) || (runs machine.shared.table e && meets block (window machine.shared.table e))
 
+  -- a block without private bytes has equal bytes in both memories
   seen : (block : Block) → names one block ≡ false → IsSeen (may_differ one.shared.table e) block.base block.size
   seen block apart b low high =
       let parts = neither (meets block (region one.shared.table e)) _ apart in
@@ -236,6 +250,7 @@ module _ (e : ℕ) (one other : MonitoredMachine) (related : AreRelated e one ot
             rw (outside, running, beyond) refl
       ]
 
+  -- a read of a block without private bytes is equal in both memories
   reads_alike : (block : Block) → names one block ≡ false → read one.shared.memory block.base block.size ≡ read other.shared.memory block.base block.size
   reads_alike block apart =
       let memory = related.memory in

@@ -18,25 +18,28 @@ record IsCounted (e hart : ℕ) (before : AfterSteps MonitoredMachine) (end : Af
   state : (sched (replicate count hart) before.state).state ≡ end.state
   trap : (ran : HartRan) → ran.trap ≡ before.trap → (observed_steps e hart (replicate count hart) before.state ran).trap ≡ end.ran.trap
 
+-- the trap of a step of the observed hart is the last trap
 own_trap : (e hart : ℕ) (machine : MonitoredMachine) (ran : HartRan)
     → (with_observed_step e hart hart machine ran).trap ≡ option_or (step_of hart machine).outcome.step.trap ran.trap
 own_trap e hart machine ran = let own = eq-eqb hart hart refl in rw own refl
 
+-- one more step is counted as the definition does
 counted_more : (e hart : ℕ) (before : AfterSteps MonitoredMachine) (end : AfterRun MonitoredMachine)
     → IsCounted e hart (with_step before (hart_stepped hart before.state)) end → IsCounted e hart before end
 counted_more e hart before end more = record {
   count = suc more.count;
   steps = more.steps ∙ omega arith;
   state = more.state;
-  trap = λ ran is. more.trap (with_observed_step e hart hart before.state ran)
-      (own_trap e hart before.state ran ∙ ap (option_or (step_of hart before.state).outcome.step.trap) is);
+  trap = λ ran last_trap. more.trap (with_observed_step e hart hart before.state ran)
+      (own_trap e hart before.state ran ∙ ap (option_or (step_of hart before.state).outcome.step.trap) last_trap);
 }
 
+-- the steps of a run are counted as the definition does
 is_counted : (e hart : ℕ) (breaks watches : List ℕ) (count : ℕ) (before : AfterSteps MonitoredMachine)
     → IsCounted e hart before (run (hart_stepped hart) (hart_pc hart) breaks watches count before)
 is_counted e hart breaks watches =
     run_induction (hart_stepped hart) (hart_pc hart) breaks watches (IsCounted e hart)
-    (λ after stop. record { count = 0; steps = omega arith; state = refl; trap = λ ran is. is })
+    (λ after stop. record { count = 0; steps = omega arith; state = refl; trap = λ ran last_trap. last_trap })
     (counted_more e hart)
 
 -- the state after a run, and its last trap
@@ -44,15 +47,16 @@ pub record RunObserved (e hart : ℕ) (machine : MonitoredMachine) (end : AfterR
   pub state : (sched (replicate end.ran.steps hart) machine).state ≡ end.state
   pub trap : (observed_steps e hart (replicate end.ran.steps hart) machine nothing_ran).trap ≡ end.ran.trap
 
+-- the observation of a run is that of its steps, one after another
 pub run_observed : (e hart : ℕ) (breaks watches : List ℕ) (count : ℕ) (machine : MonitoredMachine)
     → RunObserved e hart machine (run (hart_stepped hart) (hart_pc hart) breaks watches count (no_steps machine))
 run_observed e hart breaks watches count machine =
-    let is = is_counted e hart breaks watches count (no_steps machine) in
-    let all = is.steps in
-    let same : is.count ≡ (run (hart_stepped hart) (hart_pc hart) breaks watches count (no_steps machine)).ran.steps = omega (arith, all) in
+    let counted = is_counted e hart breaks watches count (no_steps machine) in
+    let all = counted.steps in
+    let same : counted.count ≡ (run (hart_stepped hart) (hart_pc hart) breaks watches count (no_steps machine)).ran.steps = omega (arith, all) in
     record {
-      state = ap (λ (n : ℕ). (sched (replicate n hart) machine).state) (sym same) ∙ is.state;
-      trap = ap (λ (n : ℕ). (observed_steps e hart (replicate n hart) machine nothing_ran).trap) (sym same) ∙ is.trap nothing_ran refl;
+      state = ap (λ (n : ℕ). (sched (replicate n hart) machine).state) (sym same) ∙ counted.state;
+      trap = ap (λ (n : ℕ). (observed_steps e hart (replicate n hart) machine nothing_ran).trap) (sym same) ∙ counted.trap nothing_ran refl;
     }
 
 -- ---- a schedule
@@ -63,6 +67,7 @@ own_steps own [] machine ran = ran
 own_steps own (hart ∷ harts) machine ran =
     own_steps own harts (step_of hart machine).state (with_own own hart (step_of hart machine).outcome.step.trap ran)
 
+-- the summary of each hart in a schedule is that of its own steps in the list
 pub schedule_did : (harts : List ℕ) (machine : Selected) (did : Scheduled)
     → (let after = scheduled_steps harts (after_schedule (Monitored machine) did) in
     (after.did.first ≡ own_steps 0 harts machine.state did.first) × (after.did.second ≡ own_steps 1 harts machine.state did.second))
@@ -81,6 +86,7 @@ same_number own hart trap trap_too a b same = elim (cases_Bool (own == hart)) [
   | inr apart ↦ rw apart same
 ]
 
+-- the number of a hart's own steps depends only on the list, not on the machine
 pub same_numbers : (own : ℕ) (harts : List ℕ) (one other : MonitoredMachine) (a b : HartRan) → a.steps ≡ b.steps
     → (own_steps own harts one a).steps ≡ (own_steps own harts other b).steps
 same_numbers own [] one other a b same = same
@@ -96,6 +102,7 @@ same_trap e own hart machine a b same = elim (cases_Bool (own == hart)) [
   | inr apart ↦ rw apart same
 ]
 
+-- the observed trap of a hart's steps is the last trap of these steps
 pub same_traps : (e own : ℕ) (harts : List ℕ) (machine : MonitoredMachine) (a b : HartRan) → a.trap ≡ b.trap
     → (own_steps own harts machine a).trap ≡ (observed_steps e own harts machine b).trap
 same_traps e own [] machine a b same = same

@@ -24,53 +24,62 @@ abbrev pub Same : ℕ → ℕ → MonitoredMachine → HartRan → HartRan → T
 Same e own machine a b = runs_on e own machine ≡ false → a ≡ b
 
 module _ (e own hart : ℕ) (one other : MonitoredMachine) (a b : HartRan) (related : AreRelated e one other) (same : Same e own one a b) where
+  -- a step of the enclave in the first machine leaves the same observed
   first_same : IsInside e hart one → Same e own (step_of hart one).state (with_observed_step e own hart one a) b
   first_same inside low = elim (cases_Bool (own == hart)) [
     | inl at ↦ absurd (both_ways _ low (ap (λ (h : ℕ). runs_on e h (step_of hart one).state) (eqb-true own hart at) ∙ inside.after))
     | inr apart ↦ rw apart (same (sym (beside e own hart one apart) ∙ low))
   ]
 
+  -- a step of the enclave in the second machine leaves the same observed
   second_same : IsInside e hart other → Same e own one a (with_observed_step e own hart other b)
   second_same inside low = elim (cases_Bool (own == hart)) [
     | inl at ↦
-        let there : runs_on e hart one ≡ true = ap (is_world_of e) (related.hart_states hart).world ∙ inside.before in
-        absurd (both_ways _ low (ap (λ (h : ℕ). runs_on e h one) (eqb-true own hart at) ∙ there))
+        let runs : runs_on e hart one ≡ true = ap (is_world_of e) (related.hart_states hart).world ∙ inside.before in
+        absurd (both_ways _ low (ap (λ (h : ℕ). runs_on e h one) (eqb-true own hart at) ∙ runs))
     | inr apart ↦ rw apart (same low)
   ]
 
+  -- a step of both machines leaves the same observed
   abbrev Both_same : Type 0
   Both_same = Same e own (step_of hart one).state (with_observed_step e own hart one a) (with_observed_step e own hart other b)
 
+  -- the enclave runs on the hart in both machines or in neither
   runs_same : runs_on e hart one ≡ runs_on e hart other
   runs_same = ap (is_world_of e) (related.hart_states hart).world
 
-  -- the same step in both, or an exit in both
+  -- a step of both machines, low or an exit, leaves the same observed
   abbrev own_ran : MonitoredMachine → HartRan → HartRan
   own_ran machine ran = one_more_observed (runs_on e hart machine) (step_of hart machine).outcome.step.trap ran
 
+  -- a step of both leaves the same observed, if that of the hart's own step is
   both_same : (own ≡ hart → own_ran one a ≡ own_ran other b) → Both_same
   both_same at_own low = elim (cases_Bool (own == hart)) [
     | inl at ↦ rw at (at_own (eqb-true own hart at))
     | inr apart ↦ rw apart (same (sym (beside e own hart one apart) ∙ low))
   ]
 
+  -- a low step leaves the same observed
   low_same : runs_on e hart one ≡ false → (step_of hart one).outcome ≡ (step_of hart other).outcome → Both_same
   low_same low outcomes = both_same (λ at.
       ap₂ (λ (is_own : Bool) (trap : Option Trap). one_more_observed is_own trap a) runs_same (ap (λ (o : Outcome). o.step.trap) outcomes)
       ∙ ap (one_more_observed (runs_on e hart other) (step_of hart other).outcome.step.trap)
       (same (ap (λ (h : ℕ). runs_on e h one) at ∙ low)))
 
+  -- an exit from both machines leaves the same observed
   exit_same : ExitsAlike e hart one other → Both_same
-  exit_same is = both_same (λ at.
-      let runs_too : runs_on e hart other ≡ true = sym runs_same ∙ is.runs in
-      rw (is.runs, runs_too, is.first, is.second) refl)
+  exit_same exits_alike = both_same (λ at.
+      let runs_too : runs_on e hart other ≡ true = sym runs_same ∙ exits_alike.runs in
+      rw (exits_alike.runs, runs_too, exits_alike.first, exits_alike.second) refl)
 
 -- ---- all moves
 
+-- after moves of steps only, the machines are related, and what is observed of hart `own` is the same
 pub record Moved (e own : ℕ) (harts others : List ℕ) (one other : MonitoredMachine) (a b : HartRan) : Type 0 where
   pub state : AreRelated e (sched harts one).state (sched others other).state
   pub ran : Same e own (sched harts one).state (observed_steps e own harts one a) (observed_steps e own others other b)
 
+-- moves of steps leave the same observed
 moved : (e own : ℕ) (moves : List Move) (one other : MonitoredMachine) (a b : HartRan) → Invariant one → Invariant other → AreRelated e one other
     → are_steps moves ≡ true → AreMoves e moves one other → Same e own one a b → Moved e own (first_steps moves) (second_steps moves) one other a b
 moved e own [] one other a b here there related only moves same = record { state = related; ran = same }
@@ -96,7 +105,7 @@ moved e own (Both (StepOf hart) ∷ more) one other a b here there related only 
     (invariant_law hart one here) (invariant_law hart other there) alike.state only moves.1 (go moves.0) in
     record { state = rest.state; ran = rest.ran }
 
--- the same for the steps of two commands
+-- the steps of two commands that are those of moves leave the same observed
 pub moved_by : (e own : ℕ) (harts others : List ℕ) (one other : MonitoredMachine) → Invariant one → Invariant other → AreRelated e one other
     → StepsAreMoves e one other harts others → Moved e own harts others one other nothing_ran nothing_ran
 moved_by e own harts others one other here there related steps =

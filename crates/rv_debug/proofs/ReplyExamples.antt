@@ -25,6 +25,7 @@ use Rattle.rv_debug.proofs.Prelude.{registers_text, stop_text, trap_text, verdic
 abbrev shown : ℕ → List ℕ
 shown n = if nat_lt n 10 then (48 + n) ∷ [] else (if nat_lt n 100 then (48 + n / 10) ∷ (48 + n % 10) ∷ [] else decimal n)
 
+-- decimal digits are those of the definition
 decimal-shown : (n : ℕ) → decimal n ≡ shown n
 decimal-shown n =
     let one : n < 10 → decimal n ≡ (48 + n) ∷ [] = decimal_digit n in
@@ -43,10 +44,12 @@ pub ran_text-examples :
 unfolding ran_text stop_text trap_text hex_digits
 ran_text-examples = simp decimal-shown
 
+-- the reply to reg x30 with ffff00e2
 pub register_text-example : register_text 30 0xffff00e2 ≡ codes "x30=ffff00e2\n"
 unfolding register_text hex_digits
 register_text-example = simp decimal-shown
 
+-- the reply to regs: x0 to x31 and pc, a line each
 pub registers_text-example : registers_text (0 ∷ 0xffffffff ∷ 0 ∷ 0 ∷ 0 ∷ 0x1f ∷ (replicate 25 0 ++ 0xabcdef01 ∷ [])) 0x80000010 ≡
     codes "x0=00000000\nx1=ffffffff\nx2=00000000\nx3=00000000\nx4=00000000\nx5=0000001f\nx6=00000000\nx7=00000000\n"
     ++ codes "x8=00000000\nx9=00000000\nx10=00000000\nx11=00000000\nx12=00000000\nx13=00000000\nx14=00000000\nx15=00000000\n"
@@ -56,18 +59,22 @@ pub registers_text-example : registers_text (0 ∷ 0xffffffff ∷ 0 ∷ 0 ∷ 0 
 unfolding registers_text register_text pc_text hex_digits
 registers_text-example = simp decimal-shown
 
+-- the reply to csr 034 with 80000abc
 pub csr_text-example : csr_text 0x34 0x80000AbC ≡ codes "csr 034=80000abc\n"
 unfolding csr_text hex_digits
 csr_text-example = refl
 
+-- the reply to csr for a number that is not the number of a CSR
 pub no_csr_text-example : no_csr_text ≡ codes "error csr\n"
 unfolding no_csr_text
 no_csr_text-example = refl
 
+-- the reply to mem for the four bytes at 8000000e
 pub memory_text-example : memory_text 0x8000000e (0xe2 ∷ 0 ∷ 0xff ∷ 0xff ∷ []) ≡ codes "8000000e: e2 00 ff ff\n"
 unfolding memory_text hex_digits
 memory_text-example = refl
 
+-- the replies to dis for an addi, and for a word that encodes no instruction
 pub dis_text-examples : dis_text 0x8000000e 0xfff08093 ++ dis_text 0x80000000 0x8330000f
     ≡ codes "8000000e: fff08093 addi x1, x1, -1\n80000000: 8330000f .word 0x8330000f\n"
 unfolding dis_text spelling instr_text line_text word_text decoded digits hex_digits by_bits
@@ -82,6 +89,7 @@ pub dis_reply-examples :
 unfolding read dis_text outside_text spelling instr_text line_text word_text decoded digits hex_digits by_bits
 dis_reply-examples = refl
 
+-- the reply to pmp: the cfg byte and the address of each of the 16 entries
 pub pmp_text-example : pmp_text (record { cfgs = 0x17 ∷ (replicate 14 0 ++ 0x9f ∷ []); addrs = 0x20000040 ∷ (replicate 14 0 ++ 0xffffffff ∷ []) }) ≡
     codes "pmp 0 cfg=17 addr=20000040\npmp 1 cfg=00 addr=00000000\npmp 2 cfg=00 addr=00000000\npmp 3 cfg=00 addr=00000000\n"
     ++ codes "pmp 4 cfg=00 addr=00000000\npmp 5 cfg=00 addr=00000000\npmp 6 cfg=00 addr=00000000\npmp 7 cfg=00 addr=00000000\n"
@@ -97,6 +105,7 @@ pub verdict_text-examples :
 unfolding verdict_text denied_outside_text
 verdict_text-examples = simp decimal-shown
 
+-- the replies to a change that was made, and to one of a full set
 pub ok_text-example : ok_text ++ full_text ≡ codes "ok\nerror full\n"
 unfolding ok_text full_text
 ok_text-example = refl
@@ -117,7 +126,7 @@ csr_reply-examples = refl
 abbrev four_bytes : Entries
 four_bytes = record { cfgs = 0x15 ∷ replicate 15 0; addrs = 0x20000040 ∷ replicate 15 0 }
 
--- the same, locked
+-- the same entry with the L bit set
 abbrev four_locked : Entries
 four_locked = record { cfgs = 0x95 ∷ replicate 15 0; addrs = 0x20000040 ∷ replicate 15 0 }
 

@@ -17,12 +17,14 @@ use Rattle.rv_debug.proofs.ScheduledSteps.{schedule_is_sched}
 
 -- ---- steps of the harts in order
 
+-- the machine after two lists of steps, one after the other
 sched_on : (before rest : List ℕ) (machine : MonitoredMachine) → (sched (before ++ rest) machine).state ≡ (sched rest (sched before machine).state).state
 sched_on [] rest machine = refl
 sched_on (named ∷ before) rest machine = sched_on before rest (step_of named machine).state
 
 -- ---- effects
 
+-- the host's saved context on a hart of a target
 abbrev host_in : ℕ → Target → Option Context
 host_in hart target = option_case (machine_in target) None (host_on hart)
 
@@ -32,6 +34,7 @@ write_host : (hart : ℕ) (machine : Selected) (change : HartState → HartState
     → host_in hart (selected_at machine.hart (changed machine.hart change machine.state)) ≡ host_on hart machine.state
 write_host hart machine change same = changed_of (λ (hart_state : HartState). hart_state.host_context) change same machine.hart hart machine.state
 
+-- a poke leaves the host's saved context
 poke_host : (hart : ℕ) (machine : Selected) (memory : Option (List ℕ)) → host_in hart (poke_of (Monitored machine) memory) ≡ host_on hart machine.state
 poke_host hart machine None = refl
 poke_host hart machine (Some memory) = refl
@@ -47,43 +50,49 @@ host_after hart machine (OneByte address byte) = poke_host hart machine (write m
 
 -- ---- the step with which the enclave exits
 
+-- the host's saved context of a view
 abbrev kept_at : HartView → Option Context
 kept_at entry = Some (saved entry.hart_state.hart (past_ecall entry.hart_state.hart) S)
 
+-- an exit among the steps of a command restores the host
 leaves_within : (hart : ℕ) (harts : List ℕ) (machine : MonitoredMachine) (entry exit : HartView) → Invariant machine
     → host_on hart machine ≡ kept_at entry → LeavesWithin hart harts machine exit → HostIsRestored entry exit (monitored_step exit)
-leaves_within hart harts machine entry exit kept is leaves =
+leaves_within hart harts machine entry exit kept host_on_is leaves =
     let here = (sched leaves.before machine).state in
     let same = steps_keep hart leaves.before machine leaves.runs in
     let host = ap (λ (m : HartView). is_host (monitored_step m).state.hart_state.world) (sym leaves.at) ∙ leaves.host in
     subst (λ (m : HartView). HostIsRestored entry m (monitored_step m)) (sym leaves.at)
-    (comes_back hart entry here (sched_invariant leaves.before machine kept) (subst KeptStored (sym same) leaves.stored) (same ∙ is)
+    (comes_back hart entry here (sched_invariant leaves.before machine kept) (subst KeptStored (sym same) leaves.stored) (same ∙ host_on_is)
     (last_runs hart leaves.before machine leaves.runs) host)
 
+-- the bench over a target, with these breakpoints and watchpoints
 abbrev bench_of : Target → List ℕ → List ℕ → BenchState
 bench_of target breaks watches = record { target = target; breaks = breaks; watches = watches }
 
+-- an exit among the steps of a later command restores the host
 leaves_later : (hart : ℕ) (harts : List ℕ) (machine : MonitoredMachine) (target : Target) (breaks watches : List ℕ) (commands : List Command)
     (entry exit : HartView) → Invariant machine → TargetInvariant target → host_in hart target ≡ host_on hart (sched harts machine).state
     → host_on hart machine ≡ kept_at entry → LeavesLater hart harts machine (bench_of target breaks watches) commands exit
     → HostIsRestored entry exit (monitored_step exit)
 unfolding execute
-leaves_later hart harts machine target breaks watches [] entry exit kept kept' same is leaves =
-    leaves_within hart harts machine entry exit kept is leaves
-leaves_later hart harts machine (Bare alone) breaks watches (command ∷ commands) entry exit kept kept' same is later = absurd later.1
-leaves_later hart harts machine (Monitored selected) breaks watches (command ∷ commands) entry exit kept kept' same is later =
+leaves_later hart harts machine target breaks watches [] entry exit kept kept' same host_on_is leaves =
+    leaves_within hart harts machine entry exit kept host_on_is leaves
+leaves_later hart harts machine (Bare alone) breaks watches (command ∷ commands) entry exit kept kept' same host_on_is later = absurd later.1
+leaves_later hart harts machine (Monitored selected) breaks watches (command ∷ commands) entry exit kept kept' same host_on_is later =
     let bench = bench_of (Monitored selected) breaks watches in
     let next = (execute bench command).state in
     leaves_later hart (harts_stepped (effect bench command)) selected.state next.target next.breaks next.watches commands entry exit kept'
-    (keeps_monitor bench command kept') (host_after hart selected (effect bench command)) (same ∙ steps_keep hart harts machine later.0 ∙ is) later.1
+    (keeps_monitor bench command kept') (host_after hart selected (effect bench command)) (same ∙ steps_keep hart harts machine later.0 ∙ host_on_is) later.1
 
 -- ---- the step that enters the enclave
 
+-- the enclave runs on the hart before the commands
 runs_at_first : (hart : ℕ) (harts : List ℕ) (machine : MonitoredMachine) (after : BenchState) (commands : List Command) (exit : HartView)
     → LeavesLater hart harts machine after commands exit → is_host (hart_state_of hart machine).world ≡ false
 runs_at_first hart harts machine after [] exit leaves = first_runs hart leaves.before machine leaves.runs
 runs_at_first hart harts machine after (command ∷ commands) exit later = first_runs hart harts machine later.0
 
+-- from the entry by the first command to the exit, the host gets its context back
 enters_and_leaves : (hart : ℕ) (target : Target) (breaks watches : List ℕ) (first : Command) (commands : List Command)
     (entry exit : HartView) → TargetInvariant target
     → IsSomeAnd (machine_in target) (λ machine. EntersAndLeaves hart (bench_of target breaks watches) first commands machine entry exit)
@@ -104,6 +113,7 @@ enters_and_leaves hart (Monitored selected) breaks watches first commands entry 
     leaves_later hart goes.rest after next.target next.breaks next.watches commands entry exit (invariant_law hart here kept_here)
     (keeps_monitor bench first kept) same (entered_is hart here kept_here host runs ∙ ap kept_at (sym goes.at)) goes.leaves
 
+-- proves that commands return the host's own context after its call to an enclave
 pub return_law : ReturnLaw
 return_law hart bench first later entry exit kept goes =
     enters_and_leaves hart bench.target bench.breaks bench.watches first later entry exit kept goes

@@ -11,17 +11,18 @@ use Rattle.rv_debug.proofs.ScheduledSteps.{after_schedule}
 
 -- ---- an entered slot stays entered
 
+-- a slot that was entered stays among the entered slots
 stays_entered : (e : ℕ) (harts : List ℕ) (before : AfterSchedule) → is_entered e before.did.entered ≡ true
     → is_entered e (scheduled_steps harts before).did.entered ≡ true
 unfolding scheduled_steps
-stays_entered e [] before is = is
-stays_entered e (hart ∷ harts) before is =
+stays_entered e [] before entered = entered
+stays_entered e (hart ∷ harts) before has_entered =
     let last = target_stepped (with_selected hart before.state) in
-    stays_entered e harts (with_scheduled_step hart before last) (enters-with e before.did.entered last.entered is)
+    stays_entered e harts (with_scheduled_step hart before last) (enters-with e before.did.entered last.entered has_entered)
 
 -- ---- all steps
 
--- both entered the slot
+-- both schedules entered slot e
 pub record BothIn (e : ℕ) (one other : AfterSchedule) : Type 0 where
   pub here : is_entered e one.did.entered ≡ true
   pub there : is_entered e other.did.entered ≡ true
@@ -36,6 +37,7 @@ pub record BothPast (e : ℕ) (start : Selected) (one other : AfterSchedule) : T
   pub state : SelectedEquivExcept e here there
   pub not_running : RunsOnNoHart e (Monitored start) → RunsOnNoHart e (Monitored here)
 
+-- both schedules enter the enclave, or neither does and both are alike
 abbrev pub ScheduledStepsAlike : ℕ → Selected → AfterSchedule → AfterSchedule → Type 0
 ScheduledStepsAlike e start one other = BothIn e one other ⊎ BothPast e start one other
 
@@ -70,11 +72,13 @@ next hart did state outcome =
     let machine : Selected = record { hart = hart; state = state } in
     with_scheduled_step hart (after_schedule (Monitored machine) did) (record { state = Monitored machine; outcome = outcome.step; entered = outcome.entered })
 
+-- a step that enters e leaves e among the entered slots, whatever steps follow
 pub entered_next : (e hart : ℕ) (harts : List ℕ) (did : Scheduled) (state : MonitoredMachine) (outcome : Outcome) → outcome.entered ≡ Some e
     → is_entered e (scheduled_steps harts (next hart did state outcome)).did.entered ≡ true
-entered_next e hart harts did state outcome is =
-    stays_entered e harts (next hart did state outcome) (enters-now e did.entered outcome.entered is)
+entered_next e hart harts did state outcome enters_slot =
+    stays_entered e harts (next hart did state outcome) (enters-now e did.entered outcome.entered enters_slot)
 
+-- a schedule of harts without the enclave is alike in two equivalent machines
 pub scheduled_steps_alike : (e : ℕ) (harts : List ℕ) (one other : Selected) (did : Scheduled) → Invariant one.state → Invariant other.state
     → SelectedEquivExcept e one other
     → RunsOnNone e harts one.state
@@ -85,13 +89,13 @@ scheduled_steps_alike e [] one other did kept kept' equiv none =
 scheduled_steps_alike e (hart ∷ harts) one other did kept kept' equiv none =
     let first = step_of hart one.state in
     let second = step_of hart other.state in
-    let both = noninterference hart one.state kept e other.state kept' equiv.state none.0 in
+    let alike_after = noninterference hart one.state kept e other.state kept' equiv.state none.0 in
     elim (cases_Bool (enters e first.outcome.entered)) [
       | inl enters_it ↦
-          let is = entered_some e first.outcome.entered enters_it in
+          let entered_is = entered_some e first.outcome.entered enters_it in
           inl (record {
-            here = entered_next e hart harts did first.state first.outcome is;
-            there = entered_next e hart harts did second.state second.outcome (ap (λ (outcome : Outcome). outcome.entered) (sym both.outcome) ∙ is);
+            here = entered_next e hart harts did first.state first.outcome entered_is;
+            there = entered_next e hart harts did second.state second.outcome (ap (λ (outcome : Outcome). outcome.entered) (sym alike_after.outcome) ∙ entered_is);
           })
       | inr passes ↦
           let a : Selected = record { hart = hart; state = first.state } in
@@ -99,9 +103,9 @@ scheduled_steps_alike e (hart ∷ harts) one other did kept kept' equiv none =
           let after = (next hart did first.state first.outcome).did in
           let still : RunsOnNoHart e (Monitored one) → RunsOnNoHart e (Monitored a) = λ idle own. entry_law e hart own one.state (idle own) passes in
           let alike = scheduled_steps_alike e harts a b after (invariant_law hart one.state kept) (invariant_law hart other.state kept')
-          (record { hart = refl; state = both.state }) (none_after e hart harts one.state passes none.1) in
+          (record { hart = refl; state = alike_after.state }) (none_after e hart harts one.state passes none.1) in
           earlier e one a _ _ still
           (subst (λ (outcome : Outcome). ScheduledStepsAlike e a (scheduled_steps harts (next hart did first.state first.outcome))
           (scheduled_steps harts (next hart did second.state outcome)))
-          both.outcome alike)
+          alike_after.outcome alike)
     ]

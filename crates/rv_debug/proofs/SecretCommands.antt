@@ -17,31 +17,38 @@ use Rattle.rv_debug.proofs.SecretRun.{are, created_memory, is_in_a0, place, regi
 
 -- ---- commands on a machine whose hart 0 is selected
 
+-- `step 1` is one step of hart 0
 one_step : (machine : MonitoredMachine) → effect (monitored machine) (Step 1) ≡ Steps (0 ∷ []) 0
 unfolding run lowest_accessed
 one_step machine = refl
 
+-- `step 2` is two steps of hart 0
 two_steps : (machine : MonitoredMachine) → effect (monitored machine) (Step 2) ≡ Steps (0 ∷ 0 ∷ []) 0
 unfolding run lowest_accessed
 two_steps machine = refl
 
+-- `step 3` is three steps of hart 0
 three_steps : (machine : MonitoredMachine) → effect (monitored machine) (Step 3) ≡ Steps (0 ∷ 0 ∷ 0 ∷ []) 0
 unfolding run lowest_accessed
 three_steps machine = refl
 
+-- `step 1` stops after its step
 one_stop : (machine : MonitoredMachine) → stop_of (monitored machine) (Step 1) ≡ Done
 unfolding run lowest_accessed
 one_stop machine = refl
 
+-- `step 2` stops after its steps
 two_stop : (machine : MonitoredMachine) → stop_of (monitored machine) (Step 2) ≡ Done
 unfolding run lowest_accessed
 two_stop machine = refl
 
+-- `step 3` stops after its steps
 three_stop : (machine : MonitoredMachine) → stop_of (monitored machine) (Step 3) ≡ Done
 unfolding run lowest_accessed
 three_stop machine = refl
 
 module _ (one other : MonitoredMachine) (commands others : List Command) where
+  -- the remaining commands are alike
   abbrev Rest : MonitoredMachine → MonitoredMachine → Type 0
   Rest a b = AllCommandsAlike 0 (monitored a) (monitored b) commands others
 
@@ -71,17 +78,20 @@ module _ (one other : MonitoredMachine) (commands others : List Command) where
             (subst (λ (s : BenchState). AllCommandsAlike 0 (monitored (sched harts one).state) s commands others) (after other) rest),
       )
 
+  -- the change of the timer line, and then commands that are alike
   by_timer : Rest (with_timer 0 one true) (with_timer 0 other true)
       → AllCommandsAlike 0 (monitored one) (monitored other) (Timer true ∷ commands) (Timer true ∷ others)
   unfolding execute
   by_timer rest =
       (inl (inl (record { same = refl; steps = record { moves = []; steps = refl; first = refl; second = refl; are = tt }; stop = refl })), rest)
 
+  -- regs, and then commands that are alike
   by_regs : Rest one other → AllCommandsAlike 0 (monitored one) (monitored other) (Regs ∷ commands) (Regs ∷ others)
   unfolding execute
   by_regs rest =
       (inl (inl (record { same = refl; steps = record { moves = []; steps = refl; first = refl; second = refl; are = tt }; stop = refl })), rest)
 
+  -- a poke of each secret, and then commands that are alike
   by_poke : (address a b : ℕ) (m n : List ℕ) → write one.shared.memory address (a ∷ []) ≡ Some m → write other.shared.memory address (b ∷ []) ≡ Some n
       → has (region one.shared.table 0) address ≡ true → has (region other.shared.table 0) address ≡ true
       → Rest (with_memory one m) (with_memory other n)
@@ -98,13 +108,16 @@ module _ (one other : MonitoredMachine) (commands others : List Command) where
 
 -- ---- the poke of the secret
 
+-- a write at the index of the secret replaces the secret
 put : (xs ys : List ℕ) (a b : ℕ) → write_bytes (xs ++ (a ∷ ys)) (length xs) (b ∷ []) ≡ xs ++ (b ∷ ys)
 put [] ys a b = refl
 put (x ∷ xs) ys a b = let next : suc (length xs) + 1 ≡ suc (length xs + 1) = omega arith in rw next (ap (λ (zs : List ℕ). x ∷ zs) (put xs ys a b))
 
+-- the address of the secret is in RAM
 inside : is_inside (secret_ram 0) 0x80018100 1 ≡ true
 inside = refl
 
+-- a poke of the secret gives RAM with the secret
 pokes : (secret : ℕ) → write (secret_next secret_start).shared.memory 0x80018100 (secret ∷ []) ≡ Some (secret_ram secret)
 pokes secret =
     let some : List ℕ → Option (List ℕ) = λ m. Some m in
@@ -114,12 +127,15 @@ pokes secret =
 
 -- ---- the commands
 
+-- the commands from resume on
 abbrev resume : List Command
 resume = Step 3 ∷ Step 1 ∷ []
 
+-- the commands from the interrupt on
 abbrev interrupt : List Command
 interrupt = Timer true ∷ Step 1 ∷ Regs ∷ resume
 
+-- the commands of the example satisfy the premise of the law, for any two secrets
 pub commands_alike : (a b : ℕ) → AllCommandsAlike 0 secret_bench secret_bench (secret_commands a) (secret_commands b)
 commands_alike a b =
     let m = are a b in
@@ -142,6 +158,7 @@ commands_alike a b =
     (by_poke (secret_next secret_start) (secret_next secret_start) rest rest 0x80018100 a b (secret_ram a) (secret_ram b) (pokes a) (pokes b) region_has
     region_has runs_it)
 
+-- the commands are alike, and their observations are equal
 commands_concealed : (a b : ℕ) → AreConcealed a b
 commands_concealed a b =
     let alike = commands_alike a b in record {
@@ -150,5 +167,6 @@ commands_concealed a b =
           (relation_law.itself 0 secret_bench) alike;
     }
 
+-- proves the example of a secret in a register at the timer interrupt
 pub secret_run : SecretRunLaw
 secret_run = record { concealed = steps_concealed; commands = commands_concealed; in_a0 = is_in_a0 }

@@ -11,8 +11,8 @@ use Rattle.rv_hart.specs.Step.{from_access, from_decode, from_fetch, retired_or_
 use Rattle.rv_hart.specs.Instructions.{executed, request}
 use Rattle.rv_hart.specs.CsrInstructions.{csr_changed, written_csr}
 use Rattle.rv_enclaves.specs.Layout.{entry_at, layout}
-use Rattle.rv_platform.specs.Blocks.{has, no_block}
-use Rattle.rv_platform.specs.declared.block.Block.{Block}
+use Rattle.rv_memory.specs.Blocks.{has, no_block}
+use Rattle.rv_memory.specs.declared.block.Block.{Block}
 use Rattle.rv_enclaves.specs.Table.{free_slot, is_live, is_window, region, runs, window}
 use Rattle.rv_enclaves.specs.declared.world.World.TheVariants.{Host}
 use Rattle.rv_enclaves.specs.Create.{create_refusals, created, is_entry, overlaps}
@@ -20,7 +20,6 @@ use Rattle.rv_enclaves.specs.Refusals.{state_refusals}
 use Rattle.rv_enclaves.specs.ValidBlocks.{is_valid_block}
 use Rattle.rv_enclaves.specs.Calls.{call_requested}
 use Rattle.rv_enclaves.specs.Contexts.{first_context}
-use Rattle.rv_platform.specs.declared.harts.Harts.TheVariants.{One}
 use Rattle.rv_monitor.specs.Availability.{timer_trap}
 use Rattle.rv_monitor.specs.Declassification.{AreMoves, AreRelated, ExitsAlike, may_differ}
 use Rattle.rv_monitor.specs.EquivExcept.{runs_on}
@@ -36,11 +35,12 @@ use Rattle.rv_debug.specs.SecretRun.{IsConcealed, secret_asking, before_secret, 
 
 -- ---- what is computed
 
+-- the enclave of slot 0 runs on no hart, and hart 0 is its only one
 pub record IsIdle (machine : MonitoredMachine) : Type 0 where
   pub low : runs_on 0 0 machine ≡ false
   pub idle : runs machine.shared.table 0 ≡ false
 
--- for every secret
+-- the facts of the example that are computed, for each secret
 record Computed (secret : ℕ) : Type 0 where
   size : length (secret_next secret_start).shared.memory ≡ length (secret_ram secret)
   live : is_live (secret_next secret_start).shared.table 0 ≡ true
@@ -60,6 +60,7 @@ record Computed (secret : ℕ) : Type 0 where
   again : runs_on 0 0 (secret_resumed secret) ≡ true
   last : runs_on 0 0 (secret_next (secret_resumed secret)) ≡ true
 
+-- the facts of the example that are computed, for each secret
 computed : (secret : ℕ) → Computed secret
 unfolding at_start step_of monitored_step handled call_handled called performed created create_refusals is_valid_block is_window overlaps is_entry
     free_slot call_requested first_context layout entry_at step request executed retired_or_trapped from_access from_decode from_fetch written_csr csr_changed
@@ -84,6 +85,7 @@ computed secret = record {
   last = refl;
 }
 
+-- the byte of the secret is in a0 when the timer line is set
 pub is_in_a0 : slice_index (hart_state_of 0 (secret_raised 0x41)).hart.regs 10 ≡ 0x41
 unfolding at_start step_of monitored_step handled call_handled called performed created create_refusals is_valid_block is_window overlaps is_entry
     free_slot call_requested first_context layout entry_at step request executed retired_or_trapped from_access from_decode from_fetch written_csr csr_changed
@@ -92,39 +94,47 @@ is_in_a0 = refl
 
 -- ---- create, and the byte that the secret replaces
 
+-- create leaves the bytes of RAM unchanged
 pub created_memory : (secret_next secret_start).shared.memory ≡ secret_ram 0
 unfolding at_start step_of monitored_step handled call_handled called performed created create_refusals is_valid_block is_window overlaps is_entry
     free_slot call_requested first_context layout entry_at step request executed retired_or_trapped from_access from_decode from_fetch written_csr csr_changed
     decoded by_bits read verdict matching_entry covers ones_at_end kept_bits
 created_memory = refl
 
+-- the address of the secret is in the region of slot 0
 pub region_has : has (region (secret_next secret_start).shared.table 0) 0x80018100 ≡ true
 unfolding at_start step_of monitored_step handled call_handled called performed created create_refusals is_valid_block is_window overlaps is_entry
     free_slot call_requested first_context layout entry_at step request executed retired_or_trapped from_access from_decode from_fetch written_csr csr_changed
     decoded by_bits read verdict matching_entry covers ones_at_end kept_bits
 region_has = refl
 
+-- the enclave does not run before create
 pub start_idle : IsIdle secret_start
 unfolding at_start
 start_idle = record { low = refl; idle = refl }
 
 -- ---- the two machines
 
+-- the machine before create has the invariant
 pub start_kept : Invariant secret_start
-start_kept = written_invariant 0 secret_asking false secret_reset (start_invariant (secret_ram 0) 0x80010000 One refl)
+start_kept = written_invariant 0 secret_asking false secret_reset (start_invariant (secret_ram 0) 0x80010000 1 refl)
 
+-- the machine with a secret has the invariant
 kept : (secret : ℕ) → Invariant (secret_new secret)
 kept secret = invariant_by_size (secret_next secret_start) (secret_ram secret) (invariant_law 0 secret_start start_kept) (computed secret).size
 
+-- two lists that differ at one index are equal at every other
 other_byte : (xs ys : List ℕ) (a b i : ℕ) → i ≢ length xs → slice_index (xs ++ (a ∷ ys)) i ≡ slice_index (xs ++ (b ∷ ys)) i
 other_byte [] ys a b zero other = absurd (other refl)
 other_byte [] ys a b (suc i) other = refl
 other_byte (x ∷ xs) ys a b zero other = refl
 other_byte (x ∷ xs) ys a b (suc i) other = other_byte xs ys a b i (λ same. other (ap suc same))
 
+-- the secret is at offset 98560 in RAM, which is address 80018100
 pub place : length before_secret ≡ 98560
 place = refl
 
+-- the machines with two secrets are related
 related : (a b : ℕ) → AreRelated 0 (secret_new a) (secret_new b)
 related a b =
     memory_related 0 (secret_next secret_start) (secret_next secret_start) (secret_ram a) (secret_ram b) (related_itself 0 (secret_next secret_start)) (record {
@@ -137,11 +147,13 @@ related a b =
       ];
     }) (λ dead. absurd (both_ways _ dead (computed a).live))
 
+-- the empty block has no byte
 no_byte : (byte : ℕ) → has no_block byte ≡ false
 no_byte byte = grind (arith, nat_tests)
 
 -- ---- the moves
 
+-- the interrupt exits from both machines and hands over the same
 exit : (a b : ℕ) → ExitsAlike 0 0 (secret_raised a) (secret_raised b)
 exit a b = record {
   runs = (computed a).running;
@@ -159,6 +171,7 @@ exit a b = record {
   second_exits = (computed b).exits;
 }
 
+-- the moves of the example are permitted, for any two secrets
 pub are : (a b : ℕ) → AreMoves 0 secret_moves (secret_new a) (secret_new b)
 are a b =
     let c = computed a in
@@ -197,6 +210,7 @@ are a b =
       ),
     )
 
+-- proves that the steps of the example have equal outcomes for any two secrets
 pub steps_concealed : (a b : ℕ) → IsConcealed a b
 steps_concealed a b =
     record { are = are a b; alike = declassification_law 0 secret_moves (secret_new a) (secret_new b) (kept a) (kept b) (related a b) (are a b) }

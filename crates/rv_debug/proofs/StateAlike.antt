@@ -19,6 +19,7 @@ record Equiv (e : ℕ) (first second : Executed) : Type 0 where
   entered : is_entered e first.entered ≡ is_entered e second.entered
   state : is_entered e first.entered ≡ false → BenchesEquivExcept e first.state second.state
 
+-- two schedules that do not enter the enclave leave equivalent benches
 past_equiv : (e hart : ℕ) (breaks watches : List ℕ) (start : Selected) (one other : AfterSchedule) → BothPast e start one other
     → Equiv e (schedule_executed hart breaks watches one) (schedule_executed hart breaks watches other)
 past_equiv e hart breaks watches start one other past =
@@ -31,11 +32,13 @@ past_equiv e hart breaks watches start one other past =
       state = λ none. record { target = record { hart = refl; state = let both = past.state in both.state }; breaks = refl; watches = refl };
     }))
 
-module _ (e hart : ℕ) (one other : MonitoredMachine) (both : SelectedEquivExcept e (record { hart = hart; state = one }) (record { hart = hart; state = other }))
+module _ (e hart : ℕ) (one other : MonitoredMachine) (equiv : SelectedEquivExcept e (record { hart = hart; state = one }) (record { hart = hart; state = other }))
     (breaks watches : List ℕ) where
+  -- the machine with the selected hart
   abbrev on : MonitoredMachine → Selected
   on machine = record { hart = hart; state = machine }
 
+  -- the execution of a schedule, by whether its harts exist
   abbrev executed : MonitoredMachine → List ℕ → Bool → Executed
   executed machine harts has =
       let d : Effect = (if has then Steps harts hart else Nothing) in
@@ -45,9 +48,10 @@ module _ (e hart : ℕ) (one other : MonitoredMachine) (both : SelectedEquivExce
         entered = entered_by (Monitored (on machine)) d;
       }
 
+  -- a schedule of harts without the enclave leaves equivalent benches
   sched_equiv : (harts : List ℕ) (has has' : Bool) → has ≡ has' → Invariant one → Invariant other → RunsOnNone e harts one
       → Equiv e (executed one harts has) (executed other harts has')
-  sched_equiv harts true true same kept kept' none = elim (scheduled_steps_alike e harts (on one) (on other) _ kept kept' both none) [
+  sched_equiv harts true true same kept kept' none = elim (scheduled_steps_alike e harts (on one) (on other) _ kept kept' equiv none) [
     | inl both_in ↦ record {
       entered = both_in.here ∙ sym both_in.there;
       state = λ passed. let never : true ≡ false = sym both_in.here ∙ passed in cc;
@@ -55,10 +59,11 @@ module _ (e hart : ℕ) (one other : MonitoredMachine) (both : SelectedEquivExce
     | inr past ↦ past_equiv e hart breaks watches (on one) _ _ past
   ]
   sched_equiv harts false false same kept kept' none =
-      record { entered = refl; state = λ passed. record { target = both; breaks = refl; watches = refl } }
+      record { entered = refl; state = λ passed. record { target = equiv; breaks = refl; watches = refl } }
   sched_equiv harts true false same kept kept' none = cc
   sched_equiv harts false true same kept kept' none = cc
 
+-- a schedule of harts without the enclave leaves equivalent benches, for two targets
 sched_targets : (e : ℕ) (one other : Target) (breaks watches : List ℕ) (schedule : Schedule) → TargetInvariant one → TargetInvariant other
     → TargetsEquivExcept e one other → is_blind e (over one breaks watches) (Sched schedule) ≡ true → RunsOnNoneIn e (harts_in schedule) one
     → Equiv e (execute (over one breaks watches) (Sched schedule)) (execute (over other breaks watches) (Sched schedule))
@@ -71,36 +76,41 @@ sched_targets e (Monitored one) (Monitored other) breaks watches schedule kept k
     (sched_equiv e one.hart one.state other.state (record { hart = refl; state = state }) breaks watches harts (has_all (count_of one.state) harts)
     (has_all (count_of other.state) harts) (ap (λ (n : ℕ). has_all n harts) state.harts) kept kept' none)
 sched_targets e (Bare one) (Bare other) breaks watches schedule kept kept' equiv blind none =
-    let both = noninterference e (over (Bare one) breaks watches) (over (Bare other) breaks watches) (Sched schedule) kept kept'
+    let alike_after = noninterference e (over (Bare one) breaks watches) (over (Bare other) breaks watches) (Sched schedule) kept kept'
     (record { target = equiv; breaks = refl; watches = refl }) blind tt in
-    record { entered = both.entered; state = λ passed. let after = both.passed passed in let again = after.state in again.but }
+    record { entered = alike_after.entered; state = λ passed. let after = alike_after.passed passed in let again = after.state in again.but }
 sched_targets e (Bare one) (Monitored other) breaks watches schedule kept kept' equiv blind none = absurd equiv
 sched_targets e (Monitored one) (Bare other) breaks watches schedule kept kept' equiv blind none = absurd equiv
 
 -- ---- a command that shows a hart
 
 module _ (e : ℕ) (first second : BenchState) (kept : TargetInvariant first.target) (equiv : BenchesEquivExcept e first second) where
+  -- reg leaves equivalent benches
   reg_alike : (number : ℕ) → StateAlike e (execute first (Reg number)) (execute second (Reg number))
   unfolding execute
   reg_alike number = record { entered = refl; state = λ passed. equiv_again e first second kept equiv }
 
+  -- regs leaves equivalent benches
   regs_alike : StateAlike e (execute first Regs) (execute second Regs)
   unfolding execute
   regs_alike = record { entered = refl; state = λ passed. equiv_again e first second kept equiv }
 
+  -- csr leaves equivalent benches
   csr_alike : (number : ℕ) → StateAlike e (execute first (Csr number)) (execute second (Csr number))
   unfolding execute
   csr_alike number = record { entered = refl; state = λ passed. equiv_again e first second kept equiv }
 
 -- ---- every command
 
+-- a command that is executed alike leaves equivalent benches
 by_noninterference : (e : ℕ) (first second : BenchState) (command : Command) → TargetInvariant first.target → TargetInvariant second.target
     → BenchesEquivExcept e first second → is_blind e first command ≡ true → AvoidsHart e first command
     → StateAlike e (execute first command) (execute second command)
 by_noninterference e first second command kept kept' equiv blind by =
-    let both = noninterference e first second command kept kept' equiv blind by in
-    record { entered = both.entered; state = λ passed. let after = both.passed passed in after.state }
+    let alike_after = noninterference e first second command kept kept' equiv blind by in
+    record { entered = alike_after.entered; state = λ passed. let after = alike_after.passed passed in after.state }
 
+-- proves that benches stay equivalent after commands that step no hart of the enclave
 pub equivalence : EquivalenceLaw
 equivalence e first second (Reg number) kept kept' equiv blind none = reg_alike e first second kept equiv number
 equivalence e first second Regs kept kept' equiv blind none = regs_alike e first second kept equiv

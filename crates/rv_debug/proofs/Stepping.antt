@@ -39,6 +39,12 @@ run_induction {A} step pc breaks watches P ends goes (suc left) before =
 
 -- ---- one step of a run
 
+-- this is the next step of a run, with the last trap and the entered slots after it
+pub record IsNextStep {A : Type 0} (step : A → Stepped A) (before : AfterSteps A) (last : Stepped A) (trap : Option Trap) (entered : ℕ) : Type 0 where
+  pub steps : step before.state ≡ last
+  pub trap_is : trap ≡ option_or last.outcome.trap before.trap
+  pub entered_is : entered ≡ slots_with before.entered last.entered
+
 module _ {A : Type 0} (step : A → Stepped A) (pc : A → ℕ) (breaks watches : List ℕ) where
   -- one step of a run, and how the run ends or continues
   abbrev next : ℕ → AfterSteps A → AfterRun A
@@ -48,95 +54,99 @@ module _ {A : Type 0} (step : A → Stepped A) (pc : A → ℕ) (breaks watches 
       next_of after (run step pc breaks watches left after) (lowest_accessed watches last.outcome.touched) (left == 0)
       (is_among (pc last.state) breaks)
 
+  -- a run of at least one step is its first step and what follows
   run-suc : (left : ℕ) (before : AfterSteps A) → run step pc breaks watches (suc left) before ≡ next left before
   unfolding run
   run-suc left before = refl
 
+  -- a run of `left` + 1 steps is its first step and what follows
   run-next : (count left : ℕ) (before : AfterSteps A) → count ≡ left + 1 → run step pc breaks watches count before ≡ next left before
-  run-next count left before is =
+  run-next count left before count_is =
       let e : count ≡ suc left = omega arith in ap (λ n. run step pc breaks watches n before) e ∙ run-suc left before
 
   -- a watched byte was accessed
   run-watch : (count left : ℕ) (before : AfterSteps A) (address : ℕ) → count ≡ left + 1
       → Some address ≡ lowest_accessed watches (step before.state).outcome.touched
       → run step pc breaks watches count before ≡ ended (with_step before (step before.state)) (Watch address)
-  run-watch count left before address is hit = run-next count left before is ∙ rw (← hit) refl
+  run-watch count left before address count_is hit = run-next count left before count_is ∙ rw (← hit) refl
 
   -- a breakpoint after a step that was not the last
   run-break : (count left : ℕ) (before : AfterSteps A) → count ≡ left + 1 → 0 < left
       → None ≡ lowest_accessed watches (step before.state).outcome.touched → true ≡ is_among (pc (step before.state).state) breaks
       → run step pc breaks watches count before ≡ ended (with_step before (step before.state)) Break
-  run-break count left before is more none here =
+  run-break count left before count_is more none here =
       let no : (left == 0) ≡ false = grind arith in
-      run-next count left before is ∙ rw (← none, no, ← here) refl
+      run-next count left before count_is ∙ rw (← none, no, ← here) refl
 
-  -- the last step
+  -- a run of one step ends after it, if it accesses no watched byte
   run-last : (count left : ℕ) (before : AfterSteps A) → count ≡ left + 1 → left ≡ 0
       → None ≡ lowest_accessed watches (step before.state).outcome.touched
       → run step pc breaks watches count before ≡ run step pc breaks watches left (with_step before (step before.state))
   unfolding run
-  run-last count left before is last none = run-next count left before is ∙ rw (← none, last) refl
+  run-last count left before count_is last none = run-next count left before count_is ∙ rw (← none, last) refl
 
   -- the steps continue, or all are executed
   run-more : (count left : ℕ) (before : AfterSteps A) → count ≡ left + 1
       → None ≡ lowest_accessed watches (step before.state).outcome.touched
       → (0 < left → is_among (pc (step before.state).state) breaks ≡ false)
       → run step pc breaks watches count before ≡ run step pc breaks watches left (with_step before (step before.state))
-  run-more count left before is none elsewhere = elim (cases_eq left 0) [
-    | inl last ↦ run-last count left before is last none
+  run-more count left before count_is none elsewhere = elim (cases_eq left 0) [
+    | inl last ↦ run-last count left before count_is last none
     | inr more ↦
         let no : (left == 0) ≡ false = grind arith in
         let some : 0 < left = omega arith in
-        run-next count left before is ∙ rw (← none, no, elsewhere some) refl
+        run-next count left before count_is ∙ rw (← none, no, elsewhere some) refl
   ]
 
   -- steps and one more, with this last trap and these slots
   abbrev after_step : AfterSteps A → Stepped A → Option Trap → ℕ → AfterSteps A
   after_step before last trap entered = record { state = last.state; steps = before.steps + 1; trap = trap; entered = entered }
 
-  adds : (before : AfterSteps A) (last : Stepped A) (trap : Option Trap) (entered : ℕ)
-      → trap ≡ option_or last.outcome.trap before.trap → entered ≡ slots_with before.entered last.entered
-      → with_step before last ≡ after_step before last trap entered
-  adds before last trap entered told enters = rw (told, enters) refl
+  -- the steps so far with the next one are those that the code counts
+  adds : (before : AfterSteps A) (last : Stepped A) (trap : Option Trap) (entered : ℕ) → IsNextStep step before last trap entered
+      → with_step before (step before.state) ≡ after_step before last trap entered
+  adds before last trap entered next =
+      let steps = next.steps in
+      let trap_is = next.trap_is in
+      let entered_is = next.entered_is in
+      rw (steps, trap_is, entered_is) refl
 
   -- the run ends at a watched byte
   pub stops-watch : (count done : ℕ) (before : AfterSteps A) (last : Stepped A) (trap : Option Trap) (entered address : ℕ)
-      → done < count → step before.state ≡ last → trap ≡ option_or last.outcome.trap before.trap → entered ≡ slots_with before.entered last.entered
-      → Some address ≡ lowest_accessed watches last.outcome.touched
+      → done < count → IsNextStep step before last trap entered → Some address ≡ lowest_accessed watches last.outcome.touched
       → run step pc breaks watches (count - done) before ≡ ended (after_step before last trap entered) (Watch address)
-  stops-watch count done before last trap entered address more is told enters hit =
-      run-watch (count - done) (count - (done + 1)) before address (omega arith) (rw is hit)
-      ∙ (ap (λ l. ended (with_step before l) (Watch address)) is ∙ ap (λ a. ended a (Watch address)) (adds before last trap entered told enters))
+  stops-watch count done before last trap entered address more next hit =
+      let steps = next.steps in
+      run-watch (count - done) (count - (done + 1)) before address (omega arith) (rw steps hit)
+      ∙ ap (λ after. ended after (Watch address)) (adds before last trap entered next)
 
   -- the run ends at a breakpoint, if steps are left
   pub stops-break : (count done : ℕ) (before : AfterSteps A) (last : Stepped A) (trap : Option Trap) (entered : ℕ)
-      → done + 1 < count → step before.state ≡ last → trap ≡ option_or last.outcome.trap before.trap
-      → entered ≡ slots_with before.entered last.entered
-      → None ≡ lowest_accessed watches last.outcome.touched → true ≡ is_among (pc last.state) breaks
+      → done + 1 < count → IsNextStep step before last trap entered → None ≡ lowest_accessed watches last.outcome.touched → true ≡ is_among (pc last.state) breaks
       → run step pc breaks watches (count - done) before ≡ ended (after_step before last trap entered) Break
-  stops-break count done before last trap entered more is told enters none here =
-      run-break (count - done) (count - (done + 1)) before (omega arith) (omega arith) (rw is none) (rw is here)
-      ∙ (ap (λ l. ended (with_step before l) Break) is ∙ ap (λ a. ended a Break) (adds before last trap entered told enters))
+  stops-break count done before last trap entered more next quiet here =
+      let steps = next.steps in
+      run-break (count - done) (count - (done + 1)) before (omega arith) (omega arith) (rw steps quiet) (rw steps here)
+      ∙ ap (λ after. ended after Break) (adds before last trap entered next)
 
-  -- the run continues
+  -- the run continues after a step that is not the last, accesses no watched byte, and leads to no breakpoint
   pub goes-on : (count done : ℕ) (before : AfterSteps A) (last : Stepped A) (trap : Option Trap) (entered : ℕ)
-      → done < count → step before.state ≡ last → trap ≡ option_or last.outcome.trap before.trap → entered ≡ slots_with before.entered last.entered
-      → None ≡ lowest_accessed watches last.outcome.touched → (done + 1 < count → is_among (pc last.state) breaks ≡ false)
+      → done < count → IsNextStep step before last trap entered → None ≡ lowest_accessed watches last.outcome.touched → (done + 1 < count → is_among (pc last.state) breaks ≡ false)
       → run step pc breaks watches (count - done) before ≡ run step pc breaks watches (count - (done + 1)) (after_step before last trap entered)
-  goes-on count done before last trap entered more is told enters none elsewhere =
-      run-more (count - done) (count - (done + 1)) before (omega arith) (rw is none) (λ some. rw is (elsewhere (omega arith)))
-      ∙ rw (is, adds before last trap entered told enters) refl
+  goes-on count done before last trap entered more next quiet elsewhere =
+      let steps = next.steps in
+      run-more (count - done) (count - (done + 1)) before (omega arith) (rw steps quiet) (λ some. rw steps (elsewhere (omega arith)))
+      ∙ ap (run step pc breaks watches (count - (done + 1))) (adds before last trap entered next)
 
   -- the run continues if there is no breakpoint or watchpoint
   pub goes-on-free : (count done : ℕ) (before : AfterSteps A) (last : Stepped A) (trap : Option Trap) (entered : ℕ)
-      → breaks ≡ [] → watches ≡ [] → done < count → step before.state ≡ last
-      → trap ≡ option_or last.outcome.trap before.trap → entered ≡ slots_with before.entered last.entered
+      → breaks ≡ [] → watches ≡ [] → done < count → IsNextStep step before last trap entered
       → run step pc breaks watches (count - done) before ≡ run step pc breaks watches (count - (done + 1)) (after_step before last trap entered)
   unfolding lowest_accessed
-  goes-on-free count done before last trap entered no_breaks no_watches more is told enters =
-      goes-on count done before last trap entered more is told enters (rw no_watches refl) (λ _. rw no_breaks refl)
+  goes-on-free count done before last trap entered no_breaks no_watches more next =
+      goes-on count done before last trap entered more next (rw no_watches refl) (λ _. rw no_breaks refl)
 
-  -- all steps are executed
+  -- the run ends when all steps are executed
   pub stops-done : (count done : ℕ) (so_far : AfterSteps A) → count ≤ done → run step pc breaks watches (count - done) so_far ≡ ended so_far Done
   unfolding run
   stops-done count done so_far over = let none : count - done ≡ 0 = omega arith in rw none refl

@@ -15,23 +15,26 @@ use Rattle.rv_debug.proofs.Stepping.{next_cases, run_induction, next_of}
 
 -- ---- entered slots
 
+-- a slot that is among entered slots is so with more
 enters-or : (e one other : ℕ) → is_entered e one ≡ true → is_entered e (bit_or one other) ≡ true
-enters-or e one other is =
-    eq-eqb _ 1 (bit_at_or one other e ∙ (let low = eqb-true _ 1 is in let small = bit_at-lt other e in omega (arith, low, small)))
+enters-or e one other entered =
+    eq-eqb _ 1 (bit_at_or one other e ∙ (let low = eqb-true _ 1 entered in let small = bit_at-lt other e in omega (arith, low, small)))
 
+-- a slot that was entered stays among the entered slots
 pub enters-with : (e slots : ℕ) (entered : Option ℕ) → is_entered e slots ≡ true → is_entered e (slots_with slots entered) ≡ true
-enters-with e slots None is = is
-enters-with e slots (Some k) is = enters-or e slots (2 ^ k) is
+enters-with e slots None entered = entered
+enters-with e slots (Some k) entered = enters-or e slots (2 ^ k) entered
 
+-- the slot that a step enters is among the entered slots
 pub enters-now : (e slots : ℕ) (entered : Option ℕ) → entered ≡ Some e → is_entered e (slots_with slots entered) ≡ true
-enters-now e slots entered is =
+enters-now e slots entered entered_is =
     let set = bit_at-pow_same e in
     let small = bit_at-lt slots e in
-    rw is (eq-eqb _ 1 (bit_at_or slots (2 ^ e) e ∙ omega (arith, set, small)))
+    rw entered_is (eq-eqb _ 1 (bit_at_or slots (2 ^ e) e ∙ omega (arith, set, small)))
 
 -- ---- runs
 
--- both entered the slot
+-- both runs entered slot e
 pub record BothIn (e : ℕ) (one other : AfterRun MonitoredMachine) : Type 0 where
   pub here : is_entered e one.ran.entered ≡ true
   pub there : is_entered e other.ran.entered ≡ true
@@ -42,13 +45,16 @@ pub record BothPast (e hart : ℕ) (one other : AfterRun MonitoredMachine) : Typ
   pub state : EquivExcept e one.state other.state
   pub not_running : runs_on e hart one.state ≡ false
 
+-- both runs enter the enclave, or neither does and both are alike
 abbrev pub RunAlike : ℕ → ℕ → AfterRun MonitoredMachine → AfterRun MonitoredMachine → Type 0
 RunAlike e hart one other = BothIn e one other ⊎ BothPast e hart one other
 
+-- the same steps so far, with another machine
 abbrev with_state : AfterSteps MonitoredMachine → MonitoredMachine → AfterSteps MonitoredMachine
 with_state before state = record before { state = state }
 
 module _ (e hart : ℕ) (breaks watches : List ℕ) where
+  -- the run of a machine from the steps so far
   abbrev on : ℕ → AfterSteps MonitoredMachine → AfterRun MonitoredMachine
   on left before = run (hart_stepped hart) (hart_pc hart) breaks watches left before
 
@@ -56,6 +62,7 @@ module _ (e hart : ℕ) (breaks watches : List ℕ) where
   abbrev after_step : AfterSteps MonitoredMachine → Outcome → MonitoredMachine → AfterSteps MonitoredMachine
   after_step before outcome state = with_step before (record { state = state; outcome = outcome.step; entered = outcome.entered })
 
+  -- the run after one more step
   abbrev next_run : ℕ → AfterSteps MonitoredMachine → Outcome → MonitoredMachine → AfterRun MonitoredMachine
   next_run left before outcome state =
       let after = after_step before outcome state in
@@ -65,22 +72,25 @@ module _ (e hart : ℕ) (breaks watches : List ℕ) where
   abbrev Enters : AfterRun MonitoredMachine → AfterRun MonitoredMachine → Type 0
   Enters end _ = is_entered e end.ran.entered ≡ true
 
+  -- a run that has entered e has entered e at its end
   stays-entered : (left : ℕ) (before : AfterSteps MonitoredMachine) → is_entered e before.entered ≡ true
       → is_entered e (on left before).ran.entered ≡ true
   stays-entered =
       run_induction (hart_stepped hart) (hart_pc hart) breaks watches (λ before end. is_entered e before.entered ≡ true → Enters end end)
-      (λ after stop is. is) (λ before end more is. more (enters-with e before.entered (hart_stepped hart before.state).entered is))
+      (λ after stop has_entered. has_entered)
+      (λ before end more has_entered. more (enters-with e before.entered (hart_stepped hart before.state).entered has_entered))
 
-  -- and so does a slot that this step enters
+  -- a slot that this step enters stays among the entered slots
   pub entered-next : (left : ℕ) (before : AfterSteps MonitoredMachine) (outcome : Outcome) (state : MonitoredMachine) → outcome.entered ≡ Some e
       → is_entered e (next_run left before outcome state).ran.entered ≡ true
-  entered-next left before outcome state is =
+  entered-next left before outcome state enters_slot =
       let after = after_step before outcome state in
       let more = on left after in
-      let now = enters-now e before.entered outcome.entered is in
+      let now = enters-now e before.entered outcome.entered enters_slot in
       next_cases Enters after after more more (lowest_accessed watches outcome.step.touched) (left == 0) (is_among (hart_pc hart state) breaks)
       (λ stop. now) (stays-entered left after now)
 
+  -- a run of a hart without the enclave is alike in two equivalent machines
   pub run-alike : (left : ℕ) (before : AfterSteps MonitoredMachine) (other : MonitoredMachine) → Invariant before.state → Invariant other
       → EquivExcept e before.state other → runs_on e hart before.state ≡ false
       → RunAlike e hart (on left before) (on left (with_state before other))
@@ -91,24 +101,24 @@ module _ (e hart : ℕ) (breaks watches : List ℕ) where
       let two = step_of hart other in
       let after = after_step before one.outcome one.state in
       let hit = lowest_accessed watches one.outcome.step.touched in
-      let both = noninterference hart before.state kept e other kept' equiv not_running in
+      let alike_after = noninterference hart before.state kept e other kept' equiv not_running in
       elim (cases_Bool (enters e one.outcome.entered)) [
         | inl enters_it ↦
-            let is = entered_some e one.outcome.entered enters_it in
+            let entered_is = entered_some e one.outcome.entered enters_it in
             inl (record {
-              here = entered-next left before one.outcome one.state is;
-              there = entered-next left (with_state before other) two.outcome two.state (ap (λ (outcome : Outcome). outcome.entered) (sym both.outcome) ∙ is);
+              here = entered-next left before one.outcome one.state entered_is;
+              there = entered-next left (with_state before other) two.outcome two.state (ap (λ (outcome : Outcome). outcome.entered) (sym alike_after.outcome) ∙ entered_is);
             })
         | inr passes ↦
             let still = entry_law e hart hart before.state not_running passes in
-            let more = run-alike left after two.state (invariant_law hart before.state kept) (invariant_law hart other kept') both.state still in
-            let stops = λ (stop : Stop). inr (record { ran = refl; state = both.state; not_running = still }) in
+            let more = run-alike left after two.state (invariant_law hart before.state kept) (invariant_law hart other kept') alike_after.state still in
+            let stops = λ (stop : Stop). inr (record { ran = refl; state = alike_after.state; not_running = still }) in
             let alike = next_cases (RunAlike e hart) after (with_state after two.state) _ _ hit (left == 0)
             (is_among (hart_pc hart one.state) breaks) stops more in
-            let hart_states = (let state = both.state in state.hart_states hart) in
+            let hart_states = (let state = alike_after.state in state.hart_states hart) in
             let place = ap (λ (hart_state : HartState). is_among hart_state.hart.pc breaks) (hart_states.same still) in
             subst (λ (outcome : Outcome). RunAlike e hart (next_run left before one.outcome one.state)
-            (next_run left (with_state before other) outcome two.state)) both.outcome
+            (next_run left (with_state before other) outcome two.state)) alike_after.outcome
             (subst (λ (here : Bool). RunAlike e hart (next_run left before one.outcome one.state)
             (next_of (with_state after two.state) (on left (with_state after two.state)) hit (left == 0) here)) place alike)
       ]

@@ -5,21 +5,25 @@ use Rattle.rv_debug.proofs.Prelude.{AfterRun, AfterSteps, Selected, Stepped, sel
 use Rattle.rv_debug.proofs.Prelude.{lowest_accessed, machine_stepped, no_steps, pc_of, run, target_stepped, with_step, with_target}
 use Rattle.rv_debug.proofs.Stepping.{next_cases, run_induction, next_of}
 
+-- the steps of a machine so far, as those of the target with it
 abbrev pub in_target : {A : Type 0} → (A → Target) → AfterSteps A → AfterSteps Target
 in_target target after = record { state = target after.state; steps = after.steps; trap = after.trap; entered = after.entered }
 
+-- the result of a run of a machine, as that of the target with it
 abbrev pub target_of : {A : Type 0} → (A → Target) → AfterRun A → AfterRun Target
 target_of target after = record { state = target after.state; ran = after.ran }
 
 module _ {A : Type 0} (target : A → Target) (step : A → Stepped A) (pc : A → ℕ)
     (steps : (machine : A) → target_stepped (target machine) ≡ with_target target (step machine))
     (pcs : (machine : A) → pc_of (target machine) ≡ pc machine) (breaks watches : List ℕ) where
+  -- the run of the target after one more step, by what ends it
   abbrev next_in : ℕ → AfterSteps Target → Stepped Target → ℕ → AfterRun Target
   next_in left before last here =
       let after = with_step before last in
       next_of after (run target_stepped pc_of breaks watches left after) (lowest_accessed watches last.outcome.touched) (left == 0)
       (is_among here breaks)
 
+  -- a run of the machine is the run of its target, with the steps so far
   run-in : (count : ℕ) (before : AfterSteps A)
       → run target_stepped pc_of breaks watches count (in_target target before) ≡ target_of target (run step pc breaks watches count before)
   unfolding run
@@ -36,25 +40,29 @@ module _ {A : Type 0} (target : A → Target) (step : A → Stepped A) (pc : A �
   runs-in : (count : ℕ) (machine after : A) (ran : Ran)
       → run step pc breaks watches count (no_steps machine) ≡ record { state = after; ran = ran }
       → run target_stepped pc_of breaks watches count (no_steps (target machine)) ≡ record { state = target after; ran = ran }
-  runs-in count machine after ran is = run-in count (no_steps machine) ∙ ap (target_of target) is
+  runs-in count machine after ran run_is = run-in count (no_steps machine) ∙ ap (target_of target) run_is
 
+-- the pc of the bare machine
 abbrev pub machine_pc : Machine → ℕ
 machine_pc machine = machine.hart.pc
 
--- for a monitored machine, whose selected hart stays selected
+-- a step of the hart of a monitored machine, with its outcome and the slot that it entered
 abbrev pub hart_stepped : ℕ → MonitoredMachine → Stepped MonitoredMachine
 hart_stepped hart machine =
     let after = step_of hart machine in
     record { state = after.state; outcome = after.outcome.step; entered = after.outcome.entered }
 
+-- the pc of the hart
 abbrev pub hart_pc : ℕ → MonitoredMachine → ℕ
 hart_pc hart machine = (hart_state_of hart machine).hart.pc
 
+-- a run of a bare machine is the run of its target
 pub runs_bare : (breaks watches : List ℕ) (count : ℕ) (machine after : Machine) (ran : Ran)
     → run machine_stepped machine_pc breaks watches count (no_steps machine) ≡ record { state = after; ran = ran }
     → run target_stepped pc_of breaks watches count (no_steps (Bare machine)) ≡ record { state = Bare after; ran = ran }
 runs_bare breaks watches = runs-in Bare machine_stepped machine_pc (λ machine. refl) (λ machine. refl) breaks watches
 
+-- a run of one hart of a monitored machine is the run of its target with this hart selected
 pub run_monitored : (hart : ℕ) (breaks watches : List ℕ) (count : ℕ) (before : AfterSteps MonitoredMachine)
     → run target_stepped pc_of breaks watches count (in_target (selected_at hart) before) ≡ target_of (selected_at hart)
     (run (hart_stepped hart) (hart_pc hart) breaks watches count before)
@@ -62,22 +70,26 @@ run_monitored hart breaks watches = run-in (selected_at hart) (hart_stepped hart
 
 -- ---- a bare machine enters no enclave
 
+-- the steps of a bare machine enter no slot
 entered-none : (breaks watches : List ℕ) (count : ℕ) (before : AfterSteps Machine)
     → (run machine_stepped machine_pc breaks watches count before).ran.entered ≡ before.entered
 entered-none breaks watches =
     run_induction machine_stepped machine_pc breaks watches (λ before end. end.ran.entered ≡ before.entered) (λ after stop. refl)
     (λ before end same. same)
 
+-- a run of a bare machine enters no slot
 pub enters_none : (breaks watches : List ℕ) (count : ℕ) (machine after : Machine) (ran : Ran)
     → run machine_stepped machine_pc breaks watches count (no_steps machine) ≡ record { state = after; ran = ran } → ran.entered ≡ 0
-enters_none breaks watches count machine after ran is =
-    ap (λ (a : AfterRun Machine). a.ran.entered) (sym is) ∙ entered-none breaks watches count (no_steps machine)
+enters_none breaks watches count machine after ran run_is =
+    ap (λ (a : AfterRun Machine). a.ran.entered) (sym run_is) ∙ entered-none breaks watches count (no_steps machine)
 
 -- ---- the selected hart
 
+-- the pc of the selected hart
 abbrev pub selected_pc : Selected → ℕ
 selected_pc selected = (selected_hart_state selected).hart.pc
 
+-- a run of a monitored machine with a selected hart is the run of its target
 pub runs_selected : (breaks watches : List ℕ) (count : ℕ) (machine after : Selected) (ran : Ran)
     → run selected_stepped selected_pc breaks watches count (no_steps machine) ≡ record { state = after; ran = ran }
     → run target_stepped pc_of breaks watches count (no_steps (Monitored machine)) ≡ record { state = Monitored after; ran = ran }

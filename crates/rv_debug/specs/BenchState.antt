@@ -12,6 +12,6 @@ pub record BenchState : Type 0 where
 abbrev pub bare : Machine → BenchState
 bare machine = record { target = Bare machine; breaks = []; watches = [] }
 
--- the same with a monitored machine, with hart 0 selected
+-- a bench with a monitored machine, hart 0 selected, and no breakpoints or watchpoints
 abbrev pub monitored : MonitoredMachine → BenchState
 monitored machine = record { target = Monitored (record { hart = 0; state = machine }); breaks = []; watches = [] }

@@ -25,11 +25,13 @@ pub record SelectedEquivExcept (e : ℕ) (one other : Selected) : Type 0 where
   pub hart : one.hart ≡ other.hart
   pub state : EquivExcept e one.state other.state
 
+-- two targets are bare and equal, or monitored and equivalent except for slot e
 abbrev pub TargetsEquivExcept : ℕ → Target → Target → Type 0
 TargetsEquivExcept e (Bare one) (Bare other) = one ≡ other
 TargetsEquivExcept e (Monitored one) (Monitored other) = SelectedEquivExcept e one other
 TargetsEquivExcept e _ _ = ⊥
 
+-- two benches have targets that are equivalent except for slot e, the same breakpoints and the same watchpoints
 pub record BenchesEquivExcept (e : ℕ) (one other : BenchState) : Type 0 where
   pub target : TargetsEquivExcept e one.target other.target
   pub breaks : one.breaks ≡ other.breaks
@@ -126,6 +128,7 @@ both_line_executed e first second (Ok command) =
 both_line_executed e first second (Err fault) =
     record { first = first; second = second; first_reply = command_fault_text fault; second_reply = []; line = Faulty }
 
+-- both benches execute the command of one line
 abbrev pub both_execute_line : ℕ → BenchState → BenchState → List ℕ → BothLineExecuted
 both_execute_line e first second line = both_line_executed e first second (parse_of line)
 
@@ -135,6 +138,7 @@ both_execute_line e first second line = both_line_executed e first second (parse
 abbrev pub can_scramble_in : ℕ → Target → Bool
 can_scramble_in e target = option_case (machine_in target) false (λ machine. can_scramble_of machine.shared.table e)
 
+-- an enclave is live in slot e of the bench, and does not run
 abbrev pub can_scramble : ℕ → BenchState → Bool
 can_scramble e bench = can_scramble_in e bench.target
 
@@ -143,6 +147,7 @@ abbrev pub scrambled_in : ℕ → Target → Target
 scrambled_in e (Bare machine) = Bare machine
 scrambled_in e (Monitored selected) = selected_at selected.hart (scrambled_of selected.state e)
 
+-- the bench with its target scrambled in slot e
 abbrev pub scrambled : ℕ → BenchState → BenchState
 scrambled e bench = record bench { target = scrambled_in e bench.target }
 
@@ -155,6 +160,7 @@ pub record BothRan : Type 0 where
   pub ran : ℕ
   pub why : BothWhy
 
+-- the result of a list of commands, with one more command executed before them
 abbrev pub one_more_ran : BothRan → BothRan
 one_more_ran rest = record { first = rest.first; second = rest.second; ran = suc rest.ran; why = rest.why }
 
@@ -164,6 +170,7 @@ go_on All after rest = one_more_ran rest
 go_on Entered after rest = record { first = after.first; second = after.second; ran = 1; why = Entered }
 go_on NotBlind after rest = record { first = after.first; second = after.second; ran = 0; why = NotBlind }
 
+-- both benches execute the commands in turn, up to the first that is not blind, and up to and including one that enters slot e
 unfoldable pub both_run : ℕ → BenchState → BenchState → List Command → BothRan
 both_run e first second [] = record { first = first; second = second; ran = 0; why = All }
 both_run e first second (command ∷ commands) =

@@ -18,17 +18,20 @@ pub data Action : Type 0 where
 
 -- ---- the machine after actions
 
+-- the machine after one action; a write of a byte outside RAM has no effect
 abbrev pub after_action : Action → MonitoredMachine → MonitoredMachine
 after_action (Occurs event) machine = (event_of event machine).state
 after_action (SetsRegister hart number value) machine = with_reg hart machine number value
 after_action (SetsByte address byte) machine = option_case (write machine.shared.memory address (byte ∷ [])) machine (with_memory machine)
 
+-- the machine after each action in the list, in turn
 abbrev pub after_actions : List Action → MonitoredMachine → MonitoredMachine
 after_actions [] machine = machine
 after_actions (action ∷ more) machine = after_actions more (after_action action machine)
 
 -- ---- the actions of commands
 
+-- the actions of one effect; a write of a register or timer line is that of the selected hart
 abbrev pub actions_by : Target → Effect → List Action
 actions_by target Nothing = []
 actions_by target (Steps harts selected) = map (λ hart. Occurs (StepOf hart)) harts
@@ -36,6 +39,7 @@ actions_by target (Register number value) = SetsRegister (selected_of target) nu
 actions_by target (TimerLine raised) = Occurs (LineOf (selected_of target) raised) ∷ []
 actions_by target (OneByte address byte) = SetsByte address byte ∷ []
 
+-- the actions of the commands in the list, one after another
 abbrev pub actions_of : BenchState → List Command → List Action
 actions_of bench [] = []
 actions_of bench (command ∷ commands) = actions_by bench.target (effect bench command) ++ actions_of (execute bench command).state commands
@@ -48,13 +52,16 @@ commands_for [] = []
 commands_for (StepOf hart ∷ more) = Hart hart ∷ Step 1 ∷ commands_for more
 commands_for (LineOf hart raised ∷ more) = Hart hart ∷ Timer raised ∷ commands_for more
 
+-- the hart that steps, or whose timer line changes
 abbrev pub hart_of_event : Event → ℕ
 hart_of_event (StepOf hart) = hart
 hart_of_event (LineOf hart raised) = hart
 
+-- each event is of a hart whose number is below the count
 abbrev pub are_of_harts : ℕ → List Event → Bool
 are_of_harts count list = list_all (λ event. nat_lt (hart_of_event event) count) list
 
+-- commands act on the machine by their actions only, and commands can bring about every list of events
 pub record CommandEventsLaw : Type 0 where
   -- the machine after commands is that after their actions
   pub acts : (bench : BenchState) (commands : List Command) → IfSome (machine_in bench.target) (λ machine.

@@ -23,11 +23,13 @@ pub record SelectedAreRelated (e : ℕ) (one other : Selected) : Type 0 where
   pub hart : one.hart ≡ other.hart
   pub state : AreRelated e one.state other.state
 
+-- two targets are bare and equal, or monitored and related for slot e
 abbrev pub TargetsAreRelated : ℕ → Target → Target → Type 0
 TargetsAreRelated e (Bare one) (Bare other) = one ≡ other
 TargetsAreRelated e (Monitored one) (Monitored other) = SelectedAreRelated e one other
 TargetsAreRelated e _ _ = ⊥
 
+-- two benches have related targets, the same breakpoints and the same watchpoints
 pub record BenchesAreRelated (e : ℕ) (one other : BenchState) : Type 0 where
   pub target : TargetsAreRelated e one.target other.target
   pub breaks : one.breaks ≡ other.breaks
@@ -49,6 +51,7 @@ first_steps (Second hart ∷ moves) = first_steps moves
 first_steps (Both (StepOf hart) ∷ moves) = hart ∷ first_steps moves
 first_steps (Both (LineOf hart raised) ∷ moves) = first_steps moves
 
+-- the harts that step in the second machine
 abbrev pub second_steps : List Move → List ℕ
 second_steps [] = []
 second_steps (First hart ∷ moves) = second_steps moves
@@ -113,6 +116,7 @@ pub record ObservedAlike (e : ℕ) (first second : BenchState) (here there : Com
   pub observed : observed e first here ≡ observed e second there
   pub state : BenchesAreRelated e (execute first here).state (execute second there).state
 
+-- two commands that are alike have equal observations on related benches, and leave them related
 abbrev pub CommandDeclassificationLaw : Type 0
 CommandDeclassificationLaw =
     (e : ℕ) (first second : BenchState) (here there : Command) → TargetInvariant first.target → TargetInvariant second.target
@@ -146,10 +150,12 @@ abbrev pub all_observed : ℕ → BenchState → List Command → List (List ℕ
 all_observed e bench [] = []
 all_observed e bench (command ∷ commands) = observed e bench command ∷ all_observed e (execute bench command).state commands
 
+-- all observations of two lists of commands are equal, and the benches are related after them
 pub record AllObservedAlike (e : ℕ) (first second : BenchState) (commands others : List Command) : Type 0 where
   pub observed : all_observed e first commands ≡ all_observed e second others
   pub state : BenchesAreRelated e (after_commands first commands) (after_commands second others)
 
+-- two lists of commands that are alike have equal observations on related benches, and leave them related
 abbrev pub ListDeclassificationLaw : Type 0
 ListDeclassificationLaw =
     (e : ℕ) (first second : BenchState) (commands others : List Command) → TargetInvariant first.target → TargetInvariant second.target

@@ -21,6 +21,7 @@ pub data Effect : Type 0 where
 
 -- ---- the target after an effect
 
+-- the target after an effect; a write of a byte outside RAM has no effect
 abbrev pub done : Target → Effect → Target
 done target Nothing = target
 done target (Steps harts selected) = with_selected selected (scheduled_steps harts (schedule_start target)).state
@@ -44,6 +45,7 @@ harts_stepped _ = []
 abbrev pub steps_of : Target → List ℕ → List ℕ → ℕ → AfterRun Target
 steps_of target breaks watches count = run target_stepped pc_of breaks watches count (no_steps target)
 
+-- the effect of a run: as many steps of the selected hart as the run executes
 abbrev pub run_effect : Target → List ℕ → List ℕ → ℕ → Effect
 run_effect target breaks watches count =
     Steps (replicate (steps_of target breaks watches count).ran.steps (selected_of target)) (selected_of target)
@@ -56,6 +58,7 @@ hart_effect target hart = if nat_lt hart (harts_of target) then Steps [] hart el
 abbrev pub sched_effect : Target → List ℕ → Effect
 sched_effect target harts = if has_all (harts_of target) harts then Steps harts (selected_of target) else Nothing
 
+-- the effect of a command on the target of the bench; a command that only shows something has none
 abbrev pub effect : BenchState → Command → Effect
 effect bench (Step count) = run_effect bench.target [] [] count
 effect bench (Run count) = run_effect bench.target bench.breaks bench.watches count

@@ -21,11 +21,13 @@ use Rattle.rv_debug.specs.Targets.{selected_of, hart_of, harts_of, memory_of, wo
 abbrev pub set_after : List ℕ → Option (List ℕ) → List ℕ
 set_after old set = option_case set old (λ new. new)
 
+-- the breakpoints after a command; those of a full set are unchanged
 abbrev pub breaks_after : BenchState → Command → List ℕ
 breaks_after bench (Break address) = set_after bench.breaks (with_room_for address bench.breaks)
 breaks_after bench (Clear address) = without_address address bench.breaks
 breaks_after bench _ = bench.breaks
 
+-- the watchpoints after a command; those of a full set are unchanged
 abbrev pub watches_after : BenchState → Command → List ℕ
 watches_after bench (Watch address) = set_after bench.watches (with_room_for address bench.watches)
 watches_after bench (Unwatch address) = without_address address bench.watches
@@ -65,6 +67,7 @@ abbrev pub harts_summary_text : AfterSchedule → List ℕ
 harts_summary_text after =
     hart_summary_text after.state 0 after.did.first ++ (if nat_lt 1 (harts_of after.state) then hart_summary_text after.state 1 after.did.second else [])
 
+-- the reply to sched: the summary of each hart, or an error if a hart of the schedule does not exist
 abbrev pub sched_reply : Target → List ℕ → List ℕ
 sched_reply target harts =
     if has_all (harts_of target) harts then harts_summary_text (scheduled_steps harts (schedule_start target)) else no_hart_text
@@ -83,6 +86,7 @@ access_reply memory entries mode access address width =
     option_case (read memory address (bytes_in width)) denied_outside_text
     (λ _. verdict_text (verdict_on entries mode access address width))
 
+-- the reply to each command
 abbrev pub reply_to : BenchState → Command → List ℕ
 reply_to bench Blank = []
 reply_to bench (Step count) = ran_reply (steps_of bench.target [] [] count)
@@ -143,5 +147,6 @@ abbrev pub execute_or_fault : BenchState → Result Command CommandFault → Exe
 execute_or_fault bench (Ok command) = execute bench command
 execute_or_fault bench (Err fault) = record { state = bench; reply = command_fault_text fault; entered = 0 }
 
+-- the bench after one line, and the reply to the line
 unfoldable pub execute_line : BenchState → List ℕ → Executed
 execute_line bench line = execute_or_fault bench (parse_of line)

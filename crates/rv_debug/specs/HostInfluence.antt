@@ -29,21 +29,25 @@ pub data BenchMove : Type 0 where
   InSecond : Action → BenchMove
   InBoth : ℕ → ℕ → BenchMove
 
+-- the move is a foreign action in its machine, or a step of the enclave in both machines
 abbrev pub IsBenchMove : ℕ → ℕ → BenchMove → MonitoredMachine → MonitoredMachine → Type 0
 IsBenchMove i j (InFirst action) one other = IsForeignAction i action one
 IsBenchMove i j (InSecond action) one other = IsForeignAction j action other
 IsBenchMove i j (InBoth h g) one other = IsOwnStep (at i h) (at j g) one other
 
+-- the first machine after a move
 abbrev pub moved_first : BenchMove → MonitoredMachine → MonitoredMachine
 moved_first (InFirst action) machine = after_action action machine
 moved_first (InSecond action) machine = machine
 moved_first (InBoth h g) machine = (step_of h machine).state
 
+-- the second machine after a move
 abbrev pub moved_second : BenchMove → MonitoredMachine → MonitoredMachine
 moved_second (InFirst action) machine = machine
 moved_second (InSecond action) machine = after_action action machine
 moved_second (InBoth h g) machine = (step_of g machine).state
 
+-- each move in the list is permitted in the two machines that the moves before it lead to
 abbrev pub AreBenchMoves : ℕ → ℕ → List BenchMove → MonitoredMachine → MonitoredMachine → Type 0
 AreBenchMoves i j [] one other = Unit {0}
 AreBenchMoves i j (move ∷ moves) one other =
@@ -56,6 +60,7 @@ first_actions (InFirst action ∷ moves) = action ∷ first_actions moves
 first_actions (InSecond action ∷ moves) = first_actions moves
 first_actions (InBoth h g ∷ moves) = Occurs (StepOf h) ∷ first_actions moves
 
+-- the actions of the moves in the second machine
 abbrev pub second_actions : List BenchMove → List Action
 second_actions [] = []
 second_actions (InFirst action ∷ moves) = second_actions moves
@@ -89,6 +94,7 @@ pub record HasSameLife (i j : ℕ) (moves : List BenchMove) (one other : Monitor
 abbrev pub IsLegalTarget : Target → Type 0
 IsLegalTarget target = IfSome (machine_in target) IsLegalMachine
 
+-- commands of other worlds influence an enclave only by its window and its entry, and legal targets stay legal
 pub record HostInfluenceLaw : Type 0 where
   pub same : (i j : ℕ) (first second : BenchState) (commands others : List Command) → TargetInvariant first.target → TargetInvariant second.target
       → IsLegalTarget first.target → IsLegalTarget second.target → IfSome (machine_in first.target) (λ one. IfSome (machine_in second.target) (λ other.

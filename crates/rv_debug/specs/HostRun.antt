@@ -1,8 +1,6 @@
 -- A closed instance of the law about the whole life of an enclave. The hosts of two machines differ in a byte of the window, in the number of harts,
 -- and in the hart that runs the enclave. Only one of them interrupts the enclave, and resumes it. (An instance of this project's own law.)
 use Rattle.std.specs.Prelude.{ℕ, ◌≡◌, true, false, List, [], ◌∷◌, ◌++◌, replicate, slice_index}
-use Rattle.rv_platform.specs.declared.harts.Harts.{Harts}
-use Rattle.rv_platform.specs.declared.harts.Harts.TheVariants.{One, Two}
 use Rattle.rv_monitor.specs.Debugger.{with_memory}
 use Rattle.rv_monitor.specs.Events.{LineOf, StepOf}
 use Rattle.rv_monitor.specs.Life.{AreLifeMoves, InFirst, InSecond, LifeMove, LiveAlike, Own, one_end, other_end}
@@ -31,30 +29,34 @@ abbrev pub hosted_asking : List ℕ
 hosted_asking =
     0 ∷ 0 ∷ 0 ∷ 0 ∷ 0 ∷ 0 ∷ 0 ∷ 0 ∷ 0 ∷ 0 ∷ 0x80018000 ∷ 0x1000 ∷ 0x80014000 ∷ 0x1000 ∷ 0x80018000 ∷ 0 ∷ 1 ∷ 0x0A454E43 ∷ replicate 14 0
 
-abbrev pub hosted_reset : Harts → MonitoredMachine
+-- the machine at reset, with 0 as the byte in the window
+abbrev pub hosted_reset : ℕ → MonitoredMachine
 hosted_reset harts = at_start (hosted_ram 0) 0x80010000 harts
 
 -- the hart that calls the monitor has the arguments of create
-abbrev pub hosted_start : Harts → ℕ → MonitoredMachine
+abbrev pub hosted_start : ℕ → ℕ → MonitoredMachine
 hosted_start harts hart =
     let hart_state = hart_state_of hart (hosted_reset harts) in
     with_hart_state hart (record hart_state { hart = record hart_state.hart { regs = hosted_asking; csrs = record hart_state.hart.csrs { timer = false } } }) (hosted_reset harts)
 
+-- the machine after one step of the hart
 abbrev pub hosted_next : ℕ → MonitoredMachine → MonitoredMachine
 hosted_next hart machine = (step_of hart machine).state
 
 -- after create, with the byte in the window
-abbrev pub hosted_new : Harts → ℕ → ℕ → MonitoredMachine
+abbrev pub hosted_new : ℕ → ℕ → ℕ → MonitoredMachine
 hosted_new harts hart byte = with_memory (hosted_next hart (hosted_start harts hart)) (hosted_ram byte)
 
 -- The first machine has one hart. Its host runs the enclave, interrupts it after the load, and resumes it. The second has two. Its hart 1 runs the
 -- enclave, and hart 0 makes a call that is refused.
 abbrev pub first : ℕ → MonitoredMachine
-first byte = hosted_new One 0 byte
+first byte = hosted_new 1 0 byte
 
+-- the second machine of the example: two harts, and the enclave is created on hart 1
 abbrev pub second : ℕ → MonitoredMachine
-second byte = hosted_new Two 1 byte
+second byte = hosted_new 2 1 byte
 
+-- the moves of the example: the enclave's load and store are steps of both machines, all other events are of one machine
 abbrev pub hosted_moves : List LifeMove
 hosted_moves =
     InFirst (StepOf 0) ∷ InFirst (StepOf 0) ∷ InSecond (StepOf 1) ∷ InSecond (StepOf 1) ∷ Own 0 1 ∷ InFirst (LineOf 0 true) ∷ InFirst (StepOf 0)
@@ -67,5 +69,6 @@ pub record RunsUnderBoth (a b : ℕ) : Type 0 where
   pub stored : slice_index (one_end hosted_moves (first a)).shared.memory 0x14008 ≡ 7
   pub stored_too : slice_index (other_end hosted_moves (second b)).shared.memory 0x14008 ≡ 7
 
+-- for all bytes of the two hosts' choice, the example is one life of the enclave
 abbrev pub HostRunLaw : Type 0
 HostRunLaw = (a b : ℕ) → RunsUnderBoth a b

@@ -41,6 +41,7 @@ UndisturbedByEffect k machine (OneByte address byte) =
     (is_live machine.shared.table k ≡ true) × (has (region machine.shared.table k) address ≡ false)
 UndisturbedByEffect k machine _ = is_live machine.shared.table k ≡ true
 
+-- the enclave of slot k is undisturbed by the effect of a command on a monitored bench
 abbrev pub UndisturbedBy : ℕ → BenchState → Command → Type 0
 UndisturbedBy k bench command = IsSomeAnd (machine_in bench.target) (λ machine. UndisturbedByEffect k machine (effect bench command))
 
@@ -93,6 +94,7 @@ KeepsHart hart before after =
     MatchOption (machine_in before) (machine_in after ≡ None)
     (λ one. IsSomeAnd (machine_in after) (λ other. hart_state_of hart other ≡ reprogrammed other.shared.table (hart_state_of hart one)))
 
+-- a command leaves each hart as it was, apart from PMP entries and mie, that its effect avoids
 abbrev pub PreservesHarts : BenchState → Command → BenchState → Type 0
 PreservesHarts before command after =
     (hart : ℕ) → hart < harts_of before.target → LeavesHart hart before.target (effect before command) → KeepsHart hart before.target after.target

@@ -27,6 +27,7 @@ pub record ExecuteAlike (e : ℕ) (first second : Executed) : Type 0 where
   pub entered : is_entered e first.entered ≡ is_entered e second.entered
   pub passed : is_entered e first.entered ≡ false → CommandAlike e first second
 
+-- on two equivalent benches, a blind command that avoids the hart of the enclave is executed alike
 abbrev pub NoninterferenceLaw : Type 0
 NoninterferenceLaw =
     (e : ℕ) (first second : BenchState) (command : Command) → TargetInvariant first.target → TargetInvariant second.target
@@ -62,6 +63,7 @@ pub record StaysOnNoHart (e : ℕ) (bench : BenchState) (command : Command) : Ty
   pub by : AvoidsHart e bench command
   pub not_running : is_entered e (execute bench command).entered ≡ false → RunsOnNoHart e (execute bench command).state.target
 
+-- while the enclave of slot e runs on no hart, each command that does not enter it leaves it so
 abbrev pub RunsOnNoHartLaw : Type 0
 RunsOnNoHartLaw = (e : ℕ) (bench : BenchState) (command : Command) → TargetInvariant bench.target → RunsOnNoHart e bench.target → StaysOnNoHart e bench command
 
@@ -78,24 +80,28 @@ PokeLaw =
     → BenchesEquivExcept e first second → PokesInto e first here → PokesInto e second there
     → CommandAlike e (execute first here) (execute second there)
 
--- the same, for the result of both_command
+-- the replies of both benches to a command are equal, and the benches remain equivalent
 pub record BothRepliesAlike (e : ℕ) (after : BothExecuted) : Type 0 where
   pub reply : after.first_reply ≡ after.second_reply
   pub state : RemainEquiv e after.first after.second
 
+-- the command enters slot e in both benches
 pub record BothEntered (e : ℕ) (first second : BenchState) (command : Command) : Type 0 where
   pub here : is_entered e (execute first command).entered ≡ true
   pub there : is_entered e (execute second command).entered ≡ true
 
+-- the command accesses a byte of slot e's region in both benches
 pub record NeitherDid (e : ℕ) (first second : BenchState) (command : Command) : Type 0 where
   pub here : is_blind e first command ≡ false
   pub there : is_blind e second command ≡ false
 
+-- what is equal in both benches, by the reason for which the list of commands goes on or ends
 abbrev pub AlikeBy : ℕ → BenchState → BenchState → Command → BothExecuted → BothWhy → Type 0
 AlikeBy e first second command after All = BothRepliesAlike e after
 AlikeBy e first second command after Entered = BothEntered e first second command
 AlikeBy e first second command after NotBlind = NeitherDid e first second command
 
+-- if both benches are equivalent and the command avoids the hart, what both executions show is equal
 abbrev pub StayAlike : ℕ → BenchState → BenchState → Command → BothExecuted → Type 0
 StayAlike e first second command after =
     BenchesEquivExcept e first second → AvoidsHart e first command → AlikeBy e first second command after after.why

@@ -31,7 +31,7 @@ unless hidden text = if hidden then [] else text
 abbrev pub one_more_observed : Bool → Option Trap → HartRan → HartRan
 one_more_observed is_own trap ran = record { steps = if is_own then 0 else ran.steps + 1; trap = option_or trap ran.trap }
 
--- the same after a step of any hart
+-- the observed steps of hart `own` after a step of any hart
 abbrev pub with_observed_step : ℕ → ℕ → ℕ → MonitoredMachine → HartRan → HartRan
 with_observed_step e own hart machine ran =
     if own == hart then one_more_observed (runs_on e hart machine) (step_of hart machine).outcome.step.trap ran else ran
@@ -59,11 +59,13 @@ observed_run e before after =
 abbrev pub observed_hart : ℕ → Target → ℕ → HartRan → List ℕ
 observed_hart e target hart ran = unless (is_selected e (with_selected hart target)) (hart_summary_text target hart ran)
 
+-- what is observed of a schedule: the summaries of the harts, without what an enclave e on them decides
 abbrev pub observed_harts : ℕ → AfterSchedule → List ℕ
 observed_harts e after =
     observed_hart e after.state 0 after.did.first
     ++ (if nat_lt 1 (harts_of after.state) then observed_hart e after.state 1 after.did.second else [])
 
+-- what is observed of sched, or the error if a hart of the schedule does not exist
 abbrev pub observed_sched : ℕ → Target → List ℕ → List ℕ
 observed_sched e target harts =
     if has_all (harts_of target) harts then observed_harts e (scheduled_steps harts (schedule_start target)) else no_hart_text
@@ -84,6 +86,7 @@ names_private e target command =
 
 -- ---- every command
 
+-- what is observed of the reply to each command: the reply without what the private state of enclave e decides
 abbrev pub observed : ℕ → BenchState → Command → List ℕ
 observed e bench (Step count) = observed_run e bench.target (steps_of bench.target [] [] count)
 observed e bench (Run count) = observed_run e bench.target (steps_of bench.target bench.breaks bench.watches count)

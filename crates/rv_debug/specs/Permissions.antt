@@ -8,6 +8,7 @@ use Rattle.rv_enclaves.specs.CallNumbers.{record_at}
 use Rattle.rv_enclaves.specs.declared.world.World.TheVariants.{Enclave, Host}
 use Rattle.rv_debug.specs.Prelude.{Block, Invariant, MonitoredMachine, S, Slots, count_of, hart_state_of, option_case}
 
+-- the address is in the block
 abbrev pub is_within : Block → ℕ → Bool
 is_within block byte = nat_le block.base byte && nat_lt byte (block.base + block.size)
 

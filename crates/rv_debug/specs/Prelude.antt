@@ -8,22 +8,22 @@ pub use Rattle.rv_debug.specs.declared.steps.Stop.{Stop}
 pub use Rattle.rv_debug.specs.declared.steps.Stop.TheVariants.{Break, Done, Watch}
 pub use Rattle.rv_debug.specs.declared.target.Target.{Target}
 pub use Rattle.rv_debug.specs.declared.target.Target.TheVariants.{Bare, Monitored}
-pub use Rattle.rv_platform.specs.Blocks.{has, meets, no_block}
+pub use Rattle.rv_memory.specs.Blocks.{has, meets, no_block}
 pub use Rattle.rv_enclaves.specs.ValidBlocks.{is_block_size}
 unfoldable pub use Rattle.rv_enclaves.specs.ValidBlocks.{is_valid_block}
 pub use Rattle.rv_enclaves.specs.Table.{IsValidSlot, Slots, is_host, is_live, is_world_of, region, slot_at}
-pub use Rattle.rv_platform.specs.declared.block.Block.{Block}
+pub use Rattle.rv_memory.specs.declared.block.Block.{Block}
 pub use Rattle.rv_hart.specs.Machine.{Machine}
-pub use Rattle.rv_hart.specs.declared.limits.Limits.{Limits}
+pub use Rattle.rv_fast_path.specs.declared.limits.Limits.{Limits}
 pub use Rattle.rv_hart.specs.declared.trap.Trap.{Trap}
 pub use Rattle.rv_memory.specs.Memory.{byte_at, is_inside, number_of_bytes, ram_base, write_bytes}
 unfoldable pub use Rattle.rv_memory.specs.Memory.{read, write}
 pub use Rattle.rv_monitor.specs.EquivExcept.{EquivExcept, runs_on}
-pub use Rattle.rv_monitor.specs.Debugger.{changed, reg_set, timer_line_set, with_memory, with_reg, with_timer}
+pub use Rattle.rv_monitor.specs.Debugger.{changed, reg_set, with_memory, with_reg, with_timer}
 pub use Rattle.rv_monitor.specs.HartLaws.{IsChangedInOrder, IsUndisturbed, RunsOnNone, sched}
 pub use Rattle.rv_monitor.specs.Integrity.{IsPreserved, enters}
 pub use Rattle.rv_monitor.specs.MonitoredMachine.{HostContextsAreLegal, HostContextIsLegal, Invariant, MonitoredMachine, HartView, count_of}
-pub use Rattle.rv_monitor.specs.MonitoredMachine.{hart_state_at_start, hart_state_of, reprogrammed}
+pub use Rattle.rv_monitor.specs.MonitoredMachine.{hart_state_at_start, hart_state_of, reprogrammed, timer_line_set}
 pub use Rattle.rv_monitor.specs.MonitoredMachine.{hart_view}
 unfoldable pub use Rattle.rv_monitor.specs.Step.{monitored_step, step_of}
 pub use Rattle.rv_monitor.specs.declared.hart_state.HartState.{HartState}

@@ -85,11 +85,11 @@ verdict_text DeniedFree = codes "denied free\n"
 unfoldable pub denied_outside_text : List ℕ
 denied_outside_text = codes "denied outside\n"
 
--- the command was executed
+-- the reply of a command that was executed and shows nothing
 unfoldable pub ok_text : List ℕ
 ok_text = codes "ok\n"
 
--- the set is full
+-- the reply if a set of 32 addresses has no room for another
 unfoldable pub full_text : List ℕ
 full_text = codes "error full\n"
 

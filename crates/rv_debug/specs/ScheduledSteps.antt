@@ -11,10 +11,11 @@ pub record AfterSchedule : Type 0 where
   pub state : Target
   pub did : Scheduled
 
--- before the first step
+-- the summary of a hart before its first step
 abbrev pub nothing_ran : HartRan
 nothing_ran = record { steps = 0; trap = None }
 
+-- a target before the first step of a schedule: no hart has stepped, and no slot was entered
 abbrev pub schedule_start : Target → AfterSchedule
 schedule_start state = record { state = state; did = record { first = nothing_ran; second = nothing_ran; entered = 0 } }
 
@@ -22,7 +23,7 @@ schedule_start state = record { state = state; did = record { first = nothing_ra
 abbrev pub with_own_step : Option Trap → HartRan → HartRan
 with_own_step trap ran = record { steps = ran.steps + 1; trap = option_or trap ran.trap }
 
--- the same, if that is a step of this hart
+-- the summary of hart `own` after one more step, which counts if it is a step of this hart
 abbrev pub with_own : ℕ → ℕ → Option Trap → HartRan → HartRan
 with_own own hart trap ran = if own == hart then with_own_step trap ran else ran
 

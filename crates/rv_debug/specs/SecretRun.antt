@@ -2,7 +2,6 @@
 -- runs and loads its secret to a0. The timer interrupts it there, and the host resumes it. The same run is also one of commands. (An instance of this
 -- project's own law; declassification: Sabelfeld and Sands, JCS 2009.)
 use Rattle.std.specs.Prelude.{ℕ, ◌≡◌, true, false, List, [], ◌∷◌, ◌++◌, replicate, slice_index}
-use Rattle.rv_platform.specs.declared.harts.Harts.TheVariants.{One}
 use Rattle.rv_monitor.specs.Debugger.{with_memory, with_timer}
 use Rattle.rv_monitor.specs.Declassification.{AreMoves, Both, First, Move, MovedAlike, Second}
 use Rattle.rv_monitor.specs.Events.{LineOf, StepOf}
@@ -22,9 +21,11 @@ calling_host =
 abbrev pub secret_enclave : List ℕ
 secret_enclave = 0x03 ∷ 0x25 ∷ 0x05 ∷ 0x10 ∷ 0x13 ∷ 0x05 ∷ 0 ∷ 0 ∷ []
 
+-- the bytes of RAM before the secret: the monitor's range, the host's code, and the enclave's code with zeros up to its data
 abbrev pub before_secret : List ℕ
 before_secret = replicate 65536 0 ++ (calling_host ++ (replicate 32744 0 ++ (secret_enclave ++ replicate 248 0)))
 
+-- RAM with the secret at 80018100, in the region
 abbrev pub secret_ram : ℕ → List ℕ
 secret_ram secret = before_secret ++ (secret ∷ replicate 32511 0)
 
@@ -32,14 +33,17 @@ secret_ram secret = before_secret ++ (secret ∷ replicate 32511 0)
 abbrev pub secret_asking : List ℕ
 secret_asking = 0 ∷ 0 ∷ 0 ∷ 0 ∷ 0 ∷ 0 ∷ 0 ∷ 0 ∷ 0 ∷ 0 ∷ 0x80018000 ∷ 0x1000 ∷ 0 ∷ 0 ∷ 0x80018000 ∷ 0 ∷ 1 ∷ 0x0A454E43 ∷ replicate 14 0
 
+-- the machine at reset, with 0 as the secret
 abbrev pub secret_reset : MonitoredMachine
-secret_reset = at_start (secret_ram 0) 0x80010000 One
+secret_reset = at_start (secret_ram 0) 0x80010000 1
 
+-- the machine whose host has the arguments of create in its registers, and whose timer line is clear
 abbrev pub secret_start : MonitoredMachine
 secret_start =
     let hart_state = hart_state_of 0 secret_reset in
     with_hart_state 0 (record hart_state { hart = record hart_state.hart { regs = secret_asking; csrs = record hart_state.hart.csrs { timer = false } } }) secret_reset
 
+-- the machine after one step of hart 0
 abbrev pub secret_next : MonitoredMachine → MonitoredMachine
 secret_next machine = (step_of 0 machine).state
 
@@ -51,6 +55,7 @@ secret_new secret = with_memory (secret_next secret_start) (secret_ram secret)
 abbrev pub secret_entered : ℕ → MonitoredMachine
 secret_entered secret = secret_next (secret_next (secret_new secret))
 
+-- one step after run, with the timer line set
 abbrev pub secret_raised : ℕ → MonitoredMachine
 secret_raised secret = with_timer 0 (secret_next (secret_entered secret)) true
 
@@ -58,11 +63,13 @@ secret_raised secret = with_timer 0 (secret_next (secret_entered secret)) true
 abbrev pub secret_interrupted : ℕ → MonitoredMachine
 secret_interrupted secret = secret_next (secret_raised secret)
 
+-- after the interrupt, two steps of the host and resume
 abbrev pub secret_resumed : ℕ → MonitoredMachine
 secret_resumed secret = secret_next (secret_next (secret_next (secret_interrupted secret)))
 
 -- ---- the instance
 
+-- the moves of the example; before and after the interrupt the enclave takes one step in each machine
 abbrev pub secret_moves : List Move
 secret_moves =
     Both (StepOf 0) ∷ Both (StepOf 0) ∷ First 0 ∷ Second 0 ∷ Both (LineOf 0 true) ∷ Both (StepOf 0) ∷ Both (StepOf 0) ∷ Both (StepOf 0) ∷ Both (StepOf 0)
@@ -75,6 +82,7 @@ pub record IsConcealed (a b : ℕ) : Type 0 where
 
 -- ---- the same by commands
 
+-- the bench over the monitored machine of the example
 abbrev pub secret_bench : BenchState
 secret_bench = monitored secret_start
 

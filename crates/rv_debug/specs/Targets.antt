@@ -63,7 +63,7 @@ selected_stepped selected =
     let after = step_of selected.hart selected.state in
     record { state = record { hart = selected.hart; state = after.state }; outcome = after.outcome.step; entered = after.outcome.entered }
 
--- the same, for a target
+-- a step of a machine, with the target of the machine after it
 abbrev pub with_target : {A : Type 0} → (A → Target) → Stepped A → Stepped Target
 with_target target after = record { state = target after.state; outcome = after.outcome; entered = after.entered }
 
@@ -76,7 +76,7 @@ abbrev pub target_stepped : Target → Stepped Target
 target_stepped (Bare machine) = with_target Bare (machine_stepped machine)
 target_stepped (Monitored selected) = with_target Monitored (selected_stepped selected)
 
--- the number of harts
+-- the number of harts of a target; a bare machine has one
 abbrev pub harts_of : Target → ℕ
 harts_of (Bare machine) = 1
 harts_of (Monitored selected) = count_of selected.state

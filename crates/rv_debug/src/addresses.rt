@@ -7,7 +7,7 @@ ghost use Rattle.rv_debug.specs.FastSteps.{IsFreeOf};
 ghost use Rattle.rv_debug.specs.Stops.{is_between, is_in, lower, lowest_accessed};
 
 use arrayvec::ArrayVec;
-use rv_hart::Interval;
+use rv_fast_path::Interval;
 use rv_memory::{Span, Touched};
 use std::marker::Model;
 

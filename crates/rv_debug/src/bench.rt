@@ -9,7 +9,7 @@ use crate::execute::{
 use crate::reply::{push_fault, push_pmp, push_register, push_registers, push_set};
 use crate::selected_hart::SelectedHart;
 use crate::target::Target;
-use rv_hart::Machine;
+use rv_fast_path::Machine;
 use rv_monitor::{MonitoredMachine, Slot};
 use rv_script::{Command, parse};
 use rv_text::Reply;
@@ -35,6 +35,7 @@ impl Model for Bench {
 impl Bench {
     ghost use Rattle.std.specs.Prelude.{◌≡◌, ℕ, true, false, List, [], take};
     ghost use Rattle.arrayvec.specs.ArrayVec.{array_vec_len};
+    ghost use Rattle.rv_text.specs.GoodLines.{significant_bytes};
     ghost use Rattle.rv_debug.specs.Execute.{execute, execute_line, only_shows};
     ghost use Rattle.rv_debug.specs.BenchState.{bare, monitored};
     ghost use Rattle.rv_debug.specs.Isolation.{ReportsAccess, ChangesMemory, PreservesUndisturbed, PreservesHarts};
@@ -196,7 +197,8 @@ impl Bench {
     #[tactic(auto, using(crate::proofs::Execution::execute_line_prefix), unfolding(crate::specs::Execute::execute_line))]
     pub fn execute_line(&mut self, line: &[u8], out: &mut Reply) -> u16
         ensures execute { execute_line self.old line.now ≡ record { state = self.new; reply = out.new.items; entered = result } }
-        ensures prefix { (other : List ℕ) → take 121 other ≡ take 121 line.now → execute_line self.old other ≡ execute_line self.old line.now }
+        ensures prefix { (other : List ℕ) → take significant_bytes other ≡ take significant_bytes line.now
+            → execute_line self.old other ≡ execute_line self.old line.now }
         ensures bare { IsBare self.old.target → result ≡ 0 }
     {
         match parse(line) {

@@ -1,6 +1,7 @@
 //! One list of commands or of lines for two benches. It shows whether they can be distinguished without entering an enclave.
 
 ghost use Rattle.std.specs.Prelude.{◌≡◌, ◌<◌, ◌^◌, ℕ, List, take};
+ghost use Rattle.rv_text.specs.GoodLines.{significant_bytes};
 ghost use Rattle.rv_debug.specs.Noninterference.{CommandsAvoidHart, DoneAlike, StayAlike};
 ghost use Rattle.rv_debug.specs.Isolation.{after_commands};
 ghost use Rattle.rv_debug.specs.BothBenches.{BenchesEquivExcept, RunsOnNoHart, both_execute, both_execute_line, both_run, is_entered as is_entered_in};
@@ -118,7 +119,8 @@ pub fn both_line(
 ) -> BothLine
     ensures meaning { both_execute_line slot a.old b.old line.now
         ≡ record { first = a.new; second = b.new; first_reply = out_a.new.items; second_reply = out_b.new.items; line = result } }
-    ensures prefix { (other : List ℕ) → take 121 other ≡ take 121 line.now → both_execute_line slot a.old b.old other ≡ both_execute_line slot a.old b.old line.now }
+    ensures prefix { (other : List ℕ) → take significant_bytes other ≡ take significant_bytes line.now
+        → both_execute_line slot a.old b.old other ≡ both_execute_line slot a.old b.old line.now }
 {
     match parse(line) {
         Ok(command) => BothLine::Given {

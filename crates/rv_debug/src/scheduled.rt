@@ -8,7 +8,8 @@ ghost use Rattle.rv_script.specs.Schedules.{harts_in, has_all, hart_of_digit};
 use crate::selected_hart::SelectedHart;
 use crate::steps::with_slot;
 use crate::target::Target;
-use rv_hart::{Machine, Trap};
+use rv_fast_path::Machine;
+use rv_hart::Trap;
 use rv_monitor::{Outcome, Slot};
 use rv_script::{Schedule, hart};
 

@@ -3,7 +3,7 @@
 ghost use Rattle.std.specs.Prelude.{◌≡◌, ◌<◌, Some, None};
 ghost use Rattle.std.specs.Bool.{OnTrue, OnFalse};
 ghost use Rattle.rv_word.specs.Cases.{option_case};
-ghost use Rattle.rv_platform.specs.Blocks.{no_block};
+ghost use Rattle.rv_memory.specs.Blocks.{no_block};
 ghost use Rattle.rv_debug.specs.Steps.{no_steps, run};
 ghost use Rattle.rv_debug.specs.BothBenches.{TargetsEquivExcept, can_scramble_in, region_in, scrambled_in};
 ghost use Rattle.rv_debug.specs.Targets.{selected_of, hart_of, harts_of, memory_of, pc_of, target_stepped, with_selected, register_set, timer_set, poked, IsBare, HostContextsAreLegalIn, TargetInvariant};
@@ -11,7 +11,7 @@ ghost use Rattle.rv_debug.specs.Targets.{selected_of, hart_of, harts_of, memory_
 use crate::addresses::Addresses;
 use crate::selected_hart::SelectedHart;
 use crate::steps::{Ran, run_steps};
-use rv_hart::Machine;
+use rv_fast_path::Machine;
 use rv_memory::Ram;
 use rv_monitor::{Block, Slot};
 use rv_pmp::Mode;

@@ -7,6 +7,7 @@ use Rattle.rv_encoding.specs.Decoding.{decoded}
 use Rattle.rv_text.specs.Digits.{hex_digits}
 use Rattle.rv_disassembler.specs.Spelling.{spelling, instr_text, line_text, word_text}
 
+-- words, and the disassembly of each
 abbrev examples : List (ℕ × List ℕ)
 examples =
     (0x0ff0000f, codes "fence iorw, iorw")
@@ -25,6 +26,7 @@ examples =
     ∷ (0x30200073, codes "mret")
     ∷ []
 
+-- each example word has the disassembly beside it
 pub examples_hold : map (λ e. spelling e.0) examples ≡ map (λ e. e.1) examples
 unfolding spelling instr_text line_text word_text decoded digits hex_digits by_bits
 examples_hold = refl

@@ -19,9 +19,11 @@ program_header =
     1 ∷ 0 ∷ 0 ∷ 0 ∷ 84 ∷ 0 ∷ 0 ∷ 0 ∷ 0 ∷ 0 ∷ 0 ∷ 0x80 ∷ 0 ∷ 0 ∷ 0 ∷ 0x80
     ∷ 4 ∷ 0 ∷ 0 ∷ 0 ∷ 8 ∷ 0 ∷ 0 ∷ 0 ∷ 5 ∷ 0 ∷ 0 ∷ 0 ∷ 4 ∷ 0 ∷ 0 ∷ 0 ∷ []
 
+-- an ELF file with one segment: four bytes in the file, and eight in memory
 abbrev file : List ℕ
 file = elf_header ++ program_header ++ 0x93 ∷ 0 ∷ 0xf0 ∷ 0xff ∷ []
 
+-- the file is loaded at 80000000
 loads : file_plan file 1048576 false ≡ Ok (record {
   segments = record { offset = 84; address = 0x80000000; file_size = 4; memory_size = 8 } ∷ [];
   entry = 0x80000000;
@@ -37,10 +39,12 @@ cut : file_plan (take 87 file) 1048576 false ≡ Err SegmentTruncated
 unfolding header_faults segment_faults place_faults segments_of occupying meets_reserved
 cut = refl
 
+-- the segment does not fit into a RAM of 7 bytes
 too_large : file_plan file 7 false ≡ Err SegmentOutside
 unfolding header_faults segment_faults place_faults segments_of occupying meets_reserved
 too_large = refl
 
+-- with the monitor, the segment is in the monitor's range
 reserved : file_plan file 1048576 true ≡ Err SegmentOutside
 unfolding header_faults segment_faults place_faults segments_of occupying meets_reserved
 reserved = refl

@@ -31,6 +31,7 @@ pub first_is_false : (condition : Bool) (fault : ElfFault) (rows : List (Bool ×
 first_is_false true fault rows none = absurd (grind arith)
 first_is_false false fault rows none = refl
 
+-- if no row has an error, the rows after the first have none
 pub rest_has_none : (condition : Bool) (fault : ElfFault) (rows : List (Bool × ElfFault)) → first_fault ((condition, fault) ∷ rows) ≡ None
     → first_fault rows ≡ None
 rest_has_none true fault rows none = absurd (grind arith)
@@ -66,6 +67,7 @@ in_order : (file : List ℕ) (ram_size len entry : ℕ) (monitored : Bool) (segm
 unfolding header_faults segment_faults place_faults
 in_order file ram_size len entry monitored segments others = refl
 
+-- the errors of the places are in the order of their numbers
 places_in_order : (ram_size entry : ℕ) (monitored : Bool) (segments : List Segment) → AreNumbered 9 (place_faults ram_size monitored segments entry)
 unfolding place_faults
 places_in_order ram_size entry monitored segments = refl
@@ -78,6 +80,7 @@ file_least file ram_size monitored fault some =
     (in_order file ram_size (length file) (e_entry file) monitored (segments_of file) (occupying (segments_of file)))
     some
 
+-- the error of a raw image is the first in the order
 raw_least : (len ram_size : ℕ) (monitored : Bool) (fault : ElfFault) → raw_fault len ram_size monitored ≡ Some fault
     → IsLeast (raw_faults len ram_size monitored) fault
 raw_least len ram_size monitored fault some =
@@ -86,15 +89,17 @@ raw_least len ram_size monitored fault some =
 -- a result that is the plan or this error has the error with the smallest number
 refused_least : (rows : List (Bool × ElfFault)) (found : Option ElfFault) (plan : LoadPlan) (result : Result LoadPlan ElfFault)
     → ((fault : ElfFault) → found ≡ Some fault → IsLeast rows fault) → result ≡ option_case found (Ok plan) Err → IfErr result (λ fault. IsLeast rows fault)
-refused_least rows None plan result least is = rw is tt
-refused_least rows (Some fault) plan result least is = rw is (least fault refl)
+refused_least rows None plan result least result_is = rw result_is tt
+refused_least rows (Some fault) plan result least result_is = rw result_is (least fault refl)
 
+-- an error of a file is the first in the order of the checks
 pub file_plan_least : (file : List ℕ) (ram_size : ℕ) (monitored : Bool) (result : Result LoadPlan ElfFault) → result ≡ file_plan file ram_size monitored
     → IfErr result (λ fault. IsLeast (file_faults file ram_size monitored) fault)
-file_plan_least file ram_size monitored result is =
-    refused_least (file_faults file ram_size monitored) (file_fault file ram_size monitored) _ result (file_least file ram_size monitored) is
+file_plan_least file ram_size monitored result result_is =
+    refused_least (file_faults file ram_size monitored) (file_fault file ram_size monitored) _ result (file_least file ram_size monitored) result_is
 
+-- an error of a raw image is the first in the order of the checks
 pub raw_plan_least : (len ram_size : ℕ) (monitored : Bool) (result : Result LoadPlan ElfFault) → result ≡ raw_plan len ram_size monitored
     → IfErr result (λ fault. IsLeast (raw_faults len ram_size monitored) fault)
-raw_plan_least len ram_size monitored result is =
-    refused_least (raw_faults len ram_size monitored) (raw_fault len ram_size monitored) _ result (raw_least len ram_size monitored) is
+raw_plan_least len ram_size monitored result result_is =
+    refused_least (raw_faults len ram_size monitored) (raw_fault len ram_size monitored) _ result (raw_least len ram_size monitored) result_is

@@ -20,6 +20,7 @@ Loads image plan before rest now =
     × (list_all (fits plan.image_size plan.ram_size plan.monitored) rest ≡ true)
     × (has_overlap rest ≡ false)
 
+-- before the first segment, all segments of the plan are left to load
 pub loads_begin : (image : List ℕ) (plan : LoadPlan) (before : List ℕ) → IsValidPlan plan → Loads image plan before plan.segments before
 unfolding Loads
 loads_begin image plan before valid = (refl, refl, valid.0, valid.1)
@@ -28,6 +29,7 @@ loads_begin image plan before valid = (refl, refl, valid.0, valid.1)
 inside_of : (whole sized inside apart : Bool) → (not whole && not sized && not (not (inside && apart))) ≡ true → inside ≡ true
 inside_of whole sized inside apart fit = grind (arith, common_steps)
 
+-- a segment that fits the RAM is inside it
 fits_inside : (image_size ram_size : ℕ) (monitored : Bool) (segment : Segment) → fits image_size ram_size monitored segment ≡ true
     → lies_inside ram_size segment.address segment.memory_size ≡ true
 fits_inside image_size ram_size monitored segment fit =
@@ -40,6 +42,7 @@ first_fits : (image : List ℕ) (plan : LoadPlan) (before now : List ℕ) (segme
 unfolding Loads
 first_fits image plan before now segment others loads = (and_parts (fits plan.image_size plan.ram_size plan.monitored segment) _ loads.2).0
 
+-- the other segments are left after the first one is loaded
 others_load : (image : List ℕ) (plan : LoadPlan) (before now : List ℕ) (segment : Segment) (others : List Segment)
     → Loads image plan before (segment ∷ others) now → Loads image plan before others (loaded_memory image (segment ∷ []) now)
 unfolding Loads
@@ -56,18 +59,21 @@ pub loads_size : (image : List ℕ) (plan : LoadPlan) (before now : List ℕ) (r
 unfolding Loads
 loads_size image plan before now rest loads = loads.1
 
+-- the next segment to load fits the image and the RAM
 pub loads_fits : (image : List ℕ) (plan : LoadPlan) (before now : List ℕ) (i : ℕ) (default : Segment) → i < length plan.segments
     → Loads image plan before (drop i plan.segments) now → fits plan.image_size plan.ram_size plan.monitored (slice_index_or plan.segments i default) ≡ true
 loads_fits image plan before now i default inside loads =
     first_fits image plan before now (slice_index_or plan.segments i default) (drop (i + 1) plan.segments)
     (rw (drop_more plan.segments i default inside) at loads)
 
+-- the next segment to load is inside RAM
 pub loads_inside : (image : List ℕ) (plan : LoadPlan) (before now : List ℕ) (i : ℕ) (default : Segment) → i < length plan.segments
     → Loads image plan before (drop i plan.segments) now
     → lies_inside plan.ram_size (slice_index_or plan.segments i default).address (slice_index_or plan.segments i default).memory_size ≡ true
 loads_inside image plan before now i default inside loads =
     fits_inside plan.image_size plan.ram_size plan.monitored (slice_index_or plan.segments i default) (loads_fits image plan before now i default inside loads)
 
+-- the invariant holds after one more segment is loaded
 pub loads_more : (image : List ℕ) (plan : LoadPlan) (before now : List ℕ) (i : ℕ) (default : Segment) → i < length plan.segments
     → Loads image plan before (drop i plan.segments) now
     → Loads image plan before (drop (i + 1) plan.segments) (loaded_memory image (slice_index_or plan.segments i default ∷ []) now)
@@ -75,6 +81,7 @@ loads_more image plan before now i default inside loads =
     others_load image plan before now (slice_index_or plan.segments i default) (drop (i + 1) plan.segments)
     (rw (drop_more plan.segments i default inside) at loads)
 
+-- after the last segment, the memory is that of the whole plan
 pub loads_end : (image : List ℕ) (plan : LoadPlan) (before now : List ℕ) (i : ℕ) → length plan.segments ≤ i
     → Loads image plan before (drop i plan.segments) now → now ≡ loaded_memory image plan.segments before
 unfolding Loads

@@ -38,6 +38,7 @@ loaded_at image segments memory address low high =
 
 -- ---- a segment, and the other segments after it
 
+-- an option is not both none and a segment
 none_some : (segment : Segment) (answer : Option Segment) → answer ≡ None → answer ≡ Some segment → ⊥
 none_some segment answer none some = grind arith
 
@@ -56,6 +57,7 @@ none_covers segment (other ∷ others) address none inside =
     let parts = or_parts (share_a_byte segment other) (list_any (share_a_byte segment) others) none in
     rw (not_in_other segment other address parts.0 inside) (none_covers segment others address parts.1 inside)
 
+-- if a segment shares no byte with the others, none of them has its bytes
 pub found_alone : (segment : Segment) (others : List Segment) (address : ℕ) → list_any (share_a_byte segment) others ≡ false
     → has_address address segment ≡ true
     → find (has_address address) others ≡ None
@@ -119,6 +121,7 @@ in_ram : (memory : List ℕ) (image_size address : ℕ) (monitored : Bool) (segm
     → is_inside memory address 1 ≡ true
 in_ram memory image_size address monitored segment fit inside = grind (arith, common_steps)
 
+-- an address in memory is at or above its base, and below its end
 in_ram_low : (memory : List ℕ) (address : ℕ) → is_inside memory address 1 ≡ true → (ram_base ≤ address) × (address < ram_base + length memory)
 in_ram_low memory address inside = (grind (arith, common_steps), grind (arith, common_steps))
 
@@ -134,18 +137,19 @@ byte_loaded image segments memory address inside =
       loaded_at image segments memory address bounds.0 bounds.1,
     ) refl
 
+-- no byte outside memory is loaded
 byte_outside : (image : List ℕ) (segments : List Segment) (memory : List ℕ) (address : ℕ) → is_inside memory address 1 ≡ false
     → byte_at (loaded_memory image segments memory) address ≡ byte_at memory address
 byte_outside image segments memory address outside =
     rw (byte_at-index (loaded_memory image segments memory) address, byte_at-index memory address, length-loaded_memory image segments memory, outside) refl
 
--- each byte after loading
+-- each byte after loading is that of its segment, 0, or unchanged
 pub loads_each : (image : List ℕ) (plan : LoadPlan) (old : List ℕ) → IsValidPlan plan → length old ≡ plan.ram_size
     → LoadsEach image plan.segments old (loaded_memory image plan.segments old)
-loads_each image plan old valid size = record {
+loads_each image plan old valid length_is = record {
   size = length-loaded_memory image plan.segments old;
   inside = λ segment address contains covered.
-      let fit = rw (sym size) at (all_at (fits plan.image_size plan.ram_size plan.monitored) plan.segments segment valid.0 contains) in
+      let fit = rw (sym length_is) at (all_at (fits plan.image_size plan.ram_size plan.monitored) plan.segments segment valid.0 contains) in
       byte_loaded image plan.segments old address (in_ram old plan.image_size address plan.monitored segment fit covered)
       ∙ rw (found plan.segments segment address valid.1 contains covered) refl;
   elsewhere = λ address none. elim (cases_Bool (is_inside old address 1)) [
@@ -161,6 +165,7 @@ loads_each image plan old valid size = record {
 apart_of : (whole sized inside met : Bool) → (not whole && not sized && not (not (inside && not met))) ≡ true → met ≡ false
 apart_of whole sized inside met fit = grind (arith, common_steps)
 
+-- a segment that fits has no reserved address
 none_reserved : (image_size ram_size address : ℕ) (monitored : Bool) (segment : Segment) → fits image_size ram_size monitored segment ≡ true
     → is_reserved monitored address ≡ true → has_address address segment ≡ false
 none_reserved image_size ram_size address monitored segment fit reserved =
@@ -173,17 +178,18 @@ none_reserved image_size ram_size address monitored segment fit reserved =
       | inr outside ↦ outside
     ]
 
+-- no segment that fits has a reserved address
 none_have : (image_size ram_size address : ℕ) (monitored : Bool) (segments : List Segment) → list_all (fits image_size ram_size monitored) segments ≡ true
     → is_reserved monitored address ≡ true → list_any (has_address address) segments ≡ false
 none_have image_size ram_size address monitored [] fit reserved = refl
 none_have image_size ram_size address monitored (segment ∷ segments) fit reserved =
-    let both = and_parts (fits image_size ram_size monitored segment) _ fit in
-    or_from (has_address address segment) _ (none_reserved image_size ram_size address monitored segment both.0 reserved)
-    (none_have image_size ram_size address monitored segments both.1 reserved)
+    let parts = and_parts (fits image_size ram_size monitored segment) _ fit in
+    or_from (has_address address segment) _ (none_reserved image_size ram_size address monitored segment parts.0 reserved)
+    (none_have image_size ram_size address monitored segments parts.1 reserved)
 
 -- loading does not change the reserved bytes
 pub keeps_reserved : (image : List ℕ) (plan : LoadPlan) (old : List ℕ) → IsValidPlan plan → length old ≡ plan.ram_size
     → KeepsReserved plan.monitored old (loaded_memory image plan.segments old)
-keeps_reserved image plan old valid size = λ address reserved.
-    (loads_each image plan old valid size).elsewhere address
+keeps_reserved image plan old valid length_is = λ address reserved.
+    (loads_each image plan old valid length_is).elsewhere address
     (none_have plan.image_size plan.ram_size address plan.monitored plan.segments valid.0 reserved)

@@ -40,6 +40,7 @@ all_fit image_size ram_size monitored (segment ∷ segments) whole sized inside 
 entry_aligned : (entry : ℕ) (placed : Bool) → (not (entry % 4 == 0) || not placed) ≡ false → entry % 4 ≡ 0
 entry_aligned entry placed good = grind (arith, common_steps)
 
+-- an entry without an error is in the memory that an image may use
 entry_placed : (aligned placed : Bool) → (not aligned || not placed) ≡ false → placed ≡ true
 entry_placed aligned placed good = grind (arith, common_steps)
 
@@ -86,6 +87,7 @@ raw_has_none len monitored = grind (arith, common_steps)
 abbrev file_place_faults : List ℕ → ℕ → Bool → List (Bool × ElfFault)
 file_place_faults file ram_size monitored = place_faults ram_size monitored (occupying (segments_of file)) (e_entry file)
 
+-- the errors after those of the header
 abbrev later_faults : List ℕ → ℕ → Bool → List (Bool × ElfFault)
 later_faults file ram_size monitored = segment_faults (length file) (segments_of file) ++ file_place_faults file ram_size monitored
 
@@ -97,6 +99,7 @@ unfolding header_faults
 header_fault_first file ram_size monitored fault some =
     rw (some_before (header_faults file) (later_faults file ram_size monitored) fault some) refl
 
+-- without an error in the header, the first error of the segments is that of the file
 pub segment_fault_first : (file : List ℕ) (ram_size : ℕ) (monitored : Bool) (fault : ElfFault) → first_fault (header_faults file) ≡ None
     → first_fault (segment_faults (length file) (segments_of file)) ≡ Some fault → file_plan file ram_size monitored ≡ Err fault
 unfolding header_faults
@@ -106,6 +109,7 @@ segment_fault_first file ram_size monitored fault none some =
       some_before (segment_faults (length file) (segments_of file)) (file_place_faults file ram_size monitored) fault some,
     ) refl
 
+-- without an error in the header or the segments, the first error of the places is that of the file
 pub place_fault_first : (file : List ℕ) (ram_size : ℕ) (monitored : Bool) (fault : ElfFault) → first_fault (header_faults file) ≡ None
     → first_fault (segment_faults (length file) (segments_of file)) ≡ None
     → first_fault (file_place_faults file ram_size monitored) ≡ Some fault → file_plan file ram_size monitored ≡ Err fault

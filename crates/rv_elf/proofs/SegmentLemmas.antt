@@ -31,8 +31,9 @@ more file count =
 -- the segments if this header is of a segment to load, and if it is not
 pub with_load : (file : List ℕ) (count : ℕ) → p_type file (place_of file count) ≡ 1
     → first_segments file (count + 1) ≡ first_segments file count ++ segment_at file (place_of file count) ∷ []
-with_load file count is = more file count ∙ rw (eq-eqb (p_type file (place_of file count)) 1 is) refl
+with_load file count p_type_is = more file count ∙ rw (eq-eqb (p_type file (place_of file count)) 1 p_type_is) refl
 
+-- a program header of another type than PT_LOAD adds no segment
 pub without_load : (file : List ℕ) (count : ℕ) → p_type file (place_of file count) ≢ 1 → first_segments file (count + 1) ≡ first_segments file count
 without_load file count other = more file count ∙ rw (ne_eqb (p_type file (place_of file count)) 1 other) (append-nil (first_segments file count))
 
@@ -43,6 +44,7 @@ unfolding occupying
 with_occupying segments i default inside takes =
     filter_more (λ segment. not (has_no_bytes segment)) segments i default inside ∙ rw (ne_eqb (slice_index_or segments i default).memory_size 0 takes) refl
 
+-- a segment without bytes in memory is not among those that occupy memory
 pub without_occupying : (segments : List Segment) (i : ℕ) (default : Segment) → i < length segments → (slice_index_or segments i default).memory_size ≡ 0
     → occupying (take (i + 1) segments) ≡ occupying (take i segments)
 unfolding occupying
@@ -50,6 +52,7 @@ without_occupying segments i default inside none =
     filter_more (λ segment. not (has_no_bytes segment)) segments i default inside
     ∙ rw (eq-eqb (slice_index_or segments i default).memory_size 0 none) (append-nil (filter (λ segment. not (has_no_bytes segment)) (take i segments)))
 
+-- no segments occupy no memory
 pub occupying_none : occupying [] ≡ []
 unfolding occupying
 occupying_none = refl

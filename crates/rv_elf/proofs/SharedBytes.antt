@@ -5,6 +5,7 @@ use Rattle.rv_pmp.proofs.VerdictLemmas.{any_at, any_none, none_from_any}
 use Rattle.rv_elf.specs.declared.segment.Segment.{Segment}
 use Rattle.rv_elf.specs.Segments.{has_address, share_a_byte}
 
+-- two segments share a byte if the higher start is below the lower end
 pub shared : (one other : Segment) → max one.address other.address < min (one.address + one.memory_size) (other.address + other.memory_size)
     → share_a_byte one other ≡ true
 unfolding share_a_byte
@@ -12,10 +13,12 @@ shared one other meet =
     any_at (λ address. has_address address other) one.address one.memory_size (max one.address other.address)
     (grind (arith, common_steps)) (grind (arith, common_steps)) (grind (arith, common_steps))
 
+-- an address of one segment is not in the other, if the ranges do not meet
 outside : (one other : Segment) (address : ℕ) → min (one.address + one.memory_size) (other.address + other.memory_size) ≤ max one.address other.address
     → one.address ≤ address → address < one.address + one.memory_size → has_address address other ≡ false
 outside one other address apart low high = grind (arith, common_steps)
 
+-- two segments share no byte if the higher start is not below the lower end
 pub unshared : (one other : Segment) → min (one.address + one.memory_size) (other.address + other.memory_size) ≤ max one.address other.address
     → share_a_byte one other ≡ false
 unfolding share_a_byte

@@ -14,14 +14,17 @@ in_second : (memory part : List ℕ) (index size k : ℕ) → length part ≤ si
     → slice_index (write_bytes (write_bytes memory index (replicate size 0)) index part) k ≡ slice_index part (k - index)
 in_second memory part index size k shorter within low high = grind (arith, common_steps)
 
+-- a byte after the part is 0, in the range that was zeroed
 behind_second : (memory part : List ℕ) (index size k : ℕ) → length part ≤ size → index + size ≤ length memory → index + length part ≤ k → k < index + size
     → slice_index (write_bytes (write_bytes memory index (replicate size 0)) index part) k ≡ 0
 behind_second memory part index size k shorter within low high = grind (arith, common_steps)
 
+-- a byte below the range is unchanged
 below_both : (memory part : List ℕ) (index size k : ℕ) → length part ≤ size → index + size ≤ length memory → k < index
     → slice_index (write_bytes (write_bytes memory index (replicate size 0)) index part) k ≡ slice_index memory k
 below_both memory part index size k shorter within low = grind (arith, common_steps)
 
+-- a byte above the range is unchanged
 above_both : (memory part : List ℕ) (index size k : ℕ) → length part ≤ size → index + size ≤ length memory → index + size ≤ k
     → slice_index (write_bytes (write_bytes memory index (replicate size 0)) index part) k ≡ slice_index memory k
 above_both memory part index size k shorter within high = grind (arith, common_steps)
@@ -33,15 +36,18 @@ part_byte : (image memory : List ℕ) (segment : Segment) (k : ℕ) → ram_base
     ≡ slice_index (take segment.file_size (drop segment.offset image)) (k - (segment.address - ram_base))
 part_byte image memory segment k above sized low high = grind (arith, common_steps)
 
+-- a byte of the segment after its part of the file is 0
 zero_byte : (image memory : List ℕ) (segment : Segment) (k : ℕ) → segment.address + segment.file_size ≤ ram_base + k
     → ram_base + k < segment.address + segment.memory_size
     → byte_after image (segment ∷ []) memory (ram_base + k) ≡ 0
 zero_byte image memory segment k low high = grind (arith, common_steps)
 
+-- a byte below the segment is unchanged
 byte_below : (image memory : List ℕ) (segment : Segment) (k : ℕ) → ram_base + k < segment.address
     → byte_after image (segment ∷ []) memory (ram_base + k) ≡ slice_index memory k
 byte_below image memory segment k low = grind (arith, common_steps)
 
+-- a byte above the segment is unchanged
 byte_above : (image memory : List ℕ) (segment : Segment) (k : ℕ) → segment.address + segment.memory_size ≤ ram_base + k
     → byte_after image (segment ∷ []) memory (ram_base + k) ≡ slice_index memory k
 byte_above image memory segment k high = grind (arith, common_steps)
@@ -52,7 +58,7 @@ same_byte : (image memory part : List ℕ) (segment : Segment) (k : ℕ) → par
     → segment.file_size ≤ segment.memory_size → ram_base ≤ segment.address → segment.address + segment.memory_size ≤ ram_base + length memory
     → slice_index (write_bytes (write_bytes memory (segment.address - ram_base) (replicate segment.memory_size 0)) (segment.address - ram_base) part) k
     ≡ byte_after image (segment ∷ []) memory (ram_base + k)
-same_byte image memory part segment k is len sized low high =
+same_byte image memory part segment k part_is len sized low high =
     let index = segment.address - ram_base in
     let size = segment.memory_size in
     let shorter : length part ≤ size = omega (arith, len, sized) in
@@ -61,7 +67,7 @@ same_byte image memory part segment k is len sized low high =
       | inl before ↦ below_both memory part index size k shorter within before ∙ sym (byte_below image memory segment k (omega (arith, before, low)))
       | inr from ↦ elim (cases_lt k (index + length part)) [
         | inl in_part ↦ in_second memory part index size k shorter within from in_part
-            ∙ rw is (sym (part_byte image memory segment k low sized (omega (arith, from, low)) (omega (arith, in_part, len, low))))
+            ∙ rw part_is (sym (part_byte image memory segment k low sized (omega (arith, from, low)) (omega (arith, in_part, len, low))))
         | inr behind ↦ elim (cases_lt k (index + size)) [
           | inl in_zeros ↦ behind_second memory part index size k shorter within behind in_zeros
               ∙ sym (zero_byte image memory segment k (omega (arith, behind, len, low)) (omega (arith, in_zeros, low)))
@@ -75,7 +81,7 @@ pub written : (image memory between after : List ℕ) (segment : Segment) (part 
     → length part ≡ segment.file_size → segment.file_size ≤ segment.memory_size
     → write memory segment.address (replicate segment.memory_size 0) ≡ Some between → write between segment.address part ≡ Some after
     → after ≡ loaded_memory image (segment ∷ []) memory
-written image memory between after segment part is len sized zeroed put =
+written image memory between after segment part part_is len sized zeroed put =
     let zeros : List ℕ = replicate segment.memory_size 0 in
     let index = segment.address - ram_base in
     let one = write-is memory segment.address zeros between zeroed in
@@ -86,7 +92,7 @@ written image memory between after segment part is len sized zeroed put =
     let after_is : after ≡ write_bytes (write_bytes memory index zeros) index part = two.2 ∙ rw one.2 refl in
     same_number_lists after (loaded_memory image (segment ∷ []) memory) (sizes ∙ sym (length-loaded_memory image (segment ∷ []) memory))
     (λ k below. let inside : k < length memory = rw sizes at below in
-    let same = same_byte image memory part segment k is len sized one.0 high in
+    let same = same_byte image memory part segment k part_is len sized one.0 high in
     let at = loaded_at image (segment ∷ []) memory (ram_base + k) (omega arith) (omega (arith, inside)) in
     let place : ram_base + k - ram_base ≡ k = omega arith in
     ap (λ xs. slice_index xs k) after_is ∙ same ∙ sym at ∙ ap (slice_index (loaded_memory image (segment ∷ []) memory)) place)

@@ -11,6 +11,7 @@ use Rattle.rv_elf.specs.Fields.{magic, et_exec, em_riscv, class_data_version, ei
 use Rattle.rv_elf.specs.Places.{first_address, has_place}
 use Rattle.rv_elf.specs.Segments.{segments_of, occupying, raw_segments, is_truncated, is_oversized, is_outside, has_overlap}
 
+-- a number for each kind of error, by which errors are compared
 abbrev pub elf_fault_number : ElfFault → ℕ
 elf_fault_number Truncated = 1
 elf_fault_number NotElf = 2
@@ -46,12 +47,14 @@ header_faults file =
     ∷ (has_bad_table file, BadHeader)
     ∷ []
 
+-- the errors of the segments by themselves, in the order in which they are checked
 unfoldable pub segment_faults : ℕ → List Segment → List (Bool × ElfFault)
 segment_faults len segments =
     (list_any (is_truncated len) segments, SegmentTruncated)
     ∷ (list_any is_oversized segments, SegmentSizes)
     ∷ []
 
+-- the errors of the places of segments and entry in memory, in the order in which they are checked
 unfoldable pub place_faults : ℕ → Bool → List Segment → ℕ → List (Bool × ElfFault)
 place_faults ram_size monitored segments entry =
     (list_any (is_outside ram_size monitored) segments, SegmentOutside)

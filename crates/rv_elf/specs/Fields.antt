@@ -7,6 +7,7 @@ use Rattle.rv_memory.specs.Memory.{number_of_bytes}
 abbrev pub half_at : List ℕ → ℕ → ℕ
 half_at file place = number_of_bytes (take 2 (drop place file))
 
+-- the number of the four bytes at an offset in the file, the lowest byte first
 abbrev pub word_at : List ℕ → ℕ → ℕ
 word_at file place = number_of_bytes (take 4 (drop place file))
 
@@ -34,21 +35,27 @@ pt_load = 1
 abbrev pub ei_class_data_version : List ℕ → List ℕ
 ei_class_data_version file = take 3 (drop 4 file)
 
+-- e_type: bytes 16 and 17 of the header
 abbrev pub e_type : List ℕ → ℕ
 e_type file = half_at file 16
 
+-- e_machine: bytes 18 and 19 of the header
 abbrev pub e_machine : List ℕ → ℕ
 e_machine file = half_at file 18
 
+-- e_entry: the address of the first instruction, bytes 24 to 27
 abbrev pub e_entry : List ℕ → ℕ
 e_entry file = word_at file 24
 
+-- e_phoff: the offset of the program header table, bytes 28 to 31
 abbrev pub e_phoff : List ℕ → ℕ
 e_phoff file = word_at file 28
 
+-- e_phentsize: the size of a program header, bytes 42 and 43
 abbrev pub e_phentsize : List ℕ → ℕ
 e_phentsize file = half_at file 42
 
+-- e_phnum: the number of program headers, bytes 44 and 45
 abbrev pub e_phnum : List ℕ → ℕ
 e_phnum file = half_at file 44
 
@@ -56,15 +63,19 @@ e_phnum file = half_at file 44
 abbrev pub p_type : List ℕ → ℕ → ℕ
 p_type file place = word_at file place
 
+-- p_offset: the offset of the segment in the file
 abbrev pub p_offset : List ℕ → ℕ → ℕ
 p_offset file place = word_at file (place + 4)
 
+-- p_paddr: the physical address of the segment
 abbrev pub p_paddr : List ℕ → ℕ → ℕ
 p_paddr file place = word_at file (place + 12)
 
+-- p_filesz: the number of bytes of the segment in the file
 abbrev pub p_filesz : List ℕ → ℕ → ℕ
 p_filesz file place = word_at file (place + 16)
 
+-- p_memsz: the number of bytes of the segment in memory
 abbrev pub p_memsz : List ℕ → ℕ → ℕ
 p_memsz file place = word_at file (place + 20)
 

@@ -1,7 +1,7 @@
 -- The addresses that an image may use: those in RAM, except, with a monitor, the range that the monitor reserves for itself. (Keystone, EuroSys
 -- 2020, in this project's profile. No public standard defines the range.)
 use Rattle.std.specs.Prelude.{ℕ, ◌+◌, Bool, not, ◌&&◌, nat_le, if◌then◌else◌}
-use Rattle.rv_platform.specs.Blocks.{has, meets, monitor_block}
+use Rattle.rv_memory.specs.Blocks.{has, meets, monitor_block}
 use Rattle.rv_memory.specs.Memory.{ram_base}
 
 -- the reserved addresses: with a monitor, those that the monitor reserves for itself

@@ -4,8 +4,7 @@ ghost use Rattle.std.specs.Prelude.{◌≡◌};
 ghost use Rattle.rv_elf.specs.Places.{first_address as first_address_of, has_place as has_place_of, lies_inside as lies_inside_of};
 ghost use Rattle.rv_elf.specs.Places.{meets_reserved as meets_reserved_of};
 
-use rv_memory::RAM_BASE;
-use rv_platform::{Block, monitor_block};
+use rv_memory::{Block, RAM_BASE, monitor_block};
 
 /// Returns the first address that an image may use: 80000000, the start of RAM, or 80010000 if a monitor is below it.
 pub(crate) fn first_address(monitored: bool) -> u32

@@ -25,11 +25,13 @@ use Rattle.rv_enclaves.proofs.Owners.{covers_slot, covers_window, covers_host, h
 
 -- ---- verdicts in S and U
 
+-- below mode M, an access without a matching entry is denied
 no_match_refuses : (mode : Mode) → mode ≢ M → permits (no_match_verdict mode) ≡ false
 no_match_refuses U below = refl
 no_match_refuses S below = refl
 no_match_refuses M below = absurd (below refl)
 
+-- below mode M, an entry grants what its permissions are
 grants-below_M : (mode : Mode) (access : Access) (cfg : ℕ) → mode ≢ M → grants mode access cfg ≡ has_permission access cfg
 grants-below_M U access cfg below = refl
 grants-below_M S access cfg below = refl
@@ -46,16 +48,19 @@ permits-match_verdict e mode access i true = elim (cases_Bool (grants mode acces
 
 -- ---- the permissions of each entry's cfg byte
 
+-- an entry without permissions permits nothing
 nothing_given : (access : Access) → has_permission access nothing_cfg ≡ false
 nothing_given Fetch = refl
 nothing_given Read = refl
 nothing_given Write = refl
 
+-- an entry that is off permits nothing
 unused_gives : (access : Access) → has_permission access 0 ≡ false
 unused_gives Fetch = refl
 unused_gives Read = refl
 unused_gives Write = refl
 
+-- an entry with R, W and X permits everything
 all_given : (access : Access) → has_permission access all_cfg ≡ true
 all_given Fetch = refl
 all_given Read = refl
@@ -76,15 +81,18 @@ slot_gives_all : (w : World) (k : ℕ) (o : Option SlotInfo) (access : Access) (
 slot_gives_all w k None access b own held = absurd (both_ways _ (has_nothing b) held)
 slot_gives_all w k (Some s) access b own held = rw own (all_given access)
 
+-- an entry with R and W permits loads and stores
 read_or_write : (access : Access) → access ≢ Fetch → has_permission access read_write ≡ true
 read_or_write Fetch other = absurd (other refl)
 read_or_write Read other = refl
 read_or_write Write other = refl
 
+-- entry 15 permits everything to the host
 host_gives : (w : World) (access : Access) → is_host w ≡ true → has_permission access (host_entry w).cfg ≡ true
 host_gives Host access host = all_given access
 host_gives (Enclave k) access host = absurd (false≢true host)
 
+-- entry 15 permits something to the host only
 host_gives_to_host : (w : World) (access : Access) → has_permission access (host_entry w).cfg ≡ true → is_host w ≡ true
 host_gives_to_host Host access given = refl
 host_gives_to_host (Enclave k) access given = absurd (both_ways _ (unused_gives access) given)
@@ -107,15 +115,18 @@ window_gives (Some s) access b other held =
 
 -- ---- accessible memory, by world
 
+-- a world that is enclave k by the test is enclave k
 world_is : (k : ℕ) (w : World) → is_world_of k w ≡ true → w ≡ Enclave k
 world_is k Host own = absurd (false≢true own)
 world_is k (Enclave j) own = ap Enclave (eqb-true j k own)
 
+-- bytes of the region are accessible to its enclave
 region_reaches : (memory : List ℕ) (t : Slots) (w : World) (access : Access) (bytes : List ℕ) (k : ℕ) → is_world_of k w ≡ true
     → list_all (has (region t k)) bytes ≡ true → is_accessible memory t w access bytes ≡ true
 unfolding is_accessible
 region_reaches memory t w access bytes k own all = rw (world_is k w own) (or_left _ _ all)
 
+-- bytes of the window are accessible to its enclave, if entry 14 permits the access
 window_reaches : (memory : List ℕ) (t : Slots) (w : World) (access : Access) (bytes : List ℕ)
     → has_permission access (window_entry t w).cfg ≡ true → list_all (has (world_window t w)) bytes ≡ true
     → is_accessible memory t w access bytes ≡ true
@@ -125,6 +136,7 @@ window_reaches memory t (Enclave k) Fetch bytes given all = absurd (both_ways _ 
 window_reaches memory t (Enclave k) Read bytes given all = or_right _ _ (or_left _ _ all)
 window_reaches memory t (Enclave k) Write bytes given all = or_right _ _ (or_left _ _ all)
 
+-- bytes that the host has are accessible to it
 host_reaches : (memory : List ℕ) (t : Slots) (w : World) (access : Access) (bytes : List ℕ) → is_host w ≡ true
     → list_all (host_has memory t) bytes ≡ true → is_accessible memory t w access bytes ≡ true
 unfolding is_accessible
@@ -149,6 +161,7 @@ reach_cases memory t (Enclave k) Write bytes accessible = elim (or_cases _ _ acc
   | inr window ↦ elim (or_cases _ _ window) [ inl all ↦ inr (k, refl, inr (λ e. cc, all)) | inr none ↦ absurd (false≢true none) ]
 ]
 
+-- an address in RAM is inside memory
 inside_from : (memory : List ℕ) (b : ℕ) → ram_base ≤ b → b < ram_base + length memory → is_inside memory b 1 ≡ true
 inside_from memory b low high = and_from _ _ (le-leb ram_base b low) (le-leb (b + 1) (ram_base + length memory) (omega arith))
 
@@ -162,6 +175,7 @@ place_cases i in_range = elim (cases_eq i 0) [
   ]
 ]
 
+-- the host has no window
 no_window : (t : Slots) (w : World) (b : ℕ) → is_host w ≡ true → has (world_window t w) b ≡ false
 no_window t Host b host = has_nothing b
 no_window t (Enclave k) b host = absurd (false≢true host)
@@ -202,12 +216,15 @@ accessible_apart memory t w access a n k valid other accessible b low high =
 
 module _ (memory : List ℕ) (t : Slots) (w : World) (mode : Mode) (access : Access) (a n : ℕ) (ram_size : length memory ≤ 0x1000000)
     (valid : IsValid memory t) (below : mode ≢ M) (some : 0 < n) (inside : (ram_base ≤ a) × (a + n ≤ ram_base + length memory)) where
+  -- the entries of the layout
   abbrev entries : Entries
   entries = layout t w
 
+  -- the regions share no bytes with each other or with windows
   apart_bytes : IsApart t
   apart_bytes = apart memory t valid
 
+  -- the n bytes from address a on
   abbrev bytes : List ℕ
   bytes = bytes_from a n
 
@@ -215,30 +232,39 @@ module _ (memory : List ℕ) (t : Slots) (w : World) (mode : Mode) (access : Acc
   all_slot : (k : ℕ) → k < 13 → list_all (covers entries (k + 1)) bytes ≡ list_all (has (region t k)) bytes
   all_slot k in_range = same_all _ _ a n (λ b low high. covers_slot memory t w ram_size valid b k in_range)
 
+  -- entry k + 1 matches some byte if and only if some byte is in the region of slot k
   any_slot : (k : ℕ) → k < 13 → list_any (covers entries (k + 1)) bytes ≡ list_any (has (region t k)) bytes
   any_slot k in_range = same_any _ _ a n (λ b low high. covers_slot memory t w ram_size valid b k in_range)
 
+  -- entry 0 matches some byte if and only if some byte is in the monitor's range
   any_monitor : list_any (covers entries 0) bytes ≡ list_any (has monitor_block) bytes
   any_monitor = same_any _ _ a n (λ b low high. covers_monitor memory t w ram_size valid b)
 
+  -- entry 14 matches all bytes if and only if all are in the window
   all_window : list_all (covers entries 14) bytes ≡ list_all (has (world_window t w)) bytes
   all_window = same_all _ _ a n (λ b low high. covers_window memory t w ram_size valid b)
 
+  -- entry 14 matches some byte if and only if some byte is in the window
   any_window : list_any (covers entries 14) bytes ≡ list_any (has (world_window t w)) bytes
   any_window = same_any _ _ a n (λ b low high. covers_window memory t w ram_size valid b)
 
+  -- an entry grants the access by the permissions of its cfg byte
   given_at : (i : ℕ) (cfg : ℕ) → cfg_of entries i ≡ cfg → grants mode access (cfg_of entries i) ≡ has_permission access cfg
-  given_at i cfg is = grants-below_M mode access _ below ∙ ap (has_permission access) is
+  given_at i cfg cfg_of_is = grants-below_M mode access _ below ∙ ap (has_permission access) cfg_of_is
 
+  -- the cfg byte of entry k + 1 is that of slot k
   cfg_of-slot : (k : ℕ) → k < 13 → cfg_of entries (k + 1) ≡ (region_entry w k (slot_at t k)).cfg
   cfg_of-slot k in_range = cfg_of-layout t w (k + 1) (omega arith) ∙ ap (λ (x : Entry). x.cfg) (entry_at-slot t w k in_range)
 
+  -- the cfg byte of entry 0 has no permission
   cfg_of-monitor : cfg_of entries 0 ≡ nothing_cfg
   cfg_of-monitor = cfg_of-layout t w 0 (lit< tt) ∙ ap (λ (x : Entry). x.cfg) (entry_at-monitor t w)
 
+  -- the cfg byte of entry 14 is that of the window
   cfg_of-window : cfg_of entries 14 ≡ (window_entry t w).cfg
   cfg_of-window = cfg_of-layout t w 14 (lit< tt) ∙ ap (λ (x : Entry). x.cfg) (entry_at-window t w)
 
+  -- the cfg byte of entry 15 is that of the host's entry
   cfg_of-host : cfg_of entries 15 ≡ (host_entry w).cfg
   cfg_of-host = cfg_of-layout t w 15 (lit< tt) ∙ ap (λ (x : Entry). x.cfg) (entry_at-host t w)
 
@@ -252,9 +278,10 @@ module _ (memory : List ℕ) (t : Slots) (w : World) (mode : Mode) (access : Acc
       let in_ram : is_inside memory b 1 ≡ true = inside_from memory b (omega (arith, inside.0)) (omega (arith, inside.1)) in
       and_from _ _ in_ram (and_from _ _ (ap not no_monitor) (ap not no_region)))
 
+  -- bytes that the first matching entry covers and grants are accessible
   accessible_by : (i : ℕ) → IsFirst (λ j. list_any (covers entries j) bytes) 0 16 i → list_all (covers entries i) bytes ≡ true
       → grants mode access (cfg_of entries i) ≡ true → is_accessible memory t w access bytes ≡ true
-  accessible_by i is covered given = elim (place_cases i is.high) [
+  accessible_by i first_match covered given = elim (place_cases i first_match.high) [
     | inl first ↦
         let given' = rw first at given in
         absurd (both_ways _ (nothing_given access) (sym (given_at 0 _ cfg_of-monitor) ∙ given'))
@@ -275,11 +302,12 @@ module _ (memory : List ℕ) (t : Slots) (w : World) (mode : Mode) (access : Acc
             let given' = rw host at given in
             host_reaches memory t w access bytes
             (host_gives_to_host w access (sym (given_at 15 _ cfg_of-host) ∙ given'))
-            (host_set (λ j before. is.first j (omega arith) (omega arith)))
+            (host_set (λ j before. first_match.first j (omega arith) (omega arith)))
       ]
     ]
   ]
 
+  -- a permitted access is accessible
   there : permits (verdict entries mode access bytes) ≡ true → is_accessible memory t w access bytes ≡ true
   there permitted = elim (verdict_cases entries mode access bytes) [
     | inl found ↦
@@ -301,6 +329,7 @@ module _ (memory : List ℕ) (t : Slots) (w : World) (mode : Mode) (access : Acc
       ∙ permits-match_verdict entries mode access i _
       ∙ and_from _ _ covered given
 
+  -- the host's accessible bytes are permitted by entry 15
   done_by_host : is_host w ≡ true → list_all (host_has memory t) bytes ≡ true → permits (verdict entries mode access bytes) ≡ true
   done_by_host host all =
       let held : (b : ℕ) → a ≤ b → b < a + n → (has monitor_block b ≡ false) × (is_in_region t b ≡ false) = λ b low high.
@@ -323,6 +352,7 @@ module _ (memory : List ℕ) (t : Slots) (w : World) (mode : Mode) (access : Acc
         ]
       ])
 
+  -- the bytes of the enclave's region are permitted by its entry
   done_by_region : (k : ℕ) → w ≡ Enclave k → list_all (has (region t k)) bytes ≡ true → permits (verdict entries mode access bytes) ≡ true
   done_by_region k own all =
       let held = each_from_all (has (region t k)) a n all in
@@ -344,6 +374,7 @@ module _ (memory : List ℕ) (t : Slots) (w : World) (mode : Mode) (access : Acc
         ]
       ])
 
+  -- loads and stores of the enclave's window are permitted by entry 14
   done_by_window : (k : ℕ) → w ≡ Enclave k → access ≢ Fetch → list_all (has (window t k)) bytes ≡ true
       → permits (verdict entries mode access bytes) ≡ true
   done_by_window k own other all =
@@ -361,6 +392,7 @@ module _ (memory : List ℕ) (t : Slots) (w : World) (mode : Mode) (access : Acc
         ]
       ])
 
+  -- an accessible access is permitted
   back : is_accessible memory t w access bytes ≡ true → permits (verdict entries mode access bytes) ≡ true
   back accessible = elim (reach_cases memory t w access bytes accessible) [
     | inl host ↦ done_by_host host.0 host.1
@@ -370,37 +402,43 @@ module _ (memory : List ℕ) (t : Slots) (w : World) (mode : Mode) (access : Acc
     ]
   ]
 
+  -- the PMP entries of a world permit S and U exactly the accesses that are accessible to the world
   pub reach_from : permits (verdict entries mode access bytes) ≡ is_accessible memory t w access bytes
   reach_from = same_test _ _ there back
 
-  -- therefore no permitted access has a byte in another enclave's region
+  -- no permitted access of a world has a byte in the region of another enclave
   pub permitted_apart : (k : ℕ) → is_world_of k w ≡ false → permits (verdict entries mode access bytes) ≡ true → (b : ℕ) → a ≤ b
       → b < a + n → has (region t k) b ≡ false
   permitted_apart k other permitted = accessible_apart memory t w access a n k valid other (there permitted)
 
 -- ---- the laws
 
+-- every width has at least one byte
 pub some_bytes : (width : Width) → 0 < bytes_in width
 some_bytes Byte = lit< tt
 some_bytes Half = lit< tt
 some_bytes Word = lit< tt
 
+-- a RAM of a permitted size has at most 16 MiB
 pub small_ram : (memory : List ℕ) → is_ram_size (length memory) ≡ true → length memory ≤ 0x1000000
-small_ram memory is =
-    let parts = and_parts (length memory % 65536 == 0 && nat_le 65536 (length memory)) (nat_le (length memory) 16777216) is in
+small_ram memory ram_size =
+    let parts = and_parts (length memory % 65536 == 0 && nat_le 65536 (length memory)) (nat_le (length memory) 16777216) ram_size in
     leb-true (length memory) 16777216 parts.1
 
+-- bytes inside memory begin at or above its base and end at or below its end
 pub inside_is : (m : List ℕ) (address count : ℕ) → is_inside m address count ≡ true
     → (ram_base ≤ address) × (address + count ≤ ram_base + length m)
 inside_is m address count inside =
     let parts = and_parts (nat_le ram_base address) (nat_le (address + count) (ram_base + length m)) inside in
     (leb-true _ _ parts.0, leb-true _ _ parts.1)
 
+-- proves that the layout permits exactly the accessible accesses
 pub reach_law : LayoutAccessLaw
 reach_law memory slots world mode access address width valid below inside =
     reach_from memory slots world mode access address (bytes_in width) (small_ram memory valid.ram) valid below (some_bytes width)
     (inside_is memory address (bytes_in width) inside)
 
+-- proves that no permitted access of S or U has a byte in the region of another enclave
 pub apart_law : ApartLaw
 apart_law memory slots world mode access address width k byte valid below inside other permitted low high =
     let apart = permitted_apart memory slots world mode access address (bytes_in width) (small_ram memory valid.ram) valid below (some_bytes width)

@@ -16,7 +16,7 @@ use Rattle.rv_enclaves.proofs.Prelude.{Slots, context_at, created, destroyed, fi
 use Rattle.rv_enclaves.proofs.Prelude.{measured, measurement_at, measurement_of, meets, new_slot, option_case, recorded, region, region_of, slot_at}
 use Rattle.rv_enclaves.proofs.Prelude.{with_bytes_at, with_context, with_slot, with_state, zeroed}
 use Rattle.rv_enclaves.proofs.EqualMemory.{IsSeen, inside-is, same_read, read-none, write-alike, zeros-alike}
-use Rattle.rv_platform.proofs.BlockLaws.{meets_at}
+use Rattle.rv_memory.proofs.BlockLaws.{meets_at}
 use Rattle.rv_enclaves.proofs.SavedLists.{same_at_set, same_after_set, length_after}
 use Rattle.rv_enclaves.proofs.Refusals.{MayCreate, IsTaken}
 use Rattle.rv_enclaves.proofs.Slots.{at_other, at_same, free_from}
@@ -33,6 +33,7 @@ itself e shared = record {
   gone = λ dead. refl;
 }
 
+-- equal shared states are equivalent except for e
 pub equal_agree : (e : ℕ) (one other : Shared) → one ≡ other → SharedEquivExcept e one other
 equal_agree e one other same = subst (SharedEquivExcept e one) same (itself e one)
 
@@ -44,6 +45,7 @@ same_contexts e cs ds saved own = same_lists cs ds saved.size (λ k d inside.
     ∙ elim (cases_eq k e) [ inl is ↦ rw is own | inr other ↦ saved.others k other ]
     ∙ sym (get_or_default ds k d None inside'))
 
+-- the same new context of slot k leaves the contexts equal except for e
 contexts_with : (e : ℕ) (cs ds : Contexts) (k : ℕ) (c : Option Context) → SameContexts e cs ds
     → SameContexts e (with_context cs k c) (with_context ds k c)
 contexts_with e cs ds k c saved = record {
@@ -60,6 +62,7 @@ seen_block p q apart b low high = elim (cases_Bool (has q b)) [
       absurd (both_ways _ apart (meets_at p q b in_p hidden))
 ]
 
+-- a read without hidden bytes is equal in both memories
 read_alike : (hidden : ℕ → Bool) (m n : List ℕ) (address count : ℕ) → EqualOutside hidden m n → IsSeen hidden address count
     → read m address count ≡ read n address count
 read_alike hidden m n address count equiv seen = elim (cases_Bool (is_inside m address count)) [
@@ -73,9 +76,11 @@ read_alike hidden m n address count equiv seen = elim (cases_Bool (is_inside m a
 
 module _ (e : ℕ) (table : Slots) (m n : List ℕ) (cs ds : Contexts) (equiv : EqualOutside (is_private table e) m n) (saved : SameContexts e cs ds)
     (live : is_live table e ≡ true) where
+  -- the first shared state
   abbrev here : Shared
   here = record { memory = m; table = table; contexts = cs }
 
+  -- the second shared state
   abbrev there : Shared
   there = record { memory = n; table = table; contexts = ds }
 
@@ -94,32 +99,38 @@ module _ (e : ℕ) (table : Slots) (m n : List ℕ) (cs ds : Contexts) (equiv : 
   still : (after : Slots) (m' n' : List ℕ) (cs' ds' : Contexts) → slot_at after e ≡ slot_at table e
       → EqualOutside (is_private table e) m' n' → SameContexts e cs' ds'
       → SharedEquivExcept e (record { memory = m'; table = after; contexts = cs' }) (record { memory = n'; table = after; contexts = ds' })
-  still after m' n' cs' ds' same = with_region after m' n' cs' ds' (ap region_of same) (ap (λ (o : Option SlotInfo). is_some o) same ∙ live)
+  still after m' n' cs' ds' same_slot = with_region after m' n' cs' ds' (ap region_of same_slot) (ap (λ (o : Option SlotInfo). is_some o) same_slot ∙ live)
 
+  -- two states with one table, memories that are equal outside e's region, and contexts that are equal except e's are equivalent
   pub as_before : SharedEquivExcept e here there
   as_before = still table m n cs ds refl equiv saved
 
   -- ---- create
 
+  -- a measurement of a region that does not meet e's is equal in both memories
   measurement_alike : (new : CreateArgs) → meets new.region (region table e) ≡ false → measurement_of m new ≡ measurement_of n new
   unfolding measurement_of
   measurement_alike new apart =
       let reads = read_alike (is_private table e) m n new.region.base new.region.size equiv (seen_block new.region (region table e) apart) in
       rw reads refl
 
+  -- a record of a region that does not meet e's is equal in both memories
   recorded_alike : (new : CreateArgs) → meets new.region (region table e) ≡ false → recorded m new ≡ recorded n new
   recorded_alike new apart = let digests = measurement_alike new apart in rw digests refl
 
+  -- a slot without an enclave is not e, which is live
   not_free : (k : ℕ) → slot_at table k ≡ None → e ≢ k
   not_free k free same =
       let dead : is_live table e ≡ false = rw (same, free) refl in
       both_ways _ dead live
 
+  -- a new enclave in a free slot leaves the states equivalent
   put_alike : (k : ℕ) (info : SlotInfo) → slot_at table k ≡ None → SharedEquivExcept e (with_enclave here k info) (with_enclave there k info)
   put_alike k info free =
       still (with_slot table k (Some info)) m n (with_context cs k (Some (first_context info))) (with_context ds k (Some (first_context info)))
       (at_other table k e (Some info) (not_free k free)) equiv (contexts_with e cs ds k (Some (first_context info)) saved)
 
+  -- a create that is permitted has equivalent effects on equivalent shared states
   pub created_alike : (new : CreateArgs) → MayCreate here new → SharedEquivExcept e (created here new) (created there new)
   unfolding created
   created_alike new may =
@@ -130,10 +141,10 @@ module _ (e : ℕ) (table : Slots) (m n : List ℕ) (cs ds : Contexts) (equiv : 
 
   -- e has ended in both, and with it every difference
   gone_alike : (block : Block) → region table e ≡ block → is_inside m block.base block.size ≡ true → without here e block ≡ without there e block
-  gone_alike block is inside =
+  gone_alike block region_is inside =
       let at = inside-is m block.base block.size inside in
       let covers : (b : ℕ) → is_private table e b ≡ true → (block.base ≤ b) × (b < block.base + block.size) =
-      λ b hidden. let parts = and_parts (nat_le block.base b) (nat_lt b (block.base + block.size)) (sym (ap (λ (r : Block). has r b) is) ∙ hidden) in
+      λ b hidden. let parts = and_parts (nat_le block.base b) (nat_lt b (block.base + block.size)) (sym (ap (λ (r : Block). has r b) region_is) ∙ hidden) in
       (leb-true _ _ parts.0, ltb-true _ _ parts.1) in
       let zeros : EqualOutside (λ b. false) (zeroed m block) (zeroed n block) =
       zeros-alike (is_private table e) (λ b. false) m n block.base block.size equiv at covers in
@@ -142,6 +153,7 @@ module _ (e : ℕ) (table : Slots) (m n : List ℕ) (cs ds : Contexts) (equiv : 
       same_contexts e (with_context cs e None) (with_context ds e None) (contexts_with e cs ds e None saved) (same_at_set cs ds e None None saved.size) in
       rw (memories, contexts) refl
 
+  -- an enclave that is removed leaves the states equivalent
   without_alike : (k : ℕ) → is_inside m (region table k).base (region table k).size ≡ true
       → SharedEquivExcept e (without here k (region table k)) (without there k (region table k))
   without_alike k inside = elim (cases_eq k e) [
@@ -153,17 +165,20 @@ module _ (e : ℕ) (table : Slots) (m n : List ℕ) (cs ds : Contexts) (equiv : 
         (contexts_with e cs ds k None saved)
   ]
 
+  -- the region of a valid record is inside memory
   region_inside : (o : Option SlotInfo) → IfSome o (IsValidSlot m) → is_some o ≡ true → is_inside m (region_of o).base (region_of o).size ≡ true
   unfolding is_valid_block
   region_inside None law live = cc
   region_inside (Some info) law live = (and_parts _ _ (and_parts (is_block_size info.region.size) _ law.region).1).1
 
+  -- a destroy that is permitted has equivalent effects on equivalent shared states
   pub destroyed_alike : (k : ℕ) → IsValid m table → IsTaken table calls.Destroy k → SharedEquivExcept e (destroyed here k) (destroyed there k)
   unfolding destroyed
   destroyed_alike k valid taken = without_alike k (region_inside (slot_at table k) (valid.well_formed k) (ap (λ (o : Option SlotInfo). is_some o) taken.is))
 
   -- ---- measure
 
+  -- a measure has equivalent effects on equivalent shared states
   pub measured_alike : (k address : ℕ) → SharedEquivExcept e (measured here k address) (measured there k address)
   unfolding measured
   measured_alike k address =
@@ -177,20 +192,22 @@ module _ (e : ℕ) (table : Slots) (m n : List ℕ) (cs ds : Contexts) (equiv : 
       → (region (with_state table k state) e ≡ region table e) × (is_live (with_state table k state) e ≡ true)
   state_keeps count k state = of_slot (slot_at table k) refl
     where
+      -- a new state of slot k changes neither the region of e nor that it is live
       of_slot : (o : Option SlotInfo) → slot_at table k ≡ o
           → (let after = option_case o table (λ info. with_slot table k (Some (record info { state = state }))) in
           (region after e ≡ region table e) × (is_live after e ≡ true))
-      of_slot None is = (refl, live)
-      of_slot (Some info) is =
+      of_slot None slot_is = (refl, live)
+      of_slot (Some info) slot_is =
           let new = Some (record info { state = state }) in
           elim (cases_eq e k) [
             | inl own ↦
-                let there = at_same table k new (omega (arith, count, live_in_range table k info count is)) in
-                rw own (ap region_of there ∙ sym (ap region_of is), ap (λ (o : Option SlotInfo). is_some o) there)
+                let there = at_same table k new (omega (arith, count, live_in_range table k info count slot_is)) in
+                rw own (ap region_of there ∙ sym (ap region_of slot_is), ap (λ (o : Option SlotInfo). is_some o) there)
             | inr other ↦
                 let same = at_other table k e new other in (ap region_of same, ap (λ (o : Option SlotInfo). is_some o) same ∙ live)
           ]
 
+  -- the same new state and saved context of slot k have equivalent effects on equivalent shared states
   pub switched_alike : length table ≡ 13 → (k : ℕ) (state : EnclaveState) (c : Option Context)
       → (let after = with_state table k state in
       SharedEquivExcept e (record here { table = after; contexts = with_context cs k c }) (record there { table = after; contexts = with_context ds k c }))

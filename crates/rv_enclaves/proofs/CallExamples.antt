@@ -12,6 +12,7 @@ use Rattle.rv_enclaves.proofs.Prelude.{EnclaveState, Enclave, Entries, Host, Sha
 abbrev asks : ℕ → List ℕ → List ℕ
 asks number regs = with_register (with_register regs 16 number) 17 0x0A454E43
 
+-- the arguments of a create at a region with an entry, without a window
 abbrev arguments : ℕ → ℕ → List ℕ
 arguments region entry = with_register (with_register (with_register (with_register (with_register (replicate 32 0) 10 region) 11 0x1000) 12 0x80030000) 13 0x1000) 14 entry
 
@@ -19,6 +20,7 @@ arguments region entry = with_register (with_register (with_register (with_regis
 abbrev empty : List ℕ → Shared
 empty memory = record { memory = memory; table = no_slots; contexts = no_contexts }
 
+-- the shared state with the enclave of the example in slot 0, in this state
 abbrev with_one : List ℕ → EnclaveState → Shared
 with_one memory state = record (empty memory) {
   table = with_slot no_slots 0 (Some (record {
@@ -30,48 +32,59 @@ with_one memory state = record (empty memory) {
   }));
 }
 
-module _ (memory : List ℕ) (entries : Entries) (size : length memory ≡ 0x40000) where
+module _ (memory : List ℕ) (entries : Entries) (ram_size : length memory ≡ 0x40000) where
+  -- the create of a valid region succeeds
   creates : call_status Host (empty memory) entries (asks 1 (arguments 0x80020000 0x80020000)) ≡ 0
   unfolding call_status call_numbered create_rows
-  creates = rw size refl
+  creates = rw ram_size refl
 
+  -- the create of the same region again is refused as an overlap
   overlap : call_status Host (with_one memory Fresh) entries (asks 1 (arguments 0x80020000 0x80020000)) ≡ 0xFFFFFFFC
   unfolding call_status call_numbered create_rows
-  overlap = rw size refl
+  overlap = rw ram_size refl
 
+  -- the create with an entry after the region is refused as a bad entry
   bad_entry : call_status Host (empty memory) entries (asks 1 (arguments 0x80020000 0x80021000)) ≡ 0xFFFFFFFB
   unfolding call_status call_numbered create_rows
-  bad_entry = rw size refl
+  bad_entry = rw ram_size refl
 
 module _ (memory : List ℕ) (entries : Entries) where
+  -- the create of a region that is no multiple of its size is refused as a bad region
   bad_region : call_status Host (empty memory) entries (asks 1 (arguments 0x80020800 0x80020800)) ≡ 0xFFFFFFFE
   unfolding call_status call_numbered create_rows
   bad_region = refl
 
+  -- run of a Fresh enclave succeeds
   runs_fresh : call_status Host (with_one memory Fresh) entries (asks 3 (replicate 32 0)) ≡ 0
   unfolding call_status call_numbered state_rows
   runs_fresh = refl
 
+  -- run of a Stopped enclave is refused by its state
   runs_stopped : call_status Host (with_one memory Stopped) entries (asks 3 (replicate 32 0)) ≡ 0xFFFFFFF8
   unfolding call_status call_numbered state_rows
   runs_stopped = refl
 
+  -- resume of a Stopped enclave succeeds
   resumes_stopped : call_status Host (with_one memory Stopped) entries (asks 4 (replicate 32 0)) ≡ 0
   unfolding call_status call_numbered state_rows
   resumes_stopped = refl
 
+  -- destroy of an Exited enclave succeeds
   destroys_exited : call_status Host (with_one memory Exited) entries (asks 2 (replicate 32 0)) ≡ 0
   unfolding call_status call_numbered state_rows
   destroys_exited = refl
 
+  -- destroy of a free slot is refused: no enclave
   no_enclave : call_status Host (empty memory) entries (asks 2 (replicate 32 0)) ≡ 0xFFFFFFF9
   unfolding call_status call_numbered state_rows
   no_enclave = refl
 
+  -- stop by the host is refused as not supported
   stop_of_host : call_status Host (with_one memory Fresh) entries (asks 6 (replicate 32 0)) ≡ 0xFFFFFFFF
   unfolding call_status call_numbered
   stop_of_host = refl
 
+  -- stop by an enclave succeeds
   stop_of_enclave : call_status (Enclave 0) (with_one memory Fresh) entries (asks 6 (replicate 32 0)) ≡ 0
   unfolding call_status call_numbered
   stop_of_enclave = refl

@@ -16,6 +16,7 @@ or_same memory after = option_case after memory (λ bytes. bytes)
 abbrev pub IsSeen : (ℕ → Bool) → ℕ → ℕ → Type 0
 IsSeen hidden address count = (b : ℕ) → address ≤ b → b < address + count → hidden b ≡ false
 
+-- bytes inside memory begin at or above its base and end at or below its end
 pub inside-is : (m : List ℕ) (address count : ℕ) → is_inside m address count ≡ true
     → (ram_base ≤ address) × (address + count ≤ ram_base + length m)
 inside-is m address count inside =
@@ -39,12 +40,13 @@ pub same_read : (hidden : ℕ → Bool) (m n : List ℕ) (address count : ℕ) �
     → IsSeen hidden address count → read m address count ≡ read n address count
 unfolding read
 same_read hidden m n address count equiv inside seen =
-    let is = inside-is m address count inside in
-    let place : ram_base + (address - ram_base) ≡ address = omega (arith, is.0) in
-    let parts = same_part hidden m n (address - ram_base) count equiv (rw place seen) (omega (arith, is.0, is.1)) in
+    let bounds = inside-is m address count inside in
+    let place : ram_base + (address - ram_base) ≡ address = omega (arith, bounds.0) in
+    let parts = same_part hidden m n (address - ram_base) count equiv (rw place seen) (omega (arith, bounds.0, bounds.1)) in
     let sizes = equiv.size in
     rw (← sizes, parts) refl
 
+-- a byte inside a write is the written one, by its index
 index-within : (memory : List ℕ) (index : ℕ) (bytes : List ℕ) (k : ℕ) → index + length bytes ≤ length memory → index ≤ k
     → k < index + length bytes
     → get_or (write_bytes memory index bytes) k 0 ≡ get_or bytes (k - index) 0
@@ -53,14 +55,14 @@ index-within memory index bytes k within low high = grind (arith, common_steps)
 -- the same bytes are written to both, hidden or not
 pub same_write : (hidden : ℕ → Bool) (m n : List ℕ) (address : ℕ) (bytes m' n' : List ℕ) → EqualOutside hidden m n
     → write m address bytes ≡ Some m' → write n address bytes ≡ Some n' → EqualOutside hidden m' n'
-same_write hidden m n address bytes m' n' equiv here there =
+same_write hidden m n address bytes m' n' equiv here written =
     let one = write-is m address bytes m' here in
-    let other = write-is n address bytes n' there in
+    let other = write-is n address bytes n' written in
     let index = address - ram_base in
     let within : index + length bytes ≤ length m = omega (arith, one.0, one.1) in
     let within' : index + length bytes ≤ length n = omega (arith, other.0, other.1) in
     record {
-      size = length-write m address bytes m' here ∙ equiv.size ∙ sym (length-write n address bytes n' there);
+      size = length-write m address bytes m' here ∙ equiv.size ∙ sym (length-write n address bytes n' written);
       bytes = λ i seen. rw (one.2, other.2) (elim (cases_lt i index) [
         | inl below ↦ index-below m index bytes i within below ∙ equiv.bytes i seen ∙ sym (index-below n index bytes i within' below)
         | inr above ↦ elim (cases_lt i (index + length bytes)) [
@@ -70,14 +72,17 @@ same_write hidden m n address bytes m' n' equiv here there =
       ]);
     }
 
+-- a read of bytes that are not all in memory returns none
 pub read-none : (m : List ℕ) (address count : ℕ) → is_inside m address count ≡ false → read m address count ≡ None
 unfolding read
 read-none m address count outside = rw outside refl
 
+-- a write to bytes that are not all in memory returns none
 pub write-none : (m : List ℕ) (address : ℕ) (bytes : List ℕ) → is_inside m address (length bytes) ≡ false → write m address bytes ≡ None
 unfolding write
 write-none m address bytes outside = rw outside refl
 
+-- a write to bytes in memory succeeds, at the index of the address
 pub write-some : (m : List ℕ) (address : ℕ) (bytes : List ℕ) → is_inside m address (length bytes) ≡ true
     → write m address bytes ≡ Some (write_bytes m (address - ram_base) bytes)
 unfolding write

@@ -18,6 +18,7 @@ pub record IsPlain (cfg : ℕ) : Type 0 where
   pub stored : stored_cfg cfg ≡ cfg
   pub unlocked : is_locked cfg ≡ false
 
+-- the cfg byte of a region is stored unchanged and unlocked
 region_is_plain : (w : World) (k : ℕ) (o : Option SlotInfo) → IsPlain (region_entry w k o).cfg
 unfolding stored_cfg
 region_is_plain w k None = record { stored = refl; unlocked = refl }
@@ -26,6 +27,7 @@ region_is_plain w k (Some s) = elim (cases_Bool (is_world_of k w)) [
   | inr other ↦ rw other (record { stored = refl; unlocked = refl })
 ]
 
+-- the cfg byte of a window is stored unchanged and unlocked
 window_of_is_plain : (o : Option SlotInfo) → IsPlain (window_entry_of o).cfg
 unfolding stored_cfg
 window_of_is_plain None = record { stored = refl; unlocked = refl }
@@ -34,16 +36,19 @@ window_of_is_plain (Some s) = elim (cases_Bool (s.window.size == 0)) [
   | inr some ↦ rw some (record { stored = refl; unlocked = refl })
 ]
 
+-- the cfg byte of entry 14 is stored unchanged and unlocked
 window_is_plain : (t : Slots) (w : World) → IsPlain (window_entry t w).cfg
 unfolding stored_cfg
 window_is_plain t Host = record { stored = refl; unlocked = refl }
 window_is_plain t (Enclave k) = window_of_is_plain (slot_at t k)
 
+-- the cfg byte of entry 15 is stored unchanged and unlocked
 host_is_plain : (w : World) → IsPlain (host_entry w).cfg
 unfolding stored_cfg
 host_is_plain Host = record { stored = refl; unlocked = refl }
 host_is_plain (Enclave k) = record { stored = refl; unlocked = refl }
 
+-- the cfg byte of each entry is stored unchanged and unlocked
 plain_by : (a b c : Bool) (t : Slots) (w : World) (k : ℕ)
     → IsPlain
     (if a then napot no_permission monitor_block else (if b then region_entry w k (slot_at t k) else (if c then window_entry t w else host_entry w))).cfg
@@ -53,10 +58,12 @@ plain_by false true c t w k = region_is_plain w k (slot_at t k)
 plain_by false false true t w k = window_is_plain t w
 plain_by false false false t w k = host_is_plain w
 
+-- no entry of the layout is locked or has a reserved combination of permissions
 pub entry_is_plain : (t : Slots) (w : World) (i : ℕ) → IsPlain (entry_at t w i).cfg
 unfolding entry_at
 entry_is_plain t w i = plain_by (i == 0) (nat_lt i 14) (i == 14) t w (i - 1)
 
+-- two lists of entries are equal if their cfg bytes and addresses are
 entries_are : (e d : Entries) → e.cfgs ≡ d.cfgs → e.addrs ≡ d.addrs → e ≡ d
 entries_are e d cfgs addrs =
     let at : List ℕ → List ℕ → Entries = λ xs ys. record { cfgs = xs; addrs = ys } in

@@ -5,8 +5,8 @@ use Rattle.std.proofs.lemmas.List.{get_or-drop, get_or-take}
 use Rattle.std.specs.Prelude.{◌%◌, ◌^◌, ◌++◌, ◌==◌, drop, nat_le, not, slice_index}
 use Rattle.rv_word.specs.ByteOrder.{byte_of}
 use Rattle.rv_memory.specs.Memory.{bytes_of, is_inside, ram_base, read}
-use Rattle.rv_platform.specs.Blocks.{has}
-use Rattle.rv_platform.specs.declared.block.Block.{Block}
+use Rattle.rv_memory.specs.Blocks.{has}
+use Rattle.rv_memory.specs.declared.block.Block.{Block}
 use Rattle.sha2.specs.Sha256.{sha256}
 use Rattle.rv_enclaves.specs.Create.{bytes_of_block, heading, measured_bytes, measurement_of}
 use Rattle.rv_enclaves.specs.Measurement.{MeasurementLaw, args_of}
@@ -20,10 +20,12 @@ use Rattle.rv_enclaves.proofs.Owners.{valid_block}
 
 -- ---- the measurement depends on nothing but its input
 
+-- equal measured bytes have equal digests
 pub same_digest : (m n : List ℕ) (one other : CreateArgs) → measured_bytes m one ≡ measured_bytes n other → measurement_of m one ≡ measurement_of n other
 unfolding measurement_of
 same_digest m n one other same = ap sha256 same
 
+-- the same arguments with equal bytes of the region have equal measurements
 pub same_measurement : (m n : List ℕ) (new : CreateArgs) → bytes_of_block m new.region ≡ bytes_of_block n new.region
     → measurement_of m new ≡ measurement_of n new
 unfolding measurement_of
@@ -31,10 +33,12 @@ same_measurement m n new same = ap (λ (bytes : List ℕ). sha256 (heading new +
 
 -- ---- the words at the front of the input
 
+-- two words with four equal bytes are equal
 word_by_bytes : (x y : ℕ) → x < 2 ^ 32 → y < 2 ^ 32 → byte_of x 0 ≡ byte_of y 0 → byte_of x 1 ≡ byte_of y 1 → byte_of x 2 ≡ byte_of y 2
     → byte_of x 3 ≡ byte_of y 3 → x ≡ y
 word_by_bytes x y below below_too b0 b1 b2 b3 = omega (arith, below, below_too, b0, b1, b2, b3)
 
+-- two lists that begin with the bytes of a word have equal words and equal rests
 same_front : (x y : ℕ) (xs ys : List ℕ) → x < 2 ^ 32 → y < 2 ^ 32 → bytes_of 4 x ++ xs ≡ bytes_of 4 y ++ ys → (x ≡ y) × (xs ≡ ys)
 same_front x y xs ys below below_too same =
     let b0 : byte_of x 0 ≡ byte_of y 0 = cc in
@@ -46,6 +50,7 @@ same_front x y xs ys below below_too same =
 
 -- ---- the numbers of a valid slot are words
 
+-- each argument of create is a 32-bit word
 pub record AreWords (args : CreateArgs) : Type 0 where
   pub base : args.region.base < 2 ^ 32
   pub size : args.region.size < 2 ^ 32
@@ -53,12 +58,14 @@ pub record AreWords (args : CreateArgs) : Type 0 where
   pub window_size : args.window.size < 2 ^ 32
   pub entry : args.entry < 2 ^ 32
 
+-- a valid block ends below 2 ^ 32
 block_words : (m : List ℕ) (block : Block) → length m ≤ 0x1000000 → is_valid_block m block ≡ true → block.base + block.size < 2 ^ 32
-block_words m block small well_formed = let is = valid_block m block well_formed in omega (arith, is.high, small)
+block_words m block small well_formed = let block_is = valid_block m block well_formed in omega (arith, block_is.high, small)
 
+-- a valid window ends below 2 ^ 32
 window_words : (m : List ℕ) (block : Block) → length m ≤ 0x1000000 → is_window m block ≡ true → block.base + block.size < 2 ^ 32
 unfolding is_window
-window_words m block small is = elim (or_cases _ _ is) [
+window_words m block small window = elim (or_cases _ _ window) [
   | inl none ↦
       let parts = and_parts (block.base == 0) (block.size == 0) none in
       let base = eqb-true _ _ parts.0 in
@@ -67,6 +74,7 @@ window_words m block small is = elim (or_cases _ _ is) [
   | inr valid ↦ block_words m block small valid
 ]
 
+-- the arguments of a valid record are words
 are_words : (m : List ℕ) (info : SlotInfo) → length m ≤ 0x1000000 → IsValidSlot m info → AreWords (args_of info)
 are_words m info small valid =
     let region = block_words m info.region small valid.region in
@@ -83,21 +91,24 @@ are_words m info small valid =
 
 -- ---- the bytes of the region
 
+-- the byte of a block at an address is that of the memory
 block_byte : (m : List ℕ) (block : Block) (i : ℕ) → is_inside m block.base block.size ≡ true → block.base ≤ ram_base + i
     → ram_base + i < block.base + block.size → slice_index (bytes_of_block m block) (ram_base + i - block.base) ≡ slice_index m i
 unfolding read
 block_byte m block i inside low high =
-    let is = inside-is m block.base block.size inside in
+    let bounds = inside-is m block.base block.size inside in
     let k = ram_base + i - block.base in
     let short : k < block.size = omega (arith, low, high) in
-    let at : block.base - ram_base + k ≡ i = omega (arith, is.0, low) in
+    let at : block.base - ram_base + k ≡ i = omega (arith, bounds.0, low) in
     rw inside (get_or-take block.size (drop (block.base - ram_base) m) k 0 short ∙ get_or-drop (block.base - ram_base) m k 0
     ∙ ap (λ (j : ℕ). slice_index m j) at)
 
+-- a valid block is inside memory
 pub valid_inside : (m : List ℕ) (block : Block) → is_valid_block m block ≡ true → is_inside m block.base block.size ≡ true
 unfolding is_valid_block
-valid_inside m block is = (and_parts (block.base % block.size == 0) _ (and_parts _ _ is).1).1
+valid_inside m block valid_block = (and_parts (block.base % block.size == 0) _ (and_parts _ _ valid_block).1).1
 
+-- equal bytes of a block are equal bytes of the memories at each address of the block
 same_bytes : (m n : List ℕ) (block : Block) (i : ℕ) → is_valid_block m block ≡ true → is_valid_block n block ≡ true
     → bytes_of_block m block ≡ bytes_of_block n block → not (has block (ram_base + i)) ≡ false → slice_index m i ≡ slice_index n i
 same_bytes m n block i valid valid_too same shown = elim (cases_Bool (has block (ram_base + i))) [
@@ -112,6 +123,7 @@ same_bytes m n block i valid valid_too same shown = elim (cases_Bool (has block 
 
 -- ---- the law
 
+-- proves that the measured bytes determine the arguments and the bytes of the region
 pub measurement_law : MeasurementLaw
 measurement_law m n one other ram size valid valid_too same =
     let small = small_ram m ram in
@@ -126,10 +138,11 @@ measurement_law m n one other ram size valid valid_too same =
     let region : one.region ≡ other.region = ap₂ block base.0 extent.0 in
     let window : one.window ≡ other.window = ap₂ block window_base.0 window_size.0 in
     let bytes : bytes_of_block m one.region ≡ bytes_of_block n one.region = entry.1 ∙ ap (bytes_of_block n) (sym region) in
-    let there : is_valid_block n one.region ≡ true = ap (is_valid_block n) region ∙ valid_too.region in
+    let valid_block : is_valid_block n one.region ≡ true = ap (is_valid_block n) region ∙ valid_too.region in
     record {
       args = made region window entry.0;
-      bytes = record { size = size; bytes = λ i shown. same_bytes m n one.region i valid.region there bytes shown };
+      bytes = record { size = size; bytes = λ i shown. same_bytes m n one.region i valid.region valid_block bytes shown };
     } where
+      -- equal region, window and entry are equal arguments
       made : one.region ≡ other.region → one.window ≡ other.window → one.entry ≡ other.entry → args_of one ≡ args_of other
       made region window entry = rw (region, window, entry) refl

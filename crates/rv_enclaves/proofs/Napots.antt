@@ -14,6 +14,7 @@ use Rattle.rv_pmp.specs.Cfg.{matching_of}
 abbrev pub napot_addr : ℕ → ℕ → ℕ
 napot_addr base size = base / 4 + (size / 8 - 1)
 
+-- whether the byte is among the `size` bytes from the base
 abbrev pub is_within : ℕ → ℕ → ℕ → Bool
 is_within base size b = nat_le base b && nat_lt b (base + size)
 
@@ -48,19 +49,23 @@ trailing_ones-block half k small fits =
 
 -- a block of 8 * 2 ^ k bytes, at q times its size
 module _ (q k : ℕ) (small : k < 32) (fits : q * (8 * 2 ^ k) + 8 * 2 ^ k ≤ 2 ^ 33) where
+  -- pmpaddr of a NAPOT block ends in a 0 and k ones
   napot_addr_is : napot_addr (q * (8 * 2 ^ k)) (8 * 2 ^ k) ≡ 2 * q * 2 ^ k + (2 ^ k - 1)
   napot_addr_is = omega (arith, pow_pos k)
 
+  -- the size of the block that pmpaddr encodes is that of the block
   napot_size_is : napot_size (napot_addr (q * (8 * 2 ^ k)) (8 * 2 ^ k)) ≡ 8 * 2 ^ k
   napot_size_is =
       rw napot_addr_is
       (ap (λ n. 8 * 2 ^ n) (sym (trailing_ones_is (2 * q * 2 ^ k + (2 ^ k - 1)) (omega (arith, pow_pos k)))
       ∙ trailing_ones-block q k small (omega (arith, pow_pos k))))
 
+  -- the number of the block that pmpaddr encodes is that of the block
   quotient_is : 4 * napot_addr (q * (8 * 2 ^ k)) (8 * 2 ^ k) / (8 * 2 ^ k) ≡ q
   quotient_is =
       rw napot_addr_is (div-eq_of_lt-le (8 * 2 ^ k) (omega (arith, pow_pos k)) (omega (arith, pow_pos k)))
 
+  -- a NAPOT entry for a block matches exactly its bytes
   block_matches : (before b : ℕ)
       → matches (matching_of 0x18) before (napot_addr (q * (8 * 2 ^ k)) (8 * 2 ^ k)) b ≡ is_within (q * (8 * 2 ^ k)) (8 * 2 ^ k) b
   block_matches before b =

@@ -10,12 +10,12 @@ use Rattle.rv_pmp.specs.Cfg.{matching_of}
 use Rattle.rv_pmp.specs.Entries.{addr_of, addr_before}
 use Rattle.rv_pmp.specs.Covers.{matches, napot_size, ones_at_end}
 use Rattle.rv_pmp.proofs.VerdictLemmas.{some_from_any}
-use Rattle.rv_platform.specs.Blocks.{no_block}
+use Rattle.rv_memory.specs.Blocks.{no_block}
 use Rattle.rv_enclaves.specs.Layout.{Entry, napot, no_permission}
 use Rattle.rv_enclaves.proofs.Prelude.{Block, Enclave, Host, IsValidSlot, IsValid, SlotInfo, Slots, World, cfg_of, covers, entry_at, has, host_entry}
 use Rattle.rv_enclaves.proofs.Prelude.{is_block_size, is_host, is_valid_block, is_window, is_world_of, layout, monitor_block, ram_base, region}
 use Rattle.rv_enclaves.proofs.Prelude.{region_entry, region_of, slot_at, window, window_entry, window_entry_of, window_of}
-use Rattle.rv_platform.proofs.BlockLaws.{apart_at, apart_from}
+use Rattle.rv_memory.proofs.BlockLaws.{apart_at, apart_from}
 use Rattle.rv_enclaves.proofs.Napots.{napot_addr, napot_matches}
 
 -- ---- blocks
@@ -24,6 +24,7 @@ use Rattle.rv_enclaves.proofs.Napots.{napot_addr, napot_matches}
 empty_has : (base size b : ℕ) → size ≡ 0 → (nat_le base b && nat_lt b (base + size)) ≡ false
 empty_has base size b empty = grind (arith, nat_tests, empty)
 
+-- the empty block has no byte
 pub has_nothing : (b : ℕ) → has no_block b ≡ false
 has_nothing b = empty_has 0 0 b refl
 
@@ -34,6 +35,7 @@ pub record IsApart (slots : Slots) : Type 0 where
   pub regions_free : (k b : ℕ) → has (region slots k) b ≡ true → has monitor_block b ≡ false
   pub windows_free : (k b : ℕ) → has (window slots k) b ≡ true → has monitor_block b ≡ false
 
+-- the regions of a valid table do not meet each other, the monitor's range or any window
 pub apart : (memory : List ℕ) (slots : Slots) → IsValid memory slots → IsApart slots
 apart memory slots valid = record {
   regions_apart = λ j k b other. apart_at (region slots j) (region slots k) b (valid.regions_apart j k other);
@@ -51,6 +53,7 @@ pub record IsBlock (memory : List ℕ) (base size : ℕ) : Type 0 where
   pub low : ram_base ≤ base
   pub high : base + size ≤ ram_base + length memory
 
+-- a valid block has a size that is a power of two, is a multiple of its size, and is inside memory
 pub valid_block : (memory : List ℕ) (block : Block) → is_valid_block memory block ≡ true → IsBlock memory block.base block.size
 unfolding is_valid_block
 valid_block memory block well_formed =
@@ -65,17 +68,19 @@ valid_block memory block well_formed =
       high = leb-true _ _ inside.1;
     }
 
+-- a NAPOT entry for a valid block matches exactly its bytes
 block_covers : (memory : List ℕ) (block : Block) (before b : ℕ) → length memory ≤ 0x1000000 → is_valid_block memory block ≡ true
     → matches (matching_of 0x18) before (napot_addr block.base block.size) b ≡ has block b
 block_covers memory block before b ram_size well_formed =
-    let is = valid_block memory block well_formed in
-    let m = is.power.0 in
-    let at_least : 12 ≤ m = is.power.1 in
-    let below : m < 32 = is.power.2 in
+    let block_is = valid_block memory block well_formed in
+    let m = block_is.power.0 in
+    let at_least : 12 ≤ m = block_is.power.1 in
+    let below : m < 32 = block_is.power.2 in
     let same : m ≡ (m - 3) + 3 = omega arith in
-    let power : block.size ≡ 2 ^ ((m - 3) + 3) = is.power.3 ∙ ap (λ n. 2 ^ n) same in
-    napot_matches block.base block.size (m - 3) before b (omega arith) power is.aligned (omega (arith, is.high))
+    let power : block.size ≡ 2 ^ ((m - 3) + 3) = block_is.power.3 ∙ ap (λ n. 2 ^ n) same in
+    napot_matches block.base block.size (m - 3) before b (omega arith) power block_is.aligned (omega (arith, block_is.high))
 
+-- the entry of a slot matches exactly the bytes of its region
 region_covers : (memory : List ℕ) (w : World) (k : ℕ) (o : Option SlotInfo) (before b : ℕ) → length memory ≤ 0x1000000
     → IfSome o (IsValidSlot memory)
     → matches (matching_of (region_entry w k o).cfg) before (region_entry w k o).addr b ≡ has (region_of o) b
@@ -90,11 +95,12 @@ region_covers memory w k (Some info) before b ram_size well_formed =
 -- a window with bytes is a valid block
 some_window : (memory : List ℕ) (block : Block) → is_window memory block ≡ true → block.size ≢ 0 → is_valid_block memory block ≡ true
 unfolding is_window
-some_window memory block is some = elim (or_cases (block.base == 0 && block.size == 0) _ is) [
+some_window memory block window some = elim (or_cases (block.base == 0 && block.size == 0) _ window) [
   | inl none ↦ absurd (some (eqb-true _ _ (and_parts (block.base == 0) _ none).1))
   | inr well_formed ↦ well_formed
 ]
 
+-- the entry of a window matches exactly its bytes
 window_covers : (memory : List ℕ) (o : Option SlotInfo) (before b : ℕ) → length memory ≤ 0x1000000 → IfSome o (IsValidSlot memory)
     → matches (matching_of (window_entry_of o).cfg) before (window_entry_of o).addr b ≡ has (window_of o) b
 window_covers memory None before b ram_size well_formed = sym (has_nothing b)
@@ -105,20 +111,24 @@ window_covers memory (Some info) before b ram_size well_formed = elim (cases_eq 
 
 -- ---- the entries of the layout
 
+-- the cfg byte of entry i of the layout is that of its definition
 pub cfg_of-layout : (t : Slots) (w : World) (i : ℕ) → i < 16 → cfg_of (layout t w) i ≡ (entry_at t w i).cfg
 unfolding layout
 cfg_of-layout t w i in_range = get_or-map-range_with_len (λ j. (entry_at t w j).cfg) 0 16 i i 0 in_range (omega arith)
 
+-- the pmpaddr value of entry i of the layout is that of its definition
 addr_of-layout : (t : Slots) (w : World) (i : ℕ) → i < 16 → addr_of (layout t w) i ≡ (entry_at t w i).addr
 unfolding layout
 addr_of-layout t w i in_range = get_or-map-range_with_len (λ j. (entry_at t w j).addr) 0 16 i i 0 in_range (omega arith)
 
+-- entry i of the layout matches as its definition does
 covers-layout : (t : Slots) (w : World) (i b : ℕ) → i < 16
     → covers (layout t w) i b ≡ matches (matching_of (entry_at t w i).cfg) (addr_before (layout t w) i) (entry_at t w i).addr b
 unfolding covers
 covers-layout t w i b in_range =
     ap₂ (λ cfg addr. matches (matching_of cfg) (addr_before (layout t w) i) addr b) (cfg_of-layout t w i in_range) (addr_of-layout t w i in_range)
 
+-- entry k + 1 is the region of slot k
 pub entry_at-slot : (t : Slots) (w : World) (k : ℕ) → k < 13 → entry_at t w (k + 1) ≡ region_entry w k (slot_at t k)
 unfolding entry_at
 entry_at-slot t w k in_range =
@@ -127,14 +137,17 @@ entry_at-slot t w k in_range =
     ∙ cond-true _ _ _ (lt-ltb (k + 1) 14 (omega arith))
     ∙ ap (λ j. region_entry w j (slot_at t j)) same
 
+-- entry 0 is the monitor's range without permissions
 pub entry_at-monitor : (t : Slots) (w : World) → entry_at t w 0 ≡ napot no_permission monitor_block
 unfolding entry_at
 entry_at-monitor t w = refl
 
+-- entry 14 is the window of the world
 pub entry_at-window : (t : Slots) (w : World) → entry_at t w 14 ≡ window_entry t w
 unfolding entry_at
 entry_at-window t w = refl
 
+-- entry 15 is everything for the host, and off for an enclave
 pub entry_at-host : (t : Slots) (w : World) → entry_at t w 15 ≡ host_entry w
 unfolding entry_at
 entry_at-host t w = refl
@@ -144,11 +157,13 @@ abbrev pub world_window : Slots → World → Block
 world_window t Host = no_block
 world_window t (Enclave k) = window t k
 
+-- entry 14 matches exactly the bytes of the world's window
 window_owned : (memory : List ℕ) (t : Slots) (w : World) (before b : ℕ) → length memory ≤ 0x1000000 → IsValid memory t
     → matches (matching_of (window_entry t w).cfg) before (window_entry t w).addr b ≡ has (world_window t w) b
 window_owned memory t Host before b ram_size valid = sym (has_nothing b)
 window_owned memory t (Enclave k) before b ram_size valid = window_covers memory (slot_at t k) before b ram_size (valid.well_formed k)
 
+-- a NAPOT entry with all ones matches 2 ^ 35 bytes
 all_ones_size : napot_size 0xffffffff ≡ 2 ^ 35
 unfolding ones_at_end
 all_ones_size = refl
@@ -160,23 +175,28 @@ host_owned Host before b below =
     rw all_ones_size (eq-eqb _ _ (div-eq_of_lt below))
 
 module _ (memory : List ℕ) (t : Slots) (w : World) (ram_size : length memory ≤ 0x1000000) (valid : IsValid memory t) (b : ℕ) where
+  -- what entry i matches, by its definition
   at_entry : (i : ℕ) (x : Entry) (owned : Bool) → i < 16 → entry_at t w i ≡ x
       → ((before : ℕ) → matches (matching_of x.cfg) before x.addr b ≡ owned) → covers (layout t w) i b ≡ owned
-  at_entry i x owned in_range is held =
+  at_entry i x owned in_range entry_at_is held =
       covers-layout t w i b in_range
-      ∙ ap (λ (y : Entry). matches (matching_of y.cfg) (addr_before (layout t w) i) y.addr b) is
+      ∙ ap (λ (y : Entry). matches (matching_of y.cfg) (addr_before (layout t w) i) y.addr b) entry_at_is
       ∙ held (addr_before (layout t w) i)
 
+  -- entry 0 matches exactly the bytes of the monitor's range
   pub covers_monitor : covers (layout t w) 0 b ≡ has monitor_block b
   covers_monitor = at_entry 0 _ _ (lit< tt) (entry_at-monitor t w) (λ before. napot_matches ram_base 0x10000 13 before b (lit< tt) refl refl (lit≤ tt))
 
+  -- entry k + 1 matches exactly the bytes of the region of slot k
   pub covers_slot : (k : ℕ) → k < 13 → covers (layout t w) (k + 1) b ≡ has (region t k) b
   covers_slot k in_range =
       at_entry (k + 1) _ _ (omega arith) (entry_at-slot t w k in_range)
       (λ before. region_covers memory w k (slot_at t k) before b ram_size (valid.well_formed k))
 
+  -- entry 14 matches exactly the bytes of the world's window
   pub covers_window : covers (layout t w) 14 b ≡ has (world_window t w) b
   covers_window = at_entry 14 _ _ (lit< tt) (entry_at-window t w) (λ before. window_owned memory t w before b ram_size valid)
 
+  -- entry 15 matches every byte while the host runs, and none while an enclave runs
   pub covers_host : b < 2 ^ 35 → covers (layout t w) 15 b ≡ is_host w
   covers_host below = at_entry 15 _ _ (lit< tt) (entry_at-host t w) (λ before. host_owned w before b below)

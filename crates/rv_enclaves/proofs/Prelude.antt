@@ -1,5 +1,5 @@
 -- Names that most proofs of this crate use, re-exported from one place. Declares nothing.
-pub use Rattle.rv_platform.specs.Blocks.{has, meets, monitor_block}
+pub use Rattle.rv_memory.specs.Blocks.{has, meets, monitor_block}
 pub use Rattle.rv_enclaves.specs.ValidBlocks.{is_block_size}
 unfoldable pub use Rattle.rv_enclaves.specs.ValidBlocks.{is_valid_block}
 pub use Rattle.rv_enclaves.specs.Contexts.{can_go_on, context_at, Contexts, saved_context, with_context}
@@ -18,7 +18,7 @@ pub use Rattle.rv_enclaves.specs.SharedInvariant.{AreApart, is_held, SharedInvar
 pub use Rattle.rv_enclaves.specs.Table.{IsValidSlot, IsValid, Slots, is_host, is_live, is_running, is_world_of, region, region_of, runs, slot_at, window}
 pub use Rattle.rv_enclaves.specs.Table.{running_slot, window_of, with_slot, with_state}
 unfoldable pub use Rattle.rv_enclaves.specs.Table.{is_window}
-pub use Rattle.rv_platform.specs.declared.block.Block.{Block}
+pub use Rattle.rv_memory.specs.declared.block.Block.{Block}
 pub use Rattle.rv_enclaves.specs.declared.call.Call.{Call}
 pub use Rattle.rv_enclaves.specs.declared.call.Call.TheVariants.{Destroy}
 pub use Rattle.rv_enclaves.specs.declared.context.Context.{Context}

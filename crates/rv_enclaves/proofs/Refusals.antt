@@ -19,12 +19,14 @@ pub no_row : (condition : Bool) (refusal : Refusal) (rows : List (Bool × Refusa
 no_row true refusal rows none = cc
 no_row false refusal rows none = (refl, none)
 
+-- a test whose negation fails holds
 not_false : (b : Bool) → not b ≡ false → b ≡ true
 not_false true is = refl
 not_false false is = cc
 
 -- ---- create
 
+-- no condition that refuses the create holds
 pub record MayCreate (shared : Shared) (new : CreateArgs) : Type 0 where
   pub well_formed : is_valid_block shared.memory new.region ≡ true
   pub window : is_window shared.memory new.window ≡ true
@@ -32,10 +34,12 @@ pub record MayCreate (shared : Shared) (new : CreateArgs) : Type 0 where
   pub entry : is_entry new ≡ true
   pub free : free_slot shared.table ≡ Some (new_slot shared.table)
 
+-- an option that is not none is the slot that it has
 is_slot : (o : Option ℕ) → is_none o ≡ false → o ≡ Some (option_case o 13 (λ k. k))
-is_slot None is = cc
-is_slot (Some k) is = refl
+is_slot None some = cc
+is_slot (Some k) some = refl
 
+-- a create without a refusal satisfies each condition
 pub may_create : (shared : Shared) (new : CreateArgs) → first_refusal (create_refusals shared new) ≡ None → MayCreate shared new
 unfolding create_refusals
 may_create shared new none =
@@ -60,11 +64,13 @@ pub record IsTaken (slots : Slots) (call : Call) (k : ℕ) : Type 0 where
   pub is : slot_at slots k ≡ Some info
   pub taken : takes call info.state ≡ true
 
+-- a slot whose state the call accepts has an enclave in such a state
 taken_at : (slots : Slots) (call : Call) (k : ℕ) (o : Option SlotInfo) → slot_at slots k ≡ o
     → option_case o false (λ info. takes call info.state) ≡ true → IsTaken slots call k
-taken_at slots call k None is taken = absurd (false≢true taken)
-taken_at slots call k (Some info) is taken = record { info = info; is = is; taken = taken }
+taken_at slots call k None slot_is taken = absurd (false≢true taken)
+taken_at slots call k (Some info) slot_is taken = record { info = info; is = slot_is; taken = taken }
 
+-- a destroy, run or resume without a refusal names an enclave in a state that the call accepts
 pub may_take : (slots : Slots) (call : Call) (k : ℕ) → first_refusal (state_refusals slots call k) ≡ None → IsTaken slots call k
 unfolding state_refusals
 may_take slots call k none =
@@ -74,17 +80,19 @@ may_take slots call k none =
 
 -- no call accepts an enclave that runs
 pub takes_rests : (call : Call) (state : EnclaveState) → takes call state ≡ true → is_running state ≡ false
-takes_rests call states.Fresh is = refl
-takes_rests call states.Stopped is = refl
-takes_rests call states.Exited is = refl
-takes_rests call states.Running is = cc
+takes_rests call states.Fresh accepted = refl
+takes_rests call states.Stopped accepted = refl
+takes_rests call states.Exited accepted = refl
+takes_rests call states.Running accepted = cc
 
 -- ---- measure
 
+-- no condition that refuses the measure holds
 pub record MayMeasure (shared : Shared) (entries : Entries) (k address : ℕ) : Type 0 where
   pub live : is_live shared.table k ≡ true
   pub stores : may_store_all shared.memory entries address ≡ true
 
+-- a measure without a refusal satisfies each condition
 pub may_measure : (shared : Shared) (entries : Entries) (k address : ℕ) → first_refusal (measure_refusals shared entries k address) ≡ None
     → MayMeasure shared entries k address
 unfolding measure_refusals
@@ -96,24 +104,29 @@ may_measure shared entries k address none =
 -- ---- the rows depend on memory only by its size
 
 module _ (table : Slots) (m n : List ℕ) (cs ds : Contexts) where
+  -- the first shared state
   abbrev here : Shared
   here = record { memory = m; table = table; contexts = cs }
 
+  -- the second shared state
   abbrev there : Shared
   there = record { memory = n; table = table; contexts = ds }
 
+  -- the refusals of create depend on the size of the memory, but not on its bytes or the saved contexts
   pub same_create_refusals : (new : CreateArgs) → length m ≡ length n → create_refusals here new ≡ create_refusals there new
   unfolding create_refusals
-  same_create_refusals new size =
-      let well_formed = well_formed_by_size m n new.region size in
-      let window = window_by_size m n new.window size in
+  same_create_refusals new same_length =
+      let well_formed = well_formed_by_size m n new.region same_length in
+      let window = window_by_size m n new.window same_length in
       rw (← well_formed, ← window) refl
 
+  -- whether S may store the measurement depends on the size of the memory only
   same_stores : (entries : Entries) (address : ℕ) → length m ≡ length n → may_store_all m entries address ≡ may_store_all n entries address
   unfolding may_store_all
-  same_stores entries address size = rw size (refl {a = may_store_all n entries address})
+  same_stores entries address same_length = rw same_length (refl {a = may_store_all n entries address})
 
+  -- the refusals of measure depend on the size of the memory, but not on its bytes or the saved contexts
   pub same_measure_refusals : (entries : Entries) (k address : ℕ) → length m ≡ length n
       → measure_refusals here entries k address ≡ measure_refusals there entries k address
   unfolding measure_refusals
-  same_measure_refusals entries k address size = let stores = same_stores entries address size in rw (← stores) refl
+  same_measure_refusals entries k address same_length = let stores = same_stores entries address same_length in rw (← stores) refl

@@ -5,7 +5,7 @@ use Rattle.std.proofs.lemmas.Bool.{cases_lt, cases_eq}
 
 -- one write, in range or not, read at its own index
 pub same_at_set : {X : Type 0} (xs ys : List X) (i : ℕ) (v d : X) → length xs ≡ length ys → get_or (set xs i v) i d ≡ get_or (set ys i v) i d
-same_at_set xs ys i v d size = elim (cases_lt i (length xs)) [
+same_at_set xs ys i v d same_length = elim (cases_lt i (length xs)) [
   | inl inside ↦
       let inside' : i < length ys = omega arith in
       get_or-set_same xs i v d inside ∙ sym (get_or-set_same ys i v d inside')
@@ -17,10 +17,11 @@ same_at_set xs ys i v d size = elim (cases_lt i (length xs)) [
 -- one write, read at any index where the lists were equal
 pub same_after_set : {X : Type 0} (xs ys : List X) (i j : ℕ) (v d : X) → length xs ≡ length ys → get_or xs j d ≡ get_or ys j d
     → get_or (set xs i v) j d ≡ get_or (set ys i v) j d
-same_after_set xs ys i j v d size same = elim (cases_eq j i) [
-  | inl at ↦ rw at (same_at_set xs ys i v d size)
-  | inr other ↦ get_or-set_other xs i j v d other ∙ same ∙ sym (get_or-set_other ys i j v d other)
+same_after_set xs ys i j v d same_length same_element = elim (cases_eq j i) [
+  | inl at ↦ rw at (same_at_set xs ys i v d same_length)
+  | inr other ↦ get_or-set_other xs i j v d other ∙ same_element ∙ sym (get_or-set_other ys i j v d other)
 ]
 
+-- lists of the same length stay so after a change at one index
 pub length_after : {X : Type 0} (xs ys : List X) (i : ℕ) (v : X) → length xs ≡ length ys → length (set xs i v) ≡ length (set ys i v)
-length_after xs ys i v size = length-set xs i v ∙ size ∙ sym (length-set ys i v)
+length_after xs ys i v same_length = length-set xs i v ∙ same_length ∙ sym (length-set ys i v)

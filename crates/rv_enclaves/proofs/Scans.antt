@@ -5,6 +5,7 @@ use Rattle.rv_pmp.specs.Verdicts.{matching_entry, verdict_by, match_verdict, no_
 use Rattle.rv_pmp.proofs.VerdictLemmas.{IsFirst, find_cases}
 use Rattle.rv_enclaves.proofs.Prelude.{Access, Entries, Mode, covers, verdict}
 
+-- two tests that are equal on the n numbers from a hold of some of them alike
 pub same_any : (p q : ℕ → Bool) (a n : ℕ) → ((b : ℕ) → a ≤ b → b < a + n → p b ≡ q b)
     → list_any p (range_with_len a n) ≡ list_any q (range_with_len a n)
 same_any p q a zero same = refl
@@ -12,6 +13,7 @@ same_any p q a (suc n) same =
     ap₂ (λ x y. x || y) (same a (omega arith) (omega arith))
     (same_any p q (a + 1) n (λ b low high. same b (omega arith) (omega arith)))
 
+-- two tests that are equal on the n numbers from a hold of all of them alike
 pub same_all : (p q : ℕ → Bool) (a n : ℕ) → ((b : ℕ) → a ≤ b → b < a + n → p b ≡ q b)
     → list_all p (range_with_len a n) ≡ list_all q (range_with_len a n)
 same_all p q a zero same = refl
@@ -19,6 +21,7 @@ same_all p q a (suc n) same =
     ap₂ (λ x y. x && y) (same a (omega arith) (omega arith))
     (same_all p q (a + 1) n (λ b low high. same b (omega arith) (omega arith)))
 
+-- the verdict is that of the lowest entry that matches some byte, or that of no match
 pub verdict_cases : (e : Entries) (mode : Mode) (access : Access) (bytes : List ℕ)
     → ((i : ℕ) × (verdict e mode access bytes ≡ match_verdict e mode access i (list_all (covers e i) bytes))
     × IsFirst (λ j. list_any (covers e j) bytes) 0 16 i) ⊎ (verdict e mode access bytes ≡ no_match_verdict mode)

@@ -21,7 +21,7 @@ use Rattle.rv_enclaves.proofs.Valid.{valid_by_size}
 inside_agrees : (memory : List ℕ) (block : Block) → is_inside memory block.base block.size ≡ true
     → EqualOutside (has block) memory (with_complements memory (block.base - ram_base) block.size)
 inside_agrees memory block inside =
-    let is = inside-is memory block.base block.size inside in
+    let bounds = inside-is memory block.base block.size inside in
     let index = block.base - ram_base in
     let fits = inside-index memory block.base block.size inside in
     record {
@@ -30,14 +30,15 @@ inside_agrees memory block inside =
         | inl low ↦ sym (below memory index block.size i fits low)
         | inr low ↦ elim (cases_lt i (index + block.size)) [
           | inl high ↦
-              let from : nat_le block.base (ram_base + i) ≡ true = le-leb block.base (ram_base + i) (omega (arith, is.0)) in
-              let to : nat_lt (ram_base + i) (block.base + block.size) ≡ true = lt-ltb (ram_base + i) (block.base + block.size) (omega (arith, is.0)) in
+              let from : nat_le block.base (ram_base + i) ≡ true = le-leb block.base (ram_base + i) (omega (arith, bounds.0)) in
+              let to : nat_lt (ram_base + i) (block.base + block.size) ≡ true = lt-ltb (ram_base + i) (block.base + block.size) (omega (arith, bounds.0)) in
               let never : true ≡ false = sym (and_from _ _ from to) ∙ seen in cc
           | inr high ↦ sym (above memory index block.size i fits high)
         ]
       ];
     }
 
+-- a scrambled block leaves the memory equal outside the block
 block_agrees : (memory : List ℕ) (block : Block) → EqualOutside (has block) memory (complemented_block memory block)
 block_agrees memory block = elim (cases_Bool (is_inside memory block.base block.size)) [
   | inl inside ↦ let is = complemented-is memory block.base block.size inside in rw is (inside_agrees memory block inside)
@@ -46,10 +47,12 @@ block_agrees memory block = elim (cases_Bool (is_inside memory block.base block.
 
 -- ---- contexts
 
+-- a complemented context is there if the context is
 some_after : (o : Option Context) → is_some (option_map complemented_context o) ≡ is_some o
 some_after None = refl
 some_after (Some context) = refl
 
+-- a hart can continue with a complemented context, if it can with the context
 goes_on_after : (o : Option Context) → IfSome o (λ context. can_go_on context ≡ true)
     → IfSome (option_map complemented_context o) (λ context. can_go_on context ≡ true)
 goes_on_after None held = tt
@@ -57,38 +60,47 @@ goes_on_after (Some context) held = held
 
 -- ---- the slot
 
+-- the slot is live, does not run, and is one of the 13
 record MayScramble (shared : Shared) (k : ℕ) : Type 0 where
   pub live : is_live shared.table k ≡ true
   pub not_running : runs shared.table k ≡ false
   pub in_range : k < 13
 
+-- a test whose negation holds fails
 not-true : (b : Bool) → not b ≡ true → b ≡ false
 not-true true is = cc
 not-true false is = refl
 
+-- a slot whose enclave has a saved context is live and does not run
 pub slot_rests : (o : Option SlotInfo) → is_held o ≡ true → (is_some o ≡ true) × (option_case o false (λ info. is_running info.state) ≡ false)
 slot_rests None held = cc
 slot_rests (Some info) held = (refl, not-true (is_running info.state) held)
 
+-- a slot with a saved context is one of the 13
 in_range : (shared : Shared) (k : ℕ) (o : Option SlotInfo) → slot_at shared.table k ≡ o → length shared.table ≡ 13 → is_held o ≡ true → k < 13
-in_range shared k None is count held = cc
-in_range shared k (Some info) is count held = live_in_range shared.table k info count is
+in_range shared k None slot_is count held = cc
+in_range shared k (Some info) slot_is count held = live_in_range shared.table k info count slot_is
 
 module _ (shared : Shared) (worlds : List World) (k : ℕ) (sound : SharedInvariant shared worlds) (may : can_scramble shared.table k ≡ true) where
+  -- a slot that may be scrambled is live and does not run
   may_be : MayScramble shared k
   may_be =
       let parts = slot_rests (slot_at shared.table k) may in
       record { live = parts.0; not_running = parts.1; in_range = in_range shared k (slot_at shared.table k) refl sound.valid.count may }
 
+  -- the saved context of slot k
   abbrev kept_one : Option Context
   kept_one = context_at shared.contexts k
 
+  -- the saved contexts with that of slot k complemented
   abbrev new_contexts : Contexts
   new_contexts = with_context shared.contexts k (option_map complemented_context kept_one)
 
+  -- the new context of slot k is the complemented one
   here : context_at new_contexts k ≡ option_map complemented_context kept_one
   here = at_same shared.contexts k (option_map complemented_context kept_one) (let range = may_be.in_range in omega (arith, sound.contexts.count, range))
 
+  -- the scrambled state has the invariant
   pub scrambled_sound : SharedInvariant (scrambled_shared shared k) worlds
   unfolding scrambled_shared
   scrambled_sound = record {
@@ -111,6 +123,7 @@ module _ (shared : Shared) (worlds : List World) (k : ℕ) (sound : SharedInvari
     apart = sound.apart;
   }
 
+  -- the scrambled state is equivalent to the state except for k
   pub scrambled_agrees : SharedEquivExcept k shared (scrambled_shared shared k)
   unfolding scrambled_shared
   scrambled_agrees = record {
@@ -123,6 +136,7 @@ module _ (shared : Shared) (worlds : List World) (k : ℕ) (sound : SharedInvari
     gone = λ free. let never : true ≡ false = sym may_be.live ∙ free in cc;
   }
 
+-- proves that a scramble preserves the invariant and changes only what is private to slot k
 pub scrambled_law : ScrambledLaw
 scrambled_law shared worlds k sound may = record {
   not_running = (slot_rests (slot_at shared.table k) may).1;

@@ -9,6 +9,7 @@ use Rattle.rv_enclaves.specs.Scramble.{complemented_registers, complemented_cont
 use Rattle.rv_enclaves.proofs.Prelude.{Block, Context, context_at, is_inside, ram_base, region}
 use Rattle.rv_enclaves.proofs.EqualMemory.{read-none}
 
+-- 32-bit words complemented twice are the words
 words_twice : (words : List ℕ) → ((n : ℕ) → get_or words n 0 < 2 ^ 32)
     → map (λ word. 2 ^ 32 - 1 - word) (map (λ word. 2 ^ 32 - 1 - word) words) ≡ words
 words_twice [] small = refl
@@ -17,10 +18,12 @@ words_twice (word ∷ words) small =
     let back : 2 ^ 32 - 1 - (2 ^ 32 - 1 - word) ≡ word = omega (arith, first) in
     ap₂ (λ (x : ℕ) (xs : List ℕ). x ∷ xs) back (words_twice words (λ n. small (suc n)))
 
+-- registers complemented twice are the registers
 registers_twice : (regs : List ℕ) → ((n : ℕ) → get_or regs n 0 < 2 ^ 32) → complemented_registers (complemented_registers regs) ≡ regs
 registers_twice [] small = refl
 registers_twice (x0 ∷ words) small = ap (λ rest. x0 ∷ rest) (words_twice words (λ n. small (suc n)))
 
+-- a context complemented twice is the context
 context_twice : (o : Option Context) → IfSome o (λ context. (n : ℕ) → slice_index context.regs n < 2 ^ 32)
     → option_map complemented_context (option_map complemented_context o) ≡ o
 context_twice None small = refl
@@ -33,6 +36,7 @@ place_twice f [] k back = refl
 place_twice f (x ∷ xs) zero back = ap (λ y. y ∷ xs) back
 place_twice f (x ∷ xs) (suc k) back = ap (λ ys. x ∷ ys) (place_twice f xs k back)
 
+-- a block complemented twice is the block
 block_twice : (memory : List ℕ) (block : Block) → ((i : ℕ) → get_or memory i 0 < 2 ^ 8)
     → complemented_block (complemented_block memory block) block ≡ memory
 block_twice memory block bytes = elim (cases_Bool (is_inside memory block.base block.size)) [
@@ -40,14 +44,15 @@ block_twice memory block bytes = elim (cases_Bool (is_inside memory block.base b
       let index = block.base - ram_base in
       let once = with_complements memory index block.size in
       let fits = inside-index memory block.base block.size inside in
-      let size = length-with_complements memory index block.size fits in
-      let inside' : is_inside once block.base block.size ≡ true = rw size inside in
+      let same_length = length-with_complements memory index block.size fits in
+      let inside' : is_inside once block.base block.size ≡ true = rw same_length inside in
       let is = complemented-is memory block.base block.size inside in
       let again = complemented-is once block.base block.size inside' in
       rw (is, again) (complemented_twice memory index block.size fits bytes)
   | inr outside ↦ let is = read-none memory block.base block.size outside in rw (is, is) refl
 ]
 
+-- proves that scrambling twice restores the shared state
 pub shared_twice : ScrambledTwiceLaw
 unfolding scrambled_shared
 shared_twice shared k bytes words =

@@ -9,26 +9,32 @@ use Rattle.rv_enclaves.specs.SharedInvariant.{shared_at_start}
 use Rattle.rv_enclaves.specs.Table.{no_slots}
 use Rattle.rv_enclaves.proofs.Prelude.{AreApart, Context, IsValidSlot, SharedInvariant, IsValid, SlotInfo, World, can_go_on, context_at, is_held, is_ram_size}
 use Rattle.rv_enclaves.proofs.Prelude.{is_running, is_world_of, meets, monitor_block, option_case, region, region_of, slot_at, window, window_of}
-use Rattle.rv_platform.proofs.BlockLaws.{meets_nothing}
+use Rattle.rv_memory.proofs.BlockLaws.{meets_nothing}
 
+-- a list of 13 times none has none everywhere
 nothing_at : {A : Type 0} (k : ℕ) → get_or {A = Option A} (replicate 13 None) k None ≡ None
 nothing_at {A} k = elim (cases_lt k 13) [
   | inl inside ↦ get_or-replicate {A = Option A} 13 k None None inside
   | inr past ↦ get_or_past {X = Option A} (replicate 13 None) k None past
 ]
 
+-- no slot has an enclave at reset
 no_slot : (k : ℕ) → slot_at no_slots k ≡ None
 no_slot k = nothing_at {A = SlotInfo} k
 
+-- no slot has a saved context at reset
 no_context : (k : ℕ) → context_at no_contexts k ≡ None
 no_context k = nothing_at {A = Context} k
 
+-- no slot has a region at reset
 no_region : (k : ℕ) → region no_slots k ≡ region_of None
 no_region k = ap region_of (no_slot k)
 
+-- no slot has a window at reset
 no_window : (k : ℕ) → window no_slots k ≡ window_of None
 no_window k = ap window_of (no_slot k)
 
+-- the table without enclaves is valid, if the RAM has a permitted size
 pub no_slots_valid : (memory : List ℕ) → is_ram_size (length memory) ≡ true → IsValid memory no_slots
 no_slots_valid memory ram = record {
   ram = ram;
@@ -40,6 +46,7 @@ no_slots_valid memory ram = record {
   windows_free = λ k. ap (meets monitor_block) (no_window k) ∙ meets_nothing monitor_block;
 }
 
+-- the shared state at reset has the invariant, if no world is an enclave
 pub start_sound : (memory : List ℕ) (ws : List World) → ((k : ℕ) → list_any (is_world_of k) ws ≡ false) → AreApart ws
     → is_ram_size (length memory) ≡ true
     → SharedInvariant (shared_at_start memory) ws

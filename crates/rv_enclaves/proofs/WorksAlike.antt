@@ -10,12 +10,15 @@ use Rattle.rv_enclaves.proofs.Prelude.{destroyed, is_live, is_private, saved_con
 use Rattle.rv_enclaves.proofs.Alike.{itself, as_before, created_alike, destroyed_alike, measured_alike, switched_alike}
 use Rattle.rv_enclaves.proofs.Refusals.{MayCreate, IsTaken, may_create, may_take}
 
+-- the shared state made of a table, a memory and the saved contexts
 abbrev over : Slots → List ℕ → Contexts → Shared
 over table memory contexts = record { memory = memory; table = table; contexts = contexts }
 
+-- the shared state with another state and saved context of slot k
 abbrev pub switched : Shared → ℕ → EnclaveState → Option Context → Shared
 switched shared k state c = record shared { table = with_state shared.table k state; contexts = with_context shared.contexts k c }
 
+-- each effect of the trap handler on two shared states leaves them equivalent except for e
 pub record WorksAlike (e : ℕ) (one other : Shared) : Type 0 where
   pub before : SharedEquivExcept e one other
   pub creates : (new : CreateArgs) → MayCreate one new → SharedEquivExcept e (created one new) (created other new)
@@ -24,7 +27,7 @@ pub record WorksAlike (e : ℕ) (one other : Shared) : Type 0 where
   pub contexts : (k : ℕ) → k ≢ e → saved_context one.contexts k ≡ saved_context other.contexts k
   pub switches : (k : ℕ) (state : EnclaveState) (c : Option Context) → SharedEquivExcept e (switched one k state c) (switched other k state c)
 
--- equal shared states
+-- equal shared states stay equivalent under each effect
 equal_work : (e : ℕ) (shared : Shared) → WorksAlike e shared shared
 equal_work e shared = record {
   before = itself e shared;
@@ -35,9 +38,10 @@ equal_work e shared = record {
   switches = λ k state c. itself e _;
 }
 
--- e is live
+-- the effects on shared states in which e is live
 module _ (e : ℕ) (table : Slots) (m n : List ℕ) (cs ds : Contexts) (equiv : EqualOutside (is_private table e) m n) (saved : SameContexts e cs ds)
     (live : is_live table e ≡ true) where
+  -- the effects are equivalent for a live enclave e
   live_work : (worlds : List World) → SharedInvariant (over table m cs) worlds → SharedInvariant (over table n ds) worlds
       → WorksAlike e (over table m cs) (over table n ds)
   live_work worlds one other = record {
@@ -49,6 +53,7 @@ module _ (e : ℕ) (table : Slots) (m n : List ℕ) (cs ds : Contexts) (equiv : 
     switches = switched_alike e table m n cs ds equiv saved live one.valid.count;
   }
 
+-- equivalent shared states with the invariant stay equivalent under each effect of the trap handler
 pub works_alike : (e : ℕ) (one other : Shared) (worlds : List World) → SharedInvariant one worlds → SharedInvariant other worlds → SharedEquivExcept e one other
     → WorksAlike e one other
 works_alike e one other worlds here there equiv = elim (cases_Bool (is_live one.table e)) [
@@ -61,6 +66,7 @@ works_alike e one other worlds here there equiv = elim (cases_Bool (is_live one.
       (live_work e one.table one.memory other.memory one.contexts other.contexts equiv.memory equiv.contexts live worlds here there')
 ]
 
+-- proves that calls have equivalent effects on equivalent shared states
 pub calls_alike : CallsAlikeLaw
 calls_alike e one other worlds here there equiv =
     let works = works_alike e one other worlds here there equiv in

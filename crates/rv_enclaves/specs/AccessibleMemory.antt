@@ -10,7 +10,7 @@ use Rattle.rv_pmp.specs.declared.access.Access.TheVariants.{Fetch, Read, Write}
 use Rattle.rv_pmp.specs.declared.mode.Mode.{Mode}
 use Rattle.rv_pmp.specs.declared.mode.Mode.TheVariants.{M}
 use Rattle.rv_memory.specs.Memory.{is_inside}
-use Rattle.rv_platform.specs.Blocks.{has, monitor_block}
+use Rattle.rv_memory.specs.Blocks.{has, monitor_block}
 use Rattle.rv_enclaves.specs.Layout.{layout}
 use Rattle.rv_enclaves.specs.Table.{Slots, IsValid, region, window, is_in_region, is_world_of}
 use Rattle.rv_enclaves.specs.declared.world.World.{World}

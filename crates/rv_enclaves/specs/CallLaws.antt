@@ -21,6 +21,7 @@ pub record CallsKeep (shared : Shared) (worlds : List World) : Type 0 where
   pub destroys : (k : ℕ) → first_refusal (state_refusals shared.table Destroy k) ≡ None → SharedInvariant (destroyed shared k) worlds
   pub measures : (k address : ℕ) → SharedInvariant (measured shared k address) worlds
 
+-- each call that is not refused preserves the invariant of the shared state
 abbrev pub CallsKeepLaw : Type 0
 CallsKeepLaw = (shared : Shared) (worlds : List World) → SharedInvariant shared worlds → CallsKeep shared worlds
 
@@ -30,6 +31,7 @@ pub record CallsAlike (e : ℕ) (one other : Shared) : Type 0 where
   pub destroys : (k : ℕ) → first_refusal (state_refusals one.table Destroy k) ≡ None → SharedEquivExcept e (destroyed one k) (destroyed other k)
   pub measures : (k address : ℕ) → SharedEquivExcept e (measured one k address) (measured other k address)
 
+-- on two shared states that are equivalent except for e, a call has equivalent effects
 abbrev pub CallsAlikeLaw : Type 0
 CallsAlikeLaw =
     (e : ℕ) (one other : Shared) (worlds : List World) → SharedInvariant one worlds → SharedInvariant other worlds → SharedEquivExcept e one other
@@ -41,6 +43,7 @@ pub record IsScrambled (shared : Shared) (worlds : List World) (k : ℕ) : Type 
   pub sound : SharedInvariant (scrambled_shared shared k) worlds
   pub equivalent : SharedEquivExcept k shared (scrambled_shared shared k)
 
+-- a scramble that is permitted preserves the invariant, and changes only what is private to slot k
 abbrev pub ScrambledLaw : Type 0
 ScrambledLaw =
     (shared : Shared) (worlds : List World) (k : ℕ) → SharedInvariant shared worlds → can_scramble shared.table k ≡ true

@@ -7,8 +7,8 @@ use Rattle.std.specs.Option.{is_none}
 use Rattle.sha2.specs.Sha256.{sha256}
 use Rattle.rv_word.specs.Cases.{option_case}
 use Rattle.rv_memory.specs.Memory.{bytes_of, read, write}
-use Rattle.rv_platform.specs.Blocks.{meets}
-use Rattle.rv_platform.specs.declared.block.Block.{Block}
+use Rattle.rv_memory.specs.Blocks.{meets}
+use Rattle.rv_memory.specs.declared.block.Block.{Block}
 use Rattle.rv_pmp.specs.Entries.{Entries}
 use Rattle.rv_pmp.specs.Verdicts.{bytes_from, permits, verdict}
 use Rattle.rv_pmp.specs.declared.access.Access.TheVariants.{Write}
@@ -47,6 +47,7 @@ call_numbered (Enclave k) a7 a6 =
 abbrev pub region_named : List ℕ → Block
 region_named regs = record { base = register regs 10; size = register regs 11 }
 
+-- the window that a2 and a3 name; a size of 0 means none
 abbrev pub window_named : List ℕ → Block
 window_named regs =
     if register regs 13 == 0 then record { base = 0; size = 0 } else record { base = register regs 12; size = register regs 13 }
@@ -77,6 +78,7 @@ abbrev pub overlap_enclave : Block → Block → Option SlotInfo → Bool
 overlap_enclave region window slot =
     option_case slot false (λ info. meets region info.region || (meets region info.window || meets window info.region))
 
+-- the lowest slot of the 13 without a record
 abbrev pub lowest_free : Slots → Option ℕ
 lowest_free slots = find (λ k. is_none (record_at slots k)) (range_with_len 0 13)
 
@@ -87,12 +89,14 @@ is_fresh Running = false
 is_fresh Stopped = false
 is_fresh Exited = false
 
+-- the state in which resume accepts an enclave
 abbrev pub is_stopped : EnclaveState → Bool
 is_stopped Fresh = false
 is_stopped Running = false
 is_stopped Stopped = true
 is_stopped Exited = false
 
+-- the states in which destroy accepts an enclave
 abbrev pub does_not_run : EnclaveState → Bool
 does_not_run Fresh = true
 does_not_run Running = false
@@ -106,6 +110,7 @@ is_storable memory entries byte =
 
 -- ---- the statuses of each call: the first row whose condition holds decides
 
+-- the refusals of create: region, window, overlap, entry, no slot
 unfoldable pub create_rows : Shared → List ℕ → List (Bool × ℕ)
 create_rows shared regs =
     let region = region_named regs in
@@ -118,18 +123,21 @@ create_rows shared regs =
     ∷ (is_none (lowest_free shared.table), 0xFFFFFFFA)
     ∷ []
 
+-- the refusals of destroy, run and resume: no enclave in the slot, or not in a state that the call accepts
 unfoldable pub state_rows : (EnclaveState → Bool) → Slots → ℕ → List (Bool × ℕ)
 state_rows accepts slots k =
     (not (is_some (record_at slots k)), 0xFFFFFFF9)
     ∷ (not (option_case (record_at slots k) false (λ info. accepts info.state)), 0xFFFFFFF8)
     ∷ []
 
+-- the refusals of measure: no enclave in the slot, or an address at which S may not store 32 bytes
 unfoldable pub measure_rows : Shared → Entries → ℕ → ℕ → List (Bool × ℕ)
 measure_rows shared entries k address =
     (not (is_some (record_at shared.table k)), 0xFFFFFFF9)
     ∷ (not (list_all (is_storable shared.memory entries) (range_with_len address 32)), 0xFFFFFFF7)
     ∷ []
 
+-- the refusals of a call in its order; stop and exit have none
 abbrev pub call_rows : World → Shared → Entries → List ℕ → Call → List (Bool × ℕ)
 call_rows world shared entries regs Create = create_rows shared regs
 call_rows world shared entries regs Destroy = state_rows does_not_run shared.table (register regs 10)
@@ -194,10 +202,12 @@ shared_with_measurement shared k address =
 
 -- ---- the law: the tables and effects of the calls are these
 
+-- the table of refusals with the status of each refusal in its place
 abbrev pub in_numbers : List (Bool × Refusal) → List (Bool × ℕ)
 in_numbers [] = []
 in_numbers ((holds, refusal) ∷ rows) = (holds, status_of refusal) ∷ in_numbers rows
 
+-- the definitions of the calls agree with the tables in numbers: requests, statuses, refusals and effects
 pub record AreCallNumbers (shared : Shared) (entries : Entries) (regs : List ℕ) : Type 0 where
   pub call : (world : World) → requested_call world regs ≡ call_numbered world (register regs 17) (register regs 16)
   pub status : (refusal : Refusal) → status_of refusal ≢ 0
@@ -213,6 +223,7 @@ pub record AreCallNumbers (shared : Shared) (entries : Entries) (regs : List ℕ
   pub host_mie : mie_of Host ≡ 0
   pub enclave_mie : (k : ℕ) → mie_of (Enclave k) ≡ 0x80
 
+-- the definitions of the calls agree with the tables in numbers, for every state and all registers
 abbrev pub CallNumbersLaw : Type 0
 CallNumbersLaw = (shared : Shared) (entries : Entries) (regs : List ℕ) → AreCallNumbers shared entries regs
 
@@ -284,5 +295,6 @@ pub record AcceptsCalls (shared : Shared) (entries : Entries) (regs : List ℕ) 
   pub stop : (k : ℕ) → Requests 6 regs → IsAccepted (Enclave k) shared entries regs Stop
   pub exit : (k : ℕ) → Requests 7 regs → IsAccepted (Enclave k) shared entries regs Exit
 
+-- under its conditions, each call is accepted, for every state and all registers
 abbrev pub AcceptsCallsLaw : Type 0
 AcceptsCallsLaw = (shared : Shared) (entries : Entries) (regs : List ℕ) → AcceptsCalls shared entries regs

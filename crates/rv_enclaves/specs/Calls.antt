@@ -13,11 +13,11 @@ use Rattle.rv_enclaves.specs.declared.slot_info.EnclaveState.TheVariants.{Fresh,
 use Rattle.rv_enclaves.specs.declared.world.World.{World}
 use Rattle.rv_enclaves.specs.declared.world.World.TheVariants.{Host, Enclave}
 
--- the value of a7
+-- the key that a7 must have for a call
 abbrev pub call_key : ℕ
 call_key = 0x0A454E43
 
--- the value of a6
+-- the number of a call, which a6 has
 abbrev pub call_number : Call → ℕ
 call_number Create = 1
 call_number Destroy = 2
@@ -27,6 +27,7 @@ call_number Measure = 5
 call_number Stop = 6
 call_number Exit = 7
 
+-- the seven calls, in the order of their numbers 1 to 7
 abbrev pub calls : List Call
 calls = Create ∷ Destroy ∷ Run ∷ Resume ∷ Measure ∷ Stop ∷ Exit ∷ []
 

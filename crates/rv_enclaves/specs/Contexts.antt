@@ -54,12 +54,15 @@ can_go_on context = not (is_machine context.mode) && context.pc % 4 == 0
 
 -- ---- the contexts of the enclaves, a list separate from the table
 
+-- a saved context for each slot, or none
 abbrev pub Contexts : Type 0
 Contexts = List (Option Context)
 
+-- no slot has a saved context
 abbrev pub no_contexts : Contexts
 no_contexts = replicate slot_count None
 
+-- the saved context of slot k, if it has one
 abbrev pub context_at : Contexts → ℕ → Option Context
 context_at contexts k = slice_index_or contexts k None
 
@@ -67,5 +70,6 @@ context_at contexts k = slice_index_or contexts k None
 abbrev pub saved_context : Contexts → ℕ → Context
 saved_context contexts k = option_case (context_at contexts k) exited_context (λ context. context)
 
+-- the saved contexts with a new one for slot k, or with none
 abbrev pub with_context : Contexts → ℕ → Option Context → Contexts
 with_context contexts k context = slice_set contexts k context

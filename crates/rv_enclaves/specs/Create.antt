@@ -7,12 +7,12 @@ use Rattle.sha2.specs.Sha256.{sha256}
 use Rattle.rv_word.specs.Cases.{option_case}
 use Rattle.rv_memory.specs.Memory.{read, bytes_of}
 use Rattle.rv_state.specs.Registers.{register}
-use Rattle.rv_platform.specs.Blocks.{has, meets, no_block, monitor_block}
+use Rattle.rv_memory.specs.Blocks.{has, meets, no_block, monitor_block}
 use Rattle.rv_enclaves.specs.ValidBlocks.{is_valid_block}
 use Rattle.rv_enclaves.specs.Contexts.{first_context, with_context}
 use Rattle.rv_enclaves.specs.SlotNumbers.{slot_count}
 use Rattle.rv_enclaves.specs.Table.{Slots, free_slot, with_slot, is_window}
-use Rattle.rv_platform.specs.declared.block.Block.{Block}
+use Rattle.rv_memory.specs.declared.block.Block.{Block}
 use Rattle.rv_enclaves.specs.declared.create_args.CreateArgs.{CreateArgs}
 use Rattle.rv_enclaves.specs.declared.refusal.Refusal.{Refusal}
 use Rattle.rv_enclaves.specs.declared.refusal.Refusal.TheVariants.{BadRegion, BadWindow, Overlap, BadEntry, NoSlot}
@@ -34,11 +34,13 @@ collides new None = false
 collides new (Some info) =
     meets new.region info.region || (meets new.region info.window || meets new.window info.region)
 
+-- the region or the window meets the monitor's range, the other of the two, or a live enclave
 unfoldable pub overlaps : Slots → CreateArgs → Bool
 overlaps slots new =
     meets monitor_block new.region || (meets monitor_block new.window || (meets new.region new.window
     || list_any (collides new) slots))
 
+-- the entry point is a multiple of 4 in the region
 unfoldable pub is_entry : CreateArgs → Bool
 is_entry new = new.entry % 4 == 0 && has new.region new.entry
 
@@ -52,9 +54,11 @@ abbrev pub heading : CreateArgs → List ℕ
 heading new =
     bytes_of 4 new.region.base ++ bytes_of 4 new.region.size ++ bytes_of 4 new.window.base ++ bytes_of 4 new.window.size ++ bytes_of 4 new.entry
 
+-- the input of SHA-256: the five arguments, and the bytes of the region
 abbrev pub measured_bytes : List ℕ → CreateArgs → List ℕ
 measured_bytes memory new = heading new ++ bytes_of_block memory new.region
 
+-- the measurement: the SHA-256 digest of the measured bytes
 unfoldable pub measurement_of : List ℕ → CreateArgs → List ℕ
 measurement_of memory new = sha256 (measured_bytes memory new)
 
@@ -75,6 +79,7 @@ with_enclave shared k info = record shared {
   contexts = with_context shared.contexts k (Some (first_context info));
 }
 
+-- the conditions that refuse a create, in the order in which they are checked
 unfoldable pub create_refusals : Shared → CreateArgs → List (Bool × Refusal)
 create_refusals shared new =
     (not (is_valid_block shared.memory new.region), BadRegion)

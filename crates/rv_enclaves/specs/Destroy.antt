@@ -5,7 +5,7 @@ use Rattle.rv_word.specs.Cases.{option_case}
 use Rattle.rv_memory.specs.Memory.{write}
 use Rattle.rv_enclaves.specs.Contexts.{with_context}
 use Rattle.rv_enclaves.specs.Table.{region, with_slot}
-use Rattle.rv_platform.specs.declared.block.Block.{Block}
+use Rattle.rv_memory.specs.declared.block.Block.{Block}
 use Rattle.rv_enclaves.specs.declared.shared.Shared.{Shared}
 
 -- a memory with the bytes of a block set to 0; unchanged if the block is not inside it, which no live region is

@@ -12,6 +12,7 @@ use Rattle.rv_enclaves.specs.declared.slot_info.EnclaveState.TheVariants.{Fresh,
 use Rattle.rv_enclaves.specs.declared.slot_info.SlotInfo.{SlotInfo}
 use Rattle.rv_enclaves.specs.declared.world.World.TheVariants.{Host, Enclave}
 
+-- the record of an enclave with a region and a window
 abbrev example : SlotInfo
 example = record {
   region = record { base = 0x80020000; size = 0x1000 };
@@ -21,23 +22,24 @@ example = record {
   state = Fresh;
 }
 
--- while the host runs
+-- the entries while the host runs: the monitor's range, the region of slot 0 without permissions, and everything
 pub entries_at_rest : layout (with_slot no_slots 0 (Some example)) Host
     ≡ record { cfgs = 0x18 ∷ 0x18 ∷ replicate 13 0 ++ 0x1F ∷ []; addrs = 0x20001FFF ∷ 0x200081FF ∷ replicate 13 0 ++ 0xFFFFFFFF ∷ [] }
 unfolding layout entry_at
 entries_at_rest = refl
 
--- while the enclave of slot 0 runs
+-- the entries while the enclave of slot 0 runs: its region with R, W and X, and its window with R and W
 pub entries_within : layout (with_slot no_slots 0 (Some example)) (Enclave 0)
     ≡ record { cfgs = 0x18 ∷ 0x1F ∷ replicate 12 0 ++ 0x1B ∷ 0 ∷ []; addrs = 0x20001FFF ∷ 0x200081FF ∷ replicate 12 0 ++ 0x2000C1FF ∷ 0 ∷ [] }
 unfolding layout entry_at
 entries_within = refl
 
--- as read from the registers
+-- the first pmpcfg register while the host runs
 pub words_at_rest : cfg_word (layout (with_slot no_slots 0 (Some example)) Host) 0 ≡ 0x00001818
 unfolding layout entry_at
 words_at_rest = refl
 
+-- the last pmpcfg register while the enclave runs: R and W for the window in entry 14
 pub last_word_within : cfg_word (layout (with_slot no_slots 0 (Some example)) (Enclave 0)) 3 ≡ 0x001B0000
 unfolding layout entry_at
 last_word_within = refl
@@ -50,6 +52,7 @@ ended memory word = record {
   contexts = with_context no_contexts 3 (Some (record exited_context { regs = 0 ∷ replicate 31 word }));
 }
 
+-- scrambling complements bytes 1 and 2 and the registers x1 to x31 of slot 3
 pub ended_scrambled : scrambled_shared (ended (0x11 ∷ 0x22 ∷ 0x33 ∷ 0x44 ∷ []) 0) 3 ≡ ended (0x11 ∷ 0xDD ∷ 0xCC ∷ 0x44 ∷ []) 0xFFFFFFFF
 unfolding scrambled_shared read write
 ended_scrambled = refl

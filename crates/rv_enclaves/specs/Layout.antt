@@ -3,9 +3,9 @@
 use Rattle.std.specs.Prelude.{ℕ, ◌+◌, ◌-◌, ◌/◌, ◌==◌, nat_lt, if◌then◌else◌, map, Option, Some, None}
 use Rattle.std.specs.List.{range_with_len}
 use Rattle.rv_pmp.specs.Entries.{Entries}
-use Rattle.rv_platform.specs.Blocks.{monitor_block}
+use Rattle.rv_memory.specs.Blocks.{monitor_block}
 use Rattle.rv_enclaves.specs.Table.{Slots, slot_at, is_world_of}
-use Rattle.rv_platform.specs.declared.block.Block.{Block}
+use Rattle.rv_memory.specs.declared.block.Block.{Block}
 use Rattle.rv_enclaves.specs.declared.slot_info.SlotInfo.{SlotInfo}
 use Rattle.rv_enclaves.specs.declared.world.World.{World}
 use Rattle.rv_enclaves.specs.declared.world.World.TheVariants.{Host, Enclave}
@@ -15,6 +15,7 @@ pub record Entry : Type 0 where
   pub cfg : ℕ
   pub addr : ℕ
 
+-- an entry that is off
 abbrev pub unused : Entry
 unused = record { cfg = 0x00; addr = 0x00000000 }
 
@@ -26,9 +27,11 @@ napot cfg block = record { cfg = cfg; addr = block.base / 4 + (block.size / 8 - 
 abbrev pub no_permission : ℕ
 no_permission = 0x18
 
+-- NAPOT with R and W
 abbrev pub read_write : ℕ
 read_write = 0x1B
 
+-- NAPOT with R, W and X
 abbrev pub all : ℕ
 all = 0x1F
 
@@ -42,6 +45,7 @@ abbrev pub window_entry_of : Option SlotInfo → Entry
 window_entry_of None = unused
 window_entry_of (Some info) = if info.window.size == 0 then unused else napot read_write info.window
 
+-- entry 14: the window of the enclave that runs, and off for the host
 abbrev pub window_entry : Slots → World → Entry
 window_entry slots Host = unused
 window_entry slots (Enclave k) = window_entry_of (slot_at slots k)
@@ -59,6 +63,7 @@ entry_at slots world i =
     else (if i == 14 then window_entry slots world
     else host_entry world))
 
+-- the sixteen entries as lists of cfg bytes and of pmpaddr values
 unfoldable pub layout : Slots → World → Entries
 layout slots world = record {
   cfgs = map (λ i. (entry_at slots world i).cfg) (range_with_len 0 16);

@@ -37,6 +37,7 @@ with_bytes_at memory address bytes = option_case (write memory address bytes) me
 abbrev pub measurement_at : Slots → ℕ → List ℕ
 measurement_at slots k = option_case (slot_at slots k) [] (λ info. info.measurement)
 
+-- the conditions that refuse a measure, in the order in which they are checked
 unfoldable pub measure_refusals : Shared → Entries → ℕ → ℕ → List (Bool × Refusal)
 measure_refusals shared entries k address =
     (not (is_live shared.table k), NoEnclave)

@@ -2,7 +2,7 @@
 -- about the input of SHA-256, since a digest of 32 bytes does not determine its input.)
 use Rattle.std.specs.Prelude.{◌≡◌, ℕ, true, not, List, length}
 use Rattle.rv_memory.specs.Memory.{is_ram_size}
-use Rattle.rv_platform.specs.Blocks.{has}
+use Rattle.rv_memory.specs.Blocks.{has}
 use Rattle.rv_enclaves.specs.Create.{measured_bytes}
 use Rattle.rv_enclaves.specs.SharedEquivExcept.{EqualOutside}
 use Rattle.rv_enclaves.specs.Table.{IsValidSlot}
@@ -18,6 +18,7 @@ pub record SameMeasured (m n : List ℕ) (one other : SlotInfo) : Type 0 where
   pub args : args_of one ≡ args_of other
   pub bytes : EqualOutside (λ byte. not (has one.region byte)) m n
 
+-- equal measured bytes of two valid enclaves have equal arguments and equal bytes of the region
 abbrev pub MeasurementLaw : Type 0
 MeasurementLaw =
     (m n : List ℕ) (one other : SlotInfo) → is_ram_size (length m) ≡ true → length m ≡ length n → IsValidSlot m one → IsValidSlot n other

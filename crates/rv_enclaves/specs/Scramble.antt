@@ -7,7 +7,7 @@ use Rattle.rv_memory.specs.Complement.{complemented}
 use Rattle.rv_enclaves.specs.Contexts.{context_at, with_context}
 use Rattle.rv_enclaves.specs.SharedInvariant.{is_held}
 use Rattle.rv_enclaves.specs.Table.{Slots, slot_at, region}
-use Rattle.rv_platform.specs.declared.block.Block.{Block}
+use Rattle.rv_memory.specs.declared.block.Block.{Block}
 use Rattle.rv_enclaves.specs.declared.context.Context.{Context}
 use Rattle.rv_enclaves.specs.declared.shared.Shared.{Shared}
 
@@ -15,17 +15,20 @@ use Rattle.rv_enclaves.specs.declared.shared.Shared.{Shared}
 abbrev pub can_scramble : Slots → ℕ → Bool
 can_scramble slots k = is_held (slot_at slots k)
 
--- x1 to x31 complemented
+-- the registers x1 to x31 complemented; x0 stays 0
 abbrev pub complemented_registers : List ℕ → List ℕ
 complemented_registers [] = []
 complemented_registers (x0 ∷ words) = x0 ∷ map (λ word. 2 ^ 32 - 1 - word) words
 
+-- the context with each register complemented, except x0
 abbrev pub complemented_context : Context → Context
 complemented_context context = record context { regs = complemented_registers context.regs }
 
+-- the memory with the bytes of a block complemented; a block outside memory changes nothing
 abbrev pub complemented_block : List ℕ → Block → List ℕ
 complemented_block memory block = option_case (complemented memory block.base block.size) memory (λ after. after)
 
+-- the shared state with the region and the saved registers of slot k complemented
 unfoldable pub scrambled_shared : Shared → ℕ → Shared
 scrambled_shared shared k = record shared {
   memory = complemented_block shared.memory (region shared.table k);

@@ -2,7 +2,7 @@
 -- standard; the noninterference laws are about it.)
 use Rattle.std.specs.Prelude.{◌≡◌, ◌≢◌, ℕ, ◌+◌, Bool, false, List, length, slice_index}
 use Rattle.rv_memory.specs.Memory.{ram_base}
-use Rattle.rv_platform.specs.Blocks.{has}
+use Rattle.rv_memory.specs.Blocks.{has}
 use Rattle.rv_enclaves.specs.Contexts.{Contexts, context_at}
 use Rattle.rv_enclaves.specs.Table.{Slots, region, is_live}
 use Rattle.rv_enclaves.specs.declared.shared.Shared.{Shared}

@@ -18,6 +18,7 @@ abbrev pub is_held : Option SlotInfo → Bool
 is_held None = false
 is_held (Some info) = not (is_running info.state)
 
+-- a slot has a saved context if and only if its enclave is live and does not run, and a hart can continue with each
 pub record SavedContextsInvariant (shared : Shared) : Type 0 where
   pub count : length shared.contexts ≡ slot_count
   pub kept : (k : ℕ) → is_some (context_at shared.contexts k) ≡ is_held (slot_at shared.table k)

@@ -6,20 +6,21 @@ use Rattle.std.specs.Option.{is_none}
 use Rattle.std.specs.List.{range_with_len, find, list_any}
 use Rattle.rv_word.specs.Cases.{option_case}
 use Rattle.rv_memory.specs.Memory.{is_ram_size}
-use Rattle.rv_platform.specs.Blocks.{has, meets, monitor_block, no_block}
+use Rattle.rv_memory.specs.Blocks.{has, meets, monitor_block, no_block}
 use Rattle.rv_enclaves.specs.ValidBlocks.{is_valid_block}
 use Rattle.rv_enclaves.specs.SlotNumbers.{slot_count}
-use Rattle.rv_platform.specs.declared.block.Block.{Block}
+use Rattle.rv_memory.specs.declared.block.Block.{Block}
 use Rattle.rv_enclaves.specs.declared.slot_info.EnclaveState.{EnclaveState}
 use Rattle.rv_enclaves.specs.declared.slot_info.EnclaveState.TheVariants.{Running}
 use Rattle.rv_enclaves.specs.declared.slot_info.SlotInfo.{SlotInfo}
 use Rattle.rv_enclaves.specs.declared.world.World.{World}
 use Rattle.rv_enclaves.specs.declared.world.World.TheVariants.{Host, Enclave}
 
+-- the enclave table: a record for each slot with a live enclave
 abbrev pub Slots : Type 0
 Slots = List (Option SlotInfo)
 
--- no enclave is live
+-- the table without a live enclave
 abbrev pub no_slots : Slots
 no_slots = replicate slot_count None
 
@@ -27,10 +28,11 @@ no_slots = replicate slot_count None
 abbrev pub slot_at : Slots → ℕ → Option SlotInfo
 slot_at slots k = slice_index_or slots k None
 
+-- the table with a new record in slot k, or with none
 abbrev pub with_slot : Slots → ℕ → Option SlotInfo → Slots
 with_slot slots k info = slice_set slots k info
 
--- the lowest free slot
+-- the lowest slot without an enclave, if there is one
 unfoldable pub free_slot : Slots → Option ℕ
 free_slot slots = find (λ k. is_none (slot_at slots k)) (range_with_len 0 slot_count)
 
@@ -39,13 +41,16 @@ abbrev pub region_of : Option SlotInfo → Block
 region_of None = no_block
 region_of (Some info) = info.region
 
+-- the window of a record; a slot without an enclave has none
 abbrev pub window_of : Option SlotInfo → Block
 window_of None = no_block
 window_of (Some info) = info.window
 
+-- the region of slot k, empty if no enclave is live there
 abbrev pub region : Slots → ℕ → Block
 region slots k = region_of (slot_at slots k)
 
+-- the window of slot k, empty if no enclave is live there
 abbrev pub window : Slots → ℕ → Block
 window slots k = window_of (slot_at slots k)
 
@@ -59,13 +64,16 @@ is_in_region slots byte = list_any (λ k. has (region slots k) byte) (range_with
 
 -- ---- the state of an enclave
 
+-- whether the state is Running
 abbrev pub is_running : EnclaveState → Bool
 is_running Running = true
 is_running _ = false
 
+-- whether an enclave in slot k is live and Running
 abbrev pub runs : Slots → ℕ → Bool
 runs slots k = option_case (slot_at slots k) false (λ info. is_running info.state)
 
+-- the table with another state of slot k; a slot without an enclave is unchanged
 abbrev pub with_state : Slots → ℕ → EnclaveState → Slots
 with_state slots k state =
     option_case (slot_at slots k) slots (λ info. with_slot slots k (Some (record info { state = state })))
@@ -75,6 +83,7 @@ abbrev pub is_host : World → Bool
 is_host Host = true
 is_host (Enclave k) = false
 
+-- whether the world is the enclave of slot k
 abbrev pub is_world_of : ℕ → World → Bool
 is_world_of k Host = false
 is_world_of k (Enclave j) = j == k

@@ -2,7 +2,7 @@
 -- of 4096 bytes is this project's profile of Keystone, EuroSys 2020.
 use Rattle.std.specs.Prelude.{ℕ, ◌%◌, ◌^◌, ◌==◌, Bool, ◌&&◌, List}
 use Rattle.std.specs.List.{range_with_len, list_any}
-use Rattle.rv_platform.specs.declared.block.Block.{Block}
+use Rattle.rv_memory.specs.declared.block.Block.{Block}
 use Rattle.rv_memory.specs.Memory.{is_inside}
 
 -- the sizes of valid blocks: the powers of two from 4096 up

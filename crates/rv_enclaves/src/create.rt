@@ -12,8 +12,7 @@ use crate::shared::Shared;
 use crate::slot::Slot;
 use crate::slot_info::{EnclaveState, SlotInfo};
 use crate::valid_block::is_valid_block;
-use rv_memory::Ram;
-use rv_platform::Block;
+use rv_memory::{Block, Ram};
 use rv_word::le_bytes;
 use sha2::{Digest, Sha256};
 

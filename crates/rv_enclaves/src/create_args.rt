@@ -6,8 +6,7 @@ ghost use Rattle.rv_enclaves.specs.Create.{create_args_of, is_entry, collides as
 
 use crate::slot_info::SlotInfo;
 use crate::valid_block::is_valid_block;
-use rv_memory::Ram;
-use rv_platform::{Block, no_block};
+use rv_memory::{Block, Ram, no_block};
 use rv_state::Regs;
 use rv_word::Reg;
 

@@ -9,8 +9,7 @@ use crate::context::set_context;
 use crate::refusal::Refusal;
 use crate::shared::Shared;
 use crate::slot::Slot;
-use rv_memory::Ram;
-use rv_platform::Block;
+use rv_memory::{Block, Ram};
 
 impl Shared {
     /// Destroys the enclave of the slot with a number. Zeroes its region, and removes its record and its saved context.

@@ -8,7 +8,7 @@ use crate::slot::Slot;
 use crate::slot_info::SlotInfo;
 use crate::table::Table;
 use crate::world::World;
-use rv_platform::{Block, monitor_block};
+use rv_memory::{Block, monitor_block};
 use rv_pmp::Pmp;
 
 /// cfg bytes: NAPOT without permissions, with R and W, and with R, W and X.

@@ -29,7 +29,7 @@ pub use context::{
 pub use create_args::CreateArgs;
 pub use layout::write_layout;
 pub use refusal::Refusal;
-pub use rv_platform::Block;
+pub use rv_memory::Block;
 pub use shared::Shared;
 pub use slot::{SLOT_COUNT, Slot};
 pub use slot_info::{EnclaveState, SlotInfo};

@@ -8,8 +8,7 @@ use crate::context::{Context, context_at, set_context};
 use crate::shared::Shared;
 use crate::slot::Slot;
 use crate::slot_info::EnclaveState;
-use rv_memory::Ram;
-use rv_platform::Block;
+use rv_memory::{Block, Ram};
 use rv_state::Regs;
 use rv_word::Reg;
 

@@ -13,7 +13,7 @@ use crate::refusal::Refusal;
 use crate::slot::{SLOT_COUNT, Slot};
 use crate::slot_info::{EnclaveState, SlotInfo};
 use crate::world::World;
-use rv_platform::monitor_block;
+use rv_memory::monitor_block;
 use std::marker::Model;
 
 /// The table of enclaves: thirteen slots, 0 to 12, each free or with the record of a live enclave.

@@ -5,8 +5,7 @@ ghost use Rattle.std.specs.Prelude.{true, ◌≡◌, ◌==◌, ◌^◌, ◌-◌,
 ghost use Rattle.std.specs.List.{list_any, range_with_len};
 ghost use Rattle.rv_enclaves.specs.ValidBlocks.{is_block_size as is_size, is_valid_block as is_valid_block_of};
 
-use rv_memory::Ram;
-use rv_platform::Block;
+use rv_memory::{Block, Ram};
 
 /// Returns whether a size is a power of two from 4096 up.
 fn is_block_size(size: u32) -> bool

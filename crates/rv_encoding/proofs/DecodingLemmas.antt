@@ -16,44 +16,51 @@ use Rattle.rv_encoding.specs.declared.instr.Instr.{Instr}
 abbrev fits_row : ℕ → Instr → Bool
 fits_row word sample = and_by_bits word (row_of_instr sample).mask == (row_of_instr sample).match
 
+-- equal numbers pass the test
 test-true : (a b : ℕ) → a ≡ b → (a == b) ≡ true
 test-true a b same = grind arith
 
+-- numbers that pass the test are equal
 true-test : (a b : ℕ) → (a == b) ≡ true → a ≡ b
-true-test a b is = grind arith
+true-test a b test_is = grind arith
 
 -- ---- a row that is found matches, and if none is found, none matches
 
+-- the row that is found here or later has the bits of the word
 found_first : (word : ℕ) (x s : Instr) (rest : Option Instr) (b : Bool) → b ≡ fits_row word x → cond b (Some x) rest ≡ Some s
     → (rest ≡ Some s → and_by_bits word (row_of_instr s).mask ≡ (row_of_instr s).match) → and_by_bits word (row_of_instr s).mask ≡ (row_of_instr s).match
-found_first word x s rest true is found later =
+found_first word x s rest true fits_is found later =
     let same : x ≡ s = cc in
     subst (λ (i : Instr). and_by_bits word (row_of_instr i).mask ≡ (row_of_instr i).match) same
-    (true-test (and_by_bits word (row_of_instr x).mask) (row_of_instr x).match (sym is))
-found_first word x s rest false is found later = later found
+    (true-test (and_by_bits word (row_of_instr x).mask) (row_of_instr x).match (sym fits_is))
+found_first word x s rest false fits_is found later = later found
 
+-- the row that is found has the bits of the word
 found_fits : (word : ℕ) (xs : List Instr) (s : Instr) → find (fits_row word) xs ≡ Some s → and_by_bits word (row_of_instr s).mask ≡ (row_of_instr s).match
 found_fits word [] s found = cc
 found_fits word (x ∷ xs) s found = found_first word x s (find (fits_row word) xs) (fits_row word x) refl found (found_fits word xs s)
 
+-- if nothing is found, the first does not fit, and nothing is found later
 not_found : (b : Bool) (x : Instr) (rest : Option Instr) → cond b (Some x) rest ≡ None → (b ≡ false) × (rest ≡ None)
 not_found true x rest none = cc
 not_found false x rest none = (refl, none)
 
+-- if nothing is found, no row has the bits of the word
 none_fit : (word : ℕ) (xs : List Instr) → find (fits_row word) xs ≡ None → (place : ℕ) (row : Listed)
     → slice_get (map listed_of xs) place ≡ Some row → and_by_bits word row.mask ≢ row.match
-none_fit word [] none place row is same = cc
-none_fit word (x ∷ xs) none zero row is same =
+none_fit word [] none place row row_is same = cc
+none_fit word (x ∷ xs) none zero row listed_is same =
     let row_is : row ≡ listed_of x = cc in
     let fits = subst (λ (r : Listed). and_by_bits word r.mask ≡ r.match) row_is same in
     let tested = test-true (and_by_bits word (row_of_instr x).mask) (row_of_instr x).match fits in
     let missed = (not_found (fits_row word x) x (find (fits_row word) xs) none).0 in
     cc
-none_fit word (x ∷ xs) none (suc place) row is same =
-    none_fit word xs (not_found (fits_row word x) x (find (fits_row word) xs) none).1 place row is same
+none_fit word (x ∷ xs) none (suc place) row row_is same =
+    none_fit word xs (not_found (fits_row word x) x (find (fits_row word) xs) none).1 place row row_is same
 
 -- ---- the same for the instruction that a word encodes
 
+-- the word of an instruction is the sum of its fixed bits and its fields
 pub word_of_parts : (i : Instr) (match fields : ℕ) → match ≡ (row_of_instr i).match → fields ≡ fields_at (row_of_instr i).fields → word_of i ≡ match + fields
 unfolding word_of
 word_of_parts i match fields match_is fields_are = sym (ap (λ n. n + fields) match_is ∙ ap (λ n. (row_of_instr i).match + n) fields_are)
@@ -61,9 +68,10 @@ word_of_parts i match fields match_is fields_are = sym (ap (λ n. n + fields) ma
 -- no row of the listing matches if no sample does
 unlisted : (word : ℕ) → find (fits_row word) samples ≡ None → (place : ℕ) (row : Listed) → slice_get listing place ≡ Some row
     → and_by_bits word row.mask ≢ row.match
-unlisted word none place row is =
-    none_fit word samples none place row (ap (λ (rows : List Listed). slice_get rows place) (sym listing_of_samples) ∙ is)
+unlisted word none place row row_is =
+    none_fit word samples none place row (ap (λ (rows : List Listed). slice_get rows place) (sym listing_of_samples) ∙ row_is)
 
+-- a word whose row is not found has no instruction
 unfound : (word : ℕ) (result : Option Instr) → word < 2 ^ 32 → IfSome result (Encodes word) → find (fits_row word) samples ≡ None → result ≡ None
 unfound word None fits found none = refl
 unfound word (Some i) fits found none =
@@ -77,16 +85,19 @@ pub decoded_is : (word : ℕ) (result : Option Instr) → word < 2 ^ 32 → IfSo
 unfolding decoded
 decoded_is word result fits found only = by_row (find (fits_row word) samples) refl
   where
+    -- the instruction of the word is that of its row, with the fields of the word
     by_row : (row : Option Instr) → find (fits_row word) samples ≡ row → result ≡ option_map (with_fields_of word) row
-    by_row (Some s) is = only (with_fields_of word s) (spelled_by_mask s word fits (found_fits word samples s is))
-    by_row None is = unfound word result fits found is
+    by_row (Some s) found_is = only (with_fields_of word s) (spelled_by_mask s word fits (found_fits word samples s found_is))
+    by_row None found_is = unfound word result fits found found_is
 
+-- a word encodes at most one instruction
 pub only_spelled : (word : ℕ) (i other : Instr) → Encodes word i → Encodes word other → other ≡ i
 only_spelled word i other encodes spells_other =
     let first = only_read word i encodes in
     let second = only_read word other spells_other in
     cc
 
+-- a word decodes to the instruction that it encodes
 pub decoded_spelled : (word : ℕ) (i : Instr) → word < 2 ^ 32 → Encodes word i → decoded word ≡ Some i
 decoded_spelled word i fits encodes =
     sym (decoded_is word (Some i) fits encodes (λ other spells_other. ap Some (sym (only_spelled word i other encodes spells_other))))
@@ -97,6 +108,7 @@ unfolding decoded
 none_listed word none place d inside =
     unlisted word (no_row (find (fits_row word) samples) none) place _ (slice_get-get_or listing place d inside)
   where
+    -- a word without an instruction has no row
     no_row : (row : Option Instr) → option_map (with_fields_of word) row ≡ None → row ≡ None
-    no_row (Some s) is = cc
-    no_row None is = refl
+    no_row (Some s) mapped_is = cc
+    no_row None mapped_is = refl

@@ -14,10 +14,12 @@ use Rattle.rv_encoding.specs.declared.instr.Instr.{Instr}
 use Rattle.rv_encoding.specs.declared.instr.Instr.TheVariants.{Lui, Auipc, Jal, Jalr, Branch, Load, Store, OpImm, ShiftImm, Op, Fence}
 use Rattle.rv_encoding.specs.declared.instr.Instr.TheVariants.{Csr, CsrImm, Ecall, Ebreak, Sret, Mret, Wfi, SfenceVma}
 
+-- each row of the listing is that of one sample instruction, in the same order
 pub listing_of_samples : listing ≡ map listed_of samples
 unfolding listing
 listing_of_samples = refl
 
+-- each instruction has a row in the listing, with its mask and value
 pub is_listed : (i : Instr) → IsListed i
 unfolding listing
 is_listed (Lui a b) = (0, refl)

@@ -14,6 +14,7 @@ use Rattle.rv_encoding.specs.declared.instr.Instr.TheVariants.{Csr, CsrImm, Ecal
 
 -- ---- a word under each mask
 
+-- the bits of opcode and funct3 of a word
 mask_i : (word : ℕ) → bit_and word 0x0000707F ≡ word % 2 ^ 7 + word / 2 ^ 12 % 2 ^ 3 * 2 ^ 12
 mask_i word =
     ap (λ n. bit_and n 0x0000707F) (sym (div-add-mod' word (2 ^ 12)))
@@ -30,23 +31,27 @@ mask_top word low fits below =
     ∙ ap (λ n. n * 2 ^ 25 + bit_and (word % 2 ^ 25) low) (and_mask (word / 2 ^ 25) 7)
     ∙ omega arith
 
+-- the bits of opcode, funct3 and funct7 of a word
 mask_r : (word : ℕ) → word < 2 ^ 32 → bit_and word 0xFE00707F ≡ word / 2 ^ 25 * 2 ^ 25 + (word % 2 ^ 7 + word / 2 ^ 12 % 2 ^ 3 * 2 ^ 12)
 mask_r word fits =
     mask_top word 0x0000707F fits (omega arith)
     ∙ ap (λ n. word / 2 ^ 25 * 2 ^ 25 + n) (mask_i (word % 2 ^ 25))
     ∙ omega arith
 
+-- the bits that sfence.vma fixes
 mask_sfence_vma : (word : ℕ) → word < 2 ^ 32 → bit_and word 0xFE007FFF ≡ word / 2 ^ 25 * 2 ^ 25 + word % 2 ^ 15
 mask_sfence_vma word fits =
     mask_top word 0x00007FFF fits (omega arith)
     ∙ ap (λ n. word / 2 ^ 25 * 2 ^ 25 + n) (and_mask (word % 2 ^ 25) 15)
     ∙ omega arith
 
+-- the mask of all bits
 mask_word : (word : ℕ) → word < 2 ^ 32 → bit_and word 0xFFFFFFFF ≡ word
 mask_word word fits = and_mask word 32 ∙ omega arith
 
 -- ---- a word that equals the match under the mask encodes an instruction with the fields of the word
 
+-- a word with the fixed bits of an instruction encodes it with the fields of the word, by `&`
 spelled_by_and : (i : Instr) (word : ℕ) → word < 2 ^ 32 → bit_and word (row_of_instr i).mask ≡ (row_of_instr i).match → Encodes word (with_fields_of word i)
 unfolding word_of
 spelled_by_and (Lui rd imm) word fits masked =
@@ -107,6 +112,7 @@ spelled_by_and (SfenceVma rs1 rs2) word fits masked =
 
 -- ---- the word of an instruction equals the match under the mask
 
+-- the word of an instruction has the fixed bits of its row, by `&`
 word_of_and : (i : Instr) → IsInstr i → word_of i < 2 ^ 32 → bit_and (word_of i) (row_of_instr i).mask ≡ (row_of_instr i).match
 unfolding word_of
 word_of_and (Lui rd imm) valid fits =
@@ -153,15 +159,19 @@ word_of_and (SfenceVma rs1 rs2) valid fits =
 
 -- ---- the same for the mask bit by bit
 
+-- each mask is a word
 mask-lt : (i : Instr) → (row_of_instr i).mask < 2 ^ 32
 mask-lt i = grind arith
 
+-- `&` with a mask is the and, bit by bit
 and_mask_is : (i : Instr) (word : ℕ) → word < 2 ^ 32 → bit_and word (row_of_instr i).mask ≡ and_by_bits word (row_of_instr i).mask
 and_mask_is i word fits = bit_and_is word (row_of_instr i).mask fits (mask-lt i)
 
+-- a word with the fixed bits of an instruction encodes the instruction with the fields of the word
 pub spelled_by_mask : (i : Instr) (word : ℕ) → word < 2 ^ 32 → and_by_bits word (row_of_instr i).mask ≡ (row_of_instr i).match
     → Encodes word (with_fields_of word i)
 spelled_by_mask i word fits masked = spelled_by_and i word fits (and_mask_is i word fits ∙ masked)
 
+-- the word of an instruction has 32 bits, and its fixed bits are those of its row
 pub masked_word_of : (i : Instr) → IsInstr i → word_of i < 2 ^ 32 → and_by_bits (word_of i) (row_of_instr i).mask ≡ (row_of_instr i).match
 masked_word_of i valid fits = sym (and_mask_is i (word_of i) fits) ∙ word_of_and i valid fits

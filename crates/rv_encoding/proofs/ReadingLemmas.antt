@@ -23,54 +23,66 @@ use Rattle.rv_encoding.specs.declared.instr.Instr.TheVariants.{Csr, CsrImm, Ecal
 
 -- ---- a word of each opcode is read by its fields
 
+-- a word with the opcode and funct3 of a branch is read as the branch with its fields
 read_branch_is : (word : ℕ) (kind : BranchKind) (rs1 rs2 offset : ℕ) → bits word 6 0 ≡ 0b1100011 → branch_kind (bits word 14 12) ≡ Some kind
     → taken rs1_at word ≡ rs1 → taken rs2_at word ≡ rs2 → taken b_immediate_at word ≡ offset → read word ≡ Some (Branch kind rs1 rs2 offset)
 read_branch_is word kind rs1 rs2 offset opcode found rs1_is rs2_is offset_is = rw (opcode, found, rs1_is, rs2_is, offset_is) refl
 
+-- a word with the opcode and funct3 of a load is read as the load with its fields
 read_load_is : (word : ℕ) (kind : LoadKind) (rd rs1 offset : ℕ) → bits word 6 0 ≡ 0b0000011 → load_kind (bits word 14 12) ≡ Some kind
     → taken rd_at word ≡ rd → taken rs1_at word ≡ rs1 → taken i_immediate_at word ≡ offset → read word ≡ Some (Load kind rd rs1 offset)
 read_load_is word kind rd rs1 offset opcode found rd_is rs1_is offset_is = rw (opcode, found, rd_is, rs1_is, offset_is) refl
 
+-- a word with the opcode and funct3 of a store is read as the store with its fields
 read_store_is : (word : ℕ) (kind : StoreKind) (rs1 rs2 offset : ℕ) → bits word 6 0 ≡ 0b0100011 → store_kind (bits word 14 12) ≡ Some kind
     → taken rs1_at word ≡ rs1 → taken rs2_at word ≡ rs2 → taken s_immediate_at word ≡ offset → read word ≡ Some (Store kind rs1 rs2 offset)
 read_store_is word kind rs1 rs2 offset opcode found rs1_is rs2_is offset_is = rw (opcode, found, rs1_is, rs2_is, offset_is) refl
 
+-- a word with the opcode and funct3 of an instruction with an immediate is read as it
 read_op_imm_is : (word : ℕ) (kind : OpImmKind) (rd rs1 imm : ℕ) → bits word 6 0 ≡ 0b0010011 → shift_kind (bits word 14 12) (bits word 31 25) ≡ None
     → op_imm_kind (bits word 14 12) ≡ Some kind → taken rd_at word ≡ rd → taken rs1_at word ≡ rs1 → taken i_immediate_at word ≡ imm
     → read word ≡ Some (OpImm kind rd rs1 imm)
 read_op_imm_is word kind rd rs1 imm opcode none found rd_is rs1_is imm_is = rw (opcode, none, found, rd_is, rs1_is, imm_is) refl
 
+-- a word with the opcode, funct3 and funct7 of a shift is read as the shift with its fields
 read_shift_imm_is : (word : ℕ) (kind : ShiftKind) (rd rs1 shamt : ℕ) → bits word 6 0 ≡ 0b0010011
     → shift_kind (bits word 14 12) (bits word 31 25) ≡ Some kind → taken rd_at word ≡ rd → taken rs1_at word ≡ rs1 → taken shamt_at word ≡ shamt
     → read word ≡ Some (ShiftImm kind rd rs1 shamt)
 read_shift_imm_is word kind rd rs1 shamt opcode found rd_is rs1_is shamt_is = rw (opcode, found, rd_is, rs1_is, shamt_is) refl
 
+-- a word with the opcode, funct3 and funct7 of an instruction with two registers is read as it
 read_op_is : (word : ℕ) (kind : OpKind) (rd rs1 rs2 : ℕ) → bits word 6 0 ≡ 0b0110011 → op_kind (bits word 14 12) (bits word 31 25) ≡ Some kind
     → taken rd_at word ≡ rd → taken rs1_at word ≡ rs1 → taken rs2_at word ≡ rs2 → read word ≡ Some (Op kind rd rs1 rs2)
 read_op_is word kind rd rs1 rs2 opcode found rd_is rs1_is rs2_is = rw (opcode, found, rd_is, rs1_is, rs2_is) refl
 
+-- a word with the opcode and funct3 of a CSR instruction is read as it
 read_csr_is : (word : ℕ) (kind : CsrKind) (rd rs1 csr : ℕ) → bits word 6 0 ≡ 0b1110011 → csr_kind (bits word 14 12) ≡ Some kind
     → taken rd_at word ≡ rd → taken rs1_at word ≡ rs1 → taken csr_at word ≡ csr → read word ≡ Some (Csr kind rd rs1 csr)
 read_csr_is word kind rd rs1 csr opcode found rd_is rs1_is csr_is = rw (opcode, found, rd_is, rs1_is, csr_is) refl
 
+-- a word with the opcode and funct3 of a CSR instruction with an immediate is read as it
 read_csr_imm_is : (word : ℕ) (kind : CsrKind) (rd uimm csr : ℕ) → bits word 6 0 ≡ 0b1110011 → csr_kind (bits word 14 12) ≡ None
     → csr_imm_kind (bits word 14 12) ≡ Some kind → taken rd_at word ≡ rd → taken uimm_at word ≡ uimm → taken csr_at word ≡ csr
     → read word ≡ Some (CsrImm kind rd uimm csr)
 read_csr_imm_is word kind rd uimm csr opcode none found rd_is uimm_is csr_is = rw (opcode, none, found, rd_is, uimm_is, csr_is) refl
 
+-- a word with the opcode and funct3 of fence is read as the fence with its fields
 read_fence_is : (word fm pred succ rd rs1 : ℕ) → bits word 6 0 ≡ 0b0001111 → bits word 14 12 ≡ 0 → taken fm_at word ≡ fm → taken pred_at word ≡ pred
     → taken succ_at word ≡ succ → taken rd_at word ≡ rd → taken rs1_at word ≡ rs1 → read word ≡ Some (Fence fm pred succ rd rs1)
 read_fence_is word fm pred succ rd rs1 opcode funct3 fm_is pred_is succ_is rd_is rs1_is = rw (opcode, funct3, fm_is, pred_is, succ_is, rd_is, rs1_is) refl
 
+-- a word with the opcode SYSTEM and funct3 0 is read by all its bits
 read_whole_word : (word : ℕ) → bits word 6 0 ≡ 0b1110011 → bits word 14 12 ≡ 0 → read word ≡ read_whole word
 read_whole_word word opcode funct3 = rw (opcode, funct3) refl
 
+-- a word with the fixed bits of sfence.vma is read as it
 read_sfence_vma : (word rs1 rs2 : ℕ) → bits word 31 25 ≡ 0b0001001 → bits word 14 7 ≡ 0 → taken rs1_at word ≡ rs1 → taken rs2_at word ≡ rs2
     → read_whole word ≡ Some (SfenceVma rs1 rs2)
 read_sfence_vma word rs1 rs2 funct7 rest rs1_is rs2_is = grind arith
 
 -- ---- each instruction is read from its word
 
+-- the word of an instruction is read as the instruction
 pub read_word_of : (i : Instr) → IsInstr i → read (word_of i) ≡ Some i
 unfolding word_of
 read_word_of (Lui rd imm) valid = grind arith
@@ -140,33 +152,43 @@ read_word_of (SfenceVma rs1 rs2) valid =
 
 -- ---- the instruction that a word encodes is the one that the step for its opcode reads
 
+-- a word that encodes an instruction is read as the instruction
 pub only_read : (word : ℕ) (i : Instr) → Encodes word i → read word ≡ Some i
 only_read word i encodes = ap read (sym encodes.1) ∙ read_word_of i encodes.0
 
+-- a word with the opcode JALR that encodes an instruction is read as it
 pub only_jalr : (word : ℕ) (i : Instr) → bits word 6 0 ≡ 0b1100111 → Encodes word i → read_jalr word ≡ Some i
-only_jalr word i opcode encodes = let is = only_read word i encodes in rw opcode at is
+only_jalr word i opcode encodes = let row_is = only_read word i encodes in rw opcode at row_is
 
+-- a word with the opcode BRANCH that encodes an instruction is read as it
 pub only_branch : (word : ℕ) (i : Instr) → bits word 6 0 ≡ 0b1100011 → Encodes word i → read_branch word ≡ Some i
-only_branch word i opcode encodes = let is = only_read word i encodes in rw opcode at is
+only_branch word i opcode encodes = let row_is = only_read word i encodes in rw opcode at row_is
 
+-- a word with the opcode LOAD that encodes an instruction is read as it
 pub only_load : (word : ℕ) (i : Instr) → bits word 6 0 ≡ 0b0000011 → Encodes word i → read_load word ≡ Some i
-only_load word i opcode encodes = let is = only_read word i encodes in rw opcode at is
+only_load word i opcode encodes = let row_is = only_read word i encodes in rw opcode at row_is
 
+-- a word with the opcode STORE that encodes an instruction is read as it
 pub only_store : (word : ℕ) (i : Instr) → bits word 6 0 ≡ 0b0100011 → Encodes word i → read_store word ≡ Some i
-only_store word i opcode encodes = let is = only_read word i encodes in rw opcode at is
+only_store word i opcode encodes = let row_is = only_read word i encodes in rw opcode at row_is
 
+-- a word with the opcode OP-IMM that encodes an instruction is read as it
 pub only_op_imm : (word : ℕ) (i : Instr) → bits word 6 0 ≡ 0b0010011 → Encodes word i → read_op_imm word ≡ Some i
-only_op_imm word i opcode encodes = let is = only_read word i encodes in rw opcode at is
+only_op_imm word i opcode encodes = let row_is = only_read word i encodes in rw opcode at row_is
 
+-- a word with the opcode OP that encodes an instruction is read as it
 pub only_op : (word : ℕ) (i : Instr) → bits word 6 0 ≡ 0b0110011 → Encodes word i → read_op word ≡ Some i
-only_op word i opcode encodes = let is = only_read word i encodes in rw opcode at is
+only_op word i opcode encodes = let row_is = only_read word i encodes in rw opcode at row_is
 
+-- a word with the opcode MISC-MEM that encodes an instruction is read as it
 pub only_fence : (word : ℕ) (i : Instr) → bits word 6 0 ≡ 0b0001111 → Encodes word i → read_fence word ≡ Some i
-only_fence word i opcode encodes = let is = only_read word i encodes in rw opcode at is
+only_fence word i opcode encodes = let row_is = only_read word i encodes in rw opcode at row_is
 
+-- a word with the opcode SYSTEM that encodes an instruction is read as it
 pub only_system : (word : ℕ) (i : Instr) → bits word 6 0 ≡ 0b1110011 → Encodes word i → read_system word ≡ Some i
-only_system word i opcode encodes = let is = only_read word i encodes in rw opcode at is
+only_system word i opcode encodes = let row_is = only_read word i encodes in rw opcode at row_is
 
+-- a word with the opcode SYSTEM and no CSR instruction's funct3 that encodes an instruction is read as it
 pub only_whole : (word : ℕ) (i : Instr) → bits word 6 0 ≡ 0b1110011 → csr_kind (bits word 14 12) ≡ None → csr_imm_kind (bits word 14 12) ≡ None
     → Encodes word i → read_whole word ≡ Some i
-only_whole word i opcode no_register no_immediate encodes = let is = only_system word i opcode encodes in grind arith
+only_whole word i opcode no_register no_immediate encodes = let row_is = only_system word i opcode encodes in grind arith

@@ -8,14 +8,17 @@ use Rattle.rv_encoding.specs.declared.instr.Instr.{Instr}
 use Rattle.rv_encoding.specs.declared.instr.Instr.TheVariants.{Lui, Auipc, Jal, Jalr, Branch, Load, Store, OpImm, ShiftImm, Op, Fence}
 use Rattle.rv_encoding.specs.declared.instr.Instr.TheVariants.{Csr, CsrImm, Ecall, Ebreak, Sret, Mret, Wfi, SfenceVma}
 
+-- a row of the listing: the mnemonic, the mask of the fixed bits, and the value of these bits
 pub record Listed : Type 0 where
   pub name : List ℕ
   pub mask : ℕ
   pub match : ℕ
 
+-- the row with this mnemonic, mask and value
 abbrev pub listed : List ℕ → ℕ → ℕ → Listed
 listed name mask match = record { name = name; mask = mask; match = match }
 
+-- the listing of RV32IM with Zicsr and the privileged instructions, row by row
 unfoldable pub listing : List Listed
 listing =
     -- RV32I

@@ -19,12 +19,15 @@ Places = List Run
 
 -- ---- fields of every format
 
+-- rd: bits 11:7
 abbrev pub rd_at : Places
 rd_at = bits_at 4 0 7 ∷ []
 
+-- rs1: bits 19:15
 abbrev pub rs1_at : Places
 rs1_at = bits_at 4 0 15 ∷ []
 
+-- rs2: bits 24:20
 abbrev pub rs2_at : Places
 rs2_at = bits_at 4 0 20 ∷ []
 
@@ -52,21 +55,27 @@ u_immediate_at = bits_at 31 12 12 ∷ []
 
 -- ---- fields of certain groups: sections 2.4 (shamt), 2.7 (fm, pred, succ) and 9.1 (csr, uimm)
 
+-- shamt: bits 24:20
 abbrev pub shamt_at : Places
 shamt_at = bits_at 4 0 20 ∷ []
 
+-- fm of fence: bits 31:28
 abbrev pub fm_at : Places
 fm_at = bits_at 3 0 28 ∷ []
 
+-- pred of fence: bits 27:24
 abbrev pub pred_at : Places
 pred_at = bits_at 3 0 24 ∷ []
 
+-- succ of fence: bits 23:20
 abbrev pub succ_at : Places
 succ_at = bits_at 3 0 20 ∷ []
 
+-- csr: bits 31:20
 abbrev pub csr_at : Places
 csr_at = bits_at 11 0 20 ∷ []
 
+-- uimm of a CSR instruction: bits 19:15
 abbrev pub uimm_at : Places
 uimm_at = bits_at 4 0 15 ∷ []
 

@@ -25,12 +25,15 @@ fields_at fields = sum_by (λ (field : Places × ℕ). placed field.0 field.1) f
 
 -- ---- formats: opcode in bits 6:0, funct3 in bits 14:12, funct7 in bits 31:25, funct12 in bits 31:20
 
+-- a row whose opcode alone is fixed
 abbrev pub opcode_row : ℕ → List (Places × ℕ) → InstrRow
 opcode_row opcode fields = record { mask = 0x0000007F; match = opcode; fields = fields }
 
+-- a row whose opcode and funct3 are fixed
 abbrev pub funct3_row : ℕ → ℕ → List (Places × ℕ) → InstrRow
 funct3_row opcode funct3 fields = record { mask = 0x0000707F; match = opcode + funct3 * 2 ^ 12; fields = fields }
 
+-- a row whose opcode, funct3 and funct7 are fixed
 abbrev pub funct7_row : ℕ → Functs → List (Places × ℕ) → InstrRow
 funct7_row opcode functs fields =
     record { mask = 0xFE00707F; match = opcode + functs.funct3 * 2 ^ 12 + functs.funct7 * 2 ^ 25; fields = fields }
@@ -45,6 +48,7 @@ funct12_row opcode funct12 = record { mask = 0xFFFFFFFF; match = opcode + funct1
 
 -- ---- the rows, by groups with the same fields
 
+-- the row of each instruction: its fixed bits, and its fields with their places
 abbrev pub row_of_instr : Instr → InstrRow
 row_of_instr (Lui rd imm) = opcode_row lui_opcode ((rd_at, rd) ∷ (u_immediate_at, imm) ∷ [])
 row_of_instr (Auipc rd imm) = opcode_row auipc_opcode ((rd_at, rd) ∷ (u_immediate_at, imm) ∷ [])

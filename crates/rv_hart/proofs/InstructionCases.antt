@@ -34,28 +34,33 @@ pub record Changes (hart : Hart) (P : Hart → Type 0) : Type 0 where
   pub mret : is_machine hart.mode ≡ true → P (returned_from_machine hart)
   pub sret : P (returned_from_supervisor hart)
 
+-- the claim after a jump
 jumped-by : (hart : Hart) (P : Hart → Type 0) → Changes hart P → (rd target : ℕ) → IfOk (jumped hart rd target) P
 jumped-by hart P changes rd target =
     elim (target % 4 == 0) as
     (λ b. IfOk (if b then Ok (record hart { regs = with_register hart.regs rd (sum_of hart.pc 4); pc = target }) else Err (misaligned target)) P)
     [ true ↦ changes.computes _ _ | false ↦ tt ]
 
+-- the claim after a branch, taken or not
 branched-by : (hart : Hart) (P : Hart → Type 0) → Changes hart P → (taken : Bool) (target : ℕ) → IfOk (branched hart taken target) P
 branched-by hart P changes false target = changes.computes _ _
 branched-by hart P changes true target =
     elim (target % 4 == 0) as (λ b. IfOk (if b then Ok (record hart { pc = target }) else Err (misaligned target)) P)
     [ true ↦ changes.computes _ _ | false ↦ tt ]
 
+-- the claim after an instruction that needs a permission
 allowed-by : (P : Hart → Type 0) (allowed : Bool) (word : ℕ) (after : Hart) → (allowed ≡ true → P after) → IfOk (where_allowed allowed word after) P
 allowed-by P true word after holds = holds refl
 allowed-by P false word after holds = tt
 
+-- the claim after a write of a CSR that succeeds
 written-by : (hart : Hart) (P : Hart → Type 0) → Changes hart P → (rd old word csr new : ℕ) (r : Result CsrState CsrFault)
     → write_result hart.csrs csr new hart.mode ≡ r
     → IfOk (unless_illegal word (unless_fault r (λ csrs. Ok (with_result (record hart { csrs = csrs }) rd old)))) P
-written-by hart P changes rd old word csr new (Ok csrs) is = changes.writes csr new csrs _ _ is
-written-by hart P changes rd old word csr new (Err fault) is = tt
+written-by hart P changes rd old word csr new (Ok csrs) write_is = changes.writes csr new csrs _ _ write_is
+written-by hart P changes rd old word csr new (Err fault) write_is = tt
 
+-- the claim after a CSR instruction
 changed-by : (hart : Hart) (P : Hart → Type 0) → Changes hart P → (kind : CsrKind) (rd source operand csr word : ℕ)
     → IfOk (unless_illegal word (csr_changed hart kind rd source operand csr)) P
 unfolding csr_changed
@@ -73,6 +78,7 @@ changed-by hart P changes kind rd source operand csr word =
       | Err fault ↦ tt
     ]
 
+-- the claim after each instruction
 executed-by : (hart : Hart) (P : Hart → Type 0) → Changes hart P → (instr : Instr) (word loaded : ℕ) → IfOk (executed hart word loaded instr) P
 unfolding executed
 executed-by hart P changes (Lui rd imm) word loaded = changes.computes _ _
@@ -98,13 +104,14 @@ executed-by hart P changes Wfi word loaded = allowed-by P (unless_refused hart.m
 executed-by hart P changes (SfenceVma rs1 rs2) word loaded =
     allowed-by P (unless_refused hart.mode hart.csrs.mstatus.tvm) word (advanced hart) (λ _. changes.computes _ _)
 
+-- a claim about the hart after an instruction holds if it holds for each kind of change
 pub by_changes : (hart : Hart) (P : Hart → Type 0) → Changes hart P → (instr : Instr) (word loaded : ℕ) (after : Hart)
     → executed hart word loaded instr ≡ Ok after → P after
-by_changes hart P changes instr word loaded after is = subst (λ (r : Result Hart Trap). IfOk r P) is (executed-by hart P changes instr word loaded)
+by_changes hart P changes instr word loaded after executed_is = subst (λ (r : Result Hart Trap). IfOk r P) executed_is (executed-by hart P changes instr word loaded)
 
 -- a store instruction ends in no exception once its access succeeded
 pub store_retires : (instr : Instr) (hart : Hart) (address value word : ℕ) (width : Width)
     → request instr hart ≡ requests.Store address width value → executed hart word 0 instr ≡ Ok (advanced hart)
 unfolding request executed
-store_retires (Store kind rs1 rs2 offset) hart address value word width is = refl
-store_retires _ hart address value word width is = cc
+store_retires (Store kind rs1 rs2 offset) hart address value word width request_is = refl
+store_retires _ hart address value word width request_is = cc

@@ -24,6 +24,7 @@ use Rattle.rv_hart.specs.StepLaws.{TakesPending}
 use Rattle.rv_hart.specs.declared.trap.Trap.{Trap}
 use Rattle.rv_hart.proofs.StepCases.{step_ways}
 
+-- whether a cause is an exception
 abbrev is_exception : Cause → Bool
 is_exception (causes.Exception exception) = true
 is_exception (causes.Interrupt interrupt) = false
@@ -33,23 +34,28 @@ abbrev is_plain : Result Hart Trap → Bool
 is_plain (Ok hart) = true
 is_plain (Err trap) = is_exception trap.cause
 
+-- a result by a test is no interrupt, if its trap is none
 pick : (b : Bool) (x : Hart) (t : Trap) → is_exception t.cause ≡ true → is_plain (if b then Ok x else Err t) ≡ true
-pick true x t is = refl
-pick false x t is = is
+pick true x t exception = refl
+pick false x t exception = exception
 
+-- a branch ends in no interrupt
 by_branch : (hart : Hart) (taken : Bool) (target : ℕ) → is_plain (branched hart taken target) ≡ true
 by_branch hart false target = refl
 by_branch hart true target = pick (target % 4 == 0) (record hart { pc = target }) (misaligned target) refl
 
+-- a CSR instruction ends in no interrupt
 by_csr : (word : ℕ) (r : Result Hart CsrFault) → is_plain (unless_illegal word r) ≡ true
 by_csr word (Ok hart) = refl
 by_csr word (Err fault) = refl
 
 module _ (hart : Hart) (word loaded : ℕ) where
+  -- a jump ends in no interrupt
   jump : (rd target : ℕ) → is_plain (jumped hart rd target) ≡ true
   jump rd target =
       pick (target % 4 == 0) (record hart { regs = with_register hart.regs rd (sum_of hart.pc 4); pc = target }) (misaligned target) refl
 
+  -- no instruction ends in an interrupt
   plain : (instr : Instr) → is_plain (executed hart word loaded instr) ≡ true
   unfolding executed
   plain (Lui rd imm) = refl
@@ -66,28 +72,33 @@ module _ (hart : Hart) (word loaded : ℕ) where
   plain (SfenceVma rs1 rs2) = pick (unless_refused hart.mode hart.csrs.mstatus.tvm) (advanced hart) (illegal word) refl
   plain _ = refl
 
+-- no exception is an interrupt
 never : (P : Type 0) (trap : Trap) (interrupt : Interrupt) → is_exception trap.cause ≡ true → trap.cause ≡ causes.Interrupt interrupt → P
-never P trap interrupt is by = let no : false ≡ true = sym (ap is_exception by) ∙ is in cc
+never P trap interrupt exception cause_is = let no : false ≡ true = sym (ap is_exception cause_is) ∙ exception in cc
 
+-- a trap that is an exception is not one by an interrupt
 not_by : (P : Type 0) (here trap : Trap) (interrupt : Interrupt) → is_exception here.cause ≡ true → Some here ≡ Some trap
     → trap.cause ≡ causes.Interrupt interrupt → P
-not_by P here trap interrupt is same by =
-    let e : here ≡ trap = cc in never P trap interrupt (ap (λ (t : Trap). is_exception t.cause) (sym e) ∙ is) by
+not_by P here trap interrupt exception same cause_is =
+    let e : here ≡ trap = cc in never P trap interrupt (ap (λ (t : Trap). is_exception t.cause) (sym e) ∙ exception) cause_is
 
+-- the end of an instruction takes no interrupt
 ended : (state : Machine) (memory : List ℕ) (touched : Touched) (written : Option ℕ) (r : Result Hart Trap) → is_plain r ≡ true
     → TakesPending state (over memory (retired_or_trapped state.hart touched written r))
 unfolding retired_or_trapped
-ended state memory touched written (Ok after) is trap interrupt same by = cc
-ended state memory touched written (Err here) is trap interrupt same by = not_by _ here trap interrupt is same by
+ended state memory touched written (Ok after) plain trap interrupt same by = cc
+ended state memory touched written (Err here) plain trap interrupt same by = not_by _ here trap interrupt plain same by
 
+-- the interrupt of the trap is the pending one
 waited : (P : Option Interrupt) (i interrupt : Interrupt) (trap : Trap) (here : Trap) → here.cause ≡ causes.Interrupt i → Some here ≡ Some trap
     → trap.cause ≡ causes.Interrupt interrupt → P ≡ Some i → P ≡ Some interrupt
-waited P i interrupt trap here is same by waits =
+waited P i interrupt trap here cause_is same by waits =
     let e : here ≡ trap = cc in
-    let both : causes.Interrupt i ≡ causes.Interrupt interrupt = sym is ∙ ap (λ (t : Trap). t.cause) e ∙ by in
+    let equal : causes.Interrupt i ≡ causes.Interrupt interrupt = sym cause_is ∙ ap (λ (t : Trap). t.cause) e ∙ by in
     let one : i ≡ interrupt = cc in
     waits ∙ ap (λ (x : Interrupt). Some x) one
 
+-- proves that a step that traps by an interrupt takes the pending one
 pub takes_pending : (state : Machine) → TakesPending state (step state)
 takes_pending state = step_ways state (TakesPending state) (record {
   interrupt = λ i is trap interrupt same by. waited _ i interrupt trap _ refl same by is;

@@ -19,7 +19,7 @@ use Rattle.rv_hart.specs.HartRecord.{Hart}
 use Rattle.rv_hart.specs.Instructions.{request, executed}
 use Rattle.rv_hart.specs.Permitted.{MayTouchAll}
 use Rattle.rv_hart.specs.Machine.{Machine, Ended, Stepped, over}
-use Rattle.rv_hart.specs.Step.{step, unless_interrupted, from_fetch, from_decode, from_access, retired_or_trapped, data_mode, from_execute}
+use Rattle.rv_hart.specs.Step.{step, from_fetch, from_decode, from_access, retired_or_trapped, data_mode, from_execute}
 use Rattle.rv_hart.specs.Step.{trap_end, retired_end, fetch_of, load_of, store_of, nothing}
 use Rattle.rv_hart.specs.declared.request.Request.{Request}
 use Rattle.rv_hart.specs.declared.request.Request.TheVariants.{Nothing, Load, Store}
@@ -42,9 +42,11 @@ pub record Requests (state : Machine) (word : ℕ) (instr : Instr) (access : Req
   pub decode : Decodes state word (Some instr)
   pub request : request instr state.hart ≡ access
 
+-- the load of the step has this result
 abbrev pub Loads : Machine → ℕ → Width → Result ℕ AccessFault → Type 0
 Loads state address width given = loaded state.memory state.hart.csrs.pmp (data_mode state.hart) address width ≡ given
 
+-- the store of the step has this result
 abbrev pub Stores : Machine → ℕ → Width → ℕ → Result (List ℕ) AccessFault → Type 0
 Stores state address width value given = stored state.memory state.hart.csrs.pmp (data_mode state.hart) address width value ≡ given
 
@@ -67,20 +69,23 @@ pub record StepWays (state : Machine) (P : Stepped → Type 0) : Type 0 where
       → Requests state word instr (Store address width value)
       → Stores state address width value (Err fault) → P (over state.memory (trap_end state.hart (fetch_of state.hart) (access_fault StoreAccessFault address)))
 
+-- the claim by the result of a load
 by-load : (state : Machine) (P : Stepped → Type 0) → StepWays state P → (word : ℕ) (instr : Instr) (address : ℕ) (width : Width)
     → Requests state word instr (Load address width) → (r : Result ℕ AccessFault) → Loads state address width r
     → P (result_case r (λ number. over state.memory (from_execute state.hart (load_of state.hart address width) word instr number))
     (λ _. over state.memory (trap_end state.hart (fetch_of state.hart) (access_fault LoadAccessFault address))))
-by-load state P ways word instr address width here (Ok number) is = ways.load word instr address width number here is
-by-load state P ways word instr address width here (Err fault) is = ways.load_refused word instr address width fault here is
+by-load state P ways word instr address width here (Ok number) loads = ways.load word instr address width number here loads
+by-load state P ways word instr address width here (Err fault) loads = ways.load_refused word instr address width fault here loads
 
+-- the claim by the result of a store
 by-store : (state : Machine) (P : Stepped → Type 0) → StepWays state P → (word : ℕ) (instr : Instr) (address : ℕ) (width : Width) (value : ℕ)
     → Requests state word instr (Store address width value) → (r : Result (List ℕ) AccessFault) → Stores state address width value r
     → P (result_case r (λ after. over after (from_execute state.hart (store_of state.hart address width) word instr 0))
     (λ _. over state.memory (trap_end state.hart (fetch_of state.hart) (access_fault StoreAccessFault address))))
-by-store state P ways word instr address width value here (Ok memory) is = ways.store word instr address width value memory here is
-by-store state P ways word instr address width value here (Err fault) is = ways.store_refused word instr address width value fault here is
+by-store state P ways word instr address width value here (Ok memory) stores = ways.store word instr address width value memory here stores
+by-store state P ways word instr address width value here (Err fault) stores = ways.store_refused word instr address width value fault here stores
 
+-- the claim by the requested access
 by-request : (state : Machine) (P : Stepped → Type 0) → StepWays state P → (word : ℕ) (instr : Instr) (access : Request) → Requests state word instr access
     → P (from_access state.hart state.memory word instr access)
 unfolding from_access
@@ -88,13 +93,15 @@ by-request state P ways word instr Nothing here = ways.no_access word instr here
 by-request state P ways word instr (Load address width) here = by-load state P ways word instr address width here _ refl
 by-request state P ways word instr (Store address width value) here = by-store state P ways word instr address width value here _ refl
 
+-- the claim by the decoded instruction
 by-decode : (state : Machine) (P : Stepped → Type 0) → StepWays state P → (word : ℕ) → Fetches state (Ok word) → (o : Option Instr) → decoded word ≡ o
     → P (option_case o (over state.memory (trap_end state.hart (fetch_of state.hart) (illegal word)))
     (λ instr. from_access state.hart state.memory word instr (request instr state.hart)))
-by-decode state P ways word here None is = ways.illegal word (record { fetch = here; decoded = is })
-by-decode state P ways word here (Some instr) is =
-    by-request state P ways word instr _ (record { decode = record { fetch = here; decoded = is }; request = refl })
+by-decode state P ways word here None decoded_is = ways.illegal word (record { fetch = here; decoded = decoded_is })
+by-decode state P ways word here (Some instr) decoded_is =
+    by-request state P ways word instr _ (record { decode = record { fetch = here; decoded = decoded_is }; request = refl })
 
+-- the claim by the result of the fetch
 by-fetch : (state : Machine) (P : Stepped → Type 0) → StepWays state P → (r : Result ℕ AccessFault) → Fetches state r
     → P (result_case r (from_decode state.hart state.memory)
     (λ _. over state.memory (trap_end state.hart nothing (access_fault InstructionAccessFault state.hart.pc))))
@@ -102,25 +109,23 @@ unfolding from_decode
 by-fetch state P ways (Ok word) here = by-decode state P ways word here _ refl
 by-fetch state P ways (Err fault) here = ways.fetch_refused fault here
 
+-- the claim by the pending interrupt
 by-interrupt : (state : Machine) (P : Stepped → Type 0) → StepWays state P → (o : Option Interrupt) → pending state.hart.csrs state.hart.mode ≡ o
     → P (option_case o (from_fetch state.hart state.memory)
     (λ interrupt. over state.memory (trap_end state.hart nothing (interrupted interrupt))))
 unfolding from_fetch
-by-interrupt state P ways None is = by-fetch state P ways _ (record { pending = is; fetched = refl })
-by-interrupt state P ways (Some interrupt) is = ways.interrupt interrupt is
+by-interrupt state P ways None pending_is = by-fetch state P ways _ (record { pending = pending_is; fetched = refl })
+by-interrupt state P ways (Some interrupt) pending_is = ways.interrupt interrupt pending_is
 
--- the step as a sequence of its stages
-pub step_is : (state : Machine) → step state ≡ unless_interrupted state.hart state.memory (from_fetch state.hart state.memory)
-unfolding step from_fetch from_decode from_access
-step_is state = refl
-
+-- a claim about a step holds if it holds for each way of a step
 pub step_ways : (state : Machine) (P : Stepped → Type 0) → StepWays state P → P (step state)
-step_ways state P ways = rw (step_is state) (by-interrupt state P ways _ refl)
+unfolding step
+step_ways state P ways = by-interrupt state P ways _ refl
 
 -- the step of an instruction that requests an access
 pub requested_step : (state : Machine) (word : ℕ) (instr : Instr) (access : Request) → Requests state word instr access
     → step state ≡ from_access state.hart state.memory word instr access
-unfolding step from_access
+unfolding step from_fetch from_decode
 requested_step state word instr access here = rw (here.decode.fetch.pending, here.decode.fetch.fetched, here.decode.decoded, here.request) refl
 
 -- ---- in four cases
@@ -148,52 +153,58 @@ unfolding retired_or_trapped
 by-end hart touched written P (Ok after) retires traps = retires after refl
 by-end hart touched written P (Err trap) retires traps = traps trap refl
 
+-- a step without an access is permitted
 touches-nothing : (state : Machine) → MayTouchAll state nothing
 touches-nothing state = record { fetched = tt; loaded = tt; stored = tt }
 
+-- a step that only fetches is permitted, if the fetch succeeds
 touches-fetch : (state : Machine) (word : ℕ) → Fetches state (Ok word) → MayTouchAll state (fetch_of state.hart)
 touches-fetch state word here =
     record { fetched = fetch_done state.memory state.hart.csrs.pmp state.hart.mode state.hart.pc word here.fetched; loaded = tt; stored = tt }
 
+-- a step that fetches and loads is permitted, if both succeed
 touches-load : (state : Machine) (word address : ℕ) (width : Width) (number : ℕ) → Fetches state (Ok word) → Loads state address width (Ok number)
     → MayTouchAll state (load_of state.hart address width)
-touches-load state word address width number here is =
-    let read = load_done state.memory state.hart.csrs.pmp (data_mode state.hart) address width number is in
+touches-load state word address width number here loads =
+    let read = load_done state.memory state.hart.csrs.pmp (data_mode state.hart) address width number loads in
     record { fetched = (touches-fetch state word here).fetched; loaded = read; stored = tt }
 
+-- a step that fetches and stores is permitted, if both succeed
 touches-store : (state : Machine) (word address : ℕ) (width : Width) (value : ℕ) (memory : List ℕ) → Fetches state (Ok word)
     → Stores state address width value (Ok memory)
     → MayTouchAll state (store_of state.hart address width)
-touches-store state word address width value memory here is =
-    let done = store_done state.memory state.hart.csrs.pmp (data_mode state.hart) address width value memory is in
+touches-store state word address width value memory here stores =
+    let done = store_done state.memory state.hart.csrs.pmp (data_mode state.hart) address width value memory stores in
     record { fetched = (touches-fetch state word here).fetched; loaded = tt; stored = (done.0, done.1) }
 
+-- a store that succeeds is not followed by a trap
 stores-without-trap : (state : Machine) (word : ℕ) (instr : Instr) (address : ℕ) (width : Width) (value : ℕ) (trap : Trap) (P : Type 0)
     → Requests state word instr (Store address width value) → executed state.hart word 0 instr ≡ Err trap → P
-stores-without-trap state word instr address width value trap P here is =
+stores-without-trap state word instr address width value trap P here executed_is =
     let done : executed state.hart word 0 instr ≡ Ok (advanced state.hart) = store_retires instr state.hart address value word width here.request in
-    let never : Ok (advanced state.hart) ≡ Err trap = sym done ∙ is in cc
+    let never : Ok (advanced state.hart) ≡ Err trap = sym done ∙ executed_is in cc
 
+-- a claim about a step holds if it holds for each case of a step
 pub step_cases : (state : Machine) (P : Stepped → Type 0) → Cases state P → P (step state)
 step_cases state P cases = step_ways state P (record {
-  interrupt = λ interrupt is. cases.trap nothing _ (touches-nothing state) refl;
-  fetch_refused = λ fault is. cases.trap nothing _ (touches-nothing state) refl;
+  interrupt = λ interrupt pending_is. cases.trap nothing _ (touches-nothing state) refl;
+  fetch_refused = λ fault refusal_is. cases.trap nothing _ (touches-nothing state) refl;
   illegal = λ word here. cases.trap (fetch_of state.hart) _ (touches-fetch state word here.fetch) refl;
   no_access = λ word instr here.
       let may = touches-fetch state word here.decode.fetch in
       by-end state.hart (fetch_of state.hart) (written_csr instr) (λ ended. P (over state.memory ended)) (executed state.hart word 0 instr)
-      (λ after is. cases.no_access instr word after may is) (λ trap is. cases.trap _ trap may refl);
-  load = λ word instr address width number here is.
-      let may = touches-load state word address width number here.decode.fetch is in
+      (λ after executed_is. cases.no_access instr word after may executed_is) (λ trap executed_is. cases.trap _ trap may refl);
+  load = λ word instr address width number here loads.
+      let may = touches-load state word address width number here.decode.fetch loads in
       by-end state.hart (load_of state.hart address width) (written_csr instr) (λ ended. P (over state.memory ended)) (executed state.hart word number instr)
-      (λ after done. cases.load instr word address width number after may is done) (λ trap done. cases.trap _ trap may refl);
-  load_refused = λ word instr address width fault here is. cases.trap (fetch_of state.hart) _ (touches-fetch state word here.decode.fetch) refl;
-  store = λ word instr address width value memory here is.
-      let may = touches-store state word address width value memory here.decode.fetch is in
+      (λ after done. cases.load instr word address width number after may loads done) (λ trap done. cases.trap _ trap may refl);
+  load_refused = λ word instr address width fault here not_loaded. cases.trap (fetch_of state.hart) _ (touches-fetch state word here.decode.fetch) refl;
+  store = λ word instr address width value memory here stores.
+      let may = touches-store state word address width value memory here.decode.fetch stores in
       by-end state.hart (store_of state.hart address width) (written_csr instr) (λ ended. P (over memory ended)) (executed state.hart word 0 instr)
-      (λ after done. cases.store instr word address width value memory after may is done)
+      (λ after done. cases.store instr word address width value memory after may stores done)
       (λ trap done. stores-without-trap state word instr address width value trap _ here done);
-  store_refused = λ word instr address width value fault here is. cases.trap (fetch_of state.hart) _ (touches-fetch state word here.decode.fetch) refl;
+  store_refused = λ word instr address width value fault here not_stored. cases.trap (fetch_of state.hart) _ (touches-fetch state word here.decode.fetch) refl;
 })
 
 -- a property of the hart alone has two cases: the step ends in a trap, or an instruction retires
@@ -204,7 +215,7 @@ pub by_hart : (state : Machine) (P : Stepped → Type 0)
     → P (step state)
 by_hart state P traps retires = step_cases state P (record {
   trap = λ touched trap may none. traps touched trap;
-  no_access = λ instr word after may is. retires _ _ instr word 0 after is;
-  load = λ instr word address width number after may done is. retires _ _ instr word number after is;
-  store = λ instr word address width value memory after may done is. retires _ _ instr word 0 after is;
+  no_access = λ instr word after may executed_is. retires _ _ instr word 0 after executed_is;
+  load = λ instr word address width number after may done executed_is. retires _ _ instr word number after executed_is;
+  store = λ instr word address width value memory after may done executed_is. retires _ _ instr word 0 after executed_is;
 })

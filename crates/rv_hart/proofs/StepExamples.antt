@@ -10,7 +10,7 @@ use Rattle.rv_hart.specs.Hart.{at_reset}
 use Rattle.rv_hart.specs.HartRecord.{Hart}
 use Rattle.rv_hart.specs.Instructions.{request, executed}
 use Rattle.rv_hart.specs.Machine.{Machine}
-use Rattle.rv_hart.specs.Step.{step, retired_or_trapped, fetch_of}
+use Rattle.rv_hart.specs.Step.{step, from_access, from_decode, from_fetch, retired_or_trapped, fetch_of}
 use Rattle.rv_hart.specs.CsrInstructions.{csr_changed, written_csr}
 use Rattle.rv_state.specs.CsrState.{at_reset as csrs_at_reset}
 use Rattle.rv_state.specs.CsrTable.{csr_listing, csr_numbered, write_result, csr_of}
@@ -18,9 +18,11 @@ use Rattle.rv_state.specs.Mstatus.{mstatus_at_reset}
 use Rattle.rv_pmp.specs.declared.mode.Mode.TheVariants.{M}
 use Rattle.rv_hart.specs.Exceptions.{misaligned, illegal}
 
+-- a machine with these bytes as its memory
 abbrev over_bytes : List ℕ → Hart → Machine
 over_bytes memory hart = record { hart = hart; memory = memory }
 
+-- the hart at reset in mode M, at the base of RAM
 abbrev reset : Hart
 reset = at_reset ram_base M
 
@@ -43,7 +45,7 @@ step-addi : step (over_bytes (0x93 ∷ 0x00 ∷ 0xf0 ∷ 0xff ∷ []) reset) ≡
   });
   outcome = record { trap = None; touched = fetch_of reset };
 }
-unfolding step request executed retired_or_trapped written_csr decoded by_bits read verdict matching_entry covers
+unfolding step from_fetch from_decode from_access request executed retired_or_trapped written_csr decoded by_bits read verdict matching_entry covers
 step-addi = refl
 
 -- csrrw x0, mepc, x0, which does not read mepc
@@ -51,7 +53,7 @@ step-csrrw : step (over_bytes (0x73 ∷ 0x10 ∷ 0x10 ∷ 0x34 ∷ []) reset) �
   state = over_bytes (0x73 ∷ 0x10 ∷ 0x10 ∷ 0x34 ∷ []) (record reset { csrs = record csrs_at_reset { mcycle = 1; minstret = 1 }; pc = 0x80000004 });
   outcome = record { trap = None; touched = fetch_of reset };
 }
-unfolding step request executed retired_or_trapped written_csr csr_changed write_result csr_numbered csr_listing
+unfolding step from_fetch from_decode from_access request executed retired_or_trapped written_csr csr_changed write_result csr_numbered csr_listing
     csr_of decoded by_bits read verdict matching_entry covers
 step-csrrw = refl
 
@@ -60,7 +62,7 @@ step-jal_misaligned : step (over_bytes (0xef ∷ 0x00 ∷ 0x20 ∷ 0x00 ∷ []) 
   state = over_bytes (0xef ∷ 0x00 ∷ 0x20 ∷ 0x00 ∷ []) (trapped_once 0 0x80000002);
   outcome = record { trap = Some (misaligned 0x80000002); touched = fetch_of reset };
 }
-unfolding step request executed retired_or_trapped decoded by_bits read verdict matching_entry covers
+unfolding step from_fetch from_decode from_access request executed retired_or_trapped decoded by_bits read verdict matching_entry covers
 step-jal_misaligned = refl
 
 -- the word 0 encodes no instruction
@@ -68,5 +70,5 @@ step-illegal : step (over_bytes (0 ∷ 0 ∷ 0 ∷ 0 ∷ []) reset) ≡ record {
   state = over_bytes (0 ∷ 0 ∷ 0 ∷ 0 ∷ []) (trapped_once 2 0);
   outcome = record { trap = Some (illegal 0); touched = fetch_of reset };
 }
-unfolding step request executed retired_or_trapped decoded by_bits read verdict matching_entry covers
+unfolding step from_fetch from_decode from_access request executed retired_or_trapped decoded by_bits read verdict matching_entry covers
 step-illegal = refl

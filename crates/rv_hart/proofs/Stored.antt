@@ -28,43 +28,51 @@ use Rattle.rv_hart.proofs.StepCases.{by_hart}
 
 -- ---- the registers of mode S
 
+-- each change by an instruction below mode M keeps stvec and sepc legal
 changes_stored : (hart : Hart) → is_machine hart.mode ≡ false → HasLegalVectors hart.csrs → Changes hart (λ after. HasLegalVectors after.csrs)
 changes_stored hart below stored = record {
   computes = λ regs pc. stored;
-  writes = λ csr word csrs regs pc is. write_stored hart.csrs csr word hart.mode csrs is stored;
+  writes = λ csr word csrs regs pc written. write_stored hart.csrs csr word hart.mode csrs written stored;
   mret = λ machine. absurd (false≢true (sym below ∙ machine));
   sret = record { stvec = stored.stvec; sepc = stored.sepc };
 }
 
 -- ---- pc
 
+-- the pc is a multiple of 4
 abbrev Aligned : Hart → Type 0
 Aligned hart = aligned_to_4 hart.pc ≡ hart.pc
 
+-- the next instruction has an aligned address
 next_aligned : (pc : ℕ) → aligned_to_4 pc ≡ pc → aligned_to_4 (sum_of pc 4) ≡ sum_of pc 4
 next_aligned pc aligned = omega arith
 
 module _ (hart : Hart) (aligned : aligned_to_4 hart.pc ≡ hart.pc) (below : is_machine hart.mode ≡ false) (sepc : aligned_to_4 hart.csrs.sepc ≡ hart.csrs.sepc) where
+  -- a jump that is Ok goes to an aligned target
   to_target : (target : ℕ) (b : Bool) (after : Hart) (trap : Trap) → (target % 4 == 0) ≡ b → after.pc ≡ target
       → IfOk (if b then Ok after else Err trap) Aligned
-  to_target target true after trap is at =
-      let multiple : target % 4 ≡ 0 = eqb-true (target % 4) 0 is in
+  to_target target true after trap test_is at =
+      let multiple : target % 4 ≡ 0 = eqb-true (target % 4) 0 test_is in
       let there : aligned_to_4 target ≡ target = omega arith in
       ap aligned_to_4 at ∙ there ∙ sym at
-  to_target target false after trap is at = tt
+  to_target target false after trap test_is at = tt
 
+  -- a jump leaves the pc aligned
   jumped_aligned : (rd target : ℕ) → IfOk (jumped hart rd target) Aligned
   jumped_aligned rd target = to_target target (target % 4 == 0) (record hart { regs = with_register hart.regs rd (sum_of hart.pc 4); pc = target }) _ refl refl
 
+  -- a branch leaves the pc aligned, taken or not
   branched_aligned : (taken : Bool) (target : ℕ) → IfOk (branched hart taken target) Aligned
   branched_aligned true target = to_target target (target % 4 == 0) (record hart { pc = target }) _ refl refl
   branched_aligned false target = next_aligned hart.pc aligned
 
+  -- a write of a CSR leaves the pc aligned
   written_aligned : (rd old word : ℕ) (r : Result CsrState CsrFault)
       → IfOk (unless_illegal word (unless_fault r (λ csrs. Ok (with_result (record hart { csrs = csrs }) rd old)))) Aligned
   written_aligned rd old word (Ok csrs) = next_aligned hart.pc aligned
   written_aligned rd old word (Err fault) = tt
 
+  -- a CSR instruction leaves the pc aligned
   changed_aligned : (kind : CsrKind) (rd source operand csr word : ℕ) → IfOk (unless_illegal word (csr_changed hart kind rd source operand csr)) Aligned
   unfolding csr_changed
   changed_aligned kind rd source operand csr word =
@@ -76,10 +84,12 @@ module _ (hart : Hart) (aligned : aligned_to_4 hart.pc ≡ hart.pc) (below : is_
         | Err fault ↦ tt
       ]
 
+  -- an instruction that needs a permission leaves the pc aligned
   allowed_aligned : (allowed : Bool) (word : ℕ) (after : Hart) → Aligned after → IfOk (where_allowed allowed word after) Aligned
-  allowed_aligned true word after is = is
-  allowed_aligned false word after is = tt
+  allowed_aligned true word after aligned = aligned
+  allowed_aligned false word after aligned = tt
 
+  -- each instruction leaves the pc aligned
   executed_aligned : (instr : Instr) (word loaded : ℕ) → IfOk (executed hart word loaded instr) Aligned
   unfolding executed
   executed_aligned (Jal rd offset) word loaded = jumped_aligned rd (sum_of hart.pc (sign_extended offset 21))
@@ -100,6 +110,7 @@ module _ (hart : Hart) (aligned : aligned_to_4 hart.pc ≡ hart.pc) (below : is_
 
 -- ---- the step
 
+-- proves that a step below mode M without a trap keeps pc, stvec and sepc legal
 pub keeps_stored : (state : Machine) → KeepsLegal state (step state)
 keeps_stored state = by_hart state (KeepsLegal state) (λ touched trap below stored. tt) (λ memory touched instr word loaded after is below stored.
     let csrs = by_changes state.hart (λ h. HasLegalVectors h.csrs) (changes_stored state.hart below stored.csrs) instr word loaded after is in

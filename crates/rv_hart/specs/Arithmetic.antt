@@ -22,15 +22,19 @@ use Rattle.rv_encoding.specs.declared.kind.ShiftKind.TheVariants.{Slli, Srli, Sr
 use Rattle.rv_encoding.specs.declared.kind.StoreKind.{StoreKind}
 use Rattle.rv_encoding.specs.declared.kind.StoreKind.TheVariants.{Sb, Sh, Sw}
 
+-- the sum of two words, modulo 2 ^ 32
 abbrev pub sum_of : ℕ → ℕ → ℕ
 sum_of left right = (left + right) % 2 ^ 32
 
+-- the difference of two words, modulo 2 ^ 32
 abbrev pub difference_of : ℕ → ℕ → ℕ
 difference_of left right = low_word (pos left -ℤ pos right)
 
+-- whether the left word is less than the right one, both as signed numbers
 abbrev pub is_less : ℕ → ℕ → Bool
 is_less left right = int_lt (signed left) (signed right)
 
+-- whether the left word is less than the right one, both as unsigned numbers
 abbrev pub is_less_unsigned : ℕ → ℕ → Bool
 is_less_unsigned left right = nat_lt left right
 
@@ -87,6 +91,7 @@ load_width Lw = Word
 load_width Lbu = Byte
 load_width Lhu = Half
 
+-- the word that a load puts into rd: the loaded number, with its sign extended or not
 abbrev pub load_value : LoadKind → ℕ → ℕ
 load_value Lb number = sign_extended number 8
 load_value Lh number = sign_extended number 16

@@ -36,9 +36,11 @@ changed_word kinds.Clear old operand = and_not_by_bits old operand
 abbrev pub old_word : Hart → CsrKind → ℕ → ℕ → Result ℕ CsrFault
 old_word hart kind rd csr = if is_read kind rd then read_result hart.csrs csr hart.mode else Ok 0
 
+-- the registers after the instruction: unchanged if it does not write, or else after the write or with its fault
 abbrev pub new_csrs : Hart → CsrKind → ℕ → ℕ → ℕ → Result CsrState CsrFault
 new_csrs hart kind source word csr = if is_written kind source then write_result hart.csrs csr word hart.mode else Ok hart.csrs
 
+-- the fault of the first access, or the result of what follows it
 abbrev pub unless_fault : {A B : Type 0} → Result A CsrFault → (A → Result B CsrFault) → Result B CsrFault
 unless_fault access go = result_case access go Err
 

@@ -10,6 +10,7 @@ use Rattle.rv_state.specs.declared.cause.Exception.TheVariants.{EnvironmentCallF
 use Rattle.rv_state.specs.declared.cause.Interrupt.{Interrupt}
 use Rattle.rv_hart.specs.declared.trap.Trap.{Trap}
 
+-- the trap of an exception, with the value for mtval
 abbrev pub exception : Exception → ℕ → Trap
 exception cause tval = record { cause = by_exception cause; tval = tval }
 
@@ -35,8 +36,10 @@ call_cause U = EnvironmentCallFromU
 call_cause S = EnvironmentCallFromS
 call_cause M = EnvironmentCallFromM
 
+-- the trap of an ecall in a mode, with 0 for mtval
 abbrev pub environment_call : Mode → Trap
 environment_call mode = exception (call_cause mode) 0
 
+-- the trap of an interrupt, with 0 for mtval
 abbrev pub interrupted : Interrupt → Trap
 interrupted interrupt = record { cause = by_interrupt interrupt; tval = 0 }

@@ -48,10 +48,12 @@ unless_illegal word change = result_case change Ok (λ _. Err (illegal word))
 
 -- ---- the returns from traps
 
+-- the hart after mret: mstatus by the rule of mret, pc from mepc, and the mode from MPP
 abbrev pub returned_from_machine : Hart → Hart
 returned_from_machine hart =
     record hart { csrs = after_mret hart.csrs; pc = hart.csrs.mepc; mode = hart.csrs.mstatus.mpp }
 
+-- the hart after sret: mstatus by the rule of sret, pc from sepc, and the mode from SPP
 abbrev pub returned_from_supervisor : Hart → Hart
 returned_from_supervisor hart =
     record hart { csrs = after_sret hart.csrs; pc = hart.csrs.sepc; mode = mode_of_spp hart.csrs.mstatus.spp }

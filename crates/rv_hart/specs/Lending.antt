@@ -1,11 +1,8 @@
--- The state of a hart or a machine after a mutable borrow of one of its parts ends. (Not defined by a standard.)
+-- The state of a hart after a mutable borrow of one of its parts ends. (Not defined by a standard.)
 use Rattle.std.specs.Prelude.{ℕ, List}
 use Rattle.std.specs.Borrow.{Lends, MutBor, Fml}
-use Rattle.rv_memory.specs.contracts.ram.Ram.{the_row as ram_row}
 use Rattle.rv_hart.specs.HartRecord.{Hart}
-use Rattle.rv_hart.specs.Machine.{Machine}
 use Rattle.rv_hart.specs.contracts.hart.Hart.{the_row as hart_row}
-use Rattle.rv_hart.specs.contracts.machine.Machine.{the_row as machine_row}
 use Rattle.rv_state.specs.contracts.csrs.Csrs.{the_row as csrs_row}
 use Rattle.rv_state.specs.contracts.regs.Regs.{the_row as regs_row}
 use Rattle.rv_state.specs.CsrState.{CsrState}
@@ -17,16 +14,3 @@ HartLendsRegs hart regs = Lends hart_row regs_row hart regs (λ left. record har
 -- the hart ends with the final value of the borrowed control and status registers
 abbrev pub HartLendsCsrs : MutBor Hart → MutBor CsrState → Fml
 HartLendsCsrs hart csrs = Lends hart_row csrs_row hart csrs (λ left. record hart.now { csrs = left })
-
--- the same for the hart of a machine
-abbrev pub MachineLendsRegs : MutBor Machine → MutBor (List ℕ) → Fml
-MachineLendsRegs machine regs =
-    Lends machine_row regs_row machine regs (λ left. record machine.now { hart = record machine.now.hart { regs = left } })
-
-abbrev pub MachineLendsCsrs : MutBor Machine → MutBor CsrState → Fml
-MachineLendsCsrs machine csrs =
-    Lends machine_row csrs_row machine csrs (λ left. record machine.now { hart = record machine.now.hart { csrs = left } })
-
--- the machine ends with the final value of the borrowed memory
-abbrev pub MachineLendsRam : MutBor Machine → MutBor (List ℕ) → Fml
-MachineLendsRam machine ram = Lends machine_row ram_row machine ram (λ left. record machine.now { memory = left })

@@ -20,6 +20,7 @@ MayTouch state mode access (Some span) =
     (is_inside state.memory span.addr (bytes_in span.len) ≡ true)
     × (permits (verdict_on state.hart.csrs.pmp mode access span.addr span.len) ≡ true)
 
+-- PMP permits each access of the step: the fetch in the mode of the hart, loads and stores in the mode for data
 pub record MayTouchAll (state : Machine) (touched : Touched) : Type 0 where
   pub fetched : MayTouch state state.hart.mode Fetch touched.fetched
   pub loaded : MayTouch state (data_mode state.hart) Read touched.loaded

@@ -25,9 +25,11 @@ use Rattle.rv_hart.specs.declared.trap.Trap.{Trap}
 
 -- ---- the accesses of a step
 
+-- one access: its address and its width
 abbrev pub span : ℕ → Width → Option Span
 span address width = Some (record { addr = address; len = width })
 
+-- a step without an access
 abbrev pub nothing : Touched
 nothing = record { fetched = None; loaded = None; stored = None }
 
@@ -35,9 +37,11 @@ nothing = record { fetched = None; loaded = None; stored = None }
 abbrev pub fetch_of : Hart → Touched
 fetch_of hart = record { fetched = span hart.pc Word; loaded = None; stored = None }
 
+-- the accesses of a step that fetches and loads
 abbrev pub load_of : Hart → ℕ → Width → Touched
 load_of hart address width = record { fetched = span hart.pc Word; loaded = span address width; stored = None }
 
+-- the accesses of a step that fetches and stores
 abbrev pub store_of : Hart → ℕ → Width → Touched
 store_of hart address width = record { fetched = span hart.pc Word; loaded = None; stored = span address width }
 
@@ -98,24 +102,23 @@ abbrev pub from_execute : Hart → Touched → ℕ → Instr → ℕ → Ended
 from_execute hart touched word instr loaded =
     retired_or_trapped hart touched (written_csr instr) (executed hart word loaded instr)
 
--- ---- the step
+-- ---- the rest of a step: from the access on, from the decoding on, and from the fetch on
 
-unfoldable pub step : Machine → Stepped
-step state =
-    let hart = state.hart in
-    unless_interrupted hart state.memory (
-    fetch_then hart state.memory (λ word.
-    decode_then hart state.memory word (λ instr.
-    access_then hart state.memory (request instr hart) (λ memory touched loaded.
-    over memory (from_execute hart touched word instr loaded)))))
-
--- the step from the access, from the decoding, and from the fetch on
+-- the step from the access of a decoded instruction on
 unfoldable pub from_access : Hart → List ℕ → ℕ → Instr → Request → Stepped
-from_access hart memory word instr asked =
-    access_then hart memory asked (λ after touched loaded. over after (from_execute hart touched word instr loaded))
+from_access hart memory word instr requested =
+    access_then hart memory requested (λ after touched loaded. over after (from_execute hart touched word instr loaded))
 
+-- the step from the decoding of the fetched word on
 unfoldable pub from_decode : Hart → List ℕ → ℕ → Stepped
 from_decode hart memory word = decode_then hart memory word (λ instr. from_access hart memory word instr (request instr hart))
 
+-- the step from the fetch on
 unfoldable pub from_fetch : Hart → List ℕ → Stepped
 from_fetch hart memory = fetch_then hart memory (from_decode hart memory)
+
+-- ---- the step
+
+-- one step: a pending interrupt, or the instruction at pc
+unfoldable pub step : Machine → Stepped
+step state = unless_interrupted state.hart state.memory (from_fetch state.hart state.memory)

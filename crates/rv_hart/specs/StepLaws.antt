@@ -31,7 +31,7 @@ TrapKeeps before after =
 abbrev pub MprvIsClear : Hart → Type 0
 MprvIsClear hart = is_machine hart.mode ≡ false → hart.csrs.mstatus.mprv ≡ false
 
--- a step preserves this
+-- a step keeps MPRV 0 below mode M
 abbrev pub KeepsMprvClear : Machine → Stepped → Type 0
 KeepsMprvClear before after = MprvIsClear before.hart → MprvIsClear after.state.hart
 

@@ -20,7 +20,7 @@ const fn less(left: u32, right: u32) -> bool
 
 /// Computes an operation on two registers.
 #[inline(always)]
-pub(crate) fn op(kind: OpKind, left: u32, right: u32) -> u32
+pub fn op(kind: OpKind, left: u32, right: u32) -> u32
     ensures { result ≡ op_value kind left right }
 {
     match kind {
@@ -47,7 +47,7 @@ pub(crate) fn op(kind: OpKind, left: u32, right: u32) -> u32
 
 /// Computes an operation on a register and an immediate that is sign-extended to 32 bits.
 #[inline(always)]
-pub(crate) fn op_imm(kind: OpImmKind, left: u32, imm: u32) -> u32
+pub fn op_imm(kind: OpImmKind, left: u32, imm: u32) -> u32
     ensures { result ≡ op_imm_value kind left imm }
 {
     match kind {
@@ -62,7 +62,7 @@ pub(crate) fn op_imm(kind: OpImmKind, left: u32, imm: u32) -> u32
 
 /// Computes a shift of a register by 0 to 31 bits.
 #[inline(always)]
-pub(crate) fn shift(kind: ShiftKind, left: u32, amount: u32) -> u32
+pub fn shift(kind: ShiftKind, left: u32, amount: u32) -> u32
     requires { amount < 32 }
     ensures { result ≡ shift_value kind left amount }
 {
@@ -75,7 +75,7 @@ pub(crate) fn shift(kind: ShiftKind, left: u32, amount: u32) -> u32
 
 /// Returns whether a branch on two registers is taken.
 #[inline(always)]
-pub(crate) fn is_taken(kind: BranchKind, left: u32, right: u32) -> bool
+pub fn is_taken(kind: BranchKind, left: u32, right: u32) -> bool
     ensures { result ≡ is_taken_of kind left right }
 {
     match kind {
@@ -90,7 +90,7 @@ pub(crate) fn is_taken(kind: BranchKind, left: u32, right: u32) -> bool
 
 /// Returns the width of a load.
 #[inline(always)]
-pub(crate) fn load_width(kind: LoadKind) -> Width
+pub fn load_width(kind: LoadKind) -> Width
     ensures { result ≡ load_width_of kind }
 {
     match kind {
@@ -102,7 +102,7 @@ pub(crate) fn load_width(kind: LoadKind) -> Width
 
 /// Computes the result of a load from the number that it reads: extends the sign if the load is signed.
 #[inline(always)]
-pub(crate) fn load_value(kind: LoadKind, number: u32) -> u32
+pub fn load_value(kind: LoadKind, number: u32) -> u32
     ensures { result ≡ load_value_of kind number }
 {
     match kind {
@@ -114,7 +114,7 @@ pub(crate) fn load_value(kind: LoadKind, number: u32) -> u32
 
 /// Returns the width of a store.
 #[inline(always)]
-pub(crate) fn store_width(kind: StoreKind) -> Width
+pub fn store_width(kind: StoreKind) -> Width
     ensures { result ≡ store_width_of kind }
 {
     match kind {

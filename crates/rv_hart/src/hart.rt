@@ -163,7 +163,7 @@ impl Hart {
 
     /// Takes an interrupt, executes the instruction at pc, or takes its trap.
     #[inline(always)]
-    #[tactic(auto, unfolding(crate::specs::Step::from_fetch), using(crate::proofs::StepCases::step_is))]
+    #[tactic(auto, unfolding(crate::specs::Step::step, crate::specs::Step::from_fetch))]
     fn step_once<Site>(&mut self, ram: &mut Ram) -> StepOutcome
         ensures { step (machine_of self.old ram.old) ≡ stepped self.new ram.new result }
     {
@@ -248,7 +248,7 @@ impl Hart {
     /// Returns the mode in which loads and stores are checked: MPP if MPRV is set, otherwise the mode of the hart (Privileged Architecture,
     /// section 3.1.6.3).
     #[inline(always)]
-    pub(crate) fn data_mode(&self) -> Mode
+    pub fn data_mode(&self) -> Mode
         ensures { result ≡ data_mode self.now }
     {
         let status = self.csrs.mstatus();

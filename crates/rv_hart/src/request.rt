@@ -4,7 +4,7 @@ use rv_word::Width;
 
 /// The access that an instruction requests, at most one.
 #[derive(Clone, Copy)]
-pub(crate) enum Request {
+pub enum Request {
     /// The instruction accesses no memory.
     Nothing,
     /// Loads the number at an address.

@@ -1,7 +1,13 @@
-//! The tests of `rv_pmp`, `rv_memory`, `rv_state`, `rv_hart`, `rv_enclaves` and `rv_monitor`, through their public functions. They are in a
-//! crate of their own, so that no library is proved a second time for them.
+//! The tests of `rv_pmp`, `rv_memory`, `rv_state`, `rv_hart`, `rv_fast_path`, `rv_enclaves`, `rv_monitor` and `rv_debug`, through their public
+//! functions. They are in a crate of their own, so that no library is proved a second time for them.
 #![tactic(auto)]
 
+#[cfg(test)]
+mod bench_tests;
+#[cfg(test)]
+mod benches;
+#[cfg(test)]
+mod both_tests;
 #[cfg(test)]
 mod enclaves_tests;
 #[cfg(test)]
@@ -11,6 +17,10 @@ mod memory_tests;
 #[cfg(test)]
 mod monitor_tests;
 #[cfg(test)]
+mod monitored_tests;
+#[cfg(test)]
 mod pmp_tests;
+#[cfg(test)]
+mod reply_tests;
 #[cfg(test)]
 mod state_tests;

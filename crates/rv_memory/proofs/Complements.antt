@@ -15,12 +15,15 @@ complements memory index count = map complement_of (take count (drop index memor
 abbrev pub with_complements : List ℕ → ℕ → ℕ → List ℕ
 with_complements memory index count = write_bytes memory index (complements memory index count)
 
+-- `count` bytes are complemented, if all of them are in memory
 pub length-complements : (memory : List ℕ) (index count : ℕ) → index + count ≤ length memory → length (complements memory index count) ≡ count
 length-complements memory index count inside = grind (arith, common_steps)
 
+-- complements do not change the size of the memory
 pub length-with_complements : (memory : List ℕ) (index count : ℕ) → index + count ≤ length memory → length (with_complements memory index count) ≡ length memory
 length-with_complements memory index count inside = grind (arith, common_steps)
 
+-- the complement at an index is that of the byte there
 complements-at : (memory : List ℕ) (index count k : ℕ) → index + count ≤ length memory → index ≤ k → k < index + count
     → get_or (complements memory index count) (k - index) 0 ≡ complement_of (get_or memory k 0)
 complements-at memory index count k inside low high =
@@ -31,6 +34,7 @@ complements-at memory index count k inside low high =
     get_or-map complement_of part (k - index) 0 0 (omega (arith, long, short))
     ∙ ap complement_of (get_or-take count (drop index memory) (k - index) 0 short ∙ get_or-drop index memory (k - index) 0 ∙ ap (λ j. get_or memory j 0) place)
 
+-- a byte inside a write is the written one, by its index
 index-within : (memory : List ℕ) (index : ℕ) (bytes : List ℕ) (k : ℕ) → index + length bytes ≤ length memory → index ≤ k → k < index + length bytes
     → get_or (write_bytes memory index bytes) k 0 ≡ get_or bytes (k - index) 0
 index-within memory index bytes k within low high = grind (arith, common_steps)
@@ -43,12 +47,14 @@ within memory index count k inside low high =
     index-within memory index (complements memory index count) k (omega (arith, long)) low (omega (arith, long))
     ∙ complements-at memory index count k inside low high
 
+-- a byte below the complemented ones is unchanged
 pub below : (memory : List ℕ) (index count k : ℕ) → index + count ≤ length memory → k < index
     → get_or (with_complements memory index count) k 0 ≡ get_or memory k 0
 below memory index count k inside low =
     let long = length-complements memory index count inside in
     index-below memory index (complements memory index count) k (omega (arith, long)) low
 
+-- a byte above the complemented ones is unchanged
 pub above : (memory : List ℕ) (index count k : ℕ) → index + count ≤ length memory → index + count ≤ k
     → get_or (with_complements memory index count) k 0 ≡ get_or memory k 0
 above memory index count k inside high =
@@ -60,9 +66,9 @@ pub complemented_twice : (memory : List ℕ) (index count : ℕ) → index + cou
     → with_complements (with_complements memory index count) index count ≡ memory
 complemented_twice memory index count inside bytes =
     let once = with_complements memory index count in
-    let size = length-with_complements memory index count inside in
-    let inside' : index + count ≤ length once = omega (arith, size) in
-    same_number_lists (with_complements once index count) memory (length-with_complements once index count inside' ∙ size)
+    let same_length = length-with_complements memory index count inside in
+    let inside' : index + count ≤ length once = omega (arith, same_length) in
+    same_number_lists (with_complements once index count) memory (length-with_complements once index count inside' ∙ same_length)
     (λ k _. elim (cases_lt k index) [
       | inl low ↦ below once index count k inside' low ∙ below memory index count k inside low
       | inr low ↦ elim (cases_lt k (index + count)) [
@@ -74,6 +80,7 @@ complemented_twice memory index count inside bytes =
       ]
     ])
 
+-- bytes that are in memory end at or below its size, by their index
 pub inside-index : (memory : List ℕ) (address count : ℕ) → is_inside memory address count ≡ true → (address - ram_base) + count ≤ length memory
 inside-index memory address count inside = grind (arith, common_steps)
 

@@ -4,6 +4,7 @@ use Rattle.rv_monitor.specs.Prelude.{M, Mode, bytes_from, bytes_in, data_mode, i
 use Rattle.rv_monitor.specs.AccessControl.{AccessControlLaw}
 use Rattle.rv_monitor.proofs.Prelude.{Entries, HartViewInvariant, HartView, reach_law}
 
+-- proves the access control law for every world, mode and access
 pub access_control_law : AccessControlLaw
 access_control_law state mode access address width kept below inside =
     subst (λ (entries : Entries). permits (verdict entries mode access (bytes_from address (bytes_in width)))
@@ -11,6 +12,7 @@ access_control_law state mode access address width kept below inside =
     (sym kept.hart.layout.entries)
     (reach_law state.shared.memory state.shared.table state.hart_state.world mode access address width kept.valid below inside)
 
+-- a mode that is not M by the test is not M
 pub below_M : (mode : Mode) → is_machine mode ≡ false → mode ≢ M
 below_M mode below same = let machine : is_machine mode ≡ true = rw same refl in let never : true ≡ false = sym machine ∙ below in cc
 

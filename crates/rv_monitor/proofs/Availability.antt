@@ -19,33 +19,37 @@ use Rattle.rv_monitor.proofs.TrapSteps.{same_outcome}
 
 -- ---- the timer interrupt
 
+-- a step with a pending timer interrupt takes it
 taken : (state : Machine) → pending state.hart.csrs state.hart.mode ≡ Some MachineTimer → (step state).outcome.trap ≡ Some timer_trap
 unfolding step
-taken state is = rw is refl
+taken state pending_is = rw pending_is refl
 
+-- a world that is the host by the test is the host
 pub host_is : (world : World) → is_host world ≡ true → world ≡ Host
-host_is Host is = refl
-host_is (Enclave k) is = cc
+host_is Host host_runs = refl
+host_is (Enclave k) host_runs = cc
 
+-- a destroy of a live enclave whose state is Stopped is not refused
 stopped_ends : (slots : Slots) (k : ℕ) (o : Option SlotInfo) → length slots ≡ 13 → slot_at slots k ≡ o → is_some o ≡ true
     → first_refusal (state_refusals (option_case o slots (λ info. with_slot slots k (Some (record info { state = Stopped })))) Destroy k) ≡ None
 unfolding state_refusals
-stopped_ends slots k None count is live = cc
-stopped_ends slots k (Some info) count is live =
-    let within = live_in_range slots k info count is in
+stopped_ends slots k None count slot_is live = cc
+stopped_ends slots k (Some info) count slot_is live =
+    let within = live_in_range slots k info count slot_is in
     let there = at_same slots k (Some (record info { state = Stopped })) (omega (arith, count, within)) in
     rw there refl
 
+-- proves that an enclave on a hart whose timer line is set exits by the timer interrupt
 pub timer_exits : (hart : ℕ) (machine : MonitoredMachine) → Invariant machine → TimerExits hart machine (step_of hart machine)
 timer_exits hart machine kept k host runs waiting up =
-    let has = runs_here k hart machine runs in
+    let in_range = runs_here k hart machine runs in
     let state = hart_view hart machine in
-    let own = hart_view_invariant hart machine kept has in
+    let own = hart_view_invariant hart machine kept in_range in
     let enabled : state.hart_state.hart.csrs.mie ≡ 0x80 = own.hart.layout.mie ∙ ap mie_of runs in
     let bare = taken (bare_machine state)
     (waits state.hart_state.hart.csrs state.hart_state.hart.mode own.hart.layout.mode enabled ∙ ap timer_or_none up) in
     let trap_is : (step_of hart machine).outcome.step.trap ≡ Some timer_trap =
-    ap (λ (after : HartViewStepped). after.outcome.step.trap) (step_seen hart machine has)
+    ap (λ (after : HartViewStepped). after.outcome.step.trap) (step_seen hart machine in_range)
     ∙ ap (λ (o : StepOutcome). o.trap) (same_outcome state) ∙ bare in
     let world = host_is _ ((exits_law hart machine kept k runs).exits timer_trap trap_is) in
     let both = leave_law hart machine kept k host timer_trap runs waiting trap_is world in
@@ -54,7 +58,7 @@ timer_exits hart machine kept k host runs waiting up =
     record {
       trapped = trap_is;
       left = (left, both.1);
-      result = ap (λ (m : MonitoredMachine). (hart_state_of hart m).hart.regs) left ∙ ap (λ (s : HartState). s.hart.regs) (left_hart_state hart machine k timer_trap host has);
+      result = ap (λ (m : MonitoredMachine). (hart_state_of hart m).hart.regs) left ∙ ap (λ (s : HartState). s.hart.regs) (left_hart_state hart machine k timer_trap host in_range);
       world = world;
       destroyable = ap (λ (m : MonitoredMachine). first_refusal (state_refusals m.shared.table Destroy k)) left
           ∙ stopped_ends machine.shared.table k (slot_at machine.shared.table k) own.valid.count refl live;

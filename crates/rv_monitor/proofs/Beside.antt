@@ -18,32 +18,36 @@ runs_inside k j machine runs = elim (cases_lt j (count_of machine)) [
       cc
 ]
 
+-- an enclave that runs on some hart is among the worlds of the machine
 pub runs_among : (k j : ℕ) (machine : MonitoredMachine) → runs_on k j machine ≡ true → list_any (is_world_of k) (worlds machine) ≡ true
 runs_among k j machine runs =
-    let has = runs_inside k j machine runs in
-    list_any_at (is_world_of k) (worlds machine) j Host (has_world j machine has) (ap (is_world_of k) (world_at j machine has) ∙ runs)
+    let in_range = runs_inside k j machine runs in
+    list_any_at (is_world_of k) (worlds machine) j Host (has_world j machine in_range) (ap (is_world_of k) (world_at j machine in_range) ∙ runs)
 
+-- a slot whose state is Running is live
 pub live_by : (o : Option SlotInfo) → option_case o false (λ info. is_running info.state) ≡ true → is_some o ≡ true
 live_by None runs = runs
 live_by (Some info) runs = refl
 
--- it is live
+-- an enclave that runs on some hart is live
 pub running_is_live : (k j : ℕ) (machine : MonitoredMachine) → Invariant machine → runs_on k j machine ≡ true → is_live machine.shared.table k ≡ true
 running_is_live k j machine kept runs = live_by (slot_at machine.shared.table k) (kept.shared.running k ∙ runs_among k j machine runs)
 
 -- ---- the other harts
 
+-- if an or holds and its first part does not, the second part does
 right_of : (a b : Bool) → a ≡ false → (a || b) ≡ true → b ≡ true
 right_of a b none is = rw none at is
 
 -- it runs on one of the other harts, if it does not run on this one
 pub running_is_undisturbed : (k hart own : ℕ) (machine : MonitoredMachine) → hart < count_of machine → runs_on k own machine ≡ true
     → runs_on k hart machine ≡ false → list_any (is_world_of k) (beside hart machine) ≡ true
-running_is_undisturbed k hart own machine has runs not_running =
+running_is_undisturbed k hart own machine in_range runs not_running =
     right_of (runs_on k hart machine) _ not_running
-    (sym (any_prefix (is_world_of k) (worlds machine) hart (hart_state_of hart machine).world (has_world hart machine has))
-    ∙ ap (list_any (is_world_of k)) (worlds_are hart machine has) ∙ runs_among k own machine runs)
+    (sym (any_prefix (is_world_of k) (worlds machine) hart (hart_state_of hart machine).world (has_world hart machine in_range))
+    ∙ ap (list_any (is_world_of k)) (worlds_are hart machine in_range) ∙ runs_among k own machine runs)
 
+-- an enclave that runs on hart j, and not on the hart that steps, runs on another hart
 pub not_same : (k hart j : ℕ) (machine : MonitoredMachine) → runs_on k hart machine ≡ false → runs_on k j machine ≡ true → j ≢ hart
 not_same k hart j machine not_running runs same = both_ways _ not_running (ap (λ (i : ℕ). runs_on k i machine) (sym same) ∙ runs)
 

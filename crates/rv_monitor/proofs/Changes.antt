@@ -4,7 +4,7 @@ use Rattle.std.proofs.Common.{◌∙◌, ap, subst, inl, inr, arith}
 use Rattle.std.specs.Prelude.{is_some}
 use Rattle.rv_pmp.proofs.VerdictLemmas.{each_from_all}
 use Rattle.rv_memory.proofs.MemoryLaws.{byte_at-write}
-use Rattle.rv_platform.specs.declared.block.Block.{Block}
+use Rattle.rv_memory.specs.declared.block.Block.{Block}
 use Rattle.rv_monitor.specs.Prelude.{Byte, Call, Destroy, IsValidSlot, IsValid, Measure, S, HartState, Shared, Span, Stepped, Trap, World}
 use Rattle.rv_monitor.specs.Prelude.{Write, requested_call, byte_at, bytes_from, bytes_in, created, data_mode, destroyed, first_refusal, has}
 use Rattle.rv_monitor.specs.Prelude.{is_inside, is_live, layout, may_store, may_store_all, measure_refusals, measured, measured_slot}
@@ -20,11 +20,13 @@ use Rattle.rv_monitor.proofs.HandlerCases.{Requests, handler_cases}
 
 -- ---- bytes written elsewhere
 
+-- a byte outside a write is unchanged, also if the write fails
 put_by : (memory : List ℕ) (address : ℕ) (bytes : List ℕ) (byte : ℕ) (o : Option (List ℕ)) → write memory address bytes ≡ o
     → byte < address ⊎ address + length bytes ≤ byte → byte_at (option_case o memory (λ after. after)) byte ≡ byte_at memory byte
-put_by memory address bytes byte None is apart = refl
-put_by memory address bytes byte (Some after) is apart = byte_at-write memory address bytes after byte is apart
+put_by memory address bytes byte None written apart = refl
+put_by memory address bytes byte (Some after) written apart = byte_at-write memory address bytes after byte written apart
 
+-- a byte that is not in a block is before it or after it
 outside : (block : Block) (byte : ℕ) → has block byte ≡ false → byte < block.base ⊎ block.base + block.size ≤ byte
 outside block byte none = elim (cases_lt byte block.base) [
   | inl below ↦ inl below
@@ -34,6 +36,7 @@ outside block byte none = elim (cases_lt byte block.base) [
   ]
 ]
 
+-- zeroing a block changes no byte outside it
 zeroed_integrity : (memory : List ℕ) (block : Block) (byte : ℕ) → has block byte ≡ false → byte_at (zeroed memory block) byte ≡ byte_at memory byte
 zeroed_integrity memory block byte none =
     let long : length (replicate block.size 0) ≡ block.size = length-replicate {A = ℕ} block.size 0 in
@@ -46,30 +49,34 @@ abbrev Changes : World → List ℕ → Shared → ℕ → Shared → Type 0
 Changes world regs before byte after =
     byte_at after.memory byte ≡ byte_at before.memory byte ⊎ ByMonitor world regs before after byte
 
+-- destroy changes only bytes of the region that it zeroes
 destroyed_changes : (hart_state : HartState) (shared : Shared) (byte : ℕ) → IsValid shared.memory shared.table
     → requested_call hart_state.world hart_state.hart.regs ≡ Some Destroy
     → IsTaken shared.table Destroy (a0 hart_state) → Changes hart_state.world hart_state.hart.regs shared byte (destroyed shared (a0 hart_state))
 unfolding destroyed
-destroyed_changes hart_state shared byte valid asked taken =
+destroyed_changes hart_state shared byte valid requested taken =
     let slot = a0 hart_state in
     elim (cases_Bool (has (region shared.table slot) byte)) [
       | inl own ↦
-          let is = taken.is in
+          let slot_is = taken.is in
           let inside = live_in_range shared.table slot taken.info valid.count taken.is in
           let gone : slot_at (with_slot shared.table slot None) slot ≡ None = at_same shared.table slot None (omega (arith, valid.count)) in
-          inr (inl (record { asked = asked; live = rw is refl; gone = rw gone refl; own = own }))
+          inr (inl (record { asked = requested; live = rw slot_is refl; gone = rw gone refl; own = own }))
       | inr other ↦ inl (zeroed_integrity shared.memory (region shared.table slot) byte other)
     ]
 
 module _ (hart_state : HartState) (shared : Shared) (valid : IsValid shared.memory shared.table) (byte : ℕ)
     (asked : requested_call hart_state.world hart_state.hart.regs ≡ Some Measure) where
+  -- the PMP entries of the hart
   abbrev entries : Entries
   entries = layout shared.table hart_state.world
 
+  -- the slot that measure names
   abbrev slot : ℕ
   slot = measured_slot hart_state.world (a0 hart_state)
 
   module _ (live : is_live shared.table slot ≡ true) (may : may_store_all shared.memory entries (a1 hart_state) ≡ true) where
+    -- measure has no reason for a refusal
     not_refused : first_refusal (measure_refusals shared entries slot (a1 hart_state)) ≡ None
     unfolding measure_refusals
     not_refused = rw (live, may) refl
@@ -88,6 +95,7 @@ module _ (hart_state : HartState) (shared : Shared) (valid : IsValid shared.memo
           accessible = sym (reach_law shared.memory shared.table hart_state.world S Write byte Byte valid (below_M S refl) parts.0) ∙ parts.1;
         }
 
+    -- measure changes only the 32 bytes at a1
     put_changes : (o : Option SlotInfo) → IfSome o (IsValidSlot shared.memory) → is_some o ≡ true
         → Changes hart_state.world hart_state.hart.regs shared byte (record shared {
           memory =
@@ -104,6 +112,7 @@ module _ (hart_state : HartState) (shared : Shared) (valid : IsValid shared.memo
       ]
     ]
 
+    -- measure changes only bytes that the call may change
     measured_changes : Changes hart_state.world hart_state.hart.regs shared byte (measured shared slot (a1 hart_state))
     unfolding measured
     measured_changes = put_changes (slot_at shared.table slot) (valid.well_formed slot) live
@@ -117,11 +126,13 @@ module _ (hart_state : HartState) (shared : Shared) (valid : IsValid shared.memo
       byte_at after.memory byte ≡ byte_at shared.memory byte
       ⊎ ((is_call trap.cause ≡ true) × ByMonitor hart_state.world hart_state.hart.regs shared after byte)
 
+  -- the change of a byte by a call that was requested
   by_call : (call : Call) (after : Shared) → Requests hart_state trap.cause call → Changes hart_state.world hart_state.hart.regs shared byte after
       → ChangedBy after
   by_call call after reads (inl same) = inl same
-  by_call call after reads (inr changed) = let is = reads.is_call in inr (rw is refl, changed)
+  by_call call after reads (inr changed) = let is_call = reads.is_call in inr (rw is_call refl, changed)
 
+  -- the trap handler changes only bytes that its call may change
   handled_changes : ChangedBy (handled hart_state shared trap).shared
   unfolding created entered_slot left
   handled_changes = handler_cases hart_state trap shared (λ h. ChangedBy h.shared) (record {
@@ -134,18 +145,20 @@ module _ (hart_state : HartState) (shared : Shared) (valid : IsValid shared.memo
         (subst (λ (entries : Entries). may_store_all shared.memory entries (a1 hart_state) ≡ true) laid may.stores));
     enters = λ call reads enters host taken. inl refl;
     leaves = inl refl;
-    forwards = inl refl;
+    redirects = inl refl;
   })
 
 -- ---- the bare step
 
 module _ (state : HartView) (kept : HartViewInvariant state) (byte : ℕ) where
+  -- a byte outside the store of the step is unchanged
   abbrev Stored : Option Span → List ℕ → Type 0
   Stored stored memory = byte_at memory byte ≡ byte_at state.shared.memory byte ⊎ IsStoredAccessible state.hart_state.world state.shared stored byte
 
+  -- a permitted store changes only bytes that the world may write
   stored_by : (stored : Option Span) (bytes after : List ℕ) → MayTouch (bare_machine state) (data_mode state.hart_state.hart) Write stored
       → Stores bytes state.shared.memory after stored → Stored stored after
-  stored_by None bytes after may is = inl (ap (λ (memory : List ℕ). byte_at memory byte) is)
+  stored_by None bytes after may after_is = inl (ap (λ (memory : List ℕ). byte_at memory byte) after_is)
   stored_by (Some span) bytes after may stores =
       let count = stores.0 in
       let below = below_M (data_mode state.hart_state.hart) (data_below state kept) in
@@ -164,19 +177,21 @@ module _ (state : HartView) (kept : HartViewInvariant state) (byte : ℕ) where
         ]
       ]
 
+  -- the bare step changes only bytes that the world may write
   bare_changes : (after : Stepped) → IsConfined (bare_machine state) after → TouchesPermitted (bare_machine state) after
       → Stored after.outcome.touched.stored after.state.memory
-  bare_changes after is may =
+  bare_changes after confined_after may =
       let equiv = equiv_itself state.shared.memory after.outcome.touched in
-      stored_by after.outcome.touched.stored is.bytes after.state.memory may.stored (is.alike state.shared.memory equiv).here
+      stored_by after.outcome.touched.stored confined_after.bytes after.state.memory may.stored (confined_after.alike state.shared.memory equiv).here
 
+-- proves that a step changes only bytes that its world may write, or those that its call of the monitor zeroes
 pub changes : (state : HartView) → HartViewInvariant state → ChangesAccessible state (monitored_step state)
 changes state kept byte = step_cases state (λ after. byte_at after.state.shared.memory byte ≡ byte_at state.shared.memory byte ⊎ IsChanged state after byte)
     (λ none. elim (bare_changes state kept byte (step (bare_machine state)) (confined (bare_machine state)) (touches_permitted (bare_machine state))) [
       | inl same ↦ inl same
       | inr stored ↦ inr (inl stored)
     ])
-    (λ trap is. elim (handled_changes (hart_state_after state.hart_state trap) state.shared kept.valid kept.hart.layout.entries byte trap) [
+    (λ trap trapped. elim (handled_changes (hart_state_after state.hart_state trap) state.shared kept.valid kept.hart.layout.entries byte trap) [
       | inl same ↦ inl same
-      | inr changed ↦ inr (inr (record { trap = trap; trapped = is; is = changed.0; change = changed.1 }))
+      | inr changed ↦ inr (inr (record { trap = trap; trapped = trapped; is = changed.0; change = changed.1 }))
     ])

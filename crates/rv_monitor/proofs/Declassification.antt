@@ -27,23 +27,26 @@ use Rattle.rv_monitor.proofs.Release.{release}
 
 -- ---- what the enclave hands over, in the guest view
 
+-- the guest states hand over what the hart states do
 to_guests : (cause : Cause) (a b : HartState) → SameHandoverBy cause a.hart b.hart → SameHandoverBy cause (guest_state a).hart (guest_state b).hart
-to_guests (causes.Interrupt interrupt) a b is = tt
-to_guests (causes.Exception exception) a b is = record { a0 = is.a0; a6 = is.a6 }
+to_guests (causes.Interrupt interrupt) a b same_handover = tt
+to_guests (causes.Exception exception) a b same_handover = record { a0 = same_handover.a0; a6 = same_handover.a6 }
 
+-- harts that hand over the same registers do so for every cause
 pub hands_over : (cause : Cause) (a b : Hart) → SameHandover a b → SameHandoverBy cause a b
-hands_over (causes.Interrupt interrupt) a b is = tt
-hands_over (causes.Exception exception) a b is = is
+hands_over (causes.Interrupt interrupt) a b same_handover = tt
+hands_over (causes.Exception exception) a b same_handover = same_handover
 
 -- ---- related machines, and machines that are equivalent in the guest view
 
 module _ (e : ℕ) (one other : MonitoredMachine) where
+  -- the relation holds in the other direction too
   swapped : AreRelated e one other → AreRelated e other one
   swapped related = record {
     harts = sym related.harts;
     hart_states = λ j.
-        let both = related.hart_states j in
-        record { world = sym both.world; same = λ low. sym (both.same (ap (is_world_of e) both.world ∙ low)) };
+        let related_harts = related.hart_states j in
+        record { world = sym related_harts.world; same = λ low. sym (related_harts.same (ap (is_world_of e) related_harts.world ∙ low)) };
     hosts = λ j runs_other.
         let both = related.hosts j (ap (is_world_of e) (related.hart_states j).world ∙ runs_other) in
         record { host = sym both.host; rest = sym both.rest };
@@ -56,6 +59,7 @@ module _ (e : ℕ) (one other : MonitoredMachine) where
     gone = λ dead. sym (related.gone (ap (λ (t : Slots). is_live t e) related.table ∙ dead));
   }
 
+-- proves the relation law, which says when equivalent machines are related and the reverse
 pub relation_law : RelationLaw
 relation_law = record {
   guests = guest_equiv;
@@ -65,6 +69,7 @@ relation_law = record {
 
 -- ---- a step of the enclave in one machine
 
+-- a byte that is hidden and not in the region is outside region and window
 beyond_by : (a b c : Bool) → b ≡ true → (a || (b && c)) ≡ false → not (a || c) ≡ true
 beyond_by false true false running shown = refl
 beyond_by false true true running shown = cc
@@ -72,9 +77,11 @@ beyond_by true b c running shown = cc
 beyond_by a false c running shown = cc
 
 module _ (e hart : ℕ) (one other : MonitoredMachine) (here : Invariant one) (related : AreRelated e one other) (inside : IsInside e hart one) where
+  -- the machine after the step of the enclave
   abbrev after : MonitoredMachine
   after = (step_of hart one).state
 
+  -- a step of the enclave that does not exit leaves the machines related
   step_inside : AreRelated e after other
   step_inside =
       let u = one_unchanged e hart one here inside.before inside.after in
@@ -121,17 +128,20 @@ module _ (e hart : ℕ) (one other : MonitoredMachine) (here : Invariant one) (r
 -- ---- a step of both
 
 module _ (e hart : ℕ) (one other : MonitoredMachine) (here : Invariant one) (there : Invariant other) (related : AreRelated e one other) where
+  -- both steps have equal outcomes, if they are low steps
   abbrev Outcomes : Type 0
   Outcomes = runs_on e hart one ≡ false → (step_of hart one).outcome ≡ (step_of hart other).outcome
 
+  -- the machines after both steps are related
   abbrev Related : Type 0
   Related = AreRelated e (step_of hart one).state (step_of hart other).state
 
+  -- a low step has equal outcomes, and leaves related machines
   low_step : IsLowStep e hart one other → Outcomes × Related
   low_step is = elim (cases_Bool (runs one.shared.table e)) [
     | inl running ↦
-        let both = low_while_running e hart one other here there related is running in
-        (λ low. both.0, both.1)
+        let low_both = low_while_running e hart one other here there related is running in
+        (λ low. low_both.0, low_both.1)
     | inr idle ↦
         let equiv = related_equiv e one other related (λ running. absurd (both_ways _ idle running)) in
         let step = guest_step_equiv e hart one other here there equiv is.low in (
@@ -141,6 +151,7 @@ module _ (e hart : ℕ) (one other : MonitoredMachine) (here : Invariant one) (t
         )
   ]
 
+  -- the guest view of the machine exits to the host too
   world_after : (machine : MonitoredMachine) → Invariant machine → (hart_state_of hart (step_of hart machine).state).world ≡ Host
       → (hart_state_of hart (step_of hart (guest_view machine)).state).world ≡ Host
   world_after machine kept exits =
@@ -149,34 +160,37 @@ module _ (e hart : ℕ) (one other : MonitoredMachine) (here : Invariant one) (t
       sym (ap world (guest_hart_state hart (step_of hart (guest_view machine)).state)) ∙ sym (ap of (guest_step_of hart machine kept).state)
       ∙ ap world (guest_hart_state hart (step_of hart machine).state) ∙ exits
 
+  -- the guest view of the machine has the same trap
   trap_too : (machine : MonitoredMachine) (trap : Trap) → Invariant machine → (step_of hart machine).outcome.step.trap ≡ Some trap
       → (step_of hart (guest_view machine)).outcome.step.trap ≡ Some trap
-  trap_too machine trap kept is = sym (ap (λ (o : Outcome). o.step.trap) (guest_step_of hart machine kept).outcome) ∙ is
+  trap_too machine trap kept trapped = sym (ap (λ (o : Outcome). o.step.trap) (guest_step_of hart machine kept).outcome) ∙ trapped
 
+  -- after an exit that hands over the same, the machines are equivalent in the guest view
   exit_equiv : ExitsAlike e hart one other → EquivToGuests e (step_of hart one).state (step_of hart other).state
-  exit_equiv is =
+  exit_equiv exits_alike =
       let a = guest_view one in
       let b = guest_view other in
-      let equiv = related_equiv e one other related (λ running. is.window) in
+      let equiv = related_equiv e one other related (λ running. exits_alike.window) in
       let host : SameHost (hart_state_of hart a) (hart_state_of hart b) =
       subst (λ (s : HartState). SameHost s (hart_state_of hart b)) (sym (guest_hart_state hart one))
-      (subst (SameHost (guest_state (hart_state_of hart one))) (sym (guest_hart_state hart other)) (related.hosts hart is.runs)) in
-      let handover : SameHandoverBy is.trap.cause (hart_state_of hart a).hart (hart_state_of hart b).hart =
-      subst (λ (s : HartState). SameHandoverBy is.trap.cause s.hart (hart_state_of hart b).hart) (sym (guest_hart_state hart one))
-      (subst (λ (s : HartState). SameHandoverBy is.trap.cause (guest_state (hart_state_of hart one)).hart s.hart) (sym (guest_hart_state hart other))
-      (to_guests is.trap.cause (hart_state_of hart one) (hart_state_of hart other) is.handover)) in
+      (subst (SameHost (guest_state (hart_state_of hart one))) (sym (guest_hart_state hart other)) (related.hosts hart exits_alike.runs)) in
+      let handover : SameHandoverBy exits_alike.trap.cause (hart_state_of hart a).hart (hart_state_of hart b).hart =
+      subst (λ (s : HartState). SameHandoverBy exits_alike.trap.cause s.hart (hart_state_of hart b).hart) (sym (guest_hart_state hart one))
+      (subst (λ (s : HartState). SameHandoverBy exits_alike.trap.cause (guest_state (hart_state_of hart one)).hart s.hart) (sym (guest_hart_state hart other))
+      (to_guests exits_alike.trap.cause (hart_state_of hart one) (hart_state_of hart other) exits_alike.handover)) in
       back e hart one other here there
-      (release e hart a b is.trap (guest_invariant one here) (guest_invariant other there) equiv (runs_too e hart one ∙ is.runs) host handover
-      (trap_too one is.trap here is.first) (trap_too other is.trap there is.second) (world_after one here is.first_exits)
-      (world_after other there is.second_exits))
+      (release e hart a b exits_alike.trap (guest_invariant one here) (guest_invariant other there) equiv (runs_too e hart one ∙ exits_alike.runs) host handover
+      (trap_too one exits_alike.trap here exits_alike.first) (trap_too other exits_alike.trap there exits_alike.second) (world_after one here exits_alike.first_exits)
+      (world_after other there exits_alike.second_exits))
 
+  -- after an exit that hands over the same, the machines are related
   exit_step : ExitsAlike e hart one other → Outcomes × Related
-  exit_step is = (
-    λ low. absurd (both_ways _ low is.runs),
-    equiv_related e (step_of hart one).state (step_of hart other).state (exit_equiv is)
+  exit_step exits_alike = (
+    λ low. absurd (both_ways _ low exits_alike.runs),
+    equiv_related e (step_of hart one).state (step_of hart other).state (exit_equiv exits_alike)
         (λ j still. elim (cases_eq j hart) [
           | inl at ↦
-              let gone : runs_on e hart (step_of hart one).state ≡ false = ap (is_world_of e) is.first_exits in
+              let gone : runs_on e hart (step_of hart one).state ≡ false = ap (is_world_of e) exits_alike.first_exits in
               let still_here : runs_on e hart (step_of hart one).state ≡ true = ap (λ (i : ℕ). runs_on e i (step_of hart one).state) (sym at) ∙ still in
               absurd (both_ways _ gone still_here)
           | inr apart ↦
@@ -185,12 +199,14 @@ module _ (e hart : ℕ) (one other : MonitoredMachine) (here : Invariant one) (t
         ]),
   )
 
+  -- the step of both machines, low or an exit
   both_step : IsLowStep e hart one other ⊎ ExitsAlike e hart one other → Outcomes × Related
-  both_step (inl is) = low_step is
-  both_step (inr is) = exit_step is
+  both_step (inl alike_step) = low_step alike_step
+  both_step (inr alike_step) = exit_step alike_step
 
 -- ---- all moves
 
+-- proves the declassification law by induction on the list of moves
 pub declassification_law : DeclassificationLaw
 declassification_law e [] one other here there related moves = record { outcomes = tt; state = related }
 declassification_law e (First hart ∷ more) one other here there related moves =

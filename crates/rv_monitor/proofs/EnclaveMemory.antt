@@ -5,22 +5,22 @@ use Rattle.std.specs.Prelude.{◌||◌, ◌⊎◌, not}
 use Rattle.std.specs.List.{list_all}
 use Rattle.rv_pmp.proofs.VerdictLemmas.{each_from_all}
 use Rattle.rv_memory.proofs.MemoryLaws.{length-write}
-use Rattle.rv_memory.specs.declared.touched.Touched.{Touched}
-use Rattle.rv_platform.specs.declared.block.Block.{Block}
-use Rattle.rv_enclaves.proofs.EqualMemory.{IsSeen, same_read, same_write}
+use Rattle.rv_memory.specs.declared.block.Block.{Block}
+use Rattle.rv_enclaves.proofs.EqualMemory.{IsSeen}
 use Rattle.rv_enclaves.specs.Table.{region_of, window, window_of}
 use Rattle.rv_monitor.specs.Prelude.{Access, EqualOutside, Call, Cause, Create, Destroy, Enclave, EnclaveState, Fetch, Hart, Host, Mode, Outcome, Read}
-use Rattle.rv_monitor.specs.Prelude.{HartState, Shared, Slots, Span, Machine, StepOutcome, Stepped, Trap, World, Write, requested_call, bytes_from, bytes_in}
-use Rattle.rv_monitor.specs.Prelude.{context_at, data_mode, has, is_accessible, is_host, is_machine, is_offered, is_world_of, measured}
+use Rattle.rv_monitor.specs.Prelude.{HartState, Shared, Slots, Span, StepOutcome, Stepped, Trap, World, Write, requested_call, bytes_from, bytes_in}
+use Rattle.rv_monitor.specs.Prelude.{context_at, has, is_accessible, is_host, is_machine, is_offered, is_world_of, measured}
 use Rattle.rv_monitor.specs.Prelude.{option_case, region, running_slot, slot_at, step, with_slot, write}
 use Rattle.rv_monitor.specs.EnclaveSteps.{is_beyond}
 use Rattle.rv_monitor.specs.declared.next.Next.{Next}
-use Rattle.rv_monitor.proofs.Prelude.{EqualOn, Handled, HartViewInvariant, MayTouch, MayTouchAll, HartView, HartViewStepped}
-use Rattle.rv_monitor.proofs.Prelude.{SameRead, SameIn, SlotInfo, StepAlike, Stores, at_same, requested_by, bare_machine, confined}
+use Rattle.rv_monitor.proofs.Prelude.{Handled, HartViewInvariant, MayTouch, HartView, HartViewStepped}
+use Rattle.rv_monitor.proofs.Prelude.{SameRead, SlotInfo, StepAlike, at_same, requested_by, bare_machine}
 use Rattle.rv_monitor.proofs.Prelude.{enclave_state_after, handled, is_call, is_entering, left, live_in_range, monitored_step, returned}
-use Rattle.rv_monitor.proofs.Prelude.{returned_to, touches_permitted, unhandled}
+use Rattle.rv_monitor.proofs.Prelude.{returned_to, unhandled}
+use Rattle.rv_monitor.proofs.BareStepNoninterference.{bare_step_alike}
 use Rattle.rv_monitor.proofs.HandlerReads.{handler_reads_law}
-use Rattle.rv_monitor.proofs.AccessControlLemmas.{below_M, data_below, access_control_law}
+use Rattle.rv_monitor.proofs.AccessControlLemmas.{below_M, access_control_law}
 use Rattle.rv_monitor.proofs.HandlerCases.{asked-is, handler_cases, entered-by-host}
 
 -- two shared states with the same table, the same context of slot k, and the same bytes in its region and its window
@@ -31,6 +31,7 @@ pub record SharedFor (k : ℕ) (one other : Shared) : Type 0 where
 
 -- ---- what is accessible to it is in its region or its window
 
+-- bytes that the enclave may access are all in its region, or all in its window
 own_reach : (memory : List ℕ) (t : Slots) (k : ℕ) (access : Access) (bytes : List ℕ) → is_accessible memory t (Enclave k) access bytes ≡ true
     → (list_all (has (region t k)) bytes ≡ true) ⊎ (list_all (has (window t k)) bytes ≡ true)
 unfolding is_accessible
@@ -44,12 +45,15 @@ own_reach memory t k Write bytes reached = elim (or_cases _ _ reached) [
   | inr outer ↦ elim (or_cases _ _ outer) [ inl all ↦ inr all | inr none ↦ cc ]
 ]
 
+-- a byte of the region is not beyond the enclave's memory
 shown_first : (a b : Bool) → a ≡ true → not (a || b) ≡ false
 shown_first a b is = rw is refl
 
+-- a byte of the window is not beyond the enclave's memory
 shown_second : (a b : Bool) → b ≡ true → not (a || b) ≡ false
 shown_second a b is = let e : (a || b) ≡ true = or_right a b is in rw e refl
 
+-- bytes that the enclave may access are bytes of its region or window
 pub own_seen : (memory : List ℕ) (t : Slots) (k : ℕ) (access : Access) (a n : ℕ) → is_accessible memory t (Enclave k) access (bytes_from a n) ≡ true
     → IsSeen (is_beyond t k) a n
 own_seen memory t k access a n reached b low high = elim (own_reach memory t k access (bytes_from a n) reached) [
@@ -60,104 +64,83 @@ own_seen memory t k access a n reached b low high = elim (own_reach memory t k a
 -- ---- the bare step
 
 module _ (k : ℕ) (state : HartView) (kept : HartViewInvariant state) (runs : state.hart_state.world ≡ Enclave k) where
-  abbrev before : Machine
-  before = bare_machine state
-
-  abbrev hidden : ℕ → Bool
-  hidden = is_beyond state.shared.table k
-
-  seen : (mode : Mode) (access : Access) (span : Span) → is_machine mode ≡ false → MayTouch before mode access (Some span)
-      → IsSeen hidden span.addr (bytes_in span.len)
-  seen mode access span below may =
+  -- a permitted access of the enclave is in its region or window
+  accesses_own : (mode : Mode) (access : Access) (span : Span) → is_machine mode ≡ false → MayTouch (bare_machine state) mode access (Some span)
+      → IsSeen (is_beyond state.shared.table k) span.addr (bytes_in span.len)
+  accesses_own mode access span below may =
       let reached = sym (access_control_law state mode access span.addr span.len kept (below_M mode below) may.0) ∙ may.1 in
       own_seen state.shared.memory state.shared.table k access span.addr (bytes_in span.len)
       (subst (λ (w : World). is_accessible state.shared.memory state.shared.table w access (bytes_from span.addr (bytes_in span.len)) ≡ true) runs reached)
 
-  same_in : (mode : Mode) (access : Access) (touched : Option Span) (n : List ℕ) → is_machine mode ≡ false → MayTouch before mode access touched
-      → EqualOutside hidden before.memory n → SameIn before.memory n touched
-  same_in mode access None n below may agree = tt
-  same_in mode access (Some span) n below may agree =
-      same_read hidden before.memory n span.addr (bytes_in span.len) agree may.0 (seen mode access span below may)
-
-  agree_on : (touched : Touched) (n : List ℕ) → MayTouchAll before touched → EqualOutside hidden before.memory n → EqualOn before.memory n touched
-  agree_on touched n may agree = record {
-    size = agree.size;
-    fetched = same_in before.hart.mode Fetch touched.fetched n kept.hart.layout.mode may.fetched agree;
-    loaded = same_in (data_mode before.hart) Read touched.loaded n (data_below state kept) may.loaded agree;
-  }
-
-  same_stores : (stored : Option Span) (n bytes one two : List ℕ) → EqualOutside hidden before.memory n → Stores bytes before.memory one stored
-      → Stores bytes n two stored
-      → EqualOutside hidden one two
-  same_stores None n bytes one two agree here there = rw (here, there) agree
-  same_stores (Some span) n bytes one two agree here there = same_write hidden before.memory n span.addr bytes one two agree here.1 there.1
-
-  memory_step : (n : List ℕ) → EqualOutside hidden before.memory n → StepAlike hidden (step before) (step (record before { memory = n }))
-  memory_step n agree =
-      let after = step before in
-      let is = confined before in
-      let alike = is.alike n (agree_on after.outcome.touched n (touches_permitted before) agree) in
-      record {
-        hart = alike.hart;
-        outcome = alike.outcome;
-        memory =
-            same_stores after.outcome.touched.stored n is.bytes after.state.memory
-            (step (record before { memory = n })).state.memory agree alike.here alike.there;
-      }
+  -- the bare step is the same over each memory with equal bytes in region and window
+  memory_step : (n : List ℕ) → EqualOutside (is_beyond state.shared.table k) state.shared.memory n
+      → StepAlike (is_beyond state.shared.table k) (step (bare_machine state)) (step (record (bare_machine state) { memory = n }))
+  memory_step = bare_step_alike (is_beyond state.shared.table k) state kept accesses_own
 
 -- ---- the trap handler
 
+-- a world that is an enclave is not the host, which proves any P
 pub not_host : (P : Type 0) (k : ℕ) (world : World) → world ≡ Enclave k → world ≡ Host → P
 not_host P k world runs host = let never : Host ≡ Enclave k = sym host ∙ runs in cc
 
+-- a requested call is offered to the world
 asked_offered : (cause : Cause) (hart_state : HartState) (b : Bool) (call : Call) → is_call cause ≡ b → requested_by cause hart_state ≡ Some call
     → is_offered hart_state.world call ≡ true
-asked_offered cause hart_state true call is asked =
-    let reads : requested_call hart_state.world hart_state.hart.regs ≡ Some call = rw is at asked in (asked-is hart_state.world hart_state.hart.regs call reads).1
-asked_offered cause hart_state false call is asked = let never : None ≡ Some call = rw is at asked in cc
+asked_offered cause hart_state true call test_is requested =
+    let reads : requested_call hart_state.world hart_state.hart.regs ≡ Some call = rw test_is at requested in (asked-is hart_state.world hart_state.hart.regs call reads).1
+asked_offered cause hart_state false call test_is requested = let never : None ≡ Some call = rw test_is at requested in cc
 
+-- no enclave is offered create
 pub no_create : (P : Type 0) (k : ℕ) (world : World) → world ≡ Enclave k → is_offered world Create ≡ true → P
 no_create P k world runs offered = let never : false ≡ true = rw runs at offered in cc
 
+-- no enclave is offered destroy
 pub no_destroy : (P : Type 0) (k : ℕ) (world : World) → world ≡ Enclave k → is_offered world Destroy ≡ true → P
 no_destroy P k world runs offered = let never : false ≡ true = rw runs at offered in cc
 
+-- no call of an enclave enters an enclave
 no_entering : (P : Type 0) (k : ℕ) (cause : Cause) (hart_state : HartState) (o : Option Call) → hart_state.world ≡ Enclave k → requested_by cause hart_state ≡ o
     → is_entering o ≡ true → P
-no_entering P k cause hart_state None runs asked enters = cc
-no_entering P k cause hart_state (Some call) runs asked enters =
+no_entering P k cause hart_state None runs requested enters = cc
+no_entering P k cause hart_state (Some call) runs requested enters =
     not_host P k hart_state.world runs
-    (entered-by-host hart_state.world call enters (asked_offered cause hart_state (is_call cause) call refl asked))
+    (entered-by-host hart_state.world call enters (asked_offered cause hart_state (is_call cause) call refl requested))
 
+-- the region and the window of slot k are the same in both tables
 pub record KeepsExtent (k : ℕ) (before after : Slots) : Type 0 where
   pub region : region after k ≡ region before k
   pub window : window after k ≡ window before k
 
+-- a new state in the record of slot k leaves its region and window
 pub state_extent : (slots : Slots) (k : ℕ) (o : Option SlotInfo) (state : EnclaveState) → length slots ≡ 13 → slot_at slots k ≡ o
     → KeepsExtent k slots (option_case o slots (λ info. with_slot slots k (Some (record info { state = state }))))
-state_extent slots k None state count is = record { region = refl; window = refl }
-state_extent slots k (Some info) state count is =
-    let within = live_in_range slots k info count is in
+state_extent slots k None state count slot_is = record { region = refl; window = refl }
+state_extent slots k (Some info) state count slot_is =
+    let within = live_in_range slots k info count slot_is in
     let there = at_same slots k (Some (record info { state = state })) (omega (arith, count, within)) in
-    record { region = ap region_of there ∙ sym (ap region_of is); window = ap window_of there ∙ sym (ap window_of is) }
+    record { region = ap region_of there ∙ sym (ap region_of slot_is); window = ap window_of there ∙ sym (ap window_of slot_is) }
 
+-- slot k after a new state in its record: the same record with that state
 pub state_slot : (slots : Slots) (k : ℕ) (o : Option SlotInfo) (state : EnclaveState) → length slots ≡ 13 → slot_at slots k ≡ o
     → slot_at (option_case o slots (λ info. with_slot slots k (Some (record info { state = state })))) k
     ≡ option_case o None (λ info. Some (record info { state = state }))
-state_slot slots k None state count is = is
-state_slot slots k (Some info) state count is =
-    let within = live_in_range slots k info count is in at_same slots k (Some (record info { state = state })) (omega (arith, count, within))
+state_slot slots k None state count slot_is = slot_is
+state_slot slots k (Some info) state count slot_is =
+    let within = live_in_range slots k info count slot_is in at_same slots k (Some (record info { state = state })) (omega (arith, count, within))
 
+-- a write, whether it succeeds or not, keeps the size of the memory
 pub put_size : (m : List ℕ) (address : ℕ) (bytes : List ℕ) (o : Option (List ℕ)) → write m address bytes ≡ o
     → length (option_case o m (λ after. after)) ≡ length m
-put_size m address bytes None is = refl
-put_size m address bytes (Some after) is = length-write m address bytes after is
+put_size m address bytes None written = refl
+put_size m address bytes (Some after) written = length-write m address bytes after written
 
 module _ (k : ℕ) (hart_state : HartState) (runs : hart_state.world ≡ Enclave k) (trap : Trap) where
   module _ (shared : Shared) (count : length shared.table ≡ 13) where
+    -- the region, the window and the size of the memory are kept
     abbrev Keeps : Handled → Type 0
     Keeps h = KeepsExtent k shared.table h.shared.table × (length h.shared.memory ≡ length shared.memory)
 
+    -- the trap handler of an enclave keeps its region and window, and the size of the memory
     pub handled_keeps : Keeps (handled hart_state shared trap)
     unfolding measured left
     handled_keeps = handler_cases hart_state trap shared Keeps (record {
@@ -169,9 +152,10 @@ module _ (k : ℕ) (hart_state : HartState) (runs : hart_state.world ≡ Enclave
       leaves =
           let own : running_slot hart_state.world ≡ k = rw runs refl in
           rw own (state_extent shared.table k (slot_at shared.table k) (enclave_state_after trap.cause hart_state.hart.regs) count refl, refl);
-      forwards = (record { region = refl; window = refl }, refl);
+      redirects = (record { region = refl; window = refl }, refl);
     })
 
+  -- the trap handler of an enclave reads the same in both shared states
   handled_asked : (one other : Shared) → length one.contexts ≡ length other.contexts → SharedFor k one other
       → SameRead hart_state trap.cause one other
   handled_asked one other slots same = record {
@@ -184,15 +168,18 @@ module _ (k : ℕ) (hart_state : HartState) (runs : hart_state.world ≡ Enclave
 
 -- ---- the step
 
+-- two steps have equal outcomes and hart states, and leave shared states that are equal for enclave k
 pub record OwnAlike (k : ℕ) (one other : HartViewStepped) : Type 0 where
   pub outcome : one.outcome ≡ other.outcome
   pub hart_state : one.state.hart_state ≡ other.state.hart_state
   pub shared : SharedFor k one.state.shared other.state.shared
 
+-- a byte in the region or the window before is there after, if both ranges are the same
 pub beyond_again : (k : ℕ) (before after : Slots) (b : ℕ) → KeepsExtent k before after → is_beyond after k b ≡ false → is_beyond before k b ≡ false
 beyond_again k old new b keeps shown =
     ap₂ (λ (r w : Block). not (has r b || has w b)) (sym keeps.region) (sym keeps.window) ∙ shown
 
+-- the step with its trap, if any, is the same for both shared states
 trapped_own : (k : ℕ) (outcome : StepOutcome) (o : Option Trap) (hart_state : HartState) (one other : Shared) → hart_state.world ≡ Enclave k
     → length one.table ≡ 13 → length one.contexts ≡ length other.contexts → SharedFor k one other
     → OwnAlike k (option_case o (unhandled outcome hart_state one) (λ trap. returned outcome (handled hart_state one trap)))
@@ -217,19 +204,24 @@ trapped_own k outcome (Some trap) hart_state one other runs count slots same =
       };
     }
 
+-- the view of a hart state and a shared state
 abbrev on : HartState → Shared → HartView
 on hart_state shared = record { hart_state = hart_state; shared = shared }
 
+-- the bare step of the view
 abbrev stepped : HartState → Shared → Stepped
 stepped hart_state shared = step (record { hart = hart_state.hart; memory = shared.memory })
 
+-- the shared state with the memory after the bare step
 abbrev stored : HartState → Shared → Shared
 stored hart_state shared = record shared { memory = (stepped hart_state shared).state.memory }
 
+-- the state after the bare step, with its outcome
 abbrev after_bare : StepOutcome → HartState → Shared → HartViewStepped
 after_bare outcome hart_state shared =
     option_case outcome.trap (unhandled outcome hart_state shared) (λ trap. returned outcome (handled hart_state shared trap))
 
+-- a step of enclave k has the same result on two shared states that are equal for k
 pub step_own : (k : ℕ) (hart_state : HartState) (one other : Shared) → HartViewInvariant (on hart_state one) → hart_state.world ≡ Enclave k
     → length one.contexts ≡ length other.contexts → SharedFor k one other
     → OwnAlike k (monitored_step (on hart_state one)) (monitored_step (on hart_state other))
@@ -246,10 +238,12 @@ step_own k hart_state one other kept runs slots same =
     (after_bare outcome (record hart_state { hart = hart }) (stored hart_state other)) in
     subst (λ hart. P hart b.outcome) (sym alike.hart) (subst (λ outcome. P a.state.hart outcome) (sym alike.outcome) base)
 
+-- a world that is enclave k by the test is enclave k
 pub world_is : (k : ℕ) (world : World) → is_world_of k world ≡ true → world ≡ Enclave k
 world_is k Host own = cc
 world_is k (Enclave j) own = ap Enclave (eqb-true j k own)
 
+-- a world that is enclave k is not the host
 pub not_host_by : (k : ℕ) (world : World) → is_world_of k world ≡ true → is_host world ≡ false
-not_host_by k Host is = cc
-not_host_by k (Enclave j) is = refl
+not_host_by k Host world_is = cc
+not_host_by k (Enclave j) world_is = refl

@@ -24,9 +24,9 @@ never_enters_new hart k before after kept law free host gone =
 -- no step obeys the law and leaves a new enclave Running
 pub never_runs_new : (k : ℕ) (info : SlotInfo) (before : MonitoredMachine) (after : MonitoredStepped) → KeepsAsCreated before after
     → slot_at before.shared.table k ≡ None → slot_at after.state.shared.table k ≡ Some info → info.state ≡ Running → ⊥
-never_runs_new k info before after law free there runs =
-    let new = law.creates k (ap (λ (o : Option SlotInfo). is_some o) free) (ap (λ (o : Option SlotInfo). is_some o) there) in
-    let both : Some new.info ≡ Some info = sym new.is ∙ there in
+never_runs_new k info before after law free slot_is runs =
+    let new = law.creates k (ap (λ (o : Option SlotInfo). is_some o) free) (ap (λ (o : Option SlotInfo). is_some o) slot_is) in
+    let equal : Some new.info ≡ Some info = sym new.is ∙ slot_is in
     let same : new.info ≡ info = cc in
     let never : Fresh ≡ Running = sym new.fresh ∙ ap (λ (i : SlotInfo). i.state) same ∙ runs in
     cc

@@ -5,17 +5,21 @@ use Rattle.rv_monitor.proofs.Prelude.{EquivExcept, MonitoredMachine, HartStatesE
 use Rattle.rv_monitor.proofs.InvariantLemmas.{past_as_is}
 use Rattle.rv_monitor.proofs.HartCases.{hart_cases_of_both}
 
+-- equivalence of two hart states carries over to equal hart states
 pub hart_states_equiv : (e : ℕ) (a b c d : HartState) → a ≡ b → c ≡ d → HartStatesEquivExcept e b d → HartStatesEquivExcept e a c
 hart_states_equiv e a b c d left right equiv =
     subst (λ (s : HartState). HartStatesEquivExcept e s c) (sym left) (subst (HartStatesEquivExcept e b) (sym right) equiv)
 
+-- equal hart states are equivalent except for every enclave
 pub same_hart_states : (e : ℕ) (one other : HartState) → one ≡ other → HartStatesEquivExcept e one other
-same_hart_states e one other is = record { world = ap (λ (s : HartState). s.world) is; same = λ not_running. is }
+same_hart_states e one other one_is = record { world = ap (λ (s : HartState). s.world) one_is; same = λ not_running. one_is }
 
+-- equivalent machines stay so if both get equivalent shared states
 pub shared_equiv : (e : ℕ) (one other : MonitoredMachine) (x y : Shared) → EquivExcept e one other → SharedEquivExcept e x y
     → EquivExcept e (record one { shared = x }) (record other { shared = y })
 shared_equiv e one other x y equiv shared = record { harts = equiv.harts; hart_states = equiv.hart_states; shared = shared }
 
+-- a machine is equivalent to itself, if its shared state is
 pub equiv_itself : (e : ℕ) (machine : MonitoredMachine) → SharedEquivExcept e machine.shared machine.shared → EquivExcept e machine machine
 equiv_itself e machine shared =
     record { harts = refl; hart_states = λ hart. record { world = refl; same = λ not_running. refl }; shared = shared }
@@ -24,28 +28,29 @@ equiv_itself e machine shared =
 changed_in : (e hart : ℕ) (change : HartState → HartState) (one other : MonitoredMachine)
     → ((hart_state : HartState) → (change hart_state).world ≡ hart_state.world)
     → hart < count_of one → EquivExcept e one other → EquivExcept e (changed hart change one) (changed hart change other)
-changed_in e hart change one other keeps has equiv =
+changed_in e hart change one other keeps in_range equiv =
     let a = change (hart_state_of hart one) in
     let b = change (hart_state_of hart other) in
-    let size = equiv.harts in
+    let same_harts = equiv.harts in
     let own = equiv.hart_states hart in
     record {
       harts = length-set one.hart_states hart a ∙ equiv.harts ∙ sym (length-set other.hart_states hart b);
-      hart_states = hart_cases_of_both one.hart_states other.hart_states hart a b (λ j s t. HartStatesEquivExcept e s t) size has (record {
+      hart_states = hart_cases_of_both one.hart_states other.hart_states hart a b (λ j s t. HartStatesEquivExcept e s t) same_harts in_range (record {
         world = keeps (hart_state_of hart one) ∙ own.world ∙ sym (keeps (hart_state_of hart other));
         same = λ not_running. ap change (own.same (sym (ap (is_world_of e) (keeps (hart_state_of hart one))) ∙ not_running));
       }) (λ j apart. equiv.hart_states j);
       shared = equiv.shared;
     }
 
+-- the same change of one hart that keeps its world preserves equivalence
 pub changed_equiv : (e hart : ℕ) (change : HartState → HartState) (one other : MonitoredMachine)
     → ((hart_state : HartState) → (change hart_state).world ≡ hart_state.world)
     → EquivExcept e one other → EquivExcept e (changed hart change one) (changed hart change other)
 changed_equiv e hart change one other keeps equiv = elim (cases_lt hart (count_of one)) [
   | inl has ↦ changed_in e hart change one other keeps has equiv
   | inr past ↦
-      let size = equiv.harts in
+      let same_harts = equiv.harts in
       let here = past_as_is hart (change (hart_state_of hart one)) one past in
-      let there = past_as_is hart (change (hart_state_of hart other)) other (omega (arith, size, past)) in
+      let there = past_as_is hart (change (hart_state_of hart other)) other (omega (arith, same_harts, past)) in
       rw (here, there) equiv
 ]

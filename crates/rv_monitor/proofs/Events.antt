@@ -1,6 +1,7 @@
 -- Lists of steps and of changes of timer lines, by the laws of one step.
 use Rattle.std.proofs.Common.{◌≡◌, ℕ, Bool, true, false, List, [], ◌∷◌, refl, sym, ◌∙◌, ap, ap₂, inl, inr, arith}
-use Rattle.rv_monitor.specs.Debugger.{timer_line_set, with_timer}
+use Rattle.rv_monitor.specs.Debugger.{with_timer}
+use Rattle.rv_monitor.specs.MonitoredMachine.{timer_line_set}
 use Rattle.rv_monitor.specs.Declassification.{AreRelated}
 use Rattle.rv_monitor.specs.Events.{AreUndisturbing, Event, EventIntegrityLaw, EventInvariantLaw, EventLaw, IsUntouchedButLine, LineOf, RunningEventLaw}
 use Rattle.rv_monitor.specs.Events.{StepOf, StepsNone, event_of, events}
@@ -19,13 +20,16 @@ use Rattle.rv_monitor.proofs.SchedNoninterference.{entry_law}
 
 -- ---- the invariant
 
+-- a change of a timer line preserves the invariant
 pub line_invariant : (hart : ℕ) (raised : Bool) (machine : MonitoredMachine) → Invariant machine → Invariant (with_timer hart machine raised)
 line_invariant hart raised machine = written_invariant hart (hart_state_of hart machine).hart.regs raised machine
 
+-- every event preserves the invariant
 pub event_invariant : (event : Event) (machine : MonitoredMachine) → Invariant machine → Invariant (event_of event machine).state
 event_invariant (StepOf hart) machine kept = invariant_law hart machine kept
 event_invariant (LineOf hart raised) machine kept = line_invariant hart raised machine kept
 
+-- proves that every list of events preserves the invariant
 pub events_invariant : EventInvariantLaw
 events_invariant [] machine kept = kept
 events_invariant (event ∷ more) machine kept = events_invariant more (event_of event machine).state (event_invariant event machine kept)
@@ -33,29 +37,32 @@ events_invariant (event ∷ more) machine kept = events_invariant more (event_of
 -- ---- noninterference
 
 module _ (e hart : ℕ) (raised : Bool) (one other : MonitoredMachine) where
+  -- the same change of a timer line leaves equivalent machines equivalent
   line_equiv : EquivExcept e one other → EquivExcept e (with_timer hart one raised) (with_timer hart other raised)
   line_equiv equiv =
       let a = timer_line_set raised (hart_state_of hart one) in
       let b = timer_line_set raised (hart_state_of hart other) in
-      let size = equiv.harts in
+      let same_harts = equiv.harts in
       let own = equiv.hart_states hart in
       elim (cases_lt hart (count_of one)) [
         | inl has ↦ record {
-          harts = length-set one.hart_states hart a ∙ size ∙ sym (length-set other.hart_states hart b);
-          hart_states = hart_cases_of_both one.hart_states other.hart_states hart a b (λ j s t. HartStatesEquivExcept e s t) size has
+          harts = length-set one.hart_states hart a ∙ same_harts ∙ sym (length-set other.hart_states hart b);
+          hart_states = hart_cases_of_both one.hart_states other.hart_states hart a b (λ j s t. HartStatesEquivExcept e s t) same_harts has
               (record { world = own.world; same = λ low. ap (timer_line_set raised) (own.same low) }) (λ j apart. equiv.hart_states j);
           shared = equiv.shared;
         }
-        | inr past ↦ rw (past_as_is hart a one past, past_as_is hart b other (omega (arith, size, past))) equiv
+        | inr past ↦ rw (past_as_is hart a one past, past_as_is hart b other (omega (arith, same_harts, past))) equiv
       ]
 
+  -- the same change of a timer line leaves related machines related
   pub line_related : AreRelated e one other → AreRelated e (with_timer hart one raised) (with_timer hart other raised)
   line_related related = changed_related e hart (timer_line_set raised) (timer_line_set raised) one other related (record {
     world = refl;
-    state = λ both. record { world = both.world; same = λ low. ap (timer_line_set raised) (both.same low) };
-    host = λ both. record { host = both.host; rest = ap (λ (c : CsrState). record c { timer = raised }) both.rest };
+    state = λ parts. record { world = parts.world; same = λ low. ap (timer_line_set raised) (parts.same low) };
+    host = λ parts. record { host = parts.host; rest = ap (λ (c : CsrState). record c { timer = raised }) parts.rest };
   })
 
+-- proves the noninterference law for events, by induction on the list
 pub event_law : EventLaw
 event_law e [] one other here there equiv low = record { outcomes = refl; state = equiv }
 event_law e (StepOf hart ∷ more) one other here there equiv low =
@@ -70,6 +77,7 @@ event_law e (LineOf hart raised ∷ more) one other here there equiv low =
 
 -- ---- integrity
 
+-- two changes in turn that leave the enclave untouched except for the line do so together
 but_line_twice : (k : ℕ) (before between after : MonitoredMachine) → IsUntouchedButLine k before between → IsUntouchedButLine k between after
     → IsUntouchedButLine k before after
 but_line_twice k before between after first last = record {
@@ -90,14 +98,17 @@ line_only k hart raised machine kept = record {
       (sym (as_is machine.shared.table (hart_state_of j machine) (kept.hart_states j (runs_inside k j machine runs))));
 }
 
+-- an enclave that is untouched is untouched except for the line
 but_line : (k : ℕ) (before after : MonitoredMachine) → IsUntouched k before after → IsUntouchedButLine k before after
-but_line k before after is =
-    record { preserved = is.preserved; hart_state = λ hart runs. ap (timer_line_set false) (is.hart_state hart runs) }
+but_line k before after untouched =
+    record { preserved = untouched.preserved; hart_state = λ hart runs. ap (timer_line_set false) (untouched.hart_state hart runs) }
 
+-- an enclave that is undisturbed by events is live before them
 undisturbed_live : (k : ℕ) (list : List Event) (machine : MonitoredMachine) → AreUndisturbing k list machine → is_live machine.shared.table k ≡ true
 undisturbed_live k [] machine undisturbed = undisturbed
 undisturbed_live k (event ∷ more) machine undisturbed = undisturbed.0
 
+-- proves the integrity law for events, by induction on the list
 pub event_integrity : EventIntegrityLaw
 event_integrity k [] machine kept undisturbed = record {
   preserved = record { slot = refl; bytes = λ byte own. refl; context = refl };
@@ -117,9 +128,11 @@ event_integrity k (LineOf hart raised ∷ more) machine kept undisturbed =
 
 -- ---- the other harts and every timer line leave a running enclave undisturbed
 
+-- a change of a timer line does not change which enclave runs on which hart
 pub line_worlds : (k hart j : ℕ) (raised : Bool) (machine : MonitoredMachine) → runs_on k j (with_timer hart machine raised) ≡ runs_on k j machine
 line_worlds k hart j raised machine = changed_of (λ (s : HartState). is_world_of k s.world) (timer_line_set raised) (λ s. refl) hart j machine
 
+-- after a change of a timer line, no later event steps a hart of the enclave
 none_after_line : (k hart : ℕ) (raised : Bool) (list : List Event) (machine : MonitoredMachine) → StepsNone k list machine
     → StepsNone k list (with_timer hart machine raised)
 none_after_line k hart raised [] machine none = tt
@@ -127,6 +140,7 @@ none_after_line k hart raised (StepOf own ∷ more) machine none =
     (line_worlds k hart own raised machine ∙ none.0, none_after_line k hart raised more machine none.1)
 none_after_line k hart raised (LineOf own level ∷ more) machine none = none_after_line k hart raised more machine none
 
+-- after a step that does not enter the enclave, no later event steps a hart of it
 none_after_step : (k hart : ℕ) (list : List Event) (machine : MonitoredMachine) → StepsNone k list machine
     → enters k (step_of hart machine).outcome.entered ≡ false → StepsNone k list (step_of hart machine).state
 none_after_step k hart [] machine none passes = tt
@@ -134,6 +148,7 @@ none_after_step k hart (StepOf own ∷ more) machine none passes =
     (entry_law k hart own machine none.0 passes, none_after_step k hart more machine none.1 passes)
 none_after_step k hart (LineOf own level ∷ more) machine none passes = none_after_step k hart more machine none passes
 
+-- proves that events of other harts leave a running enclave undisturbed
 pub running_events : RunningEventLaw
 running_events k own [] machine kept runs none = running_is_live k own machine kept runs
 running_events k own (StepOf hart ∷ more) machine kept runs none =

@@ -13,12 +13,15 @@ use Rattle.rv_monitor.proofs.HandlerCases.{handler_cases_of_both, entering, save
 
 module _ (e : ℕ) (table : Slots) (m n : List ℕ) (cs ds : Contexts) (cases : WorksAlike e (over table m cs) (over table n ds))
     (hart_state : HartState) (trap : Trap) where
+  -- the first shared state
   abbrev here : Shared
   here = over table m cs
 
+  -- the second shared state
   abbrev there : Shared
   there = over table n ds
 
+  -- a return to the caller is alike, if the shared states after it are equivalent
   returned_alike : (one other : Shared) (status result : ℕ) → SharedEquivExcept e one other
       → HandledAlike e (with_reprogrammed_hart (returned_to_caller hart_state one status result))
       (with_reprogrammed_hart (returned_to_caller hart_state other status result))
@@ -45,7 +48,7 @@ module _ (e : ℕ) (table : Slots) (m n : List ℕ) (cs ds : Contexts) (cases : 
         shared = cases.switches (a0 hart_state) states.Running None;
       })
 
-  -- slot e
+  -- an entry or an exit of slot e is alike in both
   enters_own : a0 hart_state ≡ e → HandledAlike e (with_reprogrammed_hart (entering hart_state here)) (with_reprogrammed_hart (entering hart_state there))
   unfolding entered_slot
   enters_own own = record {
@@ -54,9 +57,11 @@ module _ (e : ℕ) (table : Slots) (m n : List ℕ) (cs ds : Contexts) (cases : 
     shared = cases.switches (a0 hart_state) states.Running None;
   }
 
+  -- an entry is alike in both
   enters_alike : HandledAlike e (with_reprogrammed_hart (entering hart_state here)) (with_reprogrammed_hart (entering hart_state there))
   enters_alike = elim (cases_eq (a0 hart_state) e) [ inl own ↦ enters_own own | inr other ↦ enters_other other ]
 
+  -- an exit is alike in both
   leaves_alike : HandledAlike e (with_reprogrammed_hart (leaving trap.cause hart_state here)) (with_reprogrammed_hart (leaving trap.cause hart_state there))
   unfolding left
   leaves_alike = record {
@@ -65,6 +70,7 @@ module _ (e : ℕ) (table : Slots) (m n : List ℕ) (cs ds : Contexts) (cases : 
     shared = cases.switches (running_slot hart_state.world) (enclave_state_after trap.cause hart_state.hart.regs) (Some (saved_by trap.cause hart_state));
   }
 
+  -- the trap handler's results are alike in both
   handled_alike : length m ≡ length n → HandledAlike e (handled hart_state here trap) (handled hart_state there trap)
   handled_alike = handler_cases_of_both hart_state trap table m n cs ds (HandledAlike e) (record {
     answers = λ status result. returned_alike here there status result cases.before;
@@ -73,9 +79,10 @@ module _ (e : ℕ) (table : Slots) (m n : List ℕ) (cs ds : Contexts) (cases : 
     measures = λ reads may. returned_alike _ _ 0 0 (cases.measures (measured_slot hart_state.world (a0 hart_state)) (a1 hart_state));
     enters = λ call reads enters host taken. enters_alike;
     leaves = leaves_alike;
-    forwards = record { entered = refl; hart_state = record { world = refl; same = λ not_running. refl }; shared = cases.before };
+    redirects = record { entered = refl; hart_state = record { world = refl; same = λ not_running. refl }; shared = cases.before };
   })
 
+-- proves the noninterference of the trap handler, by its cases
 pub handler_law : HandlerLaw
 handler_law e worlds hart_state one other trap here there not_running equiv =
     let tables = equiv.table in

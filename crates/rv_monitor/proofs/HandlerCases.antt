@@ -9,52 +9,58 @@ use Rattle.rv_monitor.specs.Prelude.{requested_call, call_key, call_number, call
 use Rattle.rv_monitor.specs.Prelude.{saved_context, measured, measured_slot, new_slot, option_case, create_args_of, register, status_of}
 use Rattle.rv_monitor.specs.declared.enclave_exit.EnclaveExit.{EnclaveExit}
 use Rattle.rv_monitor.proofs.Prelude.{Handled, IsTaken, MayCreate, MayMeasure, a0, a1, and_parts, returned_to_caller, call_handled, call_refusals}
-use Rattle.rv_monitor.proofs.Prelude.{called, cases_Bool, cond-false, cond-true, entered_slot, find, forwarded, handled, handled_cause}
+use Rattle.rv_monitor.proofs.Prelude.{called, cases_Bool, cond-false, cond-true, entered_slot, find, redirected, handled, handled_cause}
 use Rattle.rv_monitor.proofs.Prelude.{handled_exception, is_entering, left, line_after, may_create, may_measure, may_take}
 use Rattle.rv_monitor.proofs.Prelude.{nat_tests, past_call, performed, reason, refused, same_create_refusals, same_measure_refusals, saved}
 use Rattle.rv_monitor.proofs.Prelude.{enclave_state_after, stopped_context, timer_stopped, trapped_mode, trapped_pc, value, with_reprogrammed_hart}
 
 -- ---- the requested call
 
+-- what a search finds passes the test
 find-passes : {X : Type 0} (p : X → Bool) (xs : List X) (x : X) → find p xs ≡ Some x → p x ≡ true
-find-passes p [] x is = cc
-find-passes {X} p (y ∷ ys) x is = elim (cases_Bool (p y)) [
+find-passes p [] x found = cc
+find-passes {X} p (y ∷ ys) x found = elim (cases_Bool (p y)) [
   | inl holds ↦
-      let e : Some y ≡ Some x = sym (cond-true (p y) _ _ holds) ∙ is in
+      let e : Some y ≡ Some x = sym (cond-true (p y) _ _ holds) ∙ found in
       let same : y ≡ x = cc in
       subst (λ (z : X). p z ≡ true) same holds
   | inr fails ↦
-      let e : find p ys ≡ Some x = sym (cond-false (p y) _ _ fails) ∙ is in
+      let e : find p ys ≡ Some x = sym (cond-false (p y) _ _ fails) ∙ found in
       find-passes p ys x e
 ]
 
+-- a call that is found has its number in a6, and is offered to the world
 found-call : (world : World) (a7 a6 : ℕ) (key : Bool) (call : Call)
     → (if key then find (λ c. call_number c == a6 && is_offered world c) calls else None) ≡ Some call
     → ((call_number call == a6) ≡ true) × (is_offered world call ≡ true)
-found-call world a7 a6 true call is =
-    and_parts (call_number call == a6) (is_offered world call) (find-passes (λ c. call_number c == a6 && is_offered world c) calls call is)
-found-call world a7 a6 false call is = cc
+found-call world a7 a6 true call test_is =
+    and_parts (call_number call == a6) (is_offered world call) (find-passes (λ c. call_number c == a6 && is_offered world c) calls call test_is)
+found-call world a7 a6 false call test_is = cc
 
 -- it has the number in a6, and is offered to the world
 pub asked-is : (world : World) (regs : List ℕ) (call : Call) → requested_call world regs ≡ Some call
     → ((call_number call == register regs 16) ≡ true) × (is_offered world call ≡ true)
 unfolding call_requested
-asked-is world regs call is = found-call world (register regs 17) (register regs 16) (register regs 17 == call_key) call is
+asked-is world regs call requested = found-call world (register regs 17) (register regs 16) (register regs 17 == call_key) call requested
 
+-- a call that enters an enclave is offered to the host only
 pub entered-by-host : (world : World) (call : Call) → is_entering (Some call) ≡ true → is_offered world call ≡ true → world ≡ Host
 entered-by-host Host call enters offered = refl
 entered-by-host (Enclave k) Run enters offered = cc
 entered-by-host (Enclave k) Resume enters offered = cc
 entered-by-host (Enclave k) _ enters offered = cc
 
+-- the number of stop is not that of exit
 not_exit : (a6 : ℕ) → (call_number Stop == a6) ≡ true → (a6 == call_number Exit) ≡ false
-not_exit a6 is = grind (arith, nat_tests)
+not_exit a6 test_is = grind (arith, nat_tests)
 
+-- the number of exit is that of exit
 exit : (a6 : ℕ) → (call_number Exit == a6) ≡ true → (a6 == call_number Exit) ≡ true
-exit a6 is = grind (arith, nat_tests)
+exit a6 test_is = grind (arith, nat_tests)
 
 -- ---- the cases
 
+-- the shared state made of a table, a memory and the saved contexts
 abbrev pub over : Slots → List ℕ → Contexts → Shared
 over table memory contexts = record { memory = memory; table = table; contexts = contexts }
 
@@ -73,7 +79,7 @@ abbrev pub lowered_by : Cause → HartState → HartState
 lowered_by cause hart_state =
     record hart_state { hart = record hart_state.hart { csrs = record hart_state.hart.csrs { timer = line_after cause hart_state.hart.csrs.timer } } }
 
--- the exit
+-- an exit of the running enclave
 abbrev pub enclave_exit_of : Cause → HartState → EnclaveExit
 enclave_exit_of cause hart_state = record {
   state = enclave_state_after cause hart_state.hart.regs;
@@ -82,16 +88,20 @@ enclave_exit_of cause hart_state = record {
   value = value cause hart_state.hart.regs;
 }
 
+-- the trap handler's result if the enclave exits by this cause
 abbrev pub leaving : Cause → HartState → Shared → Handled
 leaving cause hart_state shared = left (lowered_by cause hart_state) shared (enclave_exit_of cause hart_state)
 
+-- the trap handler's result if the host enters the enclave that a0 names
 abbrev pub entering : HartState → Shared → Handled
 entering hart_state shared = entered_slot hart_state shared (a0 hart_state) (saved_context shared.contexts (a0 hart_state)) (past_call hart_state)
 
 module _ (hart_state : HartState) (trap : Trap) (table : Slots) (m n : List ℕ) (cs ds : Contexts) (P : Handled → Handled → Type 0) where
+  -- the first shared state
   abbrev here : Shared
   here = over table m cs
 
+  -- the second shared state
   abbrev there : Shared
   there = over table n ds
 
@@ -99,6 +109,7 @@ module _ (hart_state : HartState) (trap : Trap) (table : Slots) (m n : List ℕ)
   abbrev Both : (Shared → Handled) → Type 0
   Both work = P (work here) (work there)
 
+  -- what a proof by cases must show of the trap handler on two memories and contexts: one claim for each case
   pub record Pieces : Type 0 where
     -- a refusal, or a call that changes nothing in the shared state
     pub answers : (status result : ℕ) → Both (λ shared. returned_to_caller hart_state shared status result)
@@ -113,12 +124,14 @@ module _ (hart_state : HartState) (trap : Trap) (table : Slots) (m n : List ℕ)
         → IsTaken table call (a0 hart_state)
         → Both (entering hart_state)
     pub leaves : Both (leaving trap.cause hart_state)
-    pub forwards : Both (λ shared. forwarded hart_state shared trap)
+    pub redirects : Both (λ shared. redirected hart_state shared trap)
 
-  module _ (pieces : Pieces) (size : length m ≡ length n) where
+  module _ (pieces : Pieces) (same_length : length m ≡ length n) where
+    -- the claim for an exit
     by-leaving : (cause : Cause) → trap.cause ≡ cause → Both (leaving cause hart_state)
-    by-leaving cause is = subst (λ (c : Cause). Both (leaving c hart_state)) is pieces.leaves
+    by-leaving cause cause_is = subst (λ (c : Cause). Both (leaving c hart_state)) cause_is pieces.leaves
 
+    -- the claim for each call that is not refused
     by-asked : (call : Call) → Requests hart_state trap.cause call → first_refusal (call_refusals hart_state here call) ≡ None
         → Both (λ shared. performed hart_state shared call)
     unfolding performed
@@ -139,37 +152,44 @@ module _ (hart_state : HartState) (trap : Trap) (table : Slots) (m n : List ℕ)
         let test = exit (register hart_state.hart.regs 16) (asked-is hart_state.world hart_state.hart.regs Exit reads.asked).0 in
         rw test at (by-leaving (causes.Exception EnvironmentCallFromS) reads.is_call)
 
+    -- a call has the same refusals in both shared states
     same-rows : (call : Call) → call_refusals hart_state here call ≡ call_refusals hart_state there call
-    same-rows Create = same_create_refusals table m n cs ds (create_args_of hart_state.hart.regs) size
-    same-rows Measure = same_measure_refusals table m n cs ds hart_state.hart.csrs.pmp (measured_slot hart_state.world (a0 hart_state)) (a1 hart_state) size
+    same-rows Create = same_create_refusals table m n cs ds (create_args_of hart_state.hart.regs) same_length
+    same-rows Measure = same_measure_refusals table m n cs ds hart_state.hart.csrs.pmp (measured_slot hart_state.world (a0 hart_state)) (a1 hart_state) same_length
     same-rows _ = refl
 
+    -- the claim for a call, refused or not
     by-rows : (o : Option Refusal) (one other : Handled) → (o ≡ None → P one other)
         → P (option_case o one (refused hart_state here)) (option_case o other (refused hart_state there))
     by-rows None one other done = done refl
     by-rows (Some refusal) one other done = pieces.answers (status_of refusal) 0
 
+    -- the claim for a call with its refusals
     by-called : (call : Call) → Requests hart_state trap.cause call → Both (λ shared. called hart_state shared call)
     unfolding called
     by-called call reads =
         let rows = same-rows call in
         rw (← rows) (by-rows (first_refusal (call_refusals hart_state here call)) _ _ (by-asked call reads))
 
+    -- the claim for the requested call, if there is one
     by-call : (o : Option Call) → requested_call hart_state.world hart_state.hart.regs ≡ o → trap.cause ≡ causes.Exception EnvironmentCallFromS
         → Both (λ shared. option_case o (refused hart_state shared NotSupported) (called hart_state shared))
-    by-call None is by_ecall = pieces.answers (status_of NotSupported) 0
-    by-call (Some call) is by_ecall = by-called call (record { is_call = by_ecall; asked = is })
+    by-call None requested by_ecall = pieces.answers (status_of NotSupported) 0
+    by-call (Some call) requested by_ecall = by-called call (record { is_call = by_ecall; asked = requested })
 
+    -- the claim for an exception
     by-exception : (exception : Exception) → trap.cause ≡ causes.Exception exception → Both (λ shared. handled_exception hart_state shared trap exception)
     unfolding call_handled
-    by-exception EnvironmentCallFromS is = by-call (requested_call hart_state.world hart_state.hart.regs) refl is
-    by-exception _ is = pieces.forwards
+    by-exception EnvironmentCallFromS cause_is = by-call (requested_call hart_state.world hart_state.hart.regs) refl cause_is
+    by-exception _ cause_is = pieces.redirects
 
+    -- the claim for each cause
     by-cause : (cause : Cause) → trap.cause ≡ cause → Both (λ shared. handled_cause hart_state shared trap cause)
     unfolding timer_stopped
-    by-cause (causes.Interrupt interrupt) is = by-leaving (causes.Interrupt interrupt) is
-    by-cause (causes.Exception exception) is = by-exception exception is
+    by-cause (causes.Interrupt interrupt) cause_is = by-leaving (causes.Interrupt interrupt) cause_is
+    by-cause (causes.Exception exception) cause_is = by-exception exception cause_is
 
+    -- a claim with a proof for each case holds of the trap handler before it reprograms the hart
     pub by_pieces : P (handled_cause hart_state here trap trap.cause) (handled_cause hart_state there trap trap.cause)
     by_pieces = by-cause trap.cause refl
 
@@ -180,18 +200,20 @@ abbrev pub HandlerCasesOfBoth : HartState → Trap → Slots → List ℕ → Li
 HandlerCasesOfBoth hart_state trap table m n cs ds P =
     Pieces hart_state trap table m n cs ds (λ one other. P (with_reprogrammed_hart one) (with_reprogrammed_hart other))
 
+-- a claim about the trap handler on two shared states with one table holds if it holds in each case
 pub handler_cases_of_both : (hart_state : HartState) (trap : Trap) (table : Slots) (m n : List ℕ) (cs ds : Contexts) (P : Handled → Handled → Type 0)
     → HandlerCasesOfBoth hart_state trap table m n cs ds P → length m ≡ length n
     → P (handled hart_state (over table m cs) trap) (handled hart_state (over table n ds) trap)
 unfolding handled
-handler_cases_of_both hart_state trap table m n cs ds P pieces size =
-    by_pieces hart_state trap table m n cs ds (λ one other. P (with_reprogrammed_hart one) (with_reprogrammed_hart other)) pieces size
+handler_cases_of_both hart_state trap table m n cs ds P pieces same_length =
+    by_pieces hart_state trap table m n cs ds (λ one other. P (with_reprogrammed_hart one) (with_reprogrammed_hart other)) pieces same_length
 
--- one shared state
+-- the cases of the trap handler on one shared state
 abbrev pub OneHandlerCases : HartState → Trap → Shared → (Handled → Type 0) → Type 0
 OneHandlerCases hart_state trap shared P =
     HandlerCasesOfBoth hart_state trap shared.table shared.memory shared.memory shared.contexts shared.contexts (λ one _. P one)
 
+-- a claim about the trap handler holds if it holds in each case
 pub handler_cases : (hart_state : HartState) (trap : Trap) (shared : Shared) (P : Handled → Type 0) → OneHandlerCases hart_state trap shared P
     → P (handled hart_state shared trap)
 handler_cases hart_state trap shared P pieces =

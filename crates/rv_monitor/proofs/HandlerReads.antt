@@ -22,12 +22,12 @@ use Rattle.rv_monitor.proofs.HandlerCases.{Requests, handler_cases_of_both, ente
 -- the same write to two memories, at any index where they were equal
 same_byte : (m n : List ℕ) (address : ℕ) (bytes : List ℕ) (i : ℕ) → length m ≡ length n → slice_index m i ≡ slice_index n i
     → slice_index (or_same m (write m address bytes)) i ≡ slice_index (or_same n (write n address bytes)) i
-same_byte m n address bytes i size same =
+same_byte m n address bytes i same_length same_element =
     let other : ℕ → Bool = λ b. not (b == ram_base + i) in
     let equiv : EqualOutside other m n = record {
-      size = size;
+      size = same_length;
       bytes = λ j shown. elim (cases_eq j i) [
-        | inl is ↦ rw is same
+        | inl is ↦ rw is same_element
         | inr apart ↦
             let far : (ram_base + j == ram_base + i) ≡ false = ne_eqb (ram_base + j) (ram_base + i) (λ sums. apart (omega arith)) in
             let hidden : not (ram_base + j == ram_base + i) ≡ true = rw far refl in
@@ -37,30 +37,38 @@ same_byte m n address bytes i size same =
     let here : (ram_base + i == ram_base + i) ≡ true = eq-eqb (ram_base + i) (ram_base + i) refl in
     (write-alike other m n address bytes equiv).bytes i (rw here refl)
 
-module _ (table : Slots) (m n : List ℕ) (cs ds : Contexts) (size : length m ≡ length n) (slots : length cs ≡ length ds) where
+module _ (table : Slots) (m n : List ℕ) (cs ds : Contexts) (same_length : length m ≡ length n) (slots : length cs ≡ length ds) where
+  -- the first shared state
   abbrev here : Shared
   here = over table m cs
 
+  -- the second shared state
   abbrev there : Shared
   there = over table n ds
 
+  -- bytes and contexts that were equal in both are equal after both changes
   abbrev Same : Shared → Shared → Type 0
   Same one other = SameWhereSame here there one other
 
+  -- no change leaves equal what was equal
   untouched : Same here there
   untouched = record { table = refl; bytes = λ i same. same; contexts = λ k same. same }
 
+  -- the same write in both leaves equal what was equal
   with_put : (after : Slots) (address : ℕ) (bytes : List ℕ)
       → Same (over after (or_same m (write m address bytes)) cs) (over after (or_same n (write n address bytes)) ds)
-  with_put after address bytes = record { table = refl; bytes = λ i same. same_byte m n address bytes i size same; contexts = λ k same. same }
+  with_put after address bytes = record { table = refl; bytes = λ i same. same_byte m n address bytes i same_length same; contexts = λ k same. same }
 
+  -- the same new context in both leaves equal what was equal
   with_kept : (after : Slots) (j : ℕ) (c : Option Context) → Same (over after m (with_context cs j c)) (over after n (with_context ds j c))
   with_kept after j c = record { table = refl; bytes = λ i same. same; contexts = λ k same. same_after_set cs ds j k c None slots same }
 
+  -- equal bytes of the region give the same record
   same_record : (new : CreateArgs) → bytes_of_block m new.region ≡ bytes_of_block n new.region → recorded m new ≡ recorded n new
   unfolding measurement_of
   same_record new bytes = rw bytes refl
 
+  -- a create leaves equal what was equal, if the bytes of the region are
   created_same : (new : CreateArgs) → bytes_of_block m new.region ≡ bytes_of_block n new.region → Same (created here new) (created there new)
   unfolding created
   created_same new bytes =
@@ -68,6 +76,7 @@ module _ (table : Slots) (m n : List ℕ) (cs ds : Contexts) (size : length m �
       let k = new_slot table in
       rw (← info) (with_kept (with_slot table k (Some (recorded m new))) k (Some (first_context (recorded m new))))
 
+  -- a destroy leaves equal what was equal
   destroyed_same : (k : ℕ) → Same (destroyed here k) (destroyed there k)
   unfolding destroyed
   destroyed_same k =
@@ -76,17 +85,21 @@ module _ (table : Slots) (m n : List ℕ) (cs ds : Contexts) (size : length m �
       let kept = with_kept table k None in
       record { table = refl; bytes = put.bytes; contexts = kept.contexts }
 
+  -- a measure leaves equal what was equal
   measured_same : (k address : ℕ) → Same (measured here k address) (measured there k address)
   unfolding measured
   measured_same k address = with_put table address (measurement_at table k)
 
   module _ (hart_state : HartState) (trap : Trap) (asked : SameRead hart_state trap.cause here there) where
+    -- two results of the trap handler are the same where both read the same
     abbrev HandlerCases : Handled → Handled → Type 0
     HandlerCases one other = SameHandling here there one other
 
+    -- a requested call is the one that the definition names
     asks_for : (call : Call) → Requests hart_state trap.cause call → requested_by trap.cause hart_state ≡ Some call
-    asks_for call reads = let is = reads.is_call in rw is reads.asked
+    asks_for call reads = let is_call = reads.is_call in rw is_call reads.asked
 
+    -- a return to the caller is the same in both
     caller_same : (one other : Shared) (status result : ℕ) → Same one other
         → HandlerCases (with_reprogrammed_hart (returned_to_caller hart_state one status result))
         (with_reprogrammed_hart (returned_to_caller hart_state other status result))
@@ -98,6 +111,7 @@ module _ (table : Slots) (m n : List ℕ) (cs ds : Contexts) (size : length m �
           shared = same;
         }
 
+    -- an entry is the same in both, if the saved contexts of the slot are equal
     enters_same : context_at cs (a0 hart_state) ≡ context_at ds (a0 hart_state)
         → HandlerCases (with_reprogrammed_hart (entering hart_state here)) (with_reprogrammed_hart (entering hart_state there))
     unfolding entered_slot
@@ -106,10 +120,12 @@ module _ (table : Slots) (m n : List ℕ) (cs ds : Contexts) (size : length m �
         ap (λ (o : Option Context). option_case o exited_context (λ context. context)) own in
         rw (← contexts) (record { hart_state = refl; next = refl; shared = with_kept (with_state table (a0 hart_state) Running) (a0 hart_state) None })
 
+    -- a requested call that enters is one by the definition
     entering_call : (call : Call) → is_entering (Some call) ≡ true → Requests hart_state trap.cause call
         → is_entering (requested_by trap.cause hart_state) ≡ true
-    entering_call call enters reads = let is = asks_for call reads in rw is enters
+    entering_call call enters reads = let asked_for = asks_for call reads in rw asked_for enters
 
+    -- the trap handler's results are the same in both
     handled_same : HandlerCases (handled hart_state here trap) (handled hart_state there trap)
     unfolding left
     handled_same = handler_cases_of_both hart_state trap table m n cs ds HandlerCases (record {
@@ -122,9 +138,10 @@ module _ (table : Slots) (m n : List ℕ) (cs ds : Contexts) (size : length m �
           let k = running_slot hart_state.world in
           let after = with_state table k (enclave_state_after trap.cause hart_state.hart.regs) in
           record { hart_state = refl; next = refl; shared = with_kept after k (Some (saved_by trap.cause hart_state)) };
-      forwards = record { hart_state = refl; next = refl; shared = untouched };
-    }) size
+      redirects = record { hart_state = refl; next = refl; shared = untouched };
+    }) same_length
 
+-- proves that the trap handler depends only on what it reads, by its cases
 pub handler_reads_law : HandlerReadsLaw
 handler_reads_law hart_state trap one other same =
     let tables = same.table in
@@ -147,16 +164,19 @@ asked_after cause hart_state trap one other same = record {
   entered = same.entered;
 }
 
+-- two steps of a view leave the same hart state and slot, and equal what was equal
 record SameOne (one other : Shared) (one_after other_after : HartViewStepped) : Type 0 where
   hart_state : one_after.state.hart_state ≡ other_after.state.hart_state
   entered : one_after.outcome.entered ≡ other_after.outcome.entered
   shared : SameWhereSame one other one_after.state.shared other_after.state.shared
 
+-- the return from equal results of the trap handler is the same
 returned_same : (one other : Shared) (x y : StepOutcome) (a b : Handled) → SameHandling one other a b → SameOne one other (returned x a) (returned y b)
 returned_same one other x y a b same =
     let back : HartState → Next → HartState = λ hart_state next. record hart_state { hart = returned_to hart_state.hart next.pc next.mode } in
     record { hart_state = ap₂ back same.hart_state same.next; entered = ap (λ (next : Next). next.entered) same.next; shared = same.shared }
 
+-- two steps with a trap are the same, if the trap handler reads the same
 asked_one : (hart_state : HartState) (one other : Shared) (trap : Trap)
     → (let here : HartView = record { hart_state = hart_state; shared = one } in
     let there : HartView = record { hart_state = hart_state; shared = other } in
@@ -169,6 +189,7 @@ asked_one hart_state one other trap trapped trapped_too same =
     rw (trapped_step here trap trapped, trapped_step there trap trapped_too)
     (returned_same one other (step (bare_machine here)).outcome (step (bare_machine there)).outcome _ _ work)
 
+-- proves that the effect of a step that traps depends only on what the trap handler reads
 pub step_reads_law : (hart : ℕ) (machine : MonitoredMachine) → ReadsOnly hart machine (step_of hart machine)
 step_reads_law hart machine other trap hart_states trapped trapped_too same =
     let here = is_trapping hart machine trap trapped in

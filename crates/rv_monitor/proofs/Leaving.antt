@@ -19,12 +19,15 @@ use Rattle.rv_monitor.proofs.Prelude.{get_or-set_at, hart_state_at_start, hart_s
 -- after a trap of the enclave of slot k
 module _ (before : HartView) (k : ℕ) (host : Context) (runs : before.hart_state.world ≡ Enclave k) (kept : before.hart_state.host_context ≡ Some host)
     (trap : Trap) where
+  -- the hart state at the trap
   abbrev hart_state : HartState
   hart_state = hart_state_after before.hart_state trap
 
+  -- the result of an exit, if the host has this context
   abbrev leaving_with : Context → Handled
   leaving_with context = left (lowered_by trap.cause hart_state) before.shared (record (enclave_exit_of trap.cause hart_state) { kept = context })
 
+  -- the result of an exit
   abbrev leaving_now : Handled
   leaving_now = leaving_with (saved_after trap.cause before.hart_state.hart)
 
@@ -37,30 +40,35 @@ module _ (before : HartView) (k : ℕ) (host : Context) (runs : before.hart_stat
   abbrev Goes : Handled → Type 0
   Goes h = (h.hart_state.world ≡ Enclave k) ⊎ (h ≡ with_reprogrammed_hart leaving_now)
 
+  -- the enclave is not the host
   enters_never : before.hart_state.world ≡ Host → (P : Type 0) → P
-  enters_never is P = let never : Host ≡ Enclave k = sym is ∙ runs in cc
+  enters_never world_is P = let never : Host ≡ Enclave k = sym world_is ∙ runs in cc
 
+  -- each case of the trap handler is an exit, or leaves the enclave running
   work_goes : Goes (handled hart_state before.shared trap)
   work_goes = handler_cases hart_state trap before.shared Goes (record {
     answers = λ status result. inl runs;
     creates = λ reads may. inl runs;
     destroys = λ reads taken. inl runs;
     measures = λ reads may. inl runs;
-    enters = λ call reads enters is taken. enters_never is _;
+    enters = λ call reads enters entering taken. enters_never entering _;
     leaves = inr (ap (λ (kept : Context). with_reprogrammed_hart (leaving_with kept)) (kept_is trap.cause));
-    forwards = inl runs;
+    redirects = inl runs;
   })
 
   -- ---- the step
 
+  -- the view after an exit
   abbrev left_state : HartView
   left_state =
       let shared = left_shared before.shared k trap.cause before.hart_state.hart in
       record { hart_state = record { hart = left_hart before.hart_state.hart shared.table trap host; host_context = None; world = Host }; shared = shared }
 
+  -- the result is that of an exit
   abbrev Left : HartViewStepped → Type 0
   Left after = (after.state ≡ left_state) × (after.outcome.entered ≡ None)
 
+  -- the return from an exit is the view after the exit
   returned_left : (outcome : StepOutcome) → HartViewInvariant before → Left (returned outcome (with_reprogrammed_hart leaving_now))
   unfolding left
   returned_left outcome all =
@@ -69,14 +77,16 @@ module _ (before : HartView) (k : ℕ) (host : Context) (runs : before.hart_stat
       let mprv = all.hart.layout.mprv in
       (rw (runs, kept, aligned, or-false (is_set before.hart_state.hart.csrs.mcountinhibit 0), mprv) refl, refl)
 
+  -- a result whose world is the host is that of an exit
   left_or_not : (outcome : StepOutcome) (h : Handled) → HartViewInvariant before → Goes h → h.hart_state.world ≡ Host → Left (returned outcome h)
   left_or_not outcome h all (inl stays) gone = let never : Enclave k ≡ Host = sym stays ∙ gone in cc
   left_or_not outcome h all (inr same) gone = subst (λ (x : Handled). Left (returned outcome x)) (sym same) (returned_left outcome all)
 
+  -- a step whose world is then the host is an exit
   left_one : HartViewInvariant before → (monitored_step before).outcome.step.trap ≡ Some trap → (monitored_step before).state.hart_state.world ≡ Host
       → Left (monitored_step before)
-  left_one all is gone =
-      let step_is = trapped_step before trap is in
+  left_one all trapped gone =
+      let step_is = trapped_step before trap trapped in
       let there = subst (λ (after : HartViewStepped). after.state.hart_state.world ≡ Host) step_is gone in
       subst Left (sym step_is) (left_or_not (step (bare_machine before)).outcome _ all work_goes there)
 
@@ -85,8 +95,8 @@ pub leave_law : (hart : ℕ) (machine : MonitoredMachine) → Invariant machine 
     → (hart_state_of hart machine).world ≡ Enclave k → (hart_state_of hart machine).host_context ≡ Some host
     → (step_of hart machine).outcome.step.trap ≡ Some trap → (hart_state_of hart (step_of hart machine).state).world ≡ Host
     → ((step_of hart machine).state ≡ left_machine hart machine k trap host) × ((step_of hart machine).outcome.entered ≡ None)
-leave_law hart machine kept k host trap runs saved_host is gone =
-    let trapping = is_trapping hart machine trap is in
+leave_law hart machine kept k host trap runs saved_host trapped gone =
+    let trapping = is_trapping hart machine trap trapped in
     let there = sym (ap (λ (after : HartViewStepped). after.state.hart_state.world) (step_seen hart machine trapping.has)) ∙ gone in
     let one = left_one (hart_view hart machine) k host runs saved_host trap (hart_view_invariant hart machine kept trapping.has) trapping.trapped there in
     (trapping.state ∙ ap (programmed_by hart machine) one.0, ap (λ (outcome : Outcome). outcome.entered) trapping.outcome ∙ one.1)
@@ -97,8 +107,8 @@ pub left_hart_state : (hart : ℕ) (machine : MonitoredMachine) (k : ℕ) (trap 
     let shared = left_shared machine.shared k trap.cause h in
     let hart_state : HartState = record { hart = left_hart h shared.table trap host; host_context = None; world = Host } in
     hart_state_of hart (left_machine hart machine k trap host) ≡ hart_state)
-left_hart_state hart machine k trap host has =
+left_hart_state hart machine k trap host in_range =
     let h = (hart_state_of hart machine).hart in
     let shared = left_shared machine.shared k trap.cause h in
-    let size = length-map machine.hart_states (reprogrammed shared.table) in
-    get_or-set_at (map (reprogrammed shared.table) machine.hart_states) hart hart _ (hart_state_at_start 0) refl (omega (arith, size, has))
+    let same_length = length-map machine.hart_states (reprogrammed shared.table) in
+    get_or-set_at (map (reprogrammed shared.table) machine.hart_states) hart hart _ (hart_state_at_start 0) refl (omega (arith, same_length, in_range))

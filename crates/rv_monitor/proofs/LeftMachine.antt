@@ -25,6 +25,7 @@ abbrev pub saved_after : Cause → Hart → Context
 saved_after (causes.Interrupt interrupt) hart = saved hart (aligned_to_4 hart.pc) hart.mode
 saved_after (causes.Exception exception) hart = if register hart.regs 16 == call_number Exit then exited_context else stopped_at hart
 
+-- the shared state after an exit of slot k: its new state, and its saved context
 abbrev pub left_shared : Shared → ℕ → Cause → Hart → Shared
 left_shared shared k cause hart = record shared {
   table = with_state shared.table k (enclave_state_after cause hart.regs);
@@ -46,6 +47,7 @@ left_csrs csrs slots trap host = record (with_s_context (passed_csrs csrs trap h
   mie = mie_of Host;
 }
 
+-- the hart after an exit: the host's context with the reason and value, and the PMP entries of the host
 abbrev pub left_hart : Hart → Slots → Trap → Context → Hart
 left_hart hart slots trap host = record {
   regs = with_return_values host.regs (reason trap.cause hart.regs) (value trap.cause hart.regs);

@@ -1,45 +1,48 @@
 -- Every event keeps pc and the registers of mode S as a hart stores them.
-use Rattle.std.proofs.Common.{◌≡◌, ℕ, zero, suc, ◌==◌, Bool, true, false, List, length, Option, Some, None, IfSome, refl, sym, ◌∙◌, ap, subst}
+use Rattle.std.proofs.Common.{◌≡◌, ℕ, ◌==◌, Bool, true, false, List, length, Option, Some, None, IfSome, refl, sym, ◌∙◌, ap, subst}
 use Rattle.std.proofs.Common.{inl, inr, arith}
 use Rattle.std.proofs.lemmas.List.{get_or_past, get_or-replicate}
-use Rattle.std.specs.Prelude.{IfNone, if◌then◌else◌, slice_index_or}
-use Rattle.rv_platform.specs.declared.harts.Harts.{Harts}
-use Rattle.rv_platform.specs.declared.harts.Harts.TheVariants.{One, Two}
+use Rattle.std.specs.Prelude.{IfNone, if◌then◌else◌}
 use Rattle.rv_state.specs.CsrTable.{vector_of}
 use Rattle.rv_state.specs.declared.cause.Cause.TheVariants as causes
 use Rattle.rv_state.specs.declared.s_context.SContext.{SContext}
 use Rattle.rv_state.proofs.StoredLemmas.{with_s_context_stored}
 use Rattle.rv_hart.proofs.Stored.{keeps_stored}
 use Rattle.rv_enclaves.specs.Contexts.{no_contexts}
-use Rattle.rv_monitor.specs.Debugger.{timer_line_set}
 use Rattle.rv_monitor.specs.Events.{Event, LineOf, StepOf, event_of}
-use Rattle.rv_monitor.specs.MonitoredMachine.{hart_states_at_start}
+use Rattle.rv_monitor.specs.MonitoredMachine.{timer_line_set}
 use Rattle.rv_monitor.specs.LegalMachine.{IsLegalHartState, IsLegalMachine, LegalLaw}
 use Rattle.rv_monitor.specs.Prelude.{Cause, Context, Contexts, CsrState, Exit, HartState, IsLegal, Shared, Trap, aligned_to_4, call_number, context_at}
 use Rattle.rv_monitor.specs.Prelude.{create_args_of, created, destroyed, exited_context, first_context, measured, recorded, register, s_context, saved_context, with_context, with_s_context}
 use Rattle.rv_monitor.proofs.Prelude.{Handled, HartView, HartViewInvariant, HartViewStepped, Invariant, MonitoredMachine, MonitoredStepped, a0, at_other, at_same}
-use Rattle.rv_monitor.proofs.Prelude.{at_start, bare_machine, cases_eq, cases_lt, count_of, entered_slot, forwarded_csrs, handled, hart_state_at_start, hart_state_of}
+use Rattle.rv_monitor.proofs.Prelude.{at_start, bare_machine, cases_eq, cases_lt, count_of, entered_slot, with_redirected_trap, handled, hart_state_at_start, hart_state_of}
 use Rattle.rv_monitor.proofs.Prelude.{hart_view, left, monitored_step, saved_host, set_past, step_of, stopped_context}
 use Rattle.rv_monitor.proofs.HandlerCases.{handler_cases, saved_by}
 use Rattle.rv_monitor.proofs.HartCases.{outside, step_beside, step_seen}
 use Rattle.rv_monitor.proofs.InvariantLemmas.{changed_of, hart_view_invariant}
+use Rattle.rv_monitor.proofs.Start.{start_cases}
 use Rattle.rv_monitor.proofs.TrapSteps.{hart_state_after, step_cases}
 
+-- rounding down to a multiple of 4 twice is rounding once
 aligned_twice : (address : ℕ) → aligned_to_4 (aligned_to_4 address) ≡ aligned_to_4 address
 aligned_twice address = omega arith
 
+-- the S-mode registers of the hart are legal in a context
 abbrev Legal : CsrState → Type 0
 Legal c = IsLegal (s_context c)
 
+-- a claim for the case without a trap holds, if there is none
 if_none : (o : Option Trap) (P : Type 0) → o ≡ None → IfNone o P → P
-if_none None P is holds = holds
-if_none (Some trap) P is holds = cc
+if_none None P no_trap holds = holds
+if_none (Some trap) P no_trap holds = cc
 
 -- ---- the trap handler
 
+-- every saved context is legal
 abbrev AllLegal : Contexts → Type 0
 AllLegal cs = (k : ℕ) → IfSome (context_at cs k) (λ context. IsLegal context.supervisor)
 
+-- a change of one saved context to a legal one leaves all legal
 legal_set : (cs : Contexts) (j : ℕ) (o : Option Context) → AllLegal cs → IfSome o (λ context. IsLegal context.supervisor) → AllLegal (with_context cs j o)
 legal_set cs j o all legal k =
     let P : Option Context → Type 0 = λ x. IfSome x (λ context. IsLegal context.supervisor) in
@@ -51,31 +54,37 @@ legal_set cs j o all legal k =
       ]
     ]
 
+-- a restored context has legal S-mode registers
 restored_legal : (c : CsrState) (s : SContext) → Legal (with_s_context c s)
-restored_legal c s = let is = with_s_context_stored c s in record { stvec = is.stvec; sepc = is.sepc }
+restored_legal c s = let stored = with_s_context_stored c s in record { stvec = stored.stvec; sepc = stored.sepc }
 
+-- a context whose stvec and sepc are 0 is legal
 nothing_legal : (c : Context) → c.supervisor.stvec ≡ 0 → c.supervisor.sepc ≡ 0 → IsLegal c.supervisor
 nothing_legal c stvec sepc =
     let zero_vector : vector_of 0 ≡ 0 = omega arith in
     let zero_aligned : aligned_to_4 0 ≡ 0 = omega arith in
     record { stvec = ap vector_of stvec ∙ zero_vector ∙ sym stvec; sepc = ap aligned_to_4 sepc ∙ zero_aligned ∙ sym sepc }
 
+-- the context that an exit saves is legal
 saved_legal : (cause : Cause) (hart_state : HartState) → Legal hart_state.hart.csrs → IsLegal (saved_by cause hart_state).supervisor
 saved_legal (causes.Interrupt interrupt) hart_state legal = legal
 saved_legal (causes.Exception exception) hart_state legal =
     either (register hart_state.hart.regs 16 == call_number Exit) where
+      -- the empty context and the one that stop saves are legal
       either : (b : Bool) → IsLegal (if b then exited_context else stopped_context hart_state).supervisor
       either true = nothing_legal exited_context refl refl
       either false = legal
 
+-- the trap handler leaves legal S-mode registers and legal saved contexts
 record StoredAfter (h : Handled) : Type 0 where
   supervisor : Legal h.hart_state.hart.csrs
   contexts : AllLegal h.shared.contexts
 
 module _ (hart_state : HartState) (shared : Shared) (trap : Trap) (legal : Legal hart_state.hart.csrs)
     (mepc : aligned_to_4 hart_state.hart.csrs.mepc ≡ hart_state.hart.csrs.mepc) (all : AllLegal shared.contexts) where
+  -- each case of the trap handler leaves these legal
   handled_stored : StoredAfter (handled hart_state shared trap)
-  unfolding created destroyed measured entered_slot left forwarded_csrs first_context
+  unfolding created destroyed measured entered_slot left with_redirected_trap first_context
   handled_stored =
       handler_cases hart_state trap shared StoredAfter (record {
         answers = λ status result. record { supervisor = record { stvec = legal.stvec; sepc = legal.sepc }; contexts = all };
@@ -98,16 +107,18 @@ module _ (hart_state : HartState) (shared : Shared) (trap : Trap) (legal : Legal
               supervisor = record { stvec = restored.stvec; sepc = restored.sepc };
               contexts = legal_set shared.contexts _ _ all (saved_legal trap.cause hart_state legal);
             };
-        forwards = record { supervisor = record { stvec = legal.stvec; sepc = mepc }; contexts = all };
+        redirects = record { supervisor = record { stvec = legal.stvec; sepc = mepc }; contexts = all };
       })
 
 -- ---- the step of one hart
 
+-- pc, S-mode registers and saved contexts of the view are legal
 record ViewStored (state : HartView) : Type 0 where
   pc : aligned_to_4 state.hart_state.hart.pc ≡ state.hart_state.hart.pc
   supervisor : IsLegal (s_context state.hart_state.hart.csrs)
   contexts : AllLegal state.shared.contexts
 
+-- a step of a view leaves it legal
 view_stored : (state : HartView) → HartViewInvariant state → ViewStored state → ViewStored (monitored_step state).state
 view_stored state kept stored = step_cases state (λ after. ViewStored after.state)
     (λ none.
@@ -128,6 +139,7 @@ view_stored state kept stored = step_cases state (λ after. ViewStored after.sta
 
 -- ---- the machine
 
+-- a step of the machine leaves it legal
 step_stored : (hart : ℕ) (machine : MonitoredMachine) → Invariant machine → IsLegalMachine machine → IsLegalMachine (step_of hart machine).state
 step_stored hart machine kept stored = elim (cases_lt hart (count_of machine)) [
   | inr past ↦ subst (λ (after : MonitoredStepped). IsLegalMachine after.state) (sym (outside hart machine past)) stored
@@ -154,6 +166,7 @@ step_stored hart machine kept stored = elim (cases_lt hart (count_of machine)) [
       }
 ]
 
+-- each event of a legal machine leaves it legal
 pub event_stored : (event : Event) (machine : MonitoredMachine) → Invariant machine → IsLegalMachine machine → IsLegalMachine (event_of event machine).state
 event_stored (StepOf hart) machine kept stored = step_stored hart machine kept stored
 event_stored (LineOf hart raised) machine kept stored = record {
@@ -169,32 +182,35 @@ event_stored (LineOf hart raised) machine kept stored = record {
 
 -- ---- at reset
 
+-- a hart at reset is legal, if the entry is aligned
 reset_stored : (entry : ℕ) → aligned_to_4 entry ≡ entry → IsLegalHartState (hart_state_at_start entry)
 reset_stored entry aligned = record {
   pc = aligned;
   supervisor = record { stvec = omega arith; sepc = omega arith };
 }
 
+-- no slot has a saved context at reset
 no_context : (k : ℕ) → context_at no_contexts k ≡ None
 no_context k = elim (cases_lt k 13) [
   | inl inside ↦ get_or-replicate {A = Option Context} 13 k None None inside
   | inr past ↦ get_or_past {X = Option Context} no_contexts k None past
 ]
 
+-- the saved contexts at reset are legal
 none_legal : (k : ℕ) → IfSome (context_at no_contexts k) (λ context. IsLegal context.supervisor)
 none_legal k = subst (λ (o : Option Context). IfSome o (λ context. IsLegal context.supervisor)) (sym (no_context k)) tt
 
-start_harts : (harts : Harts) (entry hart : ℕ) → aligned_to_4 entry ≡ entry
-    → IsLegalHartState (slice_index_or (hart_states_at_start harts entry) hart (hart_state_at_start 0))
-start_harts One entry zero aligned = reset_stored entry aligned
-start_harts One entry (suc hart) aligned = reset_stored 0 refl
-start_harts Two entry zero aligned = reset_stored entry aligned
-start_harts Two entry (suc zero) aligned = let hart = reset_stored entry aligned in record { pc = hart.pc; supervisor = hart.supervisor }
-start_harts Two entry (suc (suc hart)) aligned = reset_stored 0 refl
-
-starts_stored : (memory : List ℕ) (entry : ℕ) (harts : Harts) → aligned_to_4 entry ≡ entry → IsLegalMachine (at_start memory entry harts)
+-- the machine at reset is legal, if the entry is aligned
+starts_stored : (memory : List ℕ) (entry harts : ℕ) → aligned_to_4 entry ≡ entry → IsLegalMachine (at_start memory entry harts)
 unfolding at_start
-starts_stored memory entry harts aligned = record { harts = λ hart. start_harts harts entry hart aligned; contexts = none_legal }
+starts_stored memory entry harts aligned =
+    let own = reset_stored entry aligned in
+    record {
+      harts = λ hart.
+          start_cases harts entry hart IsLegalHartState (λ n. record { pc = own.pc; supervisor = own.supervisor }) (reset_stored 0 refl);
+      contexts = none_legal;
+    }
 
+-- proves that a machine is legal from reset on
 pub legal_law : LegalLaw
 legal_law = record { start = starts_stored; keeps = event_stored }

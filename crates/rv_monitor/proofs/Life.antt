@@ -8,13 +8,14 @@ use Rattle.rv_state.specs.CsrState.{at_reset}
 use Rattle.rv_state.specs.GuestCsrs.{below_m_csrs}
 use Rattle.rv_state.specs.declared.s_context.SContext.{SContext}
 use Rattle.rv_hart.specs.GuestView.{below_m_hart}
-use Rattle.rv_platform.specs.declared.block.Block.{Block}
+use Rattle.rv_memory.specs.declared.block.Block.{Block}
 use Rattle.rv_enclaves.specs.Measurement.{args_of}
 use Rattle.rv_enclaves.specs.SharedInvariant.{is_held}
 use Rattle.rv_enclaves.specs.Table.{runs, window, window_of}
 use Rattle.rv_enclaves.proofs.Measurement.{measurement_law, same_digest}
 use Rattle.rv_monitor.specs.Availability.{ExitsByTimer, timer_trap}
-use Rattle.rv_monitor.specs.Debugger.{timer_line_set, with_timer}
+use Rattle.rv_monitor.specs.Debugger.{with_timer}
+use Rattle.rv_monitor.specs.MonitoredMachine.{timer_line_set}
 use Rattle.rv_monitor.specs.EnclaveSteps.{Place, SameEnclave, SameEnclaveStep, is_beyond, runs_at, step_at}
 use Rattle.rv_monitor.specs.NumberedCalls.{slots_with_state}
 use Rattle.rv_monitor.specs.Events.{Event, LineOf, StepOf, event_of}
@@ -39,7 +40,8 @@ use Rattle.rv_monitor.proofs.EnclaveStays.{index_same, own_bytes}
 use Rattle.rv_monitor.proofs.EnclaveSteps.{enclave_step, exited}
 use Rattle.rv_monitor.proofs.Entering.{enter_law}
 use Rattle.rv_monitor.proofs.Events.{event_invariant, line_worlds}
-use Rattle.rv_monitor.proofs.HartCases.{hart_state_in, is_trapping, outside, step_seen}
+use Rattle.rv_monitor.proofs.HartCases.{is_trapping, outside, step_seen}
+use Rattle.rv_monitor.specs.MonitoredMachine.{hart_state_in}
 use Rattle.rv_monitor.proofs.Integrity.{integrity}
 use Rattle.rv_monitor.proofs.InvariantLemmas.{changed_of, hart_view_invariant, invariant_by_size, invariant_law, world_at}
 use Rattle.rv_monitor.proofs.LowSteps.{differs, differs_not, equal_but}
@@ -54,14 +56,16 @@ use Rattle.std.proofs.lemmas.Bool.{leb-true, ltb-true}
 
 -- ---- an enclave runs on one hart
 
+-- a hart that runs an enclave is in the list of worlds
 none_past : (k : ℕ) (ws : List World) (a : ℕ) → is_world_of k (slice_index_or ws a Host) ≡ true → a < length ws
-none_past k ws a is = elim (cases_lt a (length ws)) [
+none_past k ws a world_is = elim (cases_lt a (length ws)) [
   | inl inside ↦ inside
   | inr past ↦
-      let never : false ≡ true = sym (ap (is_world_of k) (get_or_past {X = World} ws a Host past)) ∙ is in
+      let never : false ≡ true = sym (ap (is_world_of k) (get_or_past {X = World} ws a Host past)) ∙ world_is in
       cc
 ]
 
+-- two harts of a list of worlds do not run the same enclave
 one_world : (k : ℕ) (ws : List World) → AreApart ws → (a b : ℕ) → is_world_of k (slice_index_or ws a Host) ≡ true
     → is_world_of k (slice_index_or ws b Host) ≡ true → a ≡ b
 one_world k [] apart a b x y = absurd (both_ways _ (ap (is_world_of k) (get_or_past {X = World} [] a Host (omega arith))) x)
@@ -70,11 +74,13 @@ one_world k (w ∷ ws) apart zero (suc b) x y = absurd (both_ways _ (apart.0 k x
 one_world k (w ∷ ws) apart (suc a) zero x y = absurd (both_ways _ (apart.0 k y) (list_any_at (is_world_of k) ws a Host (none_past k ws a x) x))
 one_world k (w ∷ ws) apart (suc a) (suc b) x y = ap suc (one_world k ws apart.1 a b x y)
 
+-- an enclave runs on at most one hart
 one_hart : (k a b : ℕ) (machine : MonitoredMachine) → Invariant machine → runs_on k a machine ≡ true → runs_on k b machine ≡ true → a ≡ b
 one_hart k a b machine kept x y =
     one_world k (worlds machine) kept.shared.apart a b (ap (is_world_of k) (world_at a machine (runs_inside k a machine x)) ∙ x)
     (ap (is_world_of k) (world_at b machine (runs_inside k b machine y)) ∙ y)
 
+-- an enclave that runs on a hart has the state Running
 is_running_at : (k hart : ℕ) (machine : MonitoredMachine) → Invariant machine → runs_on k hart machine ≡ true → runs machine.shared.table k ≡ true
 is_running_at k hart machine kept own = kept.shared.running k ∙ runs_among k hart machine own
 
@@ -82,24 +88,30 @@ is_running_at k hart machine kept own = kept.shared.running k ∙ runs_among k h
 held_idle : (o : Option SlotInfo) → is_held o ≡ true → option_case o false (λ info. is_running info.state) ≡ false
 held_idle None held = cc
 held_idle (Some info) held = negated (is_running info.state) held where
+  -- a test whose negation holds fails
   negated : (b : Bool) → not b ≡ true → b ≡ false
   negated true is = cc
   negated false is = refl
 
+-- a slot that has a saved context is live
 held_live : (o : Option SlotInfo) → is_held o ≡ true → is_some o ≡ true
 held_live None held = cc
 held_live (Some info) held = refl
 
 module _ (k : ℕ) (machine : MonitoredMachine) (context : Context) (kept : Invariant machine) (saves : context_at machine.shared.contexts k ≡ Some context) where
+  -- a slot with a saved context has an enclave that does not run
   held : is_held (slot_at machine.shared.table k) ≡ true
   held = sym (kept.shared.contexts.kept k) ∙ ap (λ (o : Option Context). is_some o) saves
 
+  -- the enclave of a saved context is not Running
   saved_idle : runs machine.shared.table k ≡ false
   saved_idle = held_idle (slot_at machine.shared.table k) held
 
+  -- the enclave of a saved context is live
   saved_live : is_live machine.shared.table k ≡ true
   saved_live = held_live (slot_at machine.shared.table k) held
 
+  -- an enclave with a saved context does not run, and continues with that context
   pub saved_continues : ContinuesWith k context machine
   saved_continues = record {
     running = λ hart own. absurd (both_ways _ saved_idle (is_running_at k hart machine kept own));
@@ -109,52 +121,61 @@ module _ (k : ℕ) (machine : MonitoredMachine) (context : Context) (kept : Inva
 -- an enclave that runs continues with what its hart holds
 running_continues : (k hart : ℕ) (machine : MonitoredMachine) (context : Context) → Invariant machine → runs_on k hart machine ≡ true
     → continuation (hart_state_of hart machine).hart ≡ context → ContinuesWith k context machine
-running_continues k hart machine context kept own is = record {
-  running = λ j other. ap (λ (h : ℕ). continuation (hart_state_of h machine).hart) (one_hart k j hart machine kept other own) ∙ is;
+running_continues k hart machine context kept own continuation_is = record {
+  running = λ j other. ap (λ (h : ℕ). continuation (hart_state_of h machine).hart) (one_hart k j hart machine kept other own) ∙ continuation_is;
   resting = λ idle. absurd (both_ways _ idle (is_running_at k hart machine kept own));
 }
 
 -- ---- what a record without its state says
 
+-- the region is part of the identity
 region_by : (o : Option SlotInfo) → region_of (option_map identity_of o) ≡ region_of o
 region_by None = refl
 region_by (Some info) = refl
 
+-- the window is part of the identity
 window_by : (o : Option SlotInfo) → window_of (option_map identity_of o) ≡ window_of o
 window_by None = refl
 window_by (Some info) = refl
 
+-- slots of equal identity have the same region
 same_region : (s t : Slots) (i j : ℕ) → identity_at s i ≡ identity_at t j → region s i ≡ region t j
 same_region s t i j same = sym (region_by (slot_at s i)) ∙ ap region_of same ∙ region_by (slot_at t j)
 
+-- slots of equal identity have the same window
 same_window : (s t : Slots) (i j : ℕ) → identity_at s i ≡ identity_at t j → window s i ≡ window t j
 same_window s t i j same = sym (window_by (slot_at s i)) ∙ ap window_of same ∙ window_by (slot_at t j)
 
+-- slots of equal identity are both live or both not
 same_live : (s t : Slots) (i j : ℕ) → identity_at s i ≡ identity_at t j → is_live s i ≡ is_live t j
 same_live s t i j same =
     sym (some_identity (slot_at s i)) ∙ ap (λ (o : Option SlotInfo). is_some o) same ∙ some_identity (slot_at t j)
 
+-- slots of equal identity have the same bytes beyond region and window
 same_beyond : (s t : Slots) (i j byte : ℕ) → identity_at s i ≡ identity_at t j → is_beyond s i byte ≡ is_beyond t j byte
 same_beyond s t i j byte same =
     ap₂ (λ (r w : Block). not (has r byte || has w byte)) (same_region s t i j same) (same_window s t i j same)
 
+-- a state that is Running by the test is Running
 running_is : (state : EnclaveState) → is_running state ≡ true → state ≡ Running
-running_is Running is = refl
-running_is _ is = cc
+running_is Running running = refl
+running_is _ running = cc
 
+-- two records of equal identity that are Running are equal
 by_identity : (a b : Option SlotInfo) → option_map identity_of a ≡ option_map identity_of b
     → option_case a false (λ info. is_running info.state) ≡ true → option_case b false (λ info. is_running info.state) ≡ true → a ≡ b
 by_identity None b same x y = cc
 by_identity (Some info) None same x y = cc
 by_identity (Some info) (Some other) same x y =
-    let e : identity_of info ≡ identity_of other = cc in
+    let identity_of_is : identity_of info ≡ identity_of other = cc in
     let some : SlotInfo → Option SlotInfo = λ i. Some i in
     ap some (ap (λ (s : EnclaveState). record info { state = s }) (running_is info.state x)
-    ∙ ap (λ (i : SlotInfo). record i { state = Running }) e
+    ∙ ap (λ (i : SlotInfo). record i { state = Running }) identity_of_is
     ∙ sym (ap (λ (s : EnclaveState). record other { state = s }) (running_is other.state y)))
 
 -- ---- a hart of an enclave, from the context with which it continues
 
+-- CSRs with the S-mode registers of a context, and this timer line
 abbrev raw_csrs : Bool → SContext → CsrState
 raw_csrs timer s =
     let c = below_m_csrs (record at_reset { timer = timer }) in
@@ -167,20 +188,23 @@ raw_csrs timer s =
       mstatus = record c.mstatus { sie = s.sie; spie = s.spie; spp = s.spp; mxr = s.mxr };
     }
 
+-- the hart with a context, and this timer line
 abbrev plain_hart : Bool → Context → Hart
 plain_hart timer context =
     record { regs = context.regs; csrs = raw_csrs timer context.supervisor; pc = context.pc; mode = context.mode }
 
+-- a hart with the invariant, as S and U see it, is given by its timer line and its context
 below_is : (slots : Slots) (hart_state : HartState) → HartInvariant slots hart_state
     → below_m_hart hart_state.hart ≡ plain_hart hart_state.hart.csrs.timer (continuation hart_state.hart)
-below_is slots hart_state is =
-    let mie = is.layout.mstatus_mie in
-    let mprv = is.layout.mprv in
-    let tvm = is.layout.tvm in
-    let tw = is.layout.tw in
-    let tsr = is.layout.tsr in
+below_is slots hart_state hart_kept =
+    let mie = hart_kept.layout.mstatus_mie in
+    let mprv = hart_kept.layout.mprv in
+    let tvm = hart_kept.layout.tvm in
+    let tw = hart_kept.layout.tw in
+    let tsr = hart_kept.layout.tsr in
     rw (mie, mprv, tvm, tw, tsr) refl
 
+-- a legal context is restored as it is
 legal_again : (c : CsrState) (s : SContext) → IsLegal s → s_context (with_s_context c s) ≡ s
 legal_again c s legal = let stvec = legal.stvec in let sepc = legal.sepc in rw (stvec, sepc) refl
 
@@ -194,6 +218,7 @@ record StaysAtPoint (k : ℕ) (context : Context) (before after : MonitoredMachi
   size : length after.shared.memory ≡ length before.shared.memory
   bytes : (i : ℕ) → has (region before.shared.table k) (ram_base + i) ≡ true → slice_index after.shared.memory i ≡ slice_index before.shared.memory i
 
+-- a change of a timer line leaves the enclave at its point
 line_stays : (k hart : ℕ) (raised : Bool) (machine : MonitoredMachine) (context : Context) → ContinuesWith k context machine
     → is_live machine.shared.table k ≡ true → StaysAtPoint k context machine (with_timer hart machine raised)
 line_stays k hart raised machine context continues live = record {
@@ -212,39 +237,44 @@ line_stays k hart raised machine context continues live = record {
 -- a step reports an entry only if the host ran, and the enclave runs after it
 entered_turn : (k : ℕ) (hart_state : HartState) (trap : Trap) (h : Handled) → Turns hart_state trap h → h.next.entered ≡ Some k
     → (hart_state.world ≡ Host) × (h.hart_state.world ≡ Enclave k)
-entered_turn k hart_state trap h (inl stays) is = let never : None ≡ Some k = sym stays.entered ∙ is in cc
-entered_turn k hart_state trap h (inr (inl enters)) is =
-    let both : Some enters.slot ≡ Some k = sym enters.entered ∙ is in
+entered_turn k hart_state trap h (inl stays) enters_slot = let never : None ≡ Some k = sym stays.entered ∙ enters_slot in cc
+entered_turn k hart_state trap h (inr (inl enters)) enters_slot =
+    let equal : Some enters.slot ≡ Some k = sym enters.entered ∙ enters_slot in
     let same : enters.slot ≡ k = cc in
     (enters.from_host, enters.world ∙ ap Enclave same)
-entered_turn k hart_state trap h (inr (inr leaves)) is = let never : None ≡ Some k = sym leaves.entered ∙ is in cc
+entered_turn k hart_state trap h (inr (inr leaves)) enters_slot = let never : None ≡ Some k = sym leaves.entered ∙ enters_slot in cc
 
+-- a step that enters slot k is a step of the host, and leaves slot k running
 abbrev EntersHere : ℕ → HartView → HartViewStepped → Type 0
 EntersHere k state after = after.outcome.entered ≡ Some k → (state.hart_state.world ≡ Host) × (after.state.hart_state.world ≡ Enclave k)
 
+-- each step that enters slot k is one of the host
 entered_here : (k : ℕ) (state : HartView) → EntersHere k state (monitored_step state)
-entered_here k state = step_cases state (EntersHere k state) (λ none is. cc)
-    (λ trap traps is.
+entered_here k state = step_cases state (EntersHere k state) (λ none enters_slot. cc)
+    (λ trap traps enters_slot.
     entered_turn k (hart_state_after state.hart_state trap) trap (handled (hart_state_after state.hart_state trap) state.shared trap)
-    (handled_turns (hart_state_after state.hart_state trap) state.shared trap) is)
+    (handled_turns (hart_state_after state.hart_state trap) state.shared trap) enters_slot)
 
+-- the worlds of the hart before and after an entry
 entered_worlds : (k hart : ℕ) (machine : MonitoredMachine) → (step_of hart machine).outcome.entered ≡ Some k
     → ((hart_state_of hart machine).world ≡ Host) × ((hart_state_of hart (step_of hart machine).state).world ≡ Enclave k)
-entered_worlds k hart machine is = elim (cases_lt hart (count_of machine)) [
+entered_worlds k hart machine enters_slot = elim (cases_lt hart (count_of machine)) [
   | inr past ↦
-      let never : None ≡ Some k = sym (ap (λ (a : MonitoredStepped). a.outcome.entered) (outside hart machine past)) ∙ is in
+      let never : None ≡ Some k = sym (ap (λ (a : MonitoredStepped). a.outcome.entered) (outside hart machine past)) ∙ enters_slot in
       cc
   | inl inside ↦
       let seen = step_seen hart machine inside in
-      let both = entered_here k (hart_view hart machine) (sym (ap (λ (a : HartViewStepped). a.outcome.entered) seen) ∙ is) in
-      (both.0, ap (λ (a : HartViewStepped). a.state.hart_state.world) seen ∙ both.1)
+      let worlds_are = entered_here k (hart_view hart machine) (sym (ap (λ (a : HartViewStepped). a.outcome.entered) seen) ∙ enters_slot) in
+      (worlds_are.0, ap (λ (a : HartViewStepped). a.state.hart_state.world) seen ∙ worlds_are.1)
 ]
 
 module _ (k hart : ℕ) (machine : MonitoredMachine) (context : Context) (kept : Invariant machine) (continues : ContinuesWith k context machine)
     (live : is_live machine.shared.table k ≡ true) (stays : is_live (step_of hart machine).state.shared.table k ≡ true) (stored : IsLegalMachine machine) where
+  -- the machine after the step
   abbrev after : MonitoredMachine
   after = (step_of hart machine).state
 
+  -- the machine after the step has the invariant
   after_kept : Invariant (step_of hart machine).state
   after_kept = invariant_law hart machine kept
 
@@ -253,7 +283,7 @@ module _ (k hart : ℕ) (machine : MonitoredMachine) (context : Context) (kept :
       → StaysAtPoint k context machine (step_of hart machine).state
   undisturbed_stays low passes =
       let u = integrity hart machine kept k low live passes stays in
-      let size = same_size hart machine in
+      let same_length = same_size hart machine in
       record {
         continues = record {
           running = λ j own. elim (cases_Bool (runs_on k j machine)) [
@@ -266,25 +296,25 @@ module _ (k hart : ℕ) (machine : MonitoredMachine) (context : Context) (kept :
         };
         live = stays;
         identity = ap (option_map identity_of) u.preserved.slot;
-        size = size;
-        bytes = λ i own. sym (index_same machine.shared.memory after.shared.memory i (sym size) (u.preserved.bytes (ram_base + i) own));
+        size = same_length;
+        bytes = λ i own. sym (index_same machine.shared.memory after.shared.memory i (sym same_length) (u.preserved.bytes (ram_base + i) own));
       }
 
-  -- the step enters it
+  -- a step that enters the enclave leaves it at its point
   entered_stays : enters k (step_of hart machine).outcome.entered ≡ true → StaysAtPoint k context machine (step_of hart machine).state
-  entered_stays is =
-      let both = entered_worlds k hart machine (entered_some k (step_of hart machine).outcome.entered is) in
-      let entry = enter_law hart machine kept k both.0 both.1 in
+  entered_stays enters_slot =
+      let worlds_are = entered_worlds k hart machine (entered_some k (step_of hart machine).outcome.entered enters_slot) in
+      let entry = enter_law hart machine kept k worlds_are.0 worlds_are.1 in
       let held = entry.call.kept in
       let found = entry.call.context in
       let held_one : Some found ≡ Some context = sym held ∙ continues.resting (saved_idle k machine found kept held) in
       let same : found ≡ context = cc in
       let legal : IsLegal found.supervisor = subst (λ (o : Option Context). IfSome o (λ c. IsLegal c.supervisor)) held (stored.contexts k) in
       let slots = slots_with_state machine.shared.table k Running in
-      let has = (is_trapping hart machine entry.trap entry.trapped).has in
-      let size = length-map machine.hart_states (reprogrammed slots) in
-      let there = get_or-set_at (map (reprogrammed slots) machine.hart_states) hart hart _ (hart_state_at_start 0) refl (omega (arith, size, has)) in
-      let own : runs_on k hart (step_of hart machine).state ≡ true = ap (is_world_of k) both.1 ∙ eq-eqb k k refl in
+      let in_range = (is_trapping hart machine entry.trap entry.trapped).has in
+      let same_length = length-map machine.hart_states (reprogrammed slots) in
+      let there = get_or-set_at (map (reprogrammed slots) machine.hart_states) hart hart _ (hart_state_at_start 0) refl (omega (arith, same_length, in_range)) in
+      let own : runs_on k hart (step_of hart machine).state ≡ true = ap (is_world_of k) worlds_are.1 ∙ eq-eqb k k refl in
       let seen : continuation (hart_state_of hart (step_of hart machine).state).hart
       ≡ record found { supervisor = s_context (with_s_context (hart_state_of hart machine).hart.csrs found.supervisor) } =
       ap (λ (m : MonitoredMachine). continuation (hart_state_of hart m).hart) entry.call.state ∙ ap (λ (s : HartState). continuation s.hart) there in
@@ -301,14 +331,15 @@ module _ (k hart : ℕ) (machine : MonitoredMachine) (context : Context) (kept :
   -- the timer interrupt takes it off its hart
   timer_exit : (o : Option Context) → (hart_state_of hart machine).host_context ≡ o → runs_on k hart machine ≡ true
       → (hart_state_of hart machine).hart.csrs.timer ≡ true → (host : Context) × ExitsByTimer hart k host machine (step_of hart machine)
-  timer_exit None is own line =
+  timer_exit None host_context_is own line =
       let world = world_is k (hart_state_of hart machine).world own in
       let never : false ≡ true =
-      ap (λ (o : Option Context). is_some o) (sym is) ∙ (kept.hart_states hart (runs_inside k hart machine own)).host.kept
+      ap (λ (o : Option Context). is_some o) (sym host_context_is) ∙ (kept.hart_states hart (runs_inside k hart machine own)).host.kept
       ∙ ap (λ (w : World). not (is_host w)) world in
       cc
-  timer_exit (Some host) is own line = (host, timer_exits hart machine kept k host (world_is k (hart_state_of hart machine).world own) is line)
+  timer_exit (Some host) host_context_is own line = (host, timer_exits hart machine kept k host (world_is k (hart_state_of hart machine).world own) host_context_is line)
 
+  -- the timer interrupt leaves the enclave at its point: its context is saved
   interrupted_stays : runs_on k hart machine ≡ true → (hart_state_of hart machine).hart.csrs.timer ≡ true
       → StaysAtPoint k context machine (step_of hart machine).state
   interrupted_stays own line =
@@ -326,6 +357,7 @@ module _ (k hart : ℕ) (machine : MonitoredMachine) (context : Context) (kept :
         bytes = λ i own_byte. ap (λ (m : List ℕ). slice_index m i) left.memory;
       }
 
+  -- a foreign step leaves the enclave at its point
   step_stays : (runs_on k hart machine ≡ false) ⊎ ((hart_state_of hart machine).hart.csrs.timer ≡ true)
       → StaysAtPoint k context machine (step_of hart machine).state
   step_stays may = elim (cases_Bool (runs_on k hart machine)) [
@@ -336,16 +368,19 @@ module _ (k hart : ℕ) (machine : MonitoredMachine) (context : Context) (kept :
     ]
   ]
 
+-- a foreign event leaves the enclave at its point
 foreign_stays : (k : ℕ) (event : Event) (machine : MonitoredMachine) (context : Context) → Invariant machine → IsLegalMachine machine → ContinuesWith k context machine
     → is_live machine.shared.table k ≡ true → IsForeign k event machine → StaysAtPoint k context machine (event_of event machine).state
 foreign_stays k (StepOf hart) machine context kept stored continues live foreign =
     step_stays k hart machine context kept continues live foreign.1 stored foreign.0
 foreign_stays k (LineOf hart raised) machine context kept stored continues live foreign = line_stays k hart raised machine context continues live
 
+-- a test whose negation fails holds
 negated_false : (b : Bool) → not b ≡ false → b ≡ true
 negated_false true is = refl
 negated_false false is = cc
 
+-- a foreign event of the first machine leaves both enclaves at one point
 first_event : (i j : ℕ) (event : Event) (one other : MonitoredMachine) → Invariant one → IsLegalMachine one → AreAtOnePoint i j one other → IsForeign i event one
     → AreAtOnePoint i j (event_of event one).state other
 first_event i j event one other kept stored point foreign =
@@ -366,6 +401,7 @@ first_event i j event one other kept stored point foreign =
       };
     }
 
+-- both enclaves are at one point in the other order too
 swapped : (i j : ℕ) (one other : MonitoredMachine) → AreAtOnePoint i j one other → AreAtOnePoint j i other one
 swapped i j one other point =
     let block = same_region one.shared.table other.shared.table i j point.identity in
@@ -383,13 +419,16 @@ swapped i j one other point =
 
 -- ---- its own steps
 
+-- if an or holds and its first part does not, the second part does
 either : (a b : Bool) → (a || b) ≡ true → a ≡ false → b ≡ true
 either true b is none = cc
 either false b is none = is
 
+-- the negation of an and fails, if both parts hold
 both_true : (a b : Bool) → a ≡ true → b ≡ true → not (a && b) ≡ false
 both_true a b x y = rw (x, y) refl
 
+-- a negated or that fails has its first part, if the second fails
 first_if : (a b : Bool) → not (a || b) ≡ false → b ≡ false → not a ≡ false
 first_if true b is none = refl
 first_if false true is none = cc
@@ -405,9 +444,10 @@ span_own k machine hart access (Some span) world reach byte own =
     (subst (λ (w : World). is_accessible machine.shared.memory machine.shared.table w access (bytes_from span.addr (bytes_in span.len)) ≡ true) world reach)
     byte (leb-true _ _ parts.0) (ltb-true _ _ parts.1)
 
+-- the enclave reads only its own region and window
 reads_own : (p : Place) (machine : MonitoredMachine) → Invariant machine → runs_at p machine ≡ true → (byte : ℕ)
     → reads_byte (step_at p machine).outcome.step.touched byte ≡ true → is_beyond machine.shared.table p.slot byte ≡ false
-reads_own p machine kept own byte is =
+reads_own p machine kept own byte byte_read =
     let inside = runs_inside p.slot p.hart machine own in
     let world = world_is p.slot (hart_state_of p.hart machine).world own in
     let state = hart_view p.hart machine in
@@ -417,7 +457,7 @@ reads_own p machine kept own byte is =
     let touched = (step_at p machine).outcome.step.touched in
     elim (cases_Bool (in_span touched.fetched byte)) [
       | inl at_pc ↦ span_own p.slot machine p.hart Fetch touched.fetched world reach.fetched byte at_pc
-      | inr none ↦ span_own p.slot machine p.hart Read touched.loaded world reach.loaded byte (either _ _ is none)
+      | inr none ↦ span_own p.slot machine p.hart Read touched.loaded world reach.loaded byte (either _ _ byte_read none)
     ]
 
 -- an own step changes no other byte
@@ -430,15 +470,17 @@ own_only p machine kept own i beyond =
     let state = hart_view p.hart machine in
     let shared = ap (λ (a : HartViewStepped). a.state.shared.memory) (step_seen p.hart machine inside) in
     let same = own_bytes p.slot state (hart_view_invariant p.hart machine kept inside) world (ram_base + i) beyond in
-    let size = same_size p.hart machine in
-    sym (index_same machine.shared.memory (step_at p machine).state.shared.memory i (sym size)
+    let same_length = same_size p.hart machine in
+    sym (index_same machine.shared.memory (step_at p machine).state.shared.memory i (sym same_length)
     (subst (λ (m : List ℕ). byte_at m (ram_base + i) ≡ byte_at machine.shared.memory (ram_base + i)) (sym shared) same))
 
 module _ (p q : Place) (one other : MonitoredMachine) (here : Invariant one) (there : Invariant other) (point : AreAtOnePoint p.slot q.slot one other)
     (is : IsOwnStep p q one other) where
+  -- the slot of the first enclave
   abbrev i : ℕ
   i = p.slot
 
+  -- the slot of the second enclave
   abbrev j : ℕ
   j = q.slot
 
@@ -446,20 +488,24 @@ module _ (p q : Place) (one other : MonitoredMachine) (here : Invariant one) (th
   abbrev mid : MonitoredMachine
   mid = over_bytes other one.shared.memory
 
+  -- the machine in between has the invariant
   mid_kept : Invariant mid
   mid_kept = invariant_by_size other one.shared.memory there (sym point.memory.size)
 
+  -- both slots have the same record
   slot_same : slot_at one.shared.table i ≡ slot_at other.shared.table j
   slot_same =
       by_identity (slot_at one.shared.table i) (slot_at other.shared.table j) point.identity (is_running_at i p.hart one here is.first)
       (is_running_at j q.hart other there is.second)
 
+  -- both harts are the same, as S and U see them
   hart_same : below_m_hart (hart_state_of p.hart one).hart ≡ below_m_hart (hart_state_of q.hart other).hart
   hart_same =
       let a = below_is one.shared.table (hart_state_of p.hart one) (here.hart_states p.hart (runs_inside i p.hart one is.first)) in
       let b = below_is other.shared.table (hart_state_of q.hart other) (there.hart_states q.hart (runs_inside j q.hart other is.second)) in
       a ∙ ap₂ plain_hart (is.line ∙ sym is.line_too) (point.first.running p.hart is.first ∙ sym (point.second.running q.hart is.second)) ∙ sym b
 
+  -- the first enclave has the same state as that of the machine in between
   enclave : SameEnclave p q one mid
   enclave = record {
     first = is.first;
@@ -469,9 +515,11 @@ module _ (p q : Place) (one other : MonitoredMachine) (here : Invariant one) (th
     memory = record { size = refl; bytes = λ n shown. refl };
   }
 
+  -- the step of the first machine is that of the machine in between
   own : SameEnclaveStep p q (step_at p one) (step_at q mid)
   own = enclave_step p q one mid here mid_kept enclave
 
+  -- the bytes that the step reads are equal in both memories
   read_same : (n : ℕ) → reads_byte (step_at p one).outcome.step.touched (ram_base + n) ≡ true
       → slice_index one.shared.memory n ≡ slice_index other.shared.memory n
   read_same n reads = elim (cases_Bool (has (window one.shared.table i) (ram_base + n))) [
@@ -479,51 +527,62 @@ module _ (p q : Place) (one other : MonitoredMachine) (here : Invariant one) (th
     | inr out ↦ point.memory.bytes n (first_if _ _ (reads_own p one here is.first (ram_base + n) reads) out)
   ]
 
+  -- the step reads no byte in which the memories differ
   reads : ReadsSeen (differs one.shared.memory other.shared.memory) (step_at q mid).outcome.step.touched
   reads n read =
       let touched = ap (λ (o : Outcome). reads_byte o.step.touched (ram_base + n)) own.outcome in
       differs_not one.shared.memory other.shared.memory n (read_same n (touched ∙ read))
 
+  -- the step measures no byte in which the memories differ
   blocks : MeasuresSeen (differs one.shared.memory other.shared.memory) (hart_state_of q.hart mid).world mid.shared.table mid.shared.contexts
   blocks host memory new may n in_region =
       absurd (both_ways _ (not_host_by j (hart_state_of q.hart other).world is.second) host)
 
+  -- the step has the same effect over the other memory
   over : MachineOver one.shared.memory other.shared.memory (step_at q mid) (step_at q other)
   over =
       machine_over (differs one.shared.memory other.shared.memory) q.hart mid other.shared.memory
       (equal_but one.shared.memory other.shared.memory point.memory.size) reads blocks
 
+  -- the first machine after the step
   abbrev a : MonitoredMachine
   a = (step_at p one).state
 
+  -- the machine in between after the step
   abbrev m : MonitoredMachine
   m = (step_at q mid).state
 
+  -- the second machine after the step
   abbrev b : MonitoredMachine
   b = (step_at q other).state
 
+  -- the first machine after the step has the invariant
   a_kept : Invariant (step_at p one).state
   a_kept = invariant_law p.hart one here
 
+  -- the second machine after the step has the invariant
   b_kept : Invariant (step_at q other).state
   b_kept = invariant_law q.hart other there
 
+  -- the first enclave is live after the step
   a_live : is_live a.shared.table i ≡ true
   a_live = elim (cases_Bool (runs_at p a)) [
     | inl still ↦ running_is_live i p.hart a a_kept still
     | inr gone ↦ saved_live i a (own.state.exits gone).saved.context a_kept (own.state.exits gone).saved.first
   ]
 
+  -- the first enclave keeps its identity
   a_identity : identity_at a.shared.table i ≡ identity_at one.shared.table i
   a_identity = record_law p.hart one here i point.live a_live
 
-  -- where the one and the mid are equal
+  -- after the step, each byte of the enclave is equal in the first machine and in the machine in between
   own_same : (n : ℕ) → is_beyond a.shared.table i (ram_base + n) ≡ false → slice_index a.shared.memory n ≡ slice_index m.shared.memory n
   own_same n shown = elim (cases_Bool (runs_at p a)) [
     | inl still ↦ (own.state.runs still).memory.bytes n shown
     | inr gone ↦ (own.state.exits gone).saved.memory.bytes n shown
   ]
 
+  -- each byte that the step changes is equal in both memories after it
   changes : ChangeAlike one.shared.memory other.shared.memory a.shared.memory b.shared.memory
   changes n = elim (cases_Bool (is_beyond one.shared.table i (ram_base + n))) [
     | inl beyond ↦
@@ -537,6 +596,7 @@ module _ (p q : Place) (one other : MonitoredMachine) (here : Invariant one) (th
         ]
   ]
 
+  -- both slots have the same record after the step
   slot_after : slot_at a.shared.table i ≡ slot_at b.shared.table j
   slot_after =
       let table = ap (λ (t : Slots). slot_at t j) over.shared.table in
@@ -545,6 +605,7 @@ module _ (p q : Place) (one other : MonitoredMachine) (here : Invariant one) (th
         | inr gone ↦ (own.state.exits gone).saved.slot ∙ table
       ]
 
+  -- the hart of the machine in between is that of the second machine
   hart_after : hart_state_of q.hart m ≡ hart_state_of q.hart b
   hart_after = ap (λ (hs : List HartState). hart_state_in hs q.hart) over.hart_states
 
@@ -554,6 +615,7 @@ module _ (p q : Place) (one other : MonitoredMachine) (here : Invariant one) (th
     first : ContinuesWith i context (step_at p one).state
     second : ContinuesWith j context (step_at q other).state
 
+  -- both enclaves continue with the same context
   continue_alike : ContinueAlike
   continue_alike = elim (cases_Bool (runs_at p a)) [
     | inl still ↦
@@ -575,14 +637,15 @@ module _ (p q : Place) (one other : MonitoredMachine) (here : Invariant one) (th
         }
   ]
 
+  -- both enclaves are at one point after the step
   own_point : AreAtOnePoint i j a b
   own_point =
-      let both = continue_alike in
+      let alike_after = continue_alike in
       let block = same_region a.shared.table one.shared.table i i a_identity in
       record {
-        context = both.context;
-        first = both.first;
-        second = both.second;
+        context = alike_after.context;
+        first = alike_after.first;
+        second = alike_after.second;
         live = a_live;
         identity = ap (option_map identity_of) slot_after;
         memory = record {
@@ -596,6 +659,7 @@ module _ (p q : Place) (one other : MonitoredMachine) (here : Invariant one) (th
         };
       }
 
+  -- the step of the enclave is the same in both machines
   own_step : SameOwnStep p q one other
   own_step = record {
     outcome = own.outcome ∙ over.outcome;
@@ -616,6 +680,7 @@ module _ (p q : Place) (one other : MonitoredMachine) (here : Invariant one) (th
 
 -- ---- two lives
 
+-- proves the law of whole lives, by induction on the list of moves
 pub life_law : LifeLaw
 life_law i j [] one other here there stored stored_too point moves = record { steps = tt; point = point }
 life_law i j (InFirst event ∷ more) one other here there stored stored_too point moves =
@@ -637,6 +702,7 @@ life_law i j (Own h g ∷ more) one other here there stored stored_too point mov
 
 -- ---- where a life begins
 
+-- proves that enclaves of the same identity begin at the same point
 pub life_begins : LifeBeginsLaw
 life_begins i j one other here there same size =
     let a = same.first in

@@ -17,14 +17,17 @@ use Rattle.rv_monitor.proofs.StepInvariant.{step_size}
 
 -- ---- a step of one hart over equivalent shared states
 
+-- the view of a hart state and a shared state
 abbrev on : HartState → Shared → HartView
 on hart_state shared = record { hart_state = hart_state; shared = shared }
 
+-- two steps of a view have the same outcome, and are equivalent except for e
 record Agree (e : ℕ) (one other : HartViewStepped) : Type 0 where
   pub outcome : one.outcome ≡ other.outcome
   pub hart_state : HartStatesEquivExcept e one.state.hart_state other.state.hart_state
   pub shared : SharedEquivExcept e one.state.shared other.state.shared
 
+-- the step with its trap, if any, is equivalent over both shared states
 trapped_equiv : (e : ℕ) (outcome : StepOutcome) (o : Option Trap) (worlds : List World) (hart_state : HartState) (one other : Shared)
     → SharedInvariant one worlds → SharedInvariant other worlds → is_world_of e hart_state.world ≡ false → SharedEquivExcept e one other
     → Agree e (option_case o (unhandled outcome hart_state one) (λ trap. returned outcome (handled hart_state one trap)))
@@ -39,22 +42,27 @@ trapped_equiv e outcome (Some trap) worlds hart_state one other a b not_running 
       shared = work.shared;
     }
 
+-- the bare step of the view
 abbrev stepped : HartState → Shared → Stepped
 stepped hart_state shared = step (record { hart = hart_state.hart; memory = shared.memory })
 
+-- the shared state with the memory after the bare step
 abbrev stored : HartState → Shared → Shared
 stored hart_state shared = record shared { memory = (stepped hart_state shared).state.memory }
 
+-- the state after the bare step, with its outcome
 abbrev after_bare : StepOutcome → HartState → Shared → HartViewStepped
 after_bare outcome hart_state shared =
     option_case outcome.trap (unhandled outcome hart_state shared) (λ trap. returned outcome (handled hart_state shared trap))
 
+-- the bare step preserves the shared invariant
 stored_sound : (worlds : List World) (hart_state : HartState) (shared : Shared) → SharedInvariant shared worlds
     → SharedInvariant (stored hart_state shared) worlds
 stored_sound worlds hart_state shared sound =
     let before : Machine = record { hart = hart_state.hart; memory = shared.memory } in
     sound_by_size shared worlds (stepped hart_state shared).state.memory sound (step_size before (step before) (confined before))
 
+-- a step of another world is equivalent over equivalent shared states
 step_equiv : (e : ℕ) (hart_state : HartState) (ws : List World) (one other : Shared) → HartViewInvariant (on hart_state one)
     → SharedInvariant one ws → SharedInvariant other ws → is_world_of e hart_state.world ≡ false → SharedEquivExcept e one other
     → Agree e (monitored_step (on hart_state one)) (monitored_step (on hart_state other))
@@ -78,67 +86,72 @@ step_equiv e hart_state ws one other kept sound_here sound_there not_running equ
 
 -- ---- a step of a hart of the machine
 
+-- equivalent machines have the same worlds
 same_worlds : (e : ℕ) (one other : MonitoredMachine) → EquivExcept e one other → worlds one ≡ worlds other
 same_worlds e one other equiv =
     let world : HartState → World = λ s. s.world in
-    let size = equiv.harts in
+    let same_harts = equiv.harts in
     let here = length-map one.hart_states world in
     let there = length-map other.hart_states world in
-    same_lists (worlds one) (worlds other) (here ∙ size ∙ sym there) (λ k d inside.
-    let has : k < count_of one = omega (arith, here, inside) in
-    get_or-map world one.hart_states k (hart_state_at_start 0) d has ∙ (equiv.hart_states k).world
-    ∙ sym (get_or-map world other.hart_states k (hart_state_at_start 0) d (omega (arith, size, has))))
+    same_lists (worlds one) (worlds other) (here ∙ same_harts ∙ sym there) (λ k d inside.
+    let in_range : k < count_of one = omega (arith, here, inside) in
+    get_or-map world one.hart_states k (hart_state_at_start 0) d in_range ∙ (equiv.hart_states k).world
+    ∙ sym (get_or-map world other.hart_states k (hart_state_at_start 0) d (omega (arith, same_harts, in_range))))
 
+-- the views after the steps of two equivalent machines are equivalent
 own_equiv : (e hart : ℕ) (one other : MonitoredMachine) → Invariant one → Invariant other → EquivExcept e one other → hart < count_of one
     → runs_on e hart one ≡ false
     → Agree e (monitored_step (hart_view hart one)) (monitored_step (hart_view hart other))
-own_equiv e hart one other here there equiv has not_running =
+own_equiv e hart one other here there equiv in_range not_running =
     let hart_states = equiv.hart_states hart in
     let sound = subst (SharedInvariant other.shared) (sym (same_worlds e one other equiv)) there.shared in
     subst (λ (s : HartState). Agree e (monitored_step (hart_view hart one)) (monitored_step (on s other.shared))) (hart_states.same not_running)
     (step_equiv e (hart_state_of hart one) (worlds one) one.shared other.shared
-    (hart_view_invariant hart one here has) here.shared sound not_running equiv.shared)
+    (hart_view_invariant hart one here in_range) here.shared sound not_running equiv.shared)
 
+-- reprogramming leaves equivalent hart states equivalent
 behind_equiv : (e : ℕ) (o : Option Trap) (slots : Slots) (a b : HartState) → HartStatesEquivExcept e a b
     → HartStatesEquivExcept e (hart_state_reprogrammed o slots a) (hart_state_reprogrammed o slots b)
 behind_equiv e None slots a b equiv = equiv
 behind_equiv e (Some trap) slots a b equiv = record { world = equiv.world; same = λ not_running. ap (reprogrammed slots) (equiv.same not_running) }
 
+-- all hart states after the steps of two equivalent machines are equivalent
 stepped_equiv : (e hart : ℕ) (one other : MonitoredMachine) (a b : HartViewStepped) → EquivExcept e one other → hart < count_of one → Agree e a b
     → (j : ℕ) → HartStatesEquivExcept e (hart_state_of j (stepped_by hart one a).state) (hart_state_of j (stepped_by hart other b).state)
-stepped_equiv e hart one other a b equiv has step j =
-    let size = equiv.harts in
+stepped_equiv e hart one other a b equiv in_range step j =
+    let same_harts = equiv.harts in
     elim (cases_lt j (count_of one)) [
       | inr past ↦
           let here = count_behind hart one a in
           let there = count_behind hart other b in
           same_hart_states e _ _ (past_hart_state (stepped_by hart one a).state.hart_states j (omega (arith, here, past))
-          ∙ sym (past_hart_state (stepped_by hart other b).state.hart_states j (omega (arith, there, size, past))))
+          ∙ sym (past_hart_state (stepped_by hart other b).state.hart_states j (omega (arith, there, same_harts, past))))
       | inl inside ↦ elim (cases_eq j hart) [
-        | inl same ↦ hart_states_equiv e _ _ _ _ (own_hart_state hart one a j same has)
-            (own_hart_state hart other b j same (omega (arith, size, has))) step.hart_state
+        | inl same ↦ hart_states_equiv e _ _ _ _ (own_hart_state hart one a j same in_range)
+            (own_hart_state hart other b j same (omega (arith, same_harts, in_range))) step.hart_state
         | inr apart ↦
             let traps = ap (λ (outcome : Outcome). outcome.step.trap) step.outcome in
             let behind : Option Trap → Slots → Type 0 =
             λ o slots. HartStatesEquivExcept e (hart_state_reprogrammed a.outcome.step.trap a.state.shared.table (hart_state_of j one))
             (hart_state_reprogrammed o slots (hart_state_of j other)) in
-            hart_states_equiv e _ _ _ _ (other_hart_state hart one a j apart inside) (other_hart_state hart other b j apart (omega (arith, size, inside)))
+            hart_states_equiv e _ _ _ _ (other_hart_state hart one a j apart inside) (other_hart_state hart other b j apart (omega (arith, same_harts, inside)))
             (subst (λ (o : Option Trap). behind o b.state.shared.table) traps
             (subst (behind a.outcome.step.trap) step.shared.table
             (behind_equiv e a.outcome.step.trap a.state.shared.table (hart_state_of j one) (hart_state_of j other) (equiv.hart_states j))))
       ]
     ]
 
+-- proves noninterference: a low step has the same outcome on every equivalent machine and leaves them equivalent
 pub noninterference : (hart : ℕ) (machine : MonitoredMachine) → Invariant machine → StepNoninterference hart machine (step_of hart machine)
 noninterference hart one here e other there equiv not_running =
-    let size = equiv.harts in
+    let same_harts = equiv.harts in
     elim (cases_lt hart (count_of one)) [
-      | inr past ↦ rw (outside hart one past, outside hart other (omega (arith, size, past))) (record { outcome = refl; state = equiv })
+      | inr past ↦ rw (outside hart one past, outside hart other (omega (arith, same_harts, past))) (record { outcome = refl; state = equiv })
       | inl has ↦
           let a = monitored_step (hart_view hart one) in
           let b = monitored_step (hart_view hart other) in
           let step = own_equiv e hart one other here there equiv has not_running in
-          rw (inside hart one has, inside hart other (omega (arith, size, has))) (record {
+          rw (inside hart one has, inside hart other (omega (arith, same_harts, has))) (record {
             outcome = step.outcome;
             state = record {
               harts = count_behind hart one a ∙ equiv.harts ∙ sym (count_behind hart other b);
@@ -153,12 +166,13 @@ noninterference hart one here e other there equiv not_running =
 -- the two machines are equal
 pub gone_equal : (e : ℕ) (one other : MonitoredMachine) → Invariant one → EquivExcept e one other → is_live one.shared.table e ≡ false → one ≡ other
 gone_equal e one other kept equiv dead =
-    let size = equiv.harts in
+    let same_harts = equiv.harts in
     let machine : List HartState → Shared → MonitoredMachine = λ hart_states shared. record { hart_states = hart_states; shared = shared } in
     ap₂ machine (same_lists one.hart_states other.hart_states equiv.harts (λ j d inside.
     get_or_default one.hart_states j d (hart_state_at_start 0) inside
-    ∙ (equiv.hart_states j).same (not_running j) ∙ sym (get_or_default other.hart_states j d (hart_state_at_start 0) (omega (arith, size, inside)))))
+    ∙ (equiv.hart_states j).same (not_running j) ∙ sym (get_or_default other.hart_states j d (hart_state_at_start 0) (omega (arith, same_harts, inside)))))
     (equiv.shared.gone dead)
   where
+    -- an enclave that does not run runs on no hart
     not_running : (j : ℕ) → runs_on e j one ≡ false
     not_running j = elim (cases_Bool (runs_on e j one)) [ inl runs ↦ absurd (both_ways _ dead (running_is_live e j one kept runs)) | inr none ↦ none ]

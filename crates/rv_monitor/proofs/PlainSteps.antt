@@ -17,18 +17,21 @@ use Rattle.rv_monitor.proofs.TrapSteps.{same_outcome, step_cases, untrapped}
 
 -- ---- without a trap
 
+-- a step without a trap is the bare step
 quiet_step : (state : HartView) → (monitored_step state).outcome.step.trap ≡ None → monitored_step state ≡ untrapped state
-quiet_step state = step_cases state (λ after. after.outcome.step.trap ≡ None → after ≡ untrapped state) (λ none is. refl)
-    (λ trap traps is. let never : None ≡ Some trap = sym is ∙ traps in cc)
+quiet_step state = step_cases state (λ after. after.outcome.step.trap ≡ None → after ≡ untrapped state) (λ none quiet. refl)
+    (λ trap traps quiet. let never : None ≡ Some trap = sym quiet ∙ traps in cc)
 
 -- ---- no interrupt
 
+-- with mie 0, no interrupt is pending
 find_none : (a b t x y z : Bool)
     → (if a && false then Some MachineExternal else (if b && false then Some MachineSoftware else (if t && false then Some MachineTimer
     else (if x && false then Some SupervisorExternal else (if y && false then Some SupervisorSoftware else (if z && false then Some SupervisorTimer else None))))))
     ≡ None
 find_none a b t x y z = rw (and-false a, and-false b, and-false t, and-false x, and-false y, and-false z) refl
 
+-- below mode M with mie 0, no interrupt is pending
 nothing_waits : (c : CsrState) (mode : Mode) → is_machine mode ≡ false → c.mie ≡ 0 → pending c mode ≡ None
 nothing_waits c mode below disabled =
     let mip = mip_word c in
@@ -36,17 +39,18 @@ nothing_waits c mode below disabled =
 
 -- ---- the laws
 
+-- proves that a step is that of the hart without the monitor, up to the trap handler
 pub steps_plainly : (hart : ℕ) (machine : MonitoredMachine) → StepsPlainly hart machine (step_of hart machine)
-steps_plainly hart machine has =
+steps_plainly hart machine in_range =
     let state = hart_view hart machine in
     let outcome : (step_of hart machine).outcome.step ≡ (step (bare_machine state)).outcome =
-    ap (λ (after : HartViewStepped). after.outcome.step) (step_seen hart machine has) ∙ same_outcome state in
+    ap (λ (after : HartViewStepped). after.outcome.step) (step_seen hart machine in_range) ∙ same_outcome state in
     record {
       outcome = outcome;
       quiet = λ none.
           let bare : (step (bare_machine state)).outcome.trap ≡ None = sym (ap (λ (o : StepOutcome). o.trap) outcome) ∙ none in
           let one = quiet_step state (ap (λ (o : StepOutcome). o.trap) (same_outcome state) ∙ bare) in
-          let all : step_of hart machine ≡ stepped_by hart machine (untrapped state) = inside hart machine has ∙ ap (stepped_by hart machine) one in
+          let all : step_of hart machine ≡ stepped_by hart machine (untrapped state) = inside hart machine in_range ∙ ap (stepped_by hart machine) one in
           let put : Option Trap → MonitoredMachine = λ o. record {
             hart_states = slice_set (hart_states_reprogrammed o machine.shared.table machine.hart_states) hart (untrapped state).state.hart_state;
             shared = (untrapped state).state.shared;
@@ -54,6 +58,7 @@ steps_plainly hart machine has =
           (ap (λ (after : MonitoredStepped). after.state) all ∙ ap put bare, ap (λ (after : MonitoredStepped). after.outcome.entered) all);
     }
 
+-- proves that a step of the host takes no interrupt, and redirects exceptions other than calls
 pub host_continues : (hart : ℕ) (machine : MonitoredMachine) → Invariant machine → HostContinues hart machine (step_of hart machine)
 host_continues hart machine kept host = record {
   uninterrupted = λ trap interrupt is by.

@@ -16,20 +16,20 @@ pub use Rattle.rv_monitor.specs.HandlerReads.{HandlerReadsLaw, SameRead, SameWhe
 pub use Rattle.rv_monitor.specs.CallRefusals.{a0, a1, call_refusals}
 pub use Rattle.rv_monitor.specs.Changes.{ByMonitor, ChangesAccessible, IsChanged, IsMeasured, IsStoredAccessible}
 pub use Rattle.rv_monitor.specs.Noninterference.{BareLaw, HandledAlike, HandlerLaw, StepAlike, bare_machine, continuing_from}
-pub use Rattle.rv_monitor.specs.Debugger.{changed, reg_set, timer_line_set}
+pub use Rattle.rv_monitor.specs.Debugger.{changed, reg_set}
 pub use Rattle.rv_monitor.specs.HartLaws.{EntryLaw, IsUndisturbed, LowStepsLaw, RunningLaw, RunsOnNone, SchedChangeLaw, SchedInvariantLaw}
 pub use Rattle.rv_monitor.specs.HartLaws.{SchedLaw, SchedIntegrityLaw, sched}
 pub use Rattle.rv_monitor.specs.Integrity.{KeepsRunning, IsPreserved, IsUntouched, enters}
 pub use Rattle.rv_monitor.proofs.LeftMachine.{saved_after, left_hart, left_shared, line_after, enclave_state_after}
-pub use Rattle.rv_monitor.specs.MonitoredMachine.{HostContextsAreLegal, HasPmpLayout, HostContextIsLegal, Invariant, HartViewInvariant}
-pub use Rattle.rv_monitor.specs.MonitoredMachine.{HartInvariant, HostContextInvariant, MonitoredMachine, HartView}
-pub use Rattle.rv_monitor.specs.MonitoredMachine.{count_of, machine_of_parts, hart_state_at_start, hart_state_of, reprogrammed}
+pub use Rattle.rv_monitor.specs.MonitoredMachine.{FullInvariant, HostContextsAreLegal, HasPmpLayout, HostContextIsLegal, Invariant, HartViewInvariant}
+pub use Rattle.rv_monitor.specs.MonitoredMachine.{HartInvariant, HostContextInvariant, MonitoredMachine, HartView, timer_line_set}
+pub use Rattle.rv_monitor.specs.MonitoredMachine.{count_of, machine_of_parts, hart_state_at_start, hart_state_in, hart_state_of, reprogrammed}
 pub use Rattle.rv_monitor.specs.MonitoredMachine.{hart_states_at_start, hart_view, with_hart_state, worlds}
 unfoldable pub use Rattle.rv_monitor.specs.MonitoredMachine.{at_start}
-pub use Rattle.rv_monitor.specs.Step.{MonitoredStepped, HartViewStepped, returned_to_caller, forwarded, handled_cause, handled_exception, not_stepped}
+pub use Rattle.rv_monitor.specs.Step.{MonitoredStepped, HartViewStepped, returned_to_caller, redirected, handled_cause, handled_exception, not_stepped}
 pub use Rattle.rv_monitor.specs.Step.{past_call, refused, returned, returned_to, hart_states_reprogrammed, hart_view_after, stepped_by, stopped_context}
 pub use Rattle.rv_monitor.specs.Step.{trapped_mode, trapped_pc, unhandled, with_reprogrammed_hart}
-unfoldable pub use Rattle.rv_monitor.specs.Step.{call_handled, called, forwarded_csrs, handled, monitored_step, performed, step_of}
+unfoldable pub use Rattle.rv_monitor.specs.Step.{call_handled, called, with_redirected_trap, handled, monitored_step, performed, step_of}
 unfoldable pub use Rattle.rv_monitor.specs.Step.{timer_stopped}
 pub use Rattle.rv_monitor.specs.SwitchLaws.{StaysOrSwitches, reason, value}
 pub use Rattle.rv_monitor.specs.Switches.{Handled, saved_host, saved}

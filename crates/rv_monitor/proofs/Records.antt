@@ -13,19 +13,22 @@ use Rattle.rv_monitor.proofs.HartCases.{by_hart}
 use Rattle.rv_monitor.proofs.TrapSteps.{step_cases, hart_state_after}
 use Rattle.rv_monitor.proofs.HandlerCases.{handler_cases}
 
+-- a new state of slot j leaves the record of another slot
 state_other : (slots : Slots) (k j : ℕ) (o : Option SlotInfo) (state : EnclaveState) → k ≢ j
     → slot_at (option_case o slots (λ info. with_slot slots j (Some (record info { state = state })))) k ≡ slot_at slots k
 state_other slots k j None state other = refl
 state_other slots k j (Some info) state other = at_other slots j k (Some (record info { state = state })) other
 
+-- a new state of slot k leaves its identity
 state_same : (slots : Slots) (k : ℕ) (o : Option SlotInfo) (state : EnclaveState) → length slots ≡ 13 → slot_at slots k ≡ o
     → identity_at (option_case o slots (λ info. with_slot slots k (Some (record info { state = state })))) k ≡ identity_at slots k
-state_same slots k None state count is = refl
-state_same slots k (Some info) state count is =
-    let within = live_in_range slots k info count is in
+state_same slots k None state count slot_is = refl
+state_same slots k (Some info) state count slot_is =
+    let within = live_in_range slots k info count slot_is in
     let there = at_same slots k (Some (record info { state = state })) (omega (arith, count, within)) in
-    ap (option_map identity_of) there ∙ sym (ap (option_map identity_of) is)
+    ap (option_map identity_of) there ∙ sym (ap (option_map identity_of) slot_is)
 
+-- a new state of slot j changes the identity of no slot
 pub state_keeps : (slots : Slots) (k j : ℕ) (state : EnclaveState) → length slots ≡ 13 → identity_at (with_state slots j state) k ≡ identity_at slots k
 state_keeps slots k j state count = elim (cases_eq k j) [
   | inl same ↦ rw (← same) (state_same slots k (slot_at slots k) state count refl)
@@ -33,6 +36,7 @@ state_keeps slots k j state count = elim (cases_eq k j) [
 ]
 
 module _ (k : ℕ) (hart_state : HartState) (shared : Shared) (valid : IsValid shared.memory shared.table) (live : is_live shared.table k ≡ true) where
+  -- a create keeps the identity of the live slot k
   created_keeps : (new : CreateArgs) → MayCreate shared new → identity_at (created shared new).table k ≡ identity_at shared.table k
   unfolding created
   created_keeps new may =
@@ -40,6 +44,7 @@ module _ (k : ℕ) (hart_state : HartState) (shared : Shared) (valid : IsValid s
       let other : k ≢ new_slot shared.table = λ same. both_ways _ (ap (λ (o : Option SlotInfo). is_some o) free) (rw (← same) live) in
       ap (option_map identity_of) (at_other shared.table (new_slot shared.table) k (Some (recorded shared.memory new)) other)
 
+  -- a destroy keeps the identity of slot k, if it is live after it
   destroyed_keeps : (j : ℕ) → IsTaken shared.table Destroy j → is_live (destroyed shared j).table k ≡ true
       → identity_at (destroyed shared j).table k ≡ identity_at shared.table k
   unfolding destroyed
@@ -51,9 +56,11 @@ module _ (k : ℕ) (hart_state : HartState) (shared : Shared) (valid : IsValid s
     | inr other ↦ ap (option_map identity_of) (at_other shared.table j k None other)
   ]
 
+  -- the identity of slot k is kept, if it is live after the trap handler
   abbrev Keeps : Handled → Type 0
   Keeps h = is_live h.shared.table k ≡ true → identity_at h.shared.table k ≡ identity_at shared.table k
 
+  -- each case of the trap handler keeps the identity
   handled_keeps : (trap : Trap) → Keeps (handled hart_state shared trap)
   unfolding measured entered_slot left
   handled_keeps trap = handler_cases hart_state trap shared Keeps (record {
@@ -63,17 +70,18 @@ module _ (k : ℕ) (hart_state : HartState) (shared : Shared) (valid : IsValid s
     measures = λ reads may stays. refl;
     enters = λ call reads enters host taken stays. state_keeps shared.table k (a0 hart_state) Running valid.count;
     leaves = λ stays. state_keeps shared.table k (running_slot hart_state.world) (enclave_state_after trap.cause hart_state.hart.regs) valid.count;
-    forwards = λ stays. refl;
+    redirects = λ stays. refl;
   })
 
+-- proves that a step keeps the identity of each enclave that stays live
 pub record_law : (hart : ℕ) (machine : MonitoredMachine) → Invariant machine → PreservesRecords machine (step_of hart machine)
 record_law hart machine kept k live =
     by_hart hart machine
     (λ after. is_live after.state.shared.table k ≡ true → identity_at after.state.shared.table k ≡ identity_at machine.shared.table k)
     (λ stays. refl)
-    (λ has.
+    (λ in_range.
     let state : HartView = hart_view hart machine in
-    let own = hart_view_invariant hart machine kept has in
+    let own = hart_view_invariant hart machine kept in_range in
     step_cases state (λ after. is_live after.state.shared.table k ≡ true → identity_at after.state.shared.table k ≡ identity_at state.shared.table k)
     (λ none stays. refl)
-    (λ trap is. handled_keeps k (hart_state_after state.hart_state trap) state.shared own.valid live trap))
+    (λ trap trapped. handled_keeps k (hart_state_after state.hart_state trap) state.shared own.valid live trap))

@@ -18,18 +18,19 @@ pub record ChangesAlike (e : ℕ) (one other : HartState) (change change_too : H
 
 module _ (e hart : ℕ) (change change_too : HartState → HartState) (one other : MonitoredMachine) (related : AreRelated e one other)
     (alike : ChangesAlike e (hart_state_of hart one) (hart_state_of hart other) change change_too) where
+  -- changes of a hart of the machine leave related machines
   changed_in : hart < count_of one → AreRelated e (changed hart change one) (changed hart change_too other)
-  changed_in has =
+  changed_in in_range =
       let a = change (hart_state_of hart one) in
       let b = change_too (hart_state_of hart other) in
-      let size = related.harts in
+      let same_harts = related.harts in
       record {
-        harts = length-set one.hart_states hart a ∙ size ∙ sym (length-set other.hart_states hart b);
+        harts = length-set one.hart_states hart a ∙ same_harts ∙ sym (length-set other.hart_states hart b);
         hart_states = hart_cases_of_both one.hart_states other.hart_states hart a b
-            (λ j s t. HartStatesEquivExcept e (guest_state s) (guest_state t)) size has (alike.state (related.hart_states hart))
+            (λ j s t. HartStatesEquivExcept e (guest_state s) (guest_state t)) same_harts in_range (alike.state (related.hart_states hart))
             (λ j apart. related.hart_states j);
         hosts = hart_cases_of_both one.hart_states other.hart_states hart a b
-            (λ j s t. is_world_of e s.world ≡ true → SameHost (guest_state s) (guest_state t)) size has
+            (λ j s t. is_world_of e s.world ≡ true → SameHost (guest_state s) (guest_state t)) same_harts in_range
             (λ runs. alike.host (related.hosts hart (ap (is_world_of e) (sym alike.world) ∙ runs)))
             (λ j apart. related.hosts j);
         table = related.table;
@@ -38,13 +39,14 @@ module _ (e hart : ℕ) (change change_too : HartState → HartState) (one other
         gone = related.gone;
       }
 
+  -- changes of a hart that have the same effect on related hart states leave related machines
   pub changed_related : AreRelated e (changed hart change one) (changed hart change_too other)
   changed_related = elim (cases_lt hart (count_of one)) [
     | inl has ↦ changed_in has
     | inr past ↦
-        let size = related.harts in
+        let same_harts = related.harts in
         let here = past_as_is hart (change (hart_state_of hart one)) one past in
-        let there = past_as_is hart (change_too (hart_state_of hart other)) other (omega (arith, size, past)) in
+        let there = past_as_is hart (change_too (hart_state_of hart other)) other (omega (arith, same_harts, past)) in
         rw (here, there) related
   ]
 

@@ -10,11 +10,13 @@ use Rattle.rv_monitor.proofs.Prelude.{MonitoredMachine, hart_state_of, length-ma
 use Rattle.rv_monitor.proofs.EquivLemmas.{hart_states_equiv}
 use Rattle.rv_monitor.proofs.GuestView.{guest_hart_state}
 
+-- if an or fails, its first part does
 not_first : (a b : Bool) → (a || b) ≡ false → a ≡ false
 not_first true b is = cc
 not_first false b is = refl
 
 module _ (e : ℕ) (one other : MonitoredMachine) where
+  -- related machines are equivalent in the guest view, if a running enclave has the same window in both
   pub related_equiv : AreRelated e one other → (runs one.shared.table e ≡ true → SameWindow e one other) → EquivToGuests e one other
   related_equiv related same = record {
     harts = length-map one.hart_states guest_state ∙ related.harts ∙ sym (length-map other.hart_states guest_state);
@@ -28,6 +30,7 @@ module _ (e : ℕ) (one other : MonitoredMachine) where
       gone = related.gone;
     };
   } where
+    -- bytes outside the region are equal
     bytes : (i : ℕ) → has (region one.shared.table e) (ram_base + i) ≡ false → slice_index one.shared.memory i ≡ slice_index other.shared.memory i
     bytes i own = elim (cases_Bool (runs one.shared.table e)) [
       | inr idle ↦ related.memory.bytes i (rw (own, idle) refl)
@@ -37,6 +40,7 @@ module _ (e : ℕ) (one other : MonitoredMachine) where
       ]
     ]
 
+  -- machines that are equivalent in the guest view are related, if the hosts beneath the enclave are the same
   pub equiv_related : EquivToGuests e one other → ((hart : ℕ) → runs_on e hart one ≡ true → SameHostOn hart one other) → AreRelated e one other
   equiv_related equiv hosts = record {
     harts = sym (length-map one.hart_states guest_state) ∙ equiv.harts ∙ length-map other.hart_states guest_state;

@@ -14,9 +14,10 @@ use Rattle.rv_monitor.proofs.Switched.{KeptStored, kept_between, switch_law}
 
 -- while the host runs it has no saved context
 nothing_kept : (o : Option Context) → is_some o ≡ false → KeptStored o
-nothing_kept None is = tt
-nothing_kept (Some context) is = cc
+nothing_kept None none = tt
+nothing_kept (Some context) none = cc
 
+-- a hart that runs the host has no saved host context, so a legal one
 pub host_stored : (hart_state : HartState) → HostContextInvariant hart_state → is_host hart_state.world ≡ true → HostContextIsLegal hart_state
 host_stored hart_state keeps host = nothing_kept hart_state.host_context (keeps.kept ∙ ap not host)
 
@@ -35,7 +36,7 @@ pub back_from : (before state : HartView) (after : HartViewStepped) → StaysOrS
 back_from before state after (inl stays) kept other host = absurd (both_ways _ other (sym (ap is_host stays.world) ∙ host))
 back_from before state after (inr (inl enters)) kept other host = absurd (both_ways _ other (ap is_host enters.from_host))
 back_from before state after (inr (inr leaves)) kept other host =
-    let both = sym leaves.kept ∙ kept in
+    let equal = sym leaves.kept ∙ kept in
     let same : leaves.host ≡ saved before.hart_state.hart (past_ecall before.hart_state.hart) S = cc in
     let x = reason leaves.trap.cause state.hart_state.hart.regs in
     let y = value leaves.trap.cause state.hart_state.hart.regs in
@@ -60,6 +61,7 @@ runs_there hart machine runs = elim (cases_lt hart (count_of machine)) [
 
 -- ---- a step of a hart
 
+-- a step of the hart on which an enclave runs before and after keeps the host's context
 own_keeps : (hart : ℕ) (machine : MonitoredMachine) → is_host (hart_state_of hart machine).world ≡ false
     → is_host (hart_state_of hart (step_of hart machine).state).world ≡ false → host_on hart (step_of hart machine).state ≡ host_on hart machine
 own_keeps hart machine runs still =
@@ -67,6 +69,7 @@ own_keeps hart machine runs still =
     ap (λ (after : HartViewStepped). after.state.hart_state.host_context) seen
     ∙ kept_between (hart_view hart machine) runs (sym (ap (λ (after : HartViewStepped). is_host after.state.hart_state.world) seen) ∙ still)
 
+-- a step of any hart keeps the host's context on the hart
 step_keeps : (hart named : ℕ) (machine : MonitoredMachine) → is_host (hart_state_of hart machine).world ≡ false
     → is_host (hart_state_of hart (step_of named machine).state).world ≡ false → host_on hart (step_of named machine).state ≡ host_on hart machine
 step_keeps hart named machine runs still = elim (cases_eq hart named) [
@@ -78,10 +81,12 @@ step_keeps hart named machine runs still = elim (cases_eq hart named) [
 
 -- ---- steps of the harts in order
 
+-- the hart runs an enclave before the first of the steps
 pub first_runs : (hart : ℕ) (harts : List ℕ) (machine : MonitoredMachine) → RunsThrough hart harts machine → is_host (hart_state_of hart machine).world ≡ false
 first_runs hart [] machine runs = runs
 first_runs hart (named ∷ harts) machine runs = runs.0
 
+-- the host's saved context on the hart does not change while an enclave runs there
 pub steps_keep : (hart : ℕ) (harts : List ℕ) (machine : MonitoredMachine) → RunsThrough hart harts machine
     → host_on hart (sched harts machine).state ≡ host_on hart machine
 steps_keep hart [] machine runs = refl
@@ -89,6 +94,7 @@ steps_keep hart (named ∷ harts) machine runs =
     let after = (step_of named machine).state in
     steps_keep hart harts after runs.1 ∙ step_keeps hart named machine runs.0 (first_runs hart harts after runs.1)
 
+-- the hart runs an enclave after the last of the steps
 pub last_runs : (hart : ℕ) (harts : List ℕ) (machine : MonitoredMachine) → RunsThrough hart harts machine
     → is_host (hart_state_of hart (sched harts machine).state).world ≡ false
 last_runs hart [] machine runs = runs
@@ -100,31 +106,32 @@ last_runs hart (named ∷ harts) machine runs = last_runs hart harts (step_of na
 enters_there : (hart : ℕ) (machine : MonitoredMachine) → is_host (hart_state_of hart (step_of hart machine).state).world ≡ false → hart < count_of machine
 enters_there hart machine runs =
     let after = (step_of hart machine).state in
-    let has = runs_there hart after runs in
-    subst (λ (n : ℕ). hart < n) (step_count hart machine) has
+    let in_range = runs_there hart after runs in
+    subst (λ (n : ℕ). hart < n) (step_count hart machine) in_range
 
 -- the entry saves the host as it was
 pub entered_is : (hart : ℕ) (machine : MonitoredMachine) → Invariant machine → is_host (hart_state_of hart machine).world ≡ true
     → is_host (hart_state_of hart (step_of hart machine).state).world ≡ false
     → host_on hart (step_of hart machine).state ≡ Some (saved (hart_state_of hart machine).hart (past_ecall (hart_state_of hart machine).hart) S)
 entered_is hart machine kept host other =
-    let has = enters_there hart machine other in
-    let seen = step_seen hart machine has in
+    let in_range = enters_there hart machine other in
+    let seen = step_seen hart machine in_range in
     let own = hart_view hart machine in
-    let keeps = (kept.hart_states hart has).host in
+    let keeps = (kept.hart_states hart in_range).host in
     ap (λ (after : HartViewStepped). after.state.hart_state.host_context) seen
     ∙ entered_from own (monitored_step own) (switch_law own keeps (host_stored own.hart_state keeps host)) host
     (sym (ap (λ (after : HartViewStepped). is_host after.state.hart_state.world) seen) ∙ other)
 
--- the exit restores it
+-- the exit restores the host's saved context
 pub comes_back : (hart : ℕ) (before : HartView) (machine : MonitoredMachine) → Invariant machine → HostContextIsLegal (hart_state_of hart machine)
     → host_on hart machine ≡ Some (saved before.hart_state.hart (past_ecall before.hart_state.hart) S) → is_host (hart_state_of hart machine).world ≡ false
     → is_host (monitored_step (hart_view hart machine)).state.hart_state.world ≡ true
     → HostIsRestored before (hart_view hart machine) (monitored_step (hart_view hart machine))
-comes_back hart before machine kept stored is runs host =
+comes_back hart before machine kept stored host_on_is runs host =
     let own = hart_view hart machine in
-    back_from before own (monitored_step own) (switch_law own (kept.hart_states hart (runs_there hart machine runs)).host stored) is runs host
+    back_from before own (monitored_step own) (switch_law own (kept.hart_states hart (runs_there hart machine runs)).host stored) host_on_is runs host
 
+-- proves that the host, from its call to the exit of the enclave, gets its own context back
 pub return_law : ReturnLaw
 return_law hart harts machine kept stored host runs again =
     let first = (step_of hart machine).state in

@@ -16,6 +16,7 @@ use Rattle.rv_monitor.proofs.HartCases.{by_hart, outside, step_seen}
 
 -- ---- a step preserves it
 
+-- an enclave that two steps in turn preserve is preserved by both together
 pub preserved_twice : (k : ℕ) (before between after : Shared) → IsPreserved k before between → IsPreserved k between after → IsPreserved k before after
 preserved_twice k before between after first last = record {
   slot = last.slot ∙ first.slot;
@@ -23,6 +24,7 @@ preserved_twice k before between after first last = record {
   context = last.context ∙ first.context;
 }
 
+-- an enclave that two steps in turn leave untouched is untouched by both together
 untouched_twice : (k : ℕ) (before between after : MonitoredMachine) → IsUntouched k before between → IsUntouched k between after
     → IsUntouched k before after
 untouched_twice k before between after first last = record {
@@ -41,10 +43,12 @@ untouched_itself k machine kept = record {
 
 -- ---- every order of steps
 
+-- an enclave that is undisturbed by steps is live before them
 first_live : (k : ℕ) (harts : List ℕ) (machine : MonitoredMachine) → IsUndisturbed k harts machine → is_live machine.shared.table k ≡ true
 first_live k [] machine alone = alone
 first_live k (hart ∷ harts) machine alone = alone.0
 
+-- proves the integrity law for steps in any order, by induction on the list
 pub sched_integrity : SchedIntegrityLaw
 sched_integrity k [] machine kept alone = untouched_itself k machine kept
 sched_integrity k (hart ∷ harts) machine kept alone =
@@ -55,6 +59,7 @@ sched_integrity k (hart ∷ harts) machine kept alone =
 
 -- ---- a running enclave is neither entered nor ended by another hart
 
+-- proves that a step neither enters nor ends an enclave that runs on another hart
 pub go_on_law : (hart : ℕ) (machine : MonitoredMachine) → Invariant machine → KeepsOthersRunning hart machine (step_of hart machine)
 go_on_law hart machine kept k own runs not_running = by_hart hart machine (KeepsRunning k)
     (record { passes = refl; live = running_is_live k own machine kept runs })
@@ -64,10 +69,11 @@ go_on_law hart machine kept k own runs not_running = by_hart hart machine (Keeps
     let others = running_is_undisturbed k hart own machine here runs not_running in
     record {
       passes = entered_by k after.outcome.entered
-          (λ is. both_ways _ (sound.apart.0 k (is_entered k (hart_view hart machine) is)) others);
+          (λ enters_slot. both_ways _ (sound.apart.0 k (is_entered k (hart_view hart machine) enters_slot)) others);
       live = live_by (slot_at after.state.shared.table k) (sound.running k ∙ or_right (is_world_of k after.state.hart_state.world) _ others);
     })
 
+-- proves that steps of other harts leave a running enclave undisturbed
 pub running_law : RunningLaw
 running_law k own [] machine kept runs none = running_is_live k own machine kept runs
 running_law k own (hart ∷ harts) machine kept runs none =
@@ -84,6 +90,7 @@ running_law k own (hart ∷ harts) machine kept runs none =
 
 -- ---- which bytes the steps change
 
+-- a step changes only bytes that it may change
 step_changes : (hart : ℕ) (machine : MonitoredMachine) (byte : ℕ) → Invariant machine
     → byte_at (step_of hart machine).state.shared.memory byte ≡ byte_at machine.shared.memory byte
     ⊎ IsChanged (hart_view hart machine) (hart_view_after hart (step_of hart machine)) byte
@@ -95,6 +102,7 @@ step_changes hart machine byte kept = elim (cases_lt hart (count_of machine)) [
       (changes (hart_view hart machine) (hart_view_invariant hart machine kept here) byte)
 ]
 
+-- proves that steps in any order change only bytes that one of them may change
 pub sched_changes : SchedChangeLaw
 sched_changes [] machine byte kept = inl refl
 sched_changes (hart ∷ harts) machine byte kept = elim (step_changes hart machine byte kept) [

@@ -12,6 +12,7 @@ use Rattle.rv_monitor.proofs.TrapSteps.{step_cases, hart_state_after}
 
 -- ---- steps in any order of two equivalent machines
 
+-- proves the noninterference law for steps in any order, by induction on the list
 pub sched_law : SchedLaw
 sched_law e [] one other here there equiv low_steps = record { outcomes = refl; state = equiv; low_steps = tt }
 sched_law e (hart ∷ harts) one other here there equiv low_steps =
@@ -28,23 +29,26 @@ sched_law e (hart ∷ harts) one other here there equiv low_steps =
 
 -- ---- the hart on which the enclave runs after a step
 
+-- the world after an entry of e is e
 entered_world : (e : ℕ) (hart_state : HartState) (trap : Trap) (h : Handled) → Turns hart_state trap h
     → h.next.entered ≡ Some e → is_world_of e h.hart_state.world ≡ true
-entered_world e hart_state trap h (inl stays) is = let none : None ≡ Some e = sym stays.entered ∙ is in cc
-entered_world e hart_state trap h (inr (inl enter)) is =
-    let same : Some enter.slot ≡ Some e = sym enter.entered ∙ is in
+entered_world e hart_state trap h (inl stays) enters_slot = let none : None ≡ Some e = sym stays.entered ∙ enters_slot in cc
+entered_world e hart_state trap h (inr (inl enter)) enters_slot =
+    let same : Some enter.slot ≡ Some e = sym enter.entered ∙ enters_slot in
     let slot : enter.slot ≡ e = cc in
     ap (is_world_of e) enter.world ∙ eq-eqb enter.slot e slot
-entered_world e hart_state trap h (inr (inr leaves)) is = let none : None ≡ Some e = sym leaves.entered ∙ is in cc
+entered_world e hart_state trap h (inr (inr leaves)) enters_slot = let none : None ≡ Some e = sym leaves.entered ∙ enters_slot in cc
 
+-- after a step that enters e, the world of the hart is e
 pub is_entered : (e : ℕ) (state : HartView) → (monitored_step state).outcome.entered ≡ Some e
     → is_world_of e (monitored_step state).state.hart_state.world ≡ true
 is_entered e state = step_cases state (λ after. after.outcome.entered ≡ Some e → is_world_of e after.state.hart_state.world ≡ true)
-    (λ none is. cc)
-    (λ trap traps is.
+    (λ none enters_slot. cc)
+    (λ trap traps enters_slot.
     let hart_state = hart_state_after state.hart_state trap in
-    entered_world e hart_state trap (handled hart_state state.shared trap) (handled_turns hart_state state.shared trap) is)
+    entered_world e hart_state trap (handled hart_state state.shared trap) (handled_turns hart_state state.shared trap) enters_slot)
 
+-- an outcome that is not an entry of slot k is none by the test
 pub entered_by : (k : ℕ) (o : Option ℕ) → (o ≡ Some k → ⊥) → enters k o ≡ false
 entered_by k None never = refl
 entered_by k (Some j) never = elim (cases_Bool (j == k)) [
@@ -52,9 +56,10 @@ entered_by k (Some j) never = elim (cases_Bool (j == k)) [
   | inr other ↦ other
 ]
 
+-- an outcome that enters k by the test names slot k
 pub entered_some : (k : ℕ) (o : Option ℕ) → enters k o ≡ true → o ≡ Some k
-entered_some k None is = cc
-entered_some k (Some j) is = ap Some (eqb-true j k is)
+entered_some k None entered = cc
+entered_some k (Some j) entered = ap Some (eqb-true j k entered)
 
 -- a hart on which it did not run, and whose step did not enter it
 other_world : (e : ℕ) (hart_state : HartState) (trap : Trap) (h : Handled) → Turns hart_state trap h
@@ -63,6 +68,7 @@ other_world e hart_state trap h (inl stays) not_running none = ap (is_world_of e
 other_world e hart_state trap h (inr (inl enter)) not_running none = ap (is_world_of e) enter.world ∙ sym (ap (enters e) enter.entered) ∙ none
 other_world e hart_state trap h (inr (inr leaves)) not_running none = ap (is_world_of e) leaves.world
 
+-- the world of the hart is not e after a step that does not enter e, if it was not before
 pub own_apart : (e : ℕ) (state : HartView) → is_world_of e state.hart_state.world ≡ false → enters e (monitored_step state).outcome.entered ≡ false
     → is_world_of e (monitored_step state).state.hart_state.world ≡ false
 own_apart e state not_running = step_cases state (λ after. enters e after.outcome.entered ≡ false → is_world_of e after.state.hart_state.world ≡ false)
@@ -82,6 +88,7 @@ own_still e hart machine not_running passes = elim (cases_lt hart (count_of mach
       ∙ own_apart e (hart_view hart machine) not_running (sym (ap (λ (after : HartViewStepped). enters e after.outcome.entered) seen) ∙ passes)
 ]
 
+-- proves that a hart runs the enclave after a step only if it did before, or the step entered it
 pub entry_law : EntryLaw
 entry_law e hart own machine not_running passes = elim (cases_eq own hart) [
   | inl same ↦
@@ -90,11 +97,13 @@ entry_law e hart own machine not_running passes = elim (cases_eq own hart) [
   | inr other ↦ step_beside (λ (hart_state : HartState). is_world_of e hart_state.world) (λ slots hart_state. refl) hart own machine other ∙ not_running
 ]
 
+-- after a step that does not enter e, the enclave still runs on none of these harts
 pub none_again : (e hart : ℕ) (harts : List ℕ) (machine : MonitoredMachine) → RunsOnNone e harts machine
     → enters e (step_of hart machine).outcome.entered ≡ false → RunsOnNone e harts (step_of hart machine).state
 none_again e hart [] machine none passes = tt
 none_again e hart (own ∷ harts) machine none passes = (entry_law e hart own machine none.0 passes, none_again e hart harts machine none.1 passes)
 
+-- proves that steps of harts without the enclave are low steps up to the one that enters it
 pub low_steps : LowStepsLaw
 low_steps e [] machine none passes = tt
 low_steps e (hart ∷ []) machine none passes = (none.0, tt)

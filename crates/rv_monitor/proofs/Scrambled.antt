@@ -12,6 +12,7 @@ use Rattle.rv_monitor.proofs.EquivLemmas.{equiv_itself, shared_equiv}
 
 -- ---- the machine
 
+-- scrambling slot k preserves the invariant
 pub scramble_invariant : (machine : MonitoredMachine) (k : ℕ) → Invariant machine → can_scramble machine.shared.table k ≡ true → Invariant (scrambled machine k)
 unfolding scrambled_shared
 scramble_invariant machine k kept may = record {
@@ -19,6 +20,7 @@ scramble_invariant machine k kept may = record {
   hart_states = kept.hart_states;
 }
 
+-- the scrambled machine is equivalent to the machine except for k
 pub scramble_equiv : (machine : MonitoredMachine) (k : ℕ) → Invariant machine → can_scramble machine.shared.table k ≡ true
     → EquivExcept k machine (scrambled machine k)
 scramble_equiv machine k kept may =
@@ -27,21 +29,26 @@ scramble_equiv machine k kept may =
 
 -- ---- the call: it scrambles if it can, and otherwise changes nothing
 
+-- the machine with another shared state
 abbrev seated_with : MonitoredMachine → Shared → MonitoredMachine
 seated_with machine shared = record machine { shared = shared }
 
+-- the shared state, scrambled if this is done
 abbrev pub perhaps : Bool → MonitoredMachine → ℕ → Shared
 perhaps done machine k = if done then scrambled_shared machine.shared k else machine.shared
 
+-- a machine that is scrambled if it can be keeps the invariant
 pub perhaps_kept : (done : Bool) (machine : MonitoredMachine) (k : ℕ) → done ≡ can_scramble machine.shared.table k → Invariant machine
     → Invariant (seated_with machine (perhaps done machine k))
-perhaps_kept true machine k asked kept = scramble_invariant machine k kept (sym asked)
-perhaps_kept false machine k asked kept = kept
+perhaps_kept true machine k done_is kept = scramble_invariant machine k kept (sym done_is)
+perhaps_kept false machine k done_is kept = kept
 
+-- a machine that is scrambled if it can be is equivalent to the machine before
 pub perhaps_equiv : (done : Bool) (machine : MonitoredMachine) (k : ℕ) → done ≡ can_scramble machine.shared.table k → Invariant machine
     → EquivExcept k machine (seated_with machine (perhaps done machine k))
-perhaps_equiv true machine k asked kept = scramble_equiv machine k kept (sym asked)
-perhaps_equiv false machine k asked kept = equiv_itself k machine (itself k machine.shared)
+perhaps_equiv true machine k done_is kept = scramble_equiv machine k kept (sym done_is)
+perhaps_equiv false machine k done_is kept = equiv_itself k machine (itself k machine.shared)
 
+-- proves that scrambling twice restores the machine
 pub scramble_law : ScrambleLaw
 scramble_law machine k bytes words = ap (λ (shared : Shared). record machine { shared = shared }) (shared_twice machine.shared k bytes words)

@@ -20,72 +20,82 @@ use Rattle.rv_monitor.proofs.TrapSteps.{step_cases, hart_after, hart_state_after
 
 -- ---- no entry of a layout is locked
 
+-- no PMP entry of the layout of a world is locked
 pub layout_unlocked : (slots : Slots) (world : World) → IsUnlocked (layout slots world)
 unfolding layout
 layout_unlocked slots world i = elim (cases_lt i 16) [
   | inl inside ↦
-      let is : cfg_of (layout slots world) i ≡ (entry_at slots world i).cfg =
+      let cfg_is : cfg_of (layout slots world) i ≡ (entry_at slots world i).cfg =
       get_or-map-range_with_len (λ j. (entry_at slots world j).cfg) 0 16 i i 0 inside (omega arith) in
-      rw is (entry_is_plain slots world i).unlocked
+      rw cfg_is (entry_is_plain slots world i).unlocked
   | inr past ↦
       let is : cfg_of (layout slots world) i ≡ 0 = get_or_past {X = ℕ} (layout slots world).cfgs i 0 past in
       rw is refl
 ]
 
+-- no PMP entry of a hart with the invariant is locked
 pub hart_state_unlocked : (slots : Slots) (hart_state : HartState) → HartInvariant slots hart_state → IsUnlocked hart_state.hart.csrs.pmp
-hart_state_unlocked slots hart_state is = let layout = is.layout in subst IsUnlocked (sym layout.entries) (layout_unlocked slots hart_state.world)
+hart_state_unlocked slots hart_state hart_kept = let layout = hart_kept.layout in subst IsUnlocked (sym layout.entries) (layout_unlocked slots hart_state.world)
 
 -- no entry of a programmed hart is locked, before or after a trap
 unlocked_if : (slots : Slots) (hart_state : HartState) (o : Option Trap) (hart : Hart) (memory left : List ℕ) (trap : Trap) → o ≡ Some trap
     → HartInvariant slots hart_state
     → IfSome o (λ t. (hart ≡ hart_after hart_state.hart t) × (left ≡ memory)) → IsUnlocked hart.csrs.pmp
-unlocked_if slots hart_state None hart memory left trap is reprogrammed keeps = cc
-unlocked_if slots hart_state (Some t) hart memory left trap is reprogrammed keeps =
+unlocked_if slots hart_state None hart memory left trap trapped reprogrammed keeps = cc
+unlocked_if slots hart_state (Some t) hart memory left trap trapped reprogrammed keeps =
     subst (λ (h : Hart). IsUnlocked h.csrs.pmp) (sym keeps.0) (hart_state_unlocked slots hart_state reprogrammed)
 
+-- no PMP entry is locked after a step that traps
 pub unlocked_after : (hart_state : HartState) (shared : Shared) (after : Stepped) (trap : Trap) → after.outcome.trap ≡ Some trap
     → HartInvariant shared.table hart_state
     → TrapKeeps (record { hart = hart_state.hart; memory = shared.memory }) after → IsUnlocked after.state.hart.csrs.pmp
-unlocked_after hart_state shared after trap is reprogrammed keeps =
-    unlocked_if shared.table hart_state after.outcome.trap after.state.hart shared.memory after.state.memory trap is reprogrammed keeps
+unlocked_after hart_state shared after trap trapped reprogrammed keeps =
+    unlocked_if shared.table hart_state after.outcome.trap after.state.hart shared.memory after.state.memory trap trapped reprogrammed keeps
 
 -- ---- the bare step
 
+-- a store does not change the size of the memory
 stored_size : (bytes old new : List ℕ) (span : Option Span) → Stores bytes old new span → length old ≡ length new
 stored_size bytes old new None stores = sym (ap length stores)
 stored_size bytes old new (Some span) stores = sym (length-write old span.addr bytes new stores.1)
 
+-- a memory has the same bytes as itself
 same_in : (m : List ℕ) (span : Option Span) → SameIn m m span
 same_in m None = tt
 same_in m (Some span) = refl
 
+-- a memory is equal to itself on every accessed byte
 pub equiv_itself : (m : List ℕ) (touched : Touched) → EqualOn m m touched
 equiv_itself m touched = record { size = refl; fetched = same_in m touched.fetched; loaded = same_in m touched.loaded }
 
+-- a step whose stores are confined keeps the size of the memory
 pub step_size : (before : Machine) (after : Stepped) → IsConfined before after → length before.memory ≡ length after.state.memory
 step_size before after confined =
     let equiv = equiv_itself before.memory after.outcome.touched in
     stored_size confined.bytes before.memory after.state.memory after.outcome.touched.stored (confined.alike before.memory equiv).here
 
+-- an address rounded down to a multiple of 4 is one
 multiple : (n : ℕ) → aligned_to_4 n % 4 ≡ 0
 multiple n = omega arith
 
+-- equal machine's parts have equal PMP entries, mie and bits of mstatus
 same_parts : (a b : CsrState) → machine_parts a ≡ machine_parts b
     → (a.pmp ≡ b.pmp) × (a.mie ≡ b.mie) × (a.mstatus.mie ≡ b.mstatus.mie) × (a.mstatus.tvm ≡ b.mstatus.tvm) × (a.mstatus.tw ≡ b.mstatus.tw)
     × (a.mstatus.tsr ≡ b.mstatus.tsr)
 unfolding machine_parts
-same_parts a b is = (
-  ap (λ (c : CsrState). c.pmp) is,
-  ap (λ (c : CsrState). c.mie) is,
-  ap (λ (c : CsrState). c.mstatus.mie) is,
-  ap (λ (c : CsrState). c.mstatus.tvm) is,
-  ap (λ (c : CsrState). c.mstatus.tw) is,
-  ap (λ (c : CsrState). c.mstatus.tsr) is,
+same_parts a b machine_parts_is = (
+  ap (λ (c : CsrState). c.pmp) machine_parts_is,
+  ap (λ (c : CsrState). c.mie) machine_parts_is,
+  ap (λ (c : CsrState). c.mstatus.mie) machine_parts_is,
+  ap (λ (c : CsrState). c.mstatus.tvm) machine_parts_is,
+  ap (λ (c : CsrState). c.mstatus.tw) machine_parts_is,
+  ap (λ (c : CsrState). c.mstatus.tsr) machine_parts_is,
 )
 
+-- a claim for the case without a trap holds, if there is none
 pub stays_if : (o : Option Trap) (P : Type 0) → o ≡ None → IfNone o P → P
-stays_if None P is p = p
-stays_if (Some t) P is p = cc
+stays_if None P no_trap p = p
+stays_if (Some t) P no_trap p = cc
 
 -- ---- the state of a hart
 
@@ -99,9 +109,9 @@ pub reprogrammed_by : (before after : Slots) (hart_state : HartState) (hart : Ha
     → hart.csrs.pmp ≡ layout after hart_state.world
     → hart.csrs.mie ≡ mie_of hart_state.world → hart.mode ≡ hart_state.hart.mode → hart.csrs.mstatus ≡ hart_state.hart.csrs.mstatus
     → HartInvariant after (record hart_state { hart = hart })
-reprogrammed_by before after hart_state hart is entries mie mode status =
-    let own = is.layout in
-    hart_seated after hart_state hart is.host (record {
+reprogrammed_by before after hart_state hart hart_kept entries mie mode status =
+    let own = hart_kept.layout in
+    hart_seated after hart_state hart hart_kept.host (record {
       entries = entries;
       mie = mie;
       mode = ap is_machine mode ∙ own.mode;
@@ -114,27 +124,31 @@ reprogrammed_by before after hart_state hart is entries mie mode status =
 
 -- with the PMP entries and mie of another table
 pub laid_seated : (before after : Slots) (hart_state : HartState) → HartInvariant before hart_state → HartInvariant after (reprogrammed after hart_state)
-laid_seated before after hart_state is = reprogrammed_by before after hart_state (pmp_programmed after hart_state.world hart_state.hart) is refl refl refl refl
+laid_seated before after hart_state hart_kept = reprogrammed_by before after hart_state (pmp_programmed after hart_state.world hart_state.hart) hart_kept refl refl refl refl
 
 -- ---- a step of one hart, given the worlds on the others
 
+-- the invariants of the shared state and of the hart give that of its view
 pub hart_view_of : (hart_state : HartState) (shared : Shared) (worlds : List World) → SharedInvariant shared worlds → HartInvariant shared.table hart_state
     → HartViewInvariant (record { hart_state = hart_state; shared = shared })
-hart_view_of hart_state shared worlds sound is = record { valid = sound.valid; hart = is }
+hart_view_of hart_state shared worlds sound hart_kept = record { valid = sound.valid; hart = hart_kept }
 
+-- after a step, the shared invariant holds with the hart's new world and the worlds of the other harts
 abbrev pub KeptBeside : List World → HartViewStepped → Type 0
 KeptBeside beside after =
     SharedInvariant after.state.shared (after.state.hart_state.world ∷ beside) × HartInvariant after.state.shared.table after.state.hart_state
 
 module _ (beside : List World) (hart_state : HartState) (shared : Shared) (sound : SharedInvariant shared (hart_state.world ∷ beside))
-    (is : HartInvariant shared.table hart_state) where
+    (hart_kept : HartInvariant shared.table hart_state) where
+  -- the view of the hart
   abbrev state : HartView
   state = record { hart_state = hart_state; shared = shared }
 
+  -- the hart state at a trap has the invariant
   trapped_hart_state : (trap : Trap) → IsTrapped beside (hart_state_after hart_state trap) shared
   trapped_hart_state trap =
-      let host = is.host in
-      let layout = is.layout in
+      let host = hart_kept.host in
+      let layout = hart_kept.layout in
       record {
         ready = record {
           sound = sound;
@@ -146,16 +160,16 @@ module _ (beside : List World) (hart_state : HartState) (shared : Shared) (sound
         pc = multiple hart_state.hart.pc;
       }
 
-  -- without a trap
+  -- a step without a trap preserves the shared invariant
   quiet_kept : (after : Stepped) → IsConfined (bare_machine state) after → StaysBelow hart_state.hart after.state.hart
       → after.state.hart.csrs.mstatus.mprv ≡ false
       → KeptBeside beside (unhandled after.outcome (record hart_state { hart = after.state.hart }) (record shared { memory = after.state.memory }))
   quiet_kept after confined below mprv =
       let hart = after.state.hart in
       let parts = same_parts hart.csrs hart_state.hart.csrs below.0 in
-      let layout = is.layout in (
+      let layout = hart_kept.layout in (
         sound_by_size shared (hart_state.world ∷ beside) after.state.memory sound (step_size (bare_machine state) after confined),
-        hart_seated shared.table hart_state hart is.host (record {
+        hart_seated shared.table hart_state hart hart_kept.host (record {
           entries = parts.0 ∙ layout.entries;
           mie = parts.1 ∙ layout.mie;
           mode = below.1;
@@ -184,10 +198,11 @@ module _ (beside : List World) (hart_state : HartState) (shared : Shared) (sound
         }),
       )
 
+  -- a step of a view preserves the shared invariant, with the worlds of the other harts
   pub step_invariant : KeptBeside beside (monitored_step state)
   step_invariant =
       let after = step (bare_machine state) in
-      let layout = is.layout in
+      let layout = hart_kept.layout in
       step_cases state (KeptBeside beside)
       (λ none.
       let below =

@@ -12,11 +12,13 @@ use Rattle.rv_monitor.proofs.HandlerCases.{handler_cases}
 
 -- ---- the effect of the trap handler on the state of a hart
 
+-- the trap handler continues the world: same world, same saved host context, and no enclave entered
 pub record StaysIn (hart_state : HartState) (h : Handled) : Type 0 where
   pub world : h.hart_state.world ≡ hart_state.world
   pub host : h.hart_state.host_context ≡ hart_state.host_context
   pub entered : h.next.entered ≡ None
 
+-- the trap handler enters an enclave from the host, whose registers it saves
 pub record EntersFrom (hart_state : HartState) (h : Handled) : Type 0 where
   pub slot : ℕ
   pub from_host : hart_state.world ≡ Host
@@ -35,9 +37,11 @@ pub record LeavesFor (hart_state : HartState) (trap : Trap) (h : Handled) : Type
   pub forgotten : h.hart_state.host_context ≡ None
   pub entered : h.next.entered ≡ None
 
+-- the trap handler continues the world, enters an enclave or exits one
 abbrev pub Turns : HartState → Trap → Handled → Type 0
 Turns hart_state trap h = StaysIn hart_state h ⊎ (EntersFrom hart_state h ⊎ LeavesFor hart_state trap h)
 
+-- each trap continues the world, enters an enclave or exits one
 pub handled_turns : (hart_state : HartState) (shared : Shared) (trap : Trap) → Turns hart_state trap (handled hart_state shared trap)
 unfolding entered_slot left
 handled_turns hart_state shared trap = handler_cases hart_state trap shared (Turns hart_state trap) (record {
@@ -47,23 +51,27 @@ handled_turns hart_state shared trap = handler_cases hart_state trap shared (Tur
   measures = λ reads may. inl (record { world = refl; host = refl; entered = refl });
   enters = λ call reads enters host taken. inr (inl (record { slot = a0 hart_state; from_host = host; world = refl; host = refl; entered = refl }));
   leaves = inr (inr (record { world = refl; regs = refl; pc = refl; mode = refl; supervisor = refl; forgotten = refl; entered = refl }));
-  forwards = inl (record { world = refl; host = refl; entered = refl });
+  redirects = inl (record { world = refl; host = refl; entered = refl });
 })
 
 -- ---- the S-mode registers of the host's saved context are as a hart stores them
 
+-- the S-mode registers of a hart are legal in a saved context, if each holds a value that it can store
 pub own_stored : (c : CsrState) → KeepsOwn c → IsLegal (s_context c)
 own_stored c own = record { stvec = ap (λ (x : CsrState). x.stvec) own; sepc = ap (λ (x : CsrState). x.sepc) own }
 
+-- a saved context of the host, if there is one, is legal
 abbrev pub KeptStored : Option Context → Type 0
 KeptStored o = IfSome o (λ context. IsLegal context.supervisor)
 
+-- each kind of result leaves a legal saved context of the host
 stored_by : (hart_state : HartState) (trap : Trap) (h : Handled) → Turns hart_state trap h → HostContextIsLegal hart_state → KeepsOwn hart_state.hart.csrs
     → HostContextIsLegal h.hart_state
 stored_by hart_state trap h (inl stays) stored own = subst KeptStored (sym stays.host) stored
 stored_by hart_state trap h (inr (inl enters)) stored own = subst KeptStored (sym enters.host) (own_stored hart_state.hart.csrs own)
 stored_by hart_state trap h (inr (inr leaves)) stored own = subst KeptStored (sym leaves.forgotten) tt
 
+-- the trap handler leaves the saved context of the host legal
 pub handled_stored : (hart_state : HartState) (shared : Shared) (trap : Trap) → HostContextIsLegal hart_state → KeepsOwn hart_state.hart.csrs
     → HostContextIsLegal (handled hart_state shared trap).hart_state
 handled_stored hart_state shared trap stored own =
@@ -71,12 +79,14 @@ handled_stored hart_state shared trap stored own =
 
 -- ---- if an enclave runs before and after, the host's saved context is unchanged
 
+-- a result that leaves an enclave running keeps the saved context of the host
 runs_on : (hart_state : HartState) (trap : Trap) (h : Handled) → Turns hart_state trap h → is_host hart_state.world ≡ false → is_host h.hart_state.world ≡ false
     → h.hart_state.host_context ≡ hart_state.host_context
 runs_on hart_state trap h (inl stays) before after = stays.host
 runs_on hart_state trap h (inr (inl enters)) before after = absurd (both_ways _ before (ap is_host enters.from_host))
 runs_on hart_state trap h (inr (inr leaves)) before after = absurd (both_ways _ after (ap is_host leaves.world))
 
+-- a step from an enclave to an enclave keeps the saved context of the host
 pub kept_between : (state : HartView) → is_host state.hart_state.world ≡ false → is_host (monitored_step state).state.hart_state.world ≡ false
     → (monitored_step state).state.hart_state.host_context ≡ state.hart_state.host_context
 kept_between state before =
@@ -88,15 +98,18 @@ kept_between state before =
 
 -- ---- the step
 
+-- a legal context is restored as it is
 stored_again : (c : CsrState) (s : SContext) → IsLegal s → s_context (with_s_context c s) ≡ s
 stored_again c s stored = let stvec = stored.stvec in let sepc = stored.sepc in rw (stvec, sepc) refl
 
+-- a pc that passes the test of a context to continue with is a multiple of 4
 pub aligned_again : (mode : Mode) (pc : ℕ) → (not (is_machine mode) && pc % 4 == 0) ≡ true → aligned_to_4 pc ≡ pc
 aligned_again mode pc held =
     let test : (pc % 4 == 0) ≡ true = (and_parts (not (is_machine mode)) (pc % 4 == 0) held).1 in
     let multiple : pc % 4 ≡ 0 = grind (arith, nat_tests) in
     omega arith
 
+-- a context with the parts of the host's is the host's, except for the registers
 same_context : (host : Context) (regs : List ℕ) (pc : ℕ) (mode : Mode) (supervisor : SContext) (told_regs : List ℕ) → regs ≡ told_regs
     → pc ≡ host.pc → mode ≡ host.mode
     → supervisor ≡ host.supervisor
@@ -132,6 +145,7 @@ module _ (state : HartView) (kept : HostContextInvariant state.hart_state) (stor
         entered = told.entered;
       }))
 
+  -- the return from each kind of result continues, enters or exits
   returned_turns : (outcome : StepOutcome) (h : Handled) → outcome.trap ≡ Some trap
       → Turns (hart_state_after state.hart_state trap) trap h → StaysOrSwitches state (returned outcome h)
   returned_turns outcome h trapped_is (inl stays) = inl (record { world = stays.world; host = stays.host; entered = stays.entered })
@@ -140,8 +154,9 @@ module _ (state : HartView) (kept : HostContextInvariant state.hart_state) (stor
   returned_turns outcome h trapped_is (inr (inr leaves)) =
       returned_leaves outcome h trapped_is leaves state.hart_state.world state.hart_state.host_context refl refl kept.kept
 
+-- proves that each step continues its world, enters an enclave, or exits to the host
 pub switch_law : (state : HartView) → HostContextInvariant state.hart_state → HostContextIsLegal state.hart_state → StaysOrSwitches state (monitored_step state)
 switch_law state kept stored = step_cases state (StaysOrSwitches state)
     (λ none. inl (record { world = refl; host = refl; entered = refl }))
-    (λ trap is. returned_turns state kept stored trap (step (bare_machine state)).outcome _ is
+    (λ trap trapped. returned_turns state kept stored trap (step (bare_machine state)).outcome _ trapped
     (handled_turns (hart_state_after state.hart_state trap) state.shared trap))

@@ -15,33 +15,37 @@ use Rattle.rv_monitor.proofs.TrapSteps.{same_outcome}
 fetched_still : (hart : Hart) (touched : Touched) (written : Option ℕ) (o : Option Span) (finish : Result Hart Trap) → touched.fetched ≡ o
     → (retired_or_trapped hart touched written finish).outcome.touched.fetched ≡ o
 unfolding retired_or_trapped
-fetched_still hart touched written o (Ok after) is = is
-fetched_still hart touched written o (Err trap) is = is
+fetched_still hart touched written o (Ok after) fetched_is = fetched_is
+fetched_still hart touched written o (Err trap) fetched_is = fetched_is
 
+-- the step fetches the word at pc, or executes no instruction
 abbrev FetchesAtPc : ℕ → Stepped → Type 0
 FetchesAtPc pc after =
     (after.outcome.touched.fetched ≡ span pc Word) ⊎ ((after.outcome.touched.fetched ≡ None) × (executes after.outcome.trap ≡ false))
 
+-- each step fetches the word at pc, or executes no instruction
 fetches_at_pc : (state : Machine) → FetchesAtPc state.hart.pc (step state)
 fetches_at_pc state = step_ways state (FetchesAtPc state.hart.pc) (record {
-  interrupt = λ interrupt is. inr (refl, refl);
+  interrupt = λ interrupt pending_is. inr (refl, refl);
   fetch_refused = λ fault here. inr (refl, refl);
   illegal = λ word here. inl refl;
   no_access = λ word instr here. inl (fetched_still state.hart _ _ _ _ refl);
   load = λ word instr address width number here done. inl (fetched_still state.hart _ _ _ _ refl);
-  load_refused = λ word instr address width fault here is. inl refl;
+  load_refused = λ word instr address width fault here not_loaded. inl refl;
   store = λ word instr address width value memory here done. inl (fetched_still state.hart _ _ _ _ refl);
-  store_refused = λ word instr address width value fault here is. inl refl;
+  store_refused = λ word instr address width value fault here not_stored. inl refl;
 })
 
 -- ---- the accesses
 
 module _ (state : HartView) (kept : HartViewInvariant state) where
+  -- a permitted access below M is accessible to the world
   accessible : (mode : Mode) (access : Access) (o : Option Span) → is_machine mode ≡ false → MayTouch (bare_machine state) mode access o
       → SpanIsAccessible state access o
   accessible mode access None below may = tt
   accessible mode access (Some span) below may = sym (access_control_law state mode access span.addr span.len kept (below_M mode below) may.0) ∙ may.1
 
+  -- each access of the bare step is accessible to the world
   touched_in_reach : IsTouchedAccessible state (step (bare_machine state)).outcome
   touched_in_reach =
       let may = touches_permitted (bare_machine state) in
@@ -54,5 +58,6 @@ module _ (state : HartView) (kept : HartViewInvariant state) where
         stored = accessible (data_mode state.hart_state.hart) Write touched.stored below may.stored;
       }
 
+-- proves that a step accesses only bytes that its world may access
 pub touch_law : (state : HartView) → HartViewInvariant state → TouchesAccessible state (monitored_step state)
 touch_law state kept = subst (IsTouchedAccessible state) (sym (same_outcome state)) (touched_in_reach state kept)

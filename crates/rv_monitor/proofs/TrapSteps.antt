@@ -9,12 +9,13 @@ use Rattle.rv_monitor.proofs.Prelude.{HartView, HartViewStepped, bare_machine, h
 abbrev pub hart_after : Hart → Trap → Hart
 hart_after hart trap = step_counted (trapped hart trap) false hart.csrs.mcountinhibit None
 
+-- the hart state after the bare step's trap, before the trap handler
 abbrev pub hart_state_after : HartState → Trap → HartState
 hart_state_after hart_state trap = record hart_state { hart = hart_after hart_state.hart trap }
 
 -- ---- the two cases of a step
 
--- without a trap
+-- a step without a trap: the state after the bare step
 abbrev pub untrapped : HartView → HartViewStepped
 untrapped state =
     let after = step (bare_machine state) in
@@ -24,6 +25,7 @@ untrapped state =
 abbrev pub trapped_to : HartView → Trap → HartViewStepped
 trapped_to state trap = returned (step (bare_machine state)).outcome (handled (hart_state_after state.hart_state trap) state.shared trap)
 
+-- the claim for a step, with a trap or without
 by-end : (state : HartView) (P : HartViewStepped → Type 0) (o : Option Trap) (outcome : StepOutcome) (hart : Hart) (memory : List ℕ)
     → IfSome o (λ t. (hart ≡ hart_after state.hart_state.hart t) × (memory ≡ state.shared.memory))
     → (let hart_state = record state.hart_state { hart = hart } in
@@ -48,14 +50,15 @@ step_cases state P quiet traps =
 -- the outcome of the step contains that of the hart's own step
 pub same_outcome : (state : HartView) → (monitored_step state).outcome.step ≡ (step (bare_machine state)).outcome
 same_outcome state =
-    step_cases state (λ after. after.outcome.step ≡ (step (bare_machine state)).outcome) (λ none. refl) (λ trap is. refl)
+    step_cases state (λ after. after.outcome.step ≡ (step (bare_machine state)).outcome) (λ none. refl) (λ trap trapped. refl)
 
+-- a step that traps is the trap handler on the state at the trap, and its return
 pub trapped_step : (state : HartView) (trap : Trap) → (monitored_step state).outcome.step.trap ≡ Some trap
     → monitored_step state ≡ trapped_to state trap
 trapped_step state trap =
     step_cases state (λ after. after.outcome.step.trap ≡ Some trap → after ≡ trapped_to state trap)
-    (λ none is. let never : None ≡ Some trap = sym none ∙ is in cc)
-    (λ other there is.
-    let traps : Some other ≡ Some trap = sym there ∙ is in
+    (λ none trapped. let never : None ≡ Some trap = sym none ∙ trapped in cc)
+    (λ other there trapped.
+    let traps : Some other ≡ Some trap = sym there ∙ trapped in
     let same : other ≡ trap = cc in
     ap (trapped_to state) same)

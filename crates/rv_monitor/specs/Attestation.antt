@@ -22,6 +22,7 @@ pub record IsAsCreated (k : ℕ) (shared : Shared) : Type 0 where
   pub context : context_at shared.contexts k ≡ Some (first_context info)
   pub measurement : info.measurement ≡ measurement_of shared.memory (args_of info)
 
+-- after a step, each enclave that it creates is as created, and each other that was so still is, unless it was entered or destroyed
 pub record KeepsAsCreated (before : MonitoredMachine) (after : MonitoredStepped) : Type 0 where
   -- an enclave that the step creates is as created after it
   pub creates : (k : ℕ) → is_live before.shared.table k ≡ false → is_live after.state.shared.table k ≡ true → IsAsCreated k after.state.shared

@@ -9,19 +9,21 @@ use Rattle.rv_monitor.specs.MonitoredMachine.{MonitoredMachine, hart_state_of}
 use Rattle.rv_monitor.specs.NumberedCalls.{HandsOver, by_interrupt}
 use Rattle.rv_monitor.specs.Step.{MonitoredStepped}
 
+-- the trap of a machine timer interrupt, with 0 in mtval
 abbrev pub timer_trap : Trap
 timer_trap = record { cause = causes.Interrupt MachineTimer; tval = 0 }
 
-pub record ExitsByTimer (hart k : ℕ) (host : Context) (before : MonitoredMachine) (after : MonitoredStepped) : Type 0 where
+-- the step takes the timer interrupt: the enclave stops, the host returns with 2 and 0 in a0 and a1, and may destroy the enclave
+pub record ExitsByTimer (hart slot : ℕ) (host : Context) (before : MonitoredMachine) (after : MonitoredStepped) : Type 0 where
   pub trapped : after.outcome.step.trap ≡ Some timer_trap
-  pub left : HandsOver hart before after k timer_trap host (by_interrupt (hart_state_of hart before).hart)
+  pub left : HandsOver hart before after slot timer_trap host (by_interrupt (hart_state_of hart before).hart)
   pub result : (hart_state_of hart after.state).hart.regs ≡ with_return_values host.regs 2 0
   pub world : (hart_state_of hart after.state).world ≡ Host
-  -- a destroy of it is not refused
-  pub destroyable : first_refusal (state_refusals after.state.shared.table Destroy k) ≡ None
+  -- a destroy of the enclave is not refused
+  pub destroyable : first_refusal (state_refusals after.state.shared.table Destroy slot) ≡ None
 
--- for the enclave that runs on the hart that steps, and the host whose context is saved there
+-- if the timer line of a hart that runs an enclave is set, its next step exits to the host whose context is saved there
 abbrev pub TimerExits : ℕ → MonitoredMachine → MonitoredStepped → Type 0
 TimerExits hart before after =
-    (k : ℕ) (host : Context) → (hart_state_of hart before).world ≡ Enclave k → (hart_state_of hart before).host_context ≡ Some host
-    → (hart_state_of hart before).hart.csrs.timer ≡ true → ExitsByTimer hart k host before after
+    (slot : ℕ) (host : Context) → (hart_state_of hart before).world ≡ Enclave slot → (hart_state_of hart before).host_context ≡ Some host
+    → (hart_state_of hart before).hart.csrs.timer ≡ true → ExitsByTimer hart slot host before after

@@ -3,9 +3,11 @@ use Rattle.std.specs.Prelude.{ℕ, Bool, List, []}
 use Rattle.rv_monitor.specs.Prelude.{Call, Create, Destroy, Exit, Measure, Refusal, Resume, Run, HartState, Shared, Stop, create_refusals}
 use Rattle.rv_monitor.specs.Prelude.{measure_refusals, measured_slot, create_args_of, register, state_refusals}
 
+-- the first argument of a call: register a0 (x10) of the hart
 abbrev pub a0 : HartState → ℕ
 a0 hart_state = register hart_state.hart.regs 10
 
+-- the second argument of a call: register a1 (x11) of the hart
 abbrev pub a1 : HartState → ℕ
 a1 hart_state = register hart_state.hart.regs 11
 

@@ -30,7 +30,7 @@ pub record SameHost (one other : HartState) : Type 0 where
   pub host : one.host_context ≡ other.host_context
   pub rest : unswitched one.hart.csrs ≡ unswitched other.hart.csrs
 
--- the same on a hart, in the guest view
+-- the same host is saved on a hart of both machines, in the guest view
 abbrev pub SameHostOn : ℕ → MonitoredMachine → MonitoredMachine → Type 0
 SameHostOn hart one other = SameHost (guest_state (hart_state_of hart one)) (guest_state (hart_state_of hart other))
 
@@ -101,16 +101,19 @@ IsMove e (Second hart) one other = IsInside e hart other
 IsMove e (Both (StepOf hart)) one other = IsLowStep e hart one other ⊎ ExitsAlike e hart one other
 IsMove e (Both (LineOf hart raised)) one other = Unit {0}
 
+-- the first machine after a move; a move of the second machine alone does not change it
 abbrev pub first_after : Move → MonitoredMachine → MonitoredMachine
 first_after (First hart) machine = (step_of hart machine).state
 first_after (Second hart) machine = machine
 first_after (Both event) machine = (event_of event machine).state
 
+-- the second machine after a move; a move of the first machine alone does not change it
 abbrev pub second_after : Move → MonitoredMachine → MonitoredMachine
 second_after (First hart) machine = machine
 second_after (Second hart) machine = (step_of hart machine).state
 second_after (Both event) machine = (event_of event machine).state
 
+-- each move in the list is permitted in the two machines that the moves before it lead to
 abbrev pub AreMoves : ℕ → List Move → MonitoredMachine → MonitoredMachine → Type 0
 AreMoves e [] one other = Unit {0}
 AreMoves e (move ∷ moves) one other = IsMove e move one other × AreMoves e moves (first_after move one) (second_after move other)
@@ -131,16 +134,19 @@ abbrev pub first_end : List Move → MonitoredMachine → MonitoredMachine
 first_end [] machine = machine
 first_end (move ∷ moves) machine = first_end moves (first_after move machine)
 
+-- the second machine after all moves
 abbrev pub second_end : List Move → MonitoredMachine → MonitoredMachine
 second_end [] machine = machine
 second_end (move ∷ moves) machine = second_end moves (second_after move machine)
 
 -- ---- the law
 
+-- each low step has equal outcomes in both machines, and the machines are related after the moves
 pub record MovedAlike (e : ℕ) (moves : List Move) (one other : MonitoredMachine) : Type 0 where
   pub outcomes : LowOutcomesEqual e moves one other
   pub state : AreRelated e (first_end moves one) (second_end moves other)
 
+-- permitted moves of two related machines have equal outcomes of low steps, and lead to related machines
 abbrev pub DeclassificationLaw : Type 0
 DeclassificationLaw =
     (e : ℕ) (moves : List Move) (one other : MonitoredMachine) → Invariant one → Invariant other → AreRelated e one other

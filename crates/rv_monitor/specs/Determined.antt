@@ -14,6 +14,7 @@ pub record ObeysCases (hart : ℕ) (before : MonitoredMachine) (after : Monitore
   pub exits : ExitsOnRequest hart before after
   pub host : HostContinues hart before after
 
+-- a result that has one of the cases, with what the case demands, is the result of the step
 abbrev pub DeterminedLaw : Type 0
 DeterminedLaw =
     (hart : ℕ) (machine : MonitoredMachine) (after : MonitoredStepped) → Invariant machine → hart < count_of machine → ObeysCases hart machine after

@@ -23,6 +23,7 @@ pub record Place : Type 0 where
 abbrev pub runs_at : Place → MonitoredMachine → Bool
 runs_at place machine = runs_on place.slot place.hart machine
 
+-- a step of the hart of the place
 abbrev pub step_at : Place → MonitoredMachine → MonitoredStepped
 step_at place machine = step_of place.hart machine
 
@@ -66,6 +67,7 @@ pub record SameAfter (p q : Place) (one other : MonitoredMachine) : Type 0 where
   pub runs : runs_at p one ≡ true → SameEnclave p q one other
   pub exits : runs_at p one ≡ false → SameExit p q one other
 
+-- two steps have equal outcomes, and leave the enclaves in the same state or both exited
 pub record SameEnclaveStep (p q : Place) (one other : MonitoredStepped) : Type 0 where
   pub outcome : one.outcome ≡ other.outcome
   pub state : SameAfter p q one.state other.state
@@ -83,10 +85,12 @@ abbrev pub AreHighSteps : Place → ℕ → MonitoredMachine → Type 0
 AreHighSteps place zero machine = Unit {0}
 AreHighSteps place (suc count) machine = (runs_at place machine ≡ true) × AreHighSteps place count (step_at place machine).state
 
+-- so many steps of each hart have equal outcomes, and leave the enclaves in the same state or both exited
 pub record SameEnclaveRun (p q : Place) (count : ℕ) (one other : MonitoredMachine) : Type 0 where
   pub outcomes : (sched (replicate count p.hart) one).outcomes ≡ (sched (replicate count q.hart) other).outcomes
   pub state : SameAfter p q (sched (replicate count p.hart) one).state (sched (replicate count q.hart) other).state
 
+-- if two enclaves have the same state, each run of steps of the one is the same as that of the other
 abbrev pub EnclaveRunLaw : Type 0
 EnclaveRunLaw =
     (p q : Place) (count : ℕ) (one other : MonitoredMachine) → Invariant one → Invariant other → SameEnclave p q one other

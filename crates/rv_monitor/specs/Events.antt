@@ -2,11 +2,11 @@
 -- hart steps next, and when its timer interrupt becomes pending. (Laws about the monitor's definitions, not rules of a standard.)
 use Rattle.std.specs.Prelude.{◌≡◌, ℕ, Bool, false, true, List, [], ◌∷◌}
 use Rattle.rv_monitor.specs.Prelude.{is_live}
-use Rattle.rv_monitor.specs.Debugger.{timer_line_set, with_timer}
+use Rattle.rv_monitor.specs.Debugger.{with_timer}
 use Rattle.rv_monitor.specs.EquivExcept.{EquivExcept, runs_on}
 use Rattle.rv_monitor.specs.HartLaws.{Scheduled, first_then}
 use Rattle.rv_monitor.specs.Integrity.{IsPreserved, enters}
-use Rattle.rv_monitor.specs.MonitoredMachine.{MonitoredMachine, Invariant, hart_state_of, reprogrammed}
+use Rattle.rv_monitor.specs.MonitoredMachine.{MonitoredMachine, Invariant, hart_state_of, reprogrammed, timer_line_set}
 use Rattle.rv_monitor.specs.Step.{MonitoredStepped, not_stepped, step_of}
 
 -- a step of a hart, or the timer line of a hart is set or cleared
@@ -14,6 +14,7 @@ pub data Event : Type 0 where
   StepOf : ℕ → Event
   LineOf : ℕ → Bool → Event
 
+-- the result of one event; a change of a timer line has the outcome of no step
 abbrev pub event_of : Event → MonitoredMachine → MonitoredStepped
 event_of (StepOf hart) machine = step_of hart machine
 event_of (LineOf hart raised) machine = record (not_stepped machine) { state = with_timer hart machine raised }
@@ -34,6 +35,7 @@ abbrev pub IsLowEvent : ℕ → Event → MonitoredMachine → Type 0
 IsLowEvent e (StepOf hart) machine = runs_on e hart machine ≡ false
 IsLowEvent e (LineOf hart raised) machine = Unit {0}
 
+-- before each event in the list, the event is a low step or a change of a timer line
 abbrev pub AreLowEvents : ℕ → List Event → MonitoredMachine → Type 0
 AreLowEvents e [] machine = Unit {0}
 AreLowEvents e (event ∷ more) machine = IsLowEvent e event machine × AreLowEvents e more (event_of event machine).state

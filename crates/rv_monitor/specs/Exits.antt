@@ -14,6 +14,7 @@ use Rattle.rv_monitor.specs.Step.{MonitoredStepped}
 
 -- ---- the traps by which an enclave exits
 
+-- the calls that exit an enclave: stop and exit
 abbrev pub is_exit_call : Option Call → Bool
 is_exit_call (Some Stop) = true
 is_exit_call (Some Exit) = true
@@ -33,7 +34,7 @@ is_redirected (causes.Exception EnvironmentCallFromS) = false
 is_redirected (causes.Exception exception) = true
 is_redirected (causes.Interrupt interrupt) = false
 
--- SPP for a mode
+-- the value of SPP for the mode of a trap: 1 for S, and 0 for U
 abbrev pub spp_of : Mode → Bool
 spp_of U = false
 spp_of S = true
@@ -54,7 +55,7 @@ redirected_csrs hart trap =
 abbrev pub redirected_hart : Hart → Trap → Hart
 redirected_hart hart trap = record { regs = hart.regs; csrs = redirected_csrs hart trap; pc = aligned_to_4 hart.csrs.stvec; mode = S }
 
--- only that hart changes
+-- the machine after a redirected trap: only the hart that trapped changes
 abbrev pub redirected_machine : ℕ → MonitoredMachine → Trap → MonitoredMachine
 redirected_machine own before trap =
     let hart_state = hart_state_of own before in
@@ -62,6 +63,7 @@ redirected_machine own before trap =
 
 -- ---- the law
 
+-- the world of a hart that runs an enclave after a step: the enclave, or the host after stop, exit or a timer interrupt
 pub record ExitsOnlyBy (hart k : ℕ) (before : MonitoredMachine) (after : MonitoredStepped) : Type 0 where
   -- without a trap it continues
   pub quiet : after.outcome.step.trap ≡ None → (hart_state_of hart after.state).world ≡ Enclave k
@@ -75,6 +77,6 @@ pub record ExitsOnlyBy (hart k : ℕ) (before : MonitoredMachine) (after : Monit
   pub redirects : (trap : Trap) → after.outcome.step.trap ≡ Some trap → is_redirected trap.cause ≡ true
       → (after.state ≡ redirected_machine hart before trap) × (after.outcome.entered ≡ None)
 
--- for the enclave that runs on the hart that steps
+-- an enclave that runs on the hart that steps exits only by stop, by exit or by a timer interrupt
 abbrev pub ExitsOnRequest : ℕ → MonitoredMachine → MonitoredStepped → Type 0
 ExitsOnRequest hart before after = (k : ℕ) → (hart_state_of hart before).world ≡ Enclave k → ExitsOnlyBy hart k before after

@@ -10,6 +10,7 @@ use Rattle.rv_monitor.specs.Step.{MonitoredStepped, step_of}
 abbrev pub guest_state : HartState → HartState
 guest_state hart_state = record hart_state { hart = guest_hart hart_state.hart }
 
+-- the machine with the unread registers of each hart set to 0
 abbrev pub guest_view : MonitoredMachine → MonitoredMachine
 guest_view machine = record machine { hart_states = map guest_state machine.hart_states }
 
@@ -18,7 +19,7 @@ pub record SameGuestView (one other : MonitoredStepped) : Type 0 where
   pub outcome : one.outcome ≡ other.outcome
   pub state : guest_view one.state ≡ guest_view other.state
 
--- so does a step of every machine with the same guest view
+-- a step has the same outcome on every machine with the same guest view, and leaves equal guest views
 abbrev pub DependsOnGuestView : ℕ → MonitoredMachine → MonitoredStepped → Type 0
 DependsOnGuestView hart before after =
     (other : MonitoredMachine) → Invariant other → guest_view before ≡ guest_view other → SameGuestView after (step_of hart other)

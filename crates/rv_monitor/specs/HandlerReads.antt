@@ -14,6 +14,7 @@ abbrev pub is_call : Cause → Bool
 is_call (causes.Exception EnvironmentCallFromS) = true
 is_call _ = false
 
+-- the call that a trap requests: that of the registers after an ecall, else none
 abbrev pub requested_by : Cause → HartState → Option Call
 requested_by cause hart_state =
     if is_call cause then requested_call hart_state.world hart_state.hart.regs else None
@@ -40,11 +41,13 @@ pub record SameWhereSame (one other one_after other_after : Shared) : Type 0 whe
   pub contexts : (k : ℕ) → context_at one.contexts k ≡ context_at other.contexts k
       → context_at one_after.contexts k ≡ context_at other_after.contexts k
 
+-- two runs of the trap handler leave the same hart, and equal shared state wherever it was equal before
 pub record SameHandling (one other : Shared) (one_left other_left : Handled) : Type 0 where
   pub hart_state : one_left.hart_state ≡ other_left.hart_state
   pub next : one_left.next ≡ other_left.next
   pub shared : SameWhereSame one other one_left.shared other_left.shared
 
+-- the trap handler has the same result on two shared states that are the same in all that it reads
 abbrev pub HandlerReadsLaw : Type 0
 HandlerReadsLaw =
     (hart_state : HartState) (trap : Trap) (one other : Shared) → SameRead hart_state trap.cause one other
@@ -52,6 +55,7 @@ HandlerReadsLaw =
 
 -- ---- the step
 
+-- two steps leave the same hart states, enter the same slot, and leave equal shared state wherever it was equal before
 pub record SameStep (one other : MonitoredMachine) (one_after other_after : MonitoredStepped) : Type 0 where
   pub hart_states : one_after.state.hart_states ≡ other_after.state.hart_states
   pub entered : one_after.outcome.entered ≡ other_after.outcome.entered

@@ -12,9 +12,11 @@ pub record Scheduled : Type 0 where
   pub state : MonitoredMachine
   pub outcomes : List Outcome
 
+-- the result of many steps, with the outcome of an earlier step put before the others
 abbrev pub first_then : Outcome → Scheduled → Scheduled
 first_then outcome rest = record { state = rest.state; outcomes = outcome ∷ rest.outcomes }
 
+-- the final state and the outcomes of steps of the harts in the list, in turn
 abbrev pub sched : List ℕ → MonitoredMachine → Scheduled
 sched [] machine = record { state = machine; outcomes = [] }
 sched (hart ∷ harts) machine = first_then (step_of hart machine).outcome (sched harts (step_of hart machine).state)

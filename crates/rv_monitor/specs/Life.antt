@@ -74,24 +74,29 @@ pub data LifeMove : Type 0 where
   InSecond : Event → LifeMove
   Own : ℕ → ℕ → LifeMove
 
+-- the place of a slot and a hart
 abbrev pub at : ℕ → ℕ → Place
 at slot hart = record { slot = slot; hart = hart }
 
+-- the move is a foreign event of its machine, or a step of the enclave in both machines
 abbrev pub IsLifeMove : ℕ → ℕ → LifeMove → MonitoredMachine → MonitoredMachine → Type 0
 IsLifeMove i j (InFirst event) one other = IsForeign i event one
 IsLifeMove i j (InSecond event) one other = IsForeign j event other
 IsLifeMove i j (Own h g) one other = IsOwnStep (at i h) (at j g) one other
 
+-- the first machine after a move
 abbrev pub one_after : LifeMove → MonitoredMachine → MonitoredMachine
 one_after (InFirst event) machine = (event_of event machine).state
 one_after (InSecond event) machine = machine
 one_after (Own h g) machine = (step_of h machine).state
 
+-- the second machine after a move
 abbrev pub other_after : LifeMove → MonitoredMachine → MonitoredMachine
 other_after (InFirst event) machine = machine
 other_after (InSecond event) machine = (event_of event machine).state
 other_after (Own h g) machine = (step_of g machine).state
 
+-- each move in the list is permitted in the two machines that the moves before it lead to
 abbrev pub AreLifeMoves : ℕ → ℕ → List LifeMove → MonitoredMachine → MonitoredMachine → Type 0
 AreLifeMoves i j [] one other = Unit {0}
 AreLifeMoves i j (move ∷ moves) one other = IsLifeMove i j move one other × AreLifeMoves i j moves (one_after move one) (other_after move other)
@@ -104,20 +109,24 @@ OwnStepsAreSame i j (InSecond event ∷ moves) one other = OwnStepsAreSame i j m
 OwnStepsAreSame i j (Own h g ∷ moves) one other =
     SameOwnStep (at i h) (at j g) one other × OwnStepsAreSame i j moves (step_of h one).state (step_of g other).state
 
+-- the first machine after all moves
 abbrev pub one_end : List LifeMove → MonitoredMachine → MonitoredMachine
 one_end [] machine = machine
 one_end (move ∷ moves) machine = one_end moves (one_after move machine)
 
+-- the second machine after all moves
 abbrev pub other_end : List LifeMove → MonitoredMachine → MonitoredMachine
 other_end [] machine = machine
 other_end (move ∷ moves) machine = other_end moves (other_after move machine)
 
+-- all steps of the enclave are the same in both machines, and the moves end with both enclaves at one point
 pub record LiveAlike (i j : ℕ) (moves : List LifeMove) (one other : MonitoredMachine) : Type 0 where
   pub steps : OwnStepsAreSame i j moves one other
   pub point : AreAtOnePoint i j (one_end moves one) (other_end moves other)
 
 -- ---- the laws
 
+-- two enclaves at one point of their lives take the same steps, whatever the other worlds do in between
 abbrev pub LifeLaw : Type 0
 LifeLaw =
     (i j : ℕ) (moves : List LifeMove) (one other : MonitoredMachine) → Invariant one → Invariant other → IsLegalMachine one → IsLegalMachine other

@@ -1,11 +1,11 @@
 -- The state of the monitored machine: the state of each hart, the state that the harts share, and the invariant. (Keystone, EuroSys 2020, in
 -- this project's profile.)
-use Rattle.std.specs.Prelude.{◌≡◌, ℕ, ◌<◌, true, false, not, List, [], ◌∷◌, length, map, slice_index_or, slice_set, take, None, IfSome, is_some}
+use Rattle.std.specs.Prelude.{◌≡◌, ◌≢◌, ℕ, ◌<◌, Bool, true, false, not, List, length, map, slice_index_or, slice_set, take, None, IfSome, is_some}
+use Rattle.std.specs.List.{range_with_len}
+use Rattle.rv_enclaves.specs.Unlocked.{IsUnlocked}
 use Rattle.rv_hart.specs.Hart.{at_reset}
 use Rattle.rv_monitor.specs.Prelude.{Hart, Host, SharedInvariant, IsLegal, IsValid, S, HartState, Shared, Slots, World, can_go_on, is_host, is_machine}
 use Rattle.rv_monitor.specs.Prelude.{layout, mie_of, no_slots, shared_at_start, with_register}
-use Rattle.rv_platform.specs.declared.harts.Harts.{Harts}
-use Rattle.rv_platform.specs.declared.harts.Harts.TheVariants.{One, Two}
 
 -- the state of each hart, and the shared state
 pub record MonitoredMachine : Type 0 where
@@ -28,33 +28,42 @@ pmp_programmed slots world hart =
 abbrev pub reprogrammed : Slots → HartState → HartState
 reprogrammed slots hart_state = record hart_state { hart = pmp_programmed slots hart_state.world hart_state.hart }
 
+-- the timer line of a hart raised or lowered
+abbrev pub timer_line_set : Bool → HartState → HartState
+timer_line_set raised hart_state = record hart_state { hart = record hart_state.hart { csrs = record hart_state.hart.csrs { timer = raised } } }
+
 -- a hart at reset: the host in mode S, and no live enclave
 abbrev pub hart_state_at_start : ℕ → HartState
 hart_state_at_start entry =
     record { hart = pmp_programmed no_slots Host (at_reset entry S); host_context = None; world = Host }
 
--- hart 1 starts as hart 0 does, except that x10 = 1
-abbrev pub second_hart_state_at_start : ℕ → HartState
-second_hart_state_at_start entry =
+-- each hart starts with its number in x10
+abbrev pub numbered_hart_state_at_start : ℕ → ℕ → HartState
+numbered_hart_state_at_start entry hart =
     let hart_state = hart_state_at_start entry in
-    record hart_state { hart = record hart_state.hart { regs = with_register hart_state.hart.regs 10 1 } }
+    record hart_state { hart = record hart_state.hart { regs = with_register hart_state.hart.regs 10 hart } }
 
-abbrev pub hart_states_at_start : Harts → ℕ → List HartState
-hart_states_at_start One entry = hart_state_at_start entry ∷ []
-hart_states_at_start Two entry = hart_state_at_start entry ∷ second_hart_state_at_start entry ∷ []
+-- the states of so many harts at reset, each with its number in x10
+abbrev pub hart_states_at_start : ℕ → ℕ → List HartState
+hart_states_at_start harts entry = map (numbered_hart_state_at_start entry) (range_with_len 0 harts)
 
-unfoldable pub at_start : List ℕ → ℕ → Harts → MonitoredMachine
+-- the monitored machine at reset: its harts at the entry, its memory, and no enclave
+unfoldable pub at_start : List ℕ → ℕ → ℕ → MonitoredMachine
 at_start memory entry harts = record { hart_states = hart_states_at_start harts entry; shared = shared_at_start memory }
 
 -- ---- the harts
 
--- the number of harts
+-- the number of harts of a machine
 abbrev pub count_of : MonitoredMachine → ℕ
 count_of machine = length machine.hart_states
 
 -- the state of one hart; for a number that is not the number of a hart, the state of the host at reset
+abbrev pub hart_state_in : List HartState → ℕ → HartState
+hart_state_in hart_states hart = slice_index_or hart_states hart (hart_state_at_start 0)
+
+-- the state of the hart with this number
 abbrev pub hart_state_of : ℕ → MonitoredMachine → HartState
-hart_state_of hart machine = slice_index_or machine.hart_states hart (hart_state_at_start 0)
+hart_state_of hart machine = hart_state_in machine.hart_states hart
 
 -- the view of one hart
 abbrev pub hart_view : ℕ → MonitoredMachine → HartView
@@ -90,7 +99,7 @@ pub record HostContextInvariant (hart_state : HartState) : Type 0 where
 abbrev pub HostContextIsLegal : HartState → Type 0
 HostContextIsLegal hart_state = IfSome hart_state.host_context (λ context. IsLegal context.supervisor)
 
--- the same for each hart
+-- the host's saved context on each hart has S-mode registers as a hart stores them
 abbrev pub HostContextsAreLegal : MonitoredMachine → Type 0
 HostContextsAreLegal machine = (hart : ℕ) → HostContextIsLegal (hart_state_of hart machine)
 
@@ -104,12 +113,22 @@ pub record HartViewInvariant (state : HartView) : Type 0 where
   pub valid : IsValid state.shared.memory state.shared.table
   pub hart : HartInvariant state.shared.table state.hart_state
 
+-- each state after reset has these: the shared state and every hart fulfil their invariants
 pub record Invariant (machine : MonitoredMachine) : Type 0 where
   pub shared : SharedInvariant machine.shared (worlds machine)
   pub hart_states : (hart : ℕ) → hart < count_of machine → HartInvariant machine.shared.table (hart_state_of hart machine)
 
+-- the invariant of every machine that the code makes: the premise of the laws, and legal saved contexts of the hosts
+pub record FullInvariant (machine : MonitoredMachine) : Type 0 where
+  pub monitor : Invariant machine
+  pub legal : HostContextsAreLegal machine
+
 -- ---- representation in the code
 
--- the first `harts` of two hart states
+-- the first `harts` hart states
 abbrev pub machine_of_parts : List HartState → ℕ → Shared → MonitoredMachine
 machine_of_parts by_hart harts shared = record { hart_states = take harts by_hart; shared = shared }
+
+-- no PMP entry of the harts other than one is locked
+abbrev pub AreOthersUnlocked : List HartState → ℕ → ℕ → Type 0
+AreOthersUnlocked by_hart harts hart = (j : ℕ) → j < harts → j ≢ hart → IsUnlocked (hart_state_in by_hart j).hart.csrs.pmp

@@ -20,6 +20,7 @@ pub record HandledAlike (e : ℕ) (one other : Handled) : Type 0 where
   pub hart_state : HartStatesEquivExcept e (continuing_from one) (continuing_from other)
   pub shared : SharedEquivExcept e one.shared other.shared
 
+-- on two shared states that are equivalent except for e, the trap handler of another world has equivalent results
 abbrev pub HandlerLaw : Type 0
 HandlerLaw =
     (e : ℕ) (worlds : List World) (hart_state : HartState) (one other : Shared) (trap : Trap) → SharedInvariant one worlds → SharedInvariant other worlds
@@ -28,6 +29,7 @@ HandlerLaw =
 
 -- ---- the bare step
 
+-- the hart and the memory alone, as a machine without the monitor
 abbrev pub bare_machine : HartView → Machine
 bare_machine state = record { hart = state.hart_state.hart; memory = state.shared.memory }
 

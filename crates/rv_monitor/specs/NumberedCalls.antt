@@ -18,9 +18,11 @@ use Rattle.rv_monitor.specs.Step.{MonitoredStepped}
 
 -- ---- the request
 
+-- the registers of the hart
 abbrev pub regs_at : ℕ → MonitoredMachine → List ℕ
 regs_at hart machine = (hart_state_of hart machine).hart.regs
 
+-- the call that the hart requests by a7 and a6 (x17 and x16), if its world is offered one
 abbrev pub call_at : ℕ → MonitoredMachine → Option Call
 call_at hart machine =
     let regs = regs_at hart machine in call_numbered (hart_state_of hart machine).world (register regs 17) (register regs 16)
@@ -54,6 +56,7 @@ answered_machine own before trap shared a0 a1 =
       shared = shared;
     }
 
+-- the step returns to the caller with two values in a0 and a1, leaves this shared state, and enters no enclave
 abbrev pub Returns : ℕ → MonitoredMachine → MonitoredStepped → Trap → Shared → ℕ → ℕ → Type 0
 Returns hart before after trap shared a0 a1 =
     (after.state ≡ answered_machine hart before trap shared a0 a1) × (after.outcome.entered ≡ None)
@@ -120,6 +123,7 @@ entered_by_call own before k trap context =
       shared = record before.shared { table = slots; contexts = slice_set before.shared.contexts k None };
     }
 
+-- the step enters slot k: the hart continues with the saved context of the enclave
 pub record EntersByCall (hart : ℕ) (before : MonitoredMachine) (after : MonitoredStepped) (trap : Trap) (k : ℕ) : Type 0 where
   pub context : Context
   pub kept : slice_index_or before.shared.contexts k None ≡ Some context
@@ -194,12 +198,14 @@ by_interrupt hart = record {
   line = false;
 }
 
+-- the step ends the run of slot k: the enclave is saved, and the hart continues with the context of the host
 abbrev pub HandsOver : ℕ → MonitoredMachine → MonitoredStepped → ℕ → Trap → Context → Handover → Type 0
 HandsOver hart before after k trap host over =
     (after.state ≡ handed_over_machine hart before k trap host over) × (after.outcome.entered ≡ None)
 
 -- ---- the law
 
+-- the result of an ecall from S, by its number and its status
 pub record AnswersInNumbers (hart : ℕ) (before : MonitoredMachine) (after : MonitoredStepped) (trap : Trap) : Type 0 where
   -- any other status than 0 refuses: nothing that the harts share changes
   pub refuses : status_at hart before ≢ 0 → Returns hart before after trap before.shared (status_at hart before) 0
@@ -225,7 +231,7 @@ AnswersCalls hart before after =
     (trap : Trap) → after.outcome.step.trap ≡ Some trap → trap.cause ≡ causes.Exception EnvironmentCallFromS
     → AnswersInNumbers hart before after trap
 
--- of every interrupt while an enclave runs
+-- every interrupt while an enclave runs ends its run: the enclave is saved, and the host continues
 abbrev pub InterruptsEnclave : ℕ → MonitoredMachine → MonitoredStepped → Type 0
 InterruptsEnclave hart before after =
     (k : ℕ) (host : Context) (trap : Trap) (interrupt : Interrupt) → (hart_state_of hart before).world ≡ Enclave k
@@ -234,6 +240,7 @@ InterruptsEnclave hart before after =
 
 -- ---- the calls that succeed
 
+-- the result of each call, under the conditions of its success in terms of numbers and the table
 pub record SucceedsInNumbers (hart : ℕ) (before : MonitoredMachine) (after : MonitoredStepped) (trap : Trap) : Type 0 where
   -- of the host; this is the lowest free slot
   pub create : (slot : ℕ) → (hart_state_of hart before).world ≡ Host → Requests 1 (regs_at hart before)

@@ -29,17 +29,19 @@ pub record IsPlain (hart : ℕ) (before : MonitoredMachine) (after : MonitoredSt
   pub outcome : after.outcome.step ≡ (plain_step hart before).outcome
   pub quiet : after.outcome.step.trap ≡ None → (after.state ≡ plainly_stepped hart before) × (after.outcome.entered ≡ None)
 
+-- a step of a hart of the machine is that of the same hart without the monitor, except for the trap handler's part
 abbrev pub StepsPlainly : ℕ → MonitoredMachine → MonitoredStepped → Type 0
 StepsPlainly hart before after = hart < count_of before → IsPlain hart before after
 
 -- ---- the host
 
+-- a step of the host takes no interrupt, and redirects each exception that is not a call to mode S
 pub record ContinuesHost (hart : ℕ) (before : MonitoredMachine) (after : MonitoredStepped) : Type 0 where
   pub uninterrupted : (trap : Trap) (interrupt : Interrupt) → after.outcome.step.trap ≡ Some trap → trap.cause ≢ causes.Interrupt interrupt
   -- an exception that is not an ecall from S
   pub redirects : (trap : Trap) → after.outcome.step.trap ≡ Some trap → is_redirected trap.cause ≡ true
       → (after.state ≡ redirected_machine hart before trap) × (after.outcome.entered ≡ None)
 
--- for the host on the hart that steps
+-- a step of the host takes no interrupt, and redirects its exceptions
 abbrev pub HostContinues : ℕ → MonitoredMachine → MonitoredStepped → Type 0
 HostContinues hart before after = (hart_state_of hart before).world ≡ Host → ContinuesHost hart before after

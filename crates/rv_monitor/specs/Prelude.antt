@@ -1,5 +1,5 @@
 -- Names of other crates and of Rust types that definitions and proofs here use, re-exported from one place. Declares nothing.
-pub use Rattle.rv_platform.specs.Blocks.{has}
+pub use Rattle.rv_memory.specs.Blocks.{has}
 pub use Rattle.rv_enclaves.specs.Calls.{requested_call, call_key, call_number, calls, is_offered, status_of}
 unfoldable pub use Rattle.rv_enclaves.specs.Calls.{call_requested}
 pub use Rattle.rv_enclaves.specs.Contexts.{Contexts, IsLegal, can_go_on, context_at, exited_context, saved_context, with_return_values}
@@ -35,7 +35,7 @@ pub use Rattle.rv_hart.specs.HartRecord.{Hart}
 pub use Rattle.rv_hart.specs.Machine.{Machine, Stepped}
 pub use Rattle.rv_hart.specs.Step.{data_mode, span}
 unfoldable pub use Rattle.rv_hart.specs.Step.{retired_or_trapped, step}
-pub use Rattle.rv_hart.specs.declared.limits.Limits.{Limits}
+pub use Rattle.rv_fast_path.specs.declared.limits.Limits.{Limits}
 pub use Rattle.rv_hart.specs.declared.trap.StepOutcome.{StepOutcome}
 pub use Rattle.rv_hart.specs.declared.trap.Trap.{Trap}
 pub use Rattle.rv_memory.specs.Memory.{byte_at, is_inside, is_ram_size, ram_base}

@@ -3,14 +3,16 @@
 use Rattle.std.specs.Prelude.{◌≡◌, ◌⊎◌, ℕ, Bool, false, not, ◌&&◌, ◌||◌, List, Option, Some, None, slice_index}
 use Rattle.rv_enclaves.specs.Table.{window}
 use Rattle.rv_memory.specs.declared.touched.Touched.{Touched}
-use Rattle.rv_platform.specs.declared.block.Block.{Block}
+use Rattle.rv_memory.specs.declared.block.Block.{Block}
 use Rattle.rv_monitor.specs.Prelude.{EqualOutside, Span, bytes_in, has}
 use Rattle.rv_monitor.specs.MonitoredMachine.{MonitoredMachine}
 use Rattle.rv_monitor.specs.Step.{step_of}
 
+-- the bytes of a span as a block: its address, and its length in bytes
 abbrev pub block_of : Span → Block
 block_of span = record { base = span.addr; size = bytes_in span.len }
 
+-- whether the byte is in the span, if there is one
 abbrev pub in_span : Option Span → ℕ → Bool
 in_span None byte = false
 in_span (Some span) byte = has (block_of span) byte

@@ -1,10 +1,9 @@
 -- The machine at reset in numbers. The manual leaves most of these values open; this project chooses them. (Reset: RISC-V Privileged Architecture
 -- 20211203, section 3.4; the values of pmpcfg and pmpaddr: section 3.7.1.)
-use Rattle.std.specs.Prelude.{ℕ, false, List, [], ◌∷◌, ◌++◌, replicate, None}
+use Rattle.std.specs.Prelude.{ℕ, false, List, [], ◌∷◌, ◌++◌, map, replicate, None}
+use Rattle.std.specs.List.{range_with_len}
 use Rattle.rv_monitor.specs.Prelude.{HartState, Host, S, U}
 use Rattle.rv_monitor.specs.MonitoredMachine.{MonitoredMachine}
-use Rattle.rv_platform.specs.declared.harts.Harts.{Harts}
-use Rattle.rv_platform.specs.declared.harts.Harts.TheVariants.{One, Two}
 
 -- The host is in S at the entry address, and every register but a0 is 0. Entry 0 of the PMP denies the monitor's range, 80000000 to 8000FFFF, and
 -- entry 15 grants the rest. No interrupt is enabled.
@@ -51,13 +50,12 @@ hart_at_reset entry a0 = record {
   world = Host;
 }
 
--- hart 0 has 0 in a0, and hart 1 has 1
-abbrev pub harts_at_reset : Harts → ℕ → List HartState
-harts_at_reset One entry = hart_at_reset entry 0 ∷ []
-harts_at_reset Two entry = hart_at_reset entry 0 ∷ hart_at_reset entry 1 ∷ []
+-- each hart has its number in a0
+abbrev pub harts_at_reset : ℕ → ℕ → List HartState
+harts_at_reset harts entry = map (hart_at_reset entry) (range_with_len 0 harts)
 
 -- there is no enclave, in none of the thirteen slots
-abbrev pub machine_at_reset : List ℕ → ℕ → Harts → MonitoredMachine
+abbrev pub machine_at_reset : List ℕ → ℕ → ℕ → MonitoredMachine
 machine_at_reset memory entry harts = record {
   hart_states = harts_at_reset harts entry;
   shared = record { memory = memory; table = replicate 13 None; contexts = replicate 13 None };

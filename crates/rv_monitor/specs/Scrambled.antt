@@ -5,6 +5,7 @@ use Rattle.rv_enclaves.specs.Scramble.{scrambled_shared}
 use Rattle.rv_monitor.specs.Prelude.{context_at}
 use Rattle.rv_monitor.specs.MonitoredMachine.{MonitoredMachine}
 
+-- the machine with the bytes of k's region and its saved registers complemented
 abbrev pub scrambled : MonitoredMachine → ℕ → MonitoredMachine
 scrambled machine k = record machine { shared = scrambled_shared machine.shared k }
 

@@ -27,6 +27,7 @@ abbrev pub reason : Cause → List ℕ → ℕ
 reason (causes.Interrupt interrupt) regs = 2
 reason (causes.Exception exception) regs = if register regs 16 == call_number Exit then 0 else 1
 
+-- the value that the host receives in a1 when the enclave exits
 abbrev pub value : Cause → List ℕ → ℕ
 value (causes.Interrupt interrupt) regs = 0
 value (causes.Exception exception) regs = register regs 10
@@ -49,5 +50,6 @@ pub record Leaves (before : HartView) (after : HartViewStepped) : Type 0 where
   pub forgotten : after.state.hart_state.host_context ≡ None
   pub entered : after.outcome.entered ≡ None
 
+-- each step continues its world, enters an enclave from the host, or exits an enclave to the host
 abbrev pub StaysOrSwitches : HartView → HartViewStepped → Type 0
 StaysOrSwitches before after = Stays before after ⊎ (Enters before after ⊎ Leaves before after)

@@ -12,10 +12,12 @@ abbrev pub is_after_fetch : Exception → Bool
 is_after_fetch InstructionAccessFault = false
 is_after_fetch _ = true
 
+-- whether a trap is an exception of an instruction that was fetched
 abbrev pub is_of_instruction : Cause → Bool
 is_of_instruction (causes.Interrupt interrupt) = false
 is_of_instruction (causes.Exception exception) = is_after_fetch exception
 
+-- whether a step executed an instruction, with or without an exception of it
 abbrev pub executes : Option Trap → Bool
 executes None = true
 executes (Some trap) = is_of_instruction trap.cause
@@ -33,5 +35,6 @@ pub record IsTouchedAccessible (before : HartView) (outcome : StepOutcome) : Typ
   pub loaded : SpanIsAccessible before Read outcome.touched.loaded
   pub stored : SpanIsAccessible before Write outcome.touched.stored
 
+-- the accesses of a step are permitted to the world that ran before it
 abbrev pub TouchesAccessible : HartView → HartViewStepped → Type 0
 TouchesAccessible before after = IsTouchedAccessible before after.outcome.step

@@ -1,24 +1,24 @@
 //! The monitored machine.
 
-ghost use Rattle.std.specs.Prelude.{◌≡◌, ◌<◌, ◌≤◌, ◌-◌, ◌%◌, length, map, slice_index_or, slice_set, take};
-ghost use Rattle.rv_enclaves.specs.Unlocked.{IsUnlocked};
+ghost use Rattle.std.specs.Prelude.{◌≡◌, ◌<◌, ◌≤◌, ◌%◌, length, map, slice_set, take};
 ghost use Rattle.rv_state.specs.SContexts.{KeepsOwn};
-ghost use Rattle.rv_monitor.specs.Debugger.{reg_set, timer_line_set};
+ghost use Rattle.rv_monitor.specs.Debugger.{reg_set};
 ghost use Rattle.rv_monitor.specs.FastSteps.{FastSteps};
-ghost use Rattle.rv_monitor.specs.MonitoredMachine.{HostContextsAreLegal, HostContextIsLegal, Invariant, HartInvariant, machine_of_parts, hart_state_at_start, reprogrammed};
+ghost use Rattle.rv_monitor.specs.MonitoredMachine.{AreOthersUnlocked, HostContextIsLegal, FullInvariant, HartInvariant, machine_of_parts, hart_state_in, hart_states_at_start, reprogrammed, timer_line_set};
 ghost use Rattle.rv_monitor.specs.Step.{monitored_step, step_of};
 
-use crate::handler::{handle, return_to};
-use crate::hart_state::HartState;
+use crate::handler::{handle, is_redirected, return_to};
+use crate::hart_state::{HARTS, HartState};
 use crate::layout::program_pmp;
 use crate::outcome::Outcome;
 use rv_enclaves::{SLOT_COUNT, Shared, Slot, Table, World};
-use rv_hart::{BoxedCache, Hart, Limits};
-use rv_memory::Ram;
-use rv_platform::Harts;
+use rv_fast_path::{BoxedCache, Limits, run_fast};
+use rv_hart::Hart;
+use rv_memory::{Harts, Ram};
 use rv_pmp::Mode;
 use rv_state::{Csrs, Regs};
 use rv_word::Reg;
+use std::array::from_fn;
 use std::fmt;
 use std::marker::Model;
 
@@ -58,46 +58,71 @@ fn step_hart<Site>(hart_state: &mut HartState, shared: &mut Shared) -> Outcome
     }
 }
 
-/// Programs the PMP entries and mie of the other hart, if there are two, for a table and that hart's own world. Those of `hart` are already
-/// programmed.
-fn program_other_pmp(by_hart: &mut [HartState; 2], harts: u8, hart: u8, table: &Table)
-    requires has { hart < harts }
-    requires few { harts ≤ 2 }
-    requires own { reprogrammed table.now (slice_index_or by_hart.old hart (hart_state_at_start 0)) ≡ slice_index_or by_hart.old hart (hart_state_at_start 0) }
-    requires unlocked { harts ≡ 2 → IsUnlocked (slice_index_or by_hart.old (1 - hart) (hart_state_at_start 0)).hart.csrs.pmp }
+/// Programs the PMP entries and mie of every hart but `hart` for a table and the hart's own world. Those of `hart` are already programmed.
+///
+/// This loop is apart, so that a step of a machine with one hart only tests the number of harts.
+#[inline(never)]
+fn program_each_other(by_hart: &mut [HartState; HARTS], harts: u8, hart: u8, table: &Table)
+    requires few { harts ≤ HARTS }
+    requires own { reprogrammed table.now (hart_state_in by_hart.old hart) ≡ hart_state_in by_hart.old hart }
+    requires unlocked { AreOthersUnlocked by_hart.old harts hart }
     ensures { take harts by_hart.new ≡ map (reprogrammed table.now) (take harts by_hart.old) }
 {
-    if harts == 2 {
-        let hart_state = &mut by_hart[1 - hart as usize];
-        program_pmp(&mut hart_state.hart, table, &hart_state.world);
+    for other in 0..harts {
+        if other != hart {
+            let hart_state = &mut by_hart[other as usize];
+            program_pmp(&mut hart_state.hart, table, &hart_state.world);
+        }
+    }
+}
+
+/// Does the same, if there are other harts.
+#[inline(always)]
+fn program_other_pmp(by_hart: &mut [HartState; HARTS], harts: u8, hart: u8, table: &Table)
+    requires has { hart < harts }
+    requires few { harts ≤ HARTS }
+    requires own { reprogrammed table.now (hart_state_in by_hart.old hart) ≡ hart_state_in by_hart.old hart }
+    requires unlocked { AreOthersUnlocked by_hart.old harts hart }
+    ensures { take harts by_hart.new ≡ map (reprogrammed table.now) (take harts by_hart.old) }
+{
+    if harts > 1 {
+        program_each_other(by_hart, harts, hart, table);
     }
 }
 
 /// Establishes that there are as many hart states as harts. Has no effect.
 #[inline(always)]
 #[tactic(auto, using(crate::proofs::Held::length_of))]
-const fn counts(by_hart: &[HartState; 2], harts: u8)
-    requires { harts ≤ 2 }
+const fn counts(by_hart: &[HartState; HARTS], harts: u8)
+    requires { harts ≤ HARTS }
     ensures { length (take harts by_hart.now) ≡ harts }
 {
     let _ = &by_hart[0];
 }
 
-/// Executes one step of a hart over the shared state. If the step traps, programs the PMP entries and mie of the other hart again.
+/// Executes one step of a hart over the shared state. If the step traps, programs the PMP entries and mie of the other harts again. A redirected
+/// trap changes neither the table nor the world of a hart, so they need no reprogramming.
 #[inline(always)]
-fn step_in<Site>(by_hart: &mut [HartState; 2], harts: u8, shared: &mut Shared, hart: u8) -> Outcome
+fn step_in<Site>(
+    by_hart: &mut [HartState; HARTS],
+    harts: u8,
+    shared: &mut Shared,
+    hart: u8,
+) -> Outcome
     requires has { hart < harts }
-    requires few { harts ≤ 2 }
-    requires kept { Invariant (machine_of_parts by_hart.old harts shared.old) }
-    requires stored { HostContextsAreLegal (machine_of_parts by_hart.old harts shared.old) }
+    requires few { harts ≤ HARTS }
+    requires kept { FullInvariant (machine_of_parts by_hart.old harts shared.old) }
     ensures meaning { step_of hart (machine_of_parts by_hart.old harts shared.old) ≡ record { state = machine_of_parts by_hart.new harts shared.new; outcome = result } }
-    ensures legal { HostContextsAreLegal (machine_of_parts by_hart.new harts shared.new) }
+    ensures kept { FullInvariant (machine_of_parts by_hart.new harts shared.new) }
 {
     let hart_state = &mut by_hart[hart as usize];
     let outcome = step_hart::<Site>(hart_state, shared);
     match outcome.step.trap {
         None => outcome,
-        Some(_) => {
+        Some(trap) => {
+            if is_redirected(trap.cause) {
+                return outcome;
+            }
             program_other_pmp(by_hart, harts, hart, &shared.table);
             outcome
         }
@@ -107,7 +132,7 @@ fn step_in<Site>(by_hart: &mut [HartState; 2], harts: u8, shared: &mut Shared, h
 /// Executes at most `count` steps of a hart over the shared state, and returns how many it executed. Each ends in no trap and accesses nothing
 /// outside the limits, so the trap handler does not run.
 fn run_fast_in(
-    by_hart: &mut [HartState; 2],
+    by_hart: &mut [HartState; HARTS],
     harts: u8,
     shared: &mut Shared,
     cache: &mut BoxedCache,
@@ -116,38 +141,42 @@ fn run_fast_in(
     count: u32,
 ) -> u32
     requires has { hart < harts }
-    requires few { harts ≤ 2 }
-    requires stored { HostContextsAreLegal (machine_of_parts by_hart.old harts shared.old) }
+    requires few { harts ≤ HARTS }
+    requires kept { FullInvariant (machine_of_parts by_hart.old harts shared.old) }
     ensures count { result ≤ count }
     ensures steps { FastSteps hart limits.now result (machine_of_parts by_hart.old harts shared.old) (machine_of_parts by_hart.new harts shared.new) }
-    ensures legal { HostContextsAreLegal (machine_of_parts by_hart.new harts shared.new) }
+    ensures kept { FullInvariant (machine_of_parts by_hart.new harts shared.new) }
 {
     let hart_state = &mut by_hart[hart as usize];
-    hart_state
-        .hart
-        .run_fast(&mut shared.memory, cache, limits, count)
+    run_fast(
+        &mut hart_state.hart,
+        &mut shared.memory,
+        cache,
+        limits,
+        count,
+    )
 }
 
 /// Raises or lowers the timer line of a hart.
-fn set_timer_in(by_hart: &mut [HartState; 2], hart: u8, raised: bool)
-    requires { hart < 2 }
-    ensures { by_hart.new ≡ slice_set by_hart.old hart (timer_line_set raised (slice_index_or by_hart.old hart (hart_state_at_start 0))) }
+fn set_timer_in(by_hart: &mut [HartState; HARTS], hart: u8, raised: bool)
+    requires { hart < HARTS }
+    ensures { by_hart.new ≡ slice_set by_hart.old hart (timer_line_set raised (hart_state_in by_hart.old hart)) }
 {
     let hart_state = &mut by_hart[hart as usize];
     hart_state.hart.csrs_mut().set_timer(raised);
 }
 
 /// Writes a register of a hart.
-fn set_reg_in(by_hart: &mut [HartState; 2], hart: u8, reg: Reg, value: u32)
-    requires { hart < 2 }
-    ensures { by_hart.new ≡ slice_set by_hart.old hart (reg_set reg value (slice_index_or by_hart.old hart (hart_state_at_start 0))) }
+fn set_reg_in(by_hart: &mut [HartState; HARTS], hart: u8, reg: Reg, value: u32)
+    requires { hart < HARTS }
+    ensures { by_hart.new ≡ slice_set by_hart.old hart (reg_set reg value (hart_state_in by_hart.old hart)) }
 {
     let hart_state = &mut by_hart[hart as usize];
     hart_state.hart.regs_mut().set(reg, value);
 }
 
 impl HartState {
-    ghost use Rattle.rv_monitor.specs.MonitoredMachine.{hart_state_at_start, second_hart_state_at_start};
+    ghost use Rattle.rv_monitor.specs.MonitoredMachine.{hart_state_at_start, numbered_hart_state_at_start};
 
     /// Returns the state of a hart at reset: mode S, the PMP entries of the host, and pc at `entry`.
     fn new(entry: u32) -> Self
@@ -163,25 +192,34 @@ impl HartState {
         hart_state
     }
 
-    /// Returns the same for hart 1, which starts with x10 = 1.
-    fn beside(entry: u32) -> Self
+    /// Returns the same for the hart with a number, which starts with its number in x10.
+    fn numbered(entry: u32, hart: u32) -> Self
         requires { entry % 4 ≡ 0 }
-        ensures { result ≡ second_hart_state_at_start entry }
+        ensures { result ≡ numbered_hart_state_at_start entry hart }
     {
         let mut hart_state = HartState::new(entry);
-        hart_state.hart.regs_mut().set(Reg::new(10), 1);
+        hart_state.hart.regs_mut().set(Reg::new(10), hart);
         hart_state
     }
 }
 
+/// Returns the states of all harts at reset.
+fn all_at_start(entry: u32) -> [HartState; HARTS]
+    requires { entry % 4 ≡ 0 }
+    ensures { result ≡ hart_states_at_start HARTS entry }
+{
+    from_fn(|hart| HartState::numbered(entry, hart as u32))
+}
+
 /// The monitored machine: its harts, each with its world, the memory, and the monitor's state of the enclaves.
 ///
-/// In every state `Invariant` holds. The table is valid, and a slot runs if and only if it is the world of one hart. For each hart, the PMP
-/// entries and mie are those of the table and its world. Its mode is S or U, and MIE, MPRV, TVM, TW and TSR are 0.
+/// In every state `FullInvariant` holds. The table is valid, and a slot runs if and only if it is the world of one hart. For each hart, the PMP
+/// entries and mie are those of the table and its world. Its mode is S or U, and MIE, MPRV, TVM, TW and TSR are 0. The host's saved context is as
+/// a hart stores it.
 #[derive(Drop)]
 pub struct MonitoredMachine {
-    /// The states of hart 0 and hart 1. With one hart, the second is never read.
-    by_hart: [HartState; 2],
+    /// The states of the harts, by number. Those from `harts` on are never read.
+    by_hart: [HartState; HARTS],
     /// The number of harts.
     harts: u8,
     shared: Shared,
@@ -190,17 +228,19 @@ pub struct MonitoredMachine {
 
 impl Model for MonitoredMachine {
     ghost use Rattle.std.specs.Prelude.{◌<◌, ◌≤◌};
-    ghost use Rattle.rv_monitor.specs.MonitoredMachine.{HostContextsAreLegal, Invariant, MonitoredMachine, machine_of_parts};
+    ghost use Rattle.rv_monitor.specs.declared.hart_state.TheConstants.{HARTS};
+    ghost use Rattle.rv_monitor.specs.MonitoredMachine.{FullInvariant, MonitoredMachine, machine_of_parts};
 
     ghost Value = { MonitoredMachine };
 
     ghost view = { λ m. machine_of_parts m.by_hart m.harts m.shared };
 
-    ghost invariant = { λ m. Invariant (machine_of_parts m.by_hart m.harts m.shared) × HostContextsAreLegal (machine_of_parts m.by_hart m.harts m.shared) × (0 < m.harts) × (m.harts ≤ 2) };
+    ghost invariant = { λ m. FullInvariant (machine_of_parts m.by_hart m.harts m.shared) × (0 < m.harts) × (m.harts ≤ HARTS) };
 }
 
 impl MonitoredMachine {
     ghost use Rattle.std.specs.Prelude.{◌≡◌, ◌<◌, ◌≤◌, ◌%◌, if◌then◌else◌, Some, None, [], ◌∷◌, false, true};
+    ghost use Rattle.rv_memory.specs.Harts.{number_of_harts};
     ghost use Rattle.rv_memory.specs.Memory.{write};
     ghost use Rattle.rv_enclaves.specs.Scramble.{can_scramble};
     ghost use Rattle.rv_monitor.specs.EquivExcept.{EquivExcept};
@@ -208,24 +248,23 @@ impl MonitoredMachine {
     ghost use Rattle.rv_monitor.specs.FastSteps.{FastSteps};
     ghost use Rattle.rv_monitor.specs.Reset.{machine_at_reset};
     ghost use Rattle.rv_monitor.specs.Scrambled.{scrambled};
-    ghost use Rattle.rv_monitor.specs.MonitoredMachine.{HostContextsAreLegal, Invariant, at_start, count_of, hart_state_of};
+    ghost use Rattle.rv_monitor.specs.MonitoredMachine.{FullInvariant, at_start, count_of, hart_state_of};
     ghost use Rattle.rv_monitor.specs.Step.{step_of};
     ghost use Rattle.rv_monitor.specs.StepLaws.{ObeysStepLaws};
 
     /// Returns the machine at reset with the given memory. On each hart the host runs in mode S with pc at `entry`, and there is no enclave.
-    /// Hart 1, if there are two harts, starts with x10 = 1. `entry` must be a multiple of 4. The machine has no decode cache. `reset` writes out each
-    /// value.
+    /// Each hart starts with its number in x10. `entry` must be a multiple of 4. The machine has no decode cache. `reset` writes out each value.
     #[tactic(auto, unfolding(crate::specs::MonitoredMachine::at_start))]
     pub fn new(ram: Ram, entry: u32, harts: Harts) -> Self
         requires { entry % 4 ≡ 0 }
-        ensures start { result ≡ at_start ram entry harts }
-        ensures reset { result ≡ machine_at_reset ram entry harts }
-        ensures invariant { Invariant result }
+        ensures start { result ≡ at_start ram entry (number_of_harts harts) }
+        ensures reset { result ≡ machine_at_reset ram entry (number_of_harts harts) }
+        ensures invariant { FullInvariant result }
     {
         // gives the prover the invariant of the RAM
         let _ = ram.size();
         MonitoredMachine {
-            by_hart: [HartState::new(entry), HartState::beside(entry)],
+            by_hart: all_at_start(entry),
             harts: harts.count(),
             shared: Shared {
                 memory: ram,
@@ -243,10 +282,11 @@ impl MonitoredMachine {
         self.decode_cache = cache;
     }
 
-    /// Returns the number of harts: 1 or 2.
+    /// Returns the number of harts.
     pub fn harts(&self) -> u8
         ensures count { result ≡ count_of self.now }
         ensures some { 0 < result }
+        ensures few { result ≤ HARTS }
     {
         counts(&self.by_hart, self.harts);
         self.harts
@@ -256,7 +296,7 @@ impl MonitoredMachine {
     /// runs:
     /// - An ecall from S is a call. It returns its status in a0 and its result in a1.
     /// - A timer interrupt stops the enclave.
-    /// - Every other exception is forwarded to the world's own mode S.
+    /// - Every other exception is redirected to the world's own mode S.
     ///
     /// After the handler, the PMP entries and mie of each hart are those of the table and its world. The step never fails.
     ///
@@ -294,9 +334,8 @@ impl MonitoredMachine {
         requires { hart < count_of self.old }
         ensures meaning { step_of hart self.old ≡ record { state = self.new; outcome = result } }
         ensures harts { count_of self.new ≡ count_of self.old }
-        ensures invariant { Invariant self.new }
+        ensures invariant { FullInvariant self.new }
         ensures laws { ObeysStepLaws hart self.old (record { state = self.new; outcome = result }) }
-        ensures legal { HostContextsAreLegal self.new }
     {
         self.step_at::<Self>(hart)
     }
@@ -308,9 +347,8 @@ impl MonitoredMachine {
         requires { hart < count_of self.old }
         ensures meaning { step_of hart self.old ≡ record { state = self.new; outcome = result } }
         ensures harts { count_of self.new ≡ count_of self.old }
-        ensures invariant { Invariant self.new }
+        ensures invariant { FullInvariant self.new }
         ensures laws { ObeysStepLaws hart self.old (record { state = self.new; outcome = result }) }
-        ensures legal { HostContextsAreLegal self.new }
     {
         step_in::<Site>(&mut self.by_hart, self.harts, &mut self.shared, hart)
     }
@@ -322,8 +360,7 @@ impl MonitoredMachine {
         ensures count { result ≤ count }
         ensures steps { FastSteps hart limits.now result self.old self.new }
         ensures harts { count_of self.new ≡ count_of self.old }
-        ensures invariant { Invariant self.new }
-        ensures legal { HostContextsAreLegal self.new }
+        ensures invariant { FullInvariant self.new }
     {
         run_fast_in(
             &mut self.by_hart,
@@ -338,8 +375,7 @@ impl MonitoredMachine {
 
     /// Establishes the invariant. Has no effect.
     pub fn invariant(&self)
-        ensures invariant { Invariant self.now }
-        ensures legal { HostContextsAreLegal self.now }
+        ensures invariant { FullInvariant self.now }
         ensures first { 0 < count_of self.now }
     {
         // this call brings the invariant of every monitored machine into scope
@@ -415,7 +451,7 @@ impl MonitoredMachine {
     pub fn set_timer(&mut self, hart: u8, raised: bool)
         requires { hart < count_of self.old }
         ensures meaning { self.new ≡ with_timer hart self.old raised }
-        ensures invariant { Invariant self.new }
+        ensures invariant { FullInvariant self.new }
     {
         set_timer_in(&mut self.by_hart, hart, raised);
     }
@@ -424,7 +460,7 @@ impl MonitoredMachine {
     pub fn set_reg(&mut self, hart: u8, reg: Reg, value: u32)
         requires { hart < count_of self.old }
         ensures meaning { self.new ≡ with_reg hart self.old reg value }
-        ensures invariant { Invariant self.new }
+        ensures invariant { FullInvariant self.new }
     {
         set_reg_in(&mut self.by_hart, hart, reg, value);
     }
@@ -435,7 +471,7 @@ impl MonitoredMachine {
         ensures done { (if result then Some self.new.shared.memory else None) ≡ write self.old.shared.memory addr (byte ∷ []) }
         ensures rest { self.new ≡ with_memory self.old self.new.shared.memory }
         ensures same { result ≡ false → self.new ≡ self.old }
-        ensures invariant { Invariant self.new }
+        ensures invariant { FullInvariant self.new }
     {
         self.shared.memory.poke(addr, byte)
     }
@@ -451,7 +487,7 @@ impl MonitoredMachine {
         ensures meaning { result ≡ true → self.new ≡ scrambled self.old slot }
         ensures same { result ≡ false → self.new ≡ self.old }
         ensures equivalent { EquivExcept slot self.old self.new }
-        ensures invariant { Invariant self.new }
+        ensures invariant { FullInvariant self.new }
     {
         self.shared.scramble(slot)
     }

@@ -25,12 +25,15 @@ pub record AreWritten (ranges : EntryRanges) (bounds : List ℕ) (count number :
 
 -- one more range: it has no byte, or both its ends are written
 module _ (ranges : EntryRanges) (bounds : List ℕ) (count number : ℕ) (done : AreWritten ranges bounds count number) where
+  -- the first byte of the entry
   abbrev from : ℕ
   from = slice_index ranges.from number
 
+  -- the end of the entry
   abbrev to : ℕ
   to = slice_index ranges.to number
 
+  -- an entry without bytes adds no bounds
   pub none_more : to ≤ from → AreWritten ranges bounds count (number + 1)
   none_more none = record {
     long = done.long;
@@ -41,9 +44,11 @@ module _ (ranges : EntryRanges) (bounds : List ℕ) (count number : ℕ) (done :
     to = λ i below some. elim (cases_eq i number) [ inl at ↦ absurd (omega (arith, none, rw at at some)) | inr before ↦ done.to i (omega arith) some ];
   }
 
+  -- the bounds with both ends of the entry
   abbrev longer : List ℕ
   longer = slice_set (slice_set bounds count from) (count + 1) to
 
+  -- an entry with bytes adds its two ends to the bounds
   pub both_more : number < 16 → AreWritten ranges longer (count + 2) (number + 1)
   both_more in_range =
       let once : length (slice_set bounds count from) ≡ 33 = length-set bounds count from ∙ done.long in
@@ -72,6 +77,7 @@ module _ (ranges : EntryRanges) (bounds : List ℕ) (count number : ℕ) (done :
         ];
       }
 
+-- one of the first bounds is in the list of these bounds
 among_first : (bounds : List ℕ) (count x : ℕ) → count ≤ length bounds → IsAmong bounds count x → Contains (take count bounds) x
 among_first bounds count x fits found = (
   found.0,
@@ -79,7 +85,7 @@ among_first bounds count x fits found = (
   get_or-take count bounds found.0 x found.1 ∙ get_or_default_zero bounds found.0 x (omega (arith, found.1)) ∙ found.2,
 )
 
--- all ranges are written
+-- after the last entry, both ends of each range with a byte are among the bounds
 pub all_written : (ranges : EntryRanges) (bounds : List ℕ) (count number : ℕ) → count ≤ length bounds → 16 ≤ number
     → AreWritten ranges bounds count number → AreBounds ranges (take count bounds)
 all_written ranges bounds count number fits through done = record {

@@ -25,8 +25,9 @@ byte_match_alike p q b c same = find_alike (λ i. p i b) (λ i. q i c) 0 16 (λ 
 -- the lowest entry that covers a byte is its matching entry
 pub byte_match_is : (p : ℕ → ℕ → Bool) (b i : ℕ) → i < 16 → p i b ≡ true → ((j : ℕ) → j < i → p j b ≡ false) → byte_match p b ≡ Some i
 unfolding byte_match
-byte_match_is p b i in_range has first = find_at (λ j. p j b) 0 16 i (omega arith) (omega arith) has (λ j low high. first j high)
+byte_match_is p b i in_range matches first = find_at (λ j. p j b) 0 16 i (omega arith) (omega arith) matches (λ j low high. first j high)
 
+-- if no entry matches the byte, it has no matching entry
 pub byte_match_none : (p : ℕ → ℕ → Bool) (b : ℕ) → ((j : ℕ) → j < 16 → p j b ≡ false) → byte_match p b ≡ None
 unfolding byte_match
 byte_match_none p b none = find_none (λ j. p j b) 0 16 (λ j low high. none j high)
@@ -37,9 +38,10 @@ pub record IsByteMatch (p : ℕ → ℕ → Bool) (b i : ℕ) : Type 0 where
   pub has : p i b ≡ true
   pub least : (j : ℕ) → j < i → p j b ≡ false
 
+-- the matching entry of a byte matches it, and no entry before it does
 pub matched_by : (p : ℕ → ℕ → Bool) (b i : ℕ) → byte_match p b ≡ Some i → IsByteMatch p b i
 unfolding byte_match
-matched_by p b i is = elim (find_cases (λ j. p j b) 0 16) [
+matched_by p b i byte_match_is = elim (find_cases (λ j. p j b) 0 16) [
   | inl found ↦
       let same : found.0 ≡ i = cc in
       let first = found.2 in
@@ -51,9 +53,10 @@ matched_by p b i is = elim (find_cases (λ j. p j b) 0 16) [
   | inr nothing ↦ cc
 ]
 
+-- if a byte has no matching entry, none of the 16 entries matches it
 pub unmatched : (p : ℕ → ℕ → Bool) (b : ℕ) → byte_match p b ≡ None → (j : ℕ) → j < 16 → p j b ≡ false
 unfolding byte_match
-unmatched p b is j below = elim (find_cases (λ i. p i b) 0 16) [
+unmatched p b byte_match_is j below = elim (find_cases (λ i. p i b) 0 16) [
   | inl found ↦ cc
   | inr nothing ↦ nothing.1 j (omega arith) (omega arith)
 ]

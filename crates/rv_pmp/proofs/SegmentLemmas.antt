@@ -19,6 +19,7 @@ use Rattle.rv_pmp.proofs.ByteMatchLemmas.{bool_same, byte_match_alike}
 abbrev begin : List ℕ → ℕ → ℕ
 begin ends k = if k == 0 then 0 else slice_index ends (k - 1)
 
+-- a segment after the first begins where the one before it ends
 begin_after : (ends : List ℕ) (k : ℕ) → 0 < k → begin ends k ≡ slice_index ends (k - 1)
 begin_after ends k some = cond-false (k == 0) 0 (slice_index ends (k - 1)) (ne_eqb k 0 (λ same. omega (arith, some)))
 
@@ -42,15 +43,19 @@ pub record Reaches (covering : ℕ → ℕ → Bool) (s : Segments) (end : ℕ) 
 -- the segments extended to an end, if all bytes before it have the same matching entry: the last segment grows, or one is added
 module _ (covering : ℕ → ℕ → Bool) (old : Segments) (start end : ℕ) (matched_entry : Option ℕ) (order : AreInOrder old) (matched : AreMatched covering old)
     (is_reach : start ≡ reach_of old) (some : start < end) (alike : (byte : ℕ) → start ≤ byte → byte < end → byte_match covering byte ≡ matched_entry) where
+  -- the number of segments
   abbrev n : ℕ
   n = old.count
 
+  -- the segments with the last one grown
   abbrev longer : Segments
   longer = record { ends = slice_set old.ends (n - 1) end; byte_matches = old.byte_matches; count = n }
 
+  -- the segments with one more
   abbrev more : Segments
   more = record { ends = slice_set old.ends n end; byte_matches = slice_set old.byte_matches n matched_entry; count = n + 1 }
 
+  -- the last segment grows, if it has the same matching entry as the new bytes
   pub goes_on : 0 < n → n ≤ length old.ends → slice_index_or old.byte_matches (n - 1) None ≡ matched_entry → Reaches covering longer end
   goes_on used_some long same =
       let last : ℕ = n - 1 in
@@ -78,6 +83,7 @@ module _ (covering : ℕ → ℕ → Bool) (old : Segments) (start end : ℕ) (m
         ];
       }
 
+  -- one more segment is added for the new bytes
   pub one_more : n < 33 → n < length old.ends → n < length old.byte_matches → Reaches covering more end
   one_more room long matches_long =
       let is_end : slice_index more.ends n ≡ end = get_or-set_same old.ends n end 0 long in
@@ -107,7 +113,7 @@ module _ (covering : ℕ → ℕ → Bool) (old : Segments) (start end : ℕ) (m
 
 -- ---- bounds between which no range begins or ends
 
--- the bounds in order
+-- bounds in another order are bounds of the same ranges
 pub bounds_in_order : (ranges : EntryRanges) (xs ys : List ℕ) → IsPermutation xs ys → AreBounds ranges xs → AreBounds ranges ys
 bounds_in_order ranges xs ys moved all = record {
   from = λ i in_range some. Contains-permutation xs ys _ moved (all.from i in_range some);
@@ -115,6 +121,7 @@ bounds_in_order ranges xs ys moved all = record {
   last = Contains-permutation xs ys _ moved all.last;
 }
 
+-- an and that holds has both parts
 and_both : (p q : Bool) → (p && q) ≡ true → (p ≡ true) × (q ≡ true)
 and_both true true both = (refl, refl)
 and_both true false both = absurd (both_ways false refl both)
@@ -145,15 +152,17 @@ both_or_neither from to start end byte low high from_apart to_apart =
 -- if the first k bounds are not above start, and the others not below end, the bytes between start and end have the same matching entry
 module _ (ranges : EntryRanges) (bounds : List ℕ) (start end k : ℕ) (all : AreBounds ranges bounds)
     (before : (m : ℕ) → m < k → slice_index bounds m ≤ start) (after : (m : ℕ) → k ≤ m → m < length bounds → end ≤ slice_index bounds m) where
+  -- no bound is between two neighbouring bounds
   apart : (x : ℕ) → Contains bounds x → (x ≤ start) ⊎ (end ≤ x)
   apart x found =
       let m = found.0 in
-      let is : slice_index bounds m ≡ x = sym (get_or_default_zero bounds m x found.1) ∙ found.2 in
+      let bound_is : slice_index bounds m ≡ x = sym (get_or_default_zero bounds m x found.1) ∙ found.2 in
       elim (cases_lt m k) [
-        | inl early ↦ inl (omega (arith, is, before m early))
-        | inr late ↦ inr (omega (arith, is, after m (omega arith) found.1))
+        | inl early ↦ inl (omega (arith, bound_is, before m early))
+        | inr late ↦ inr (omega (arith, bound_is, after m (omega arith) found.1))
       ]
 
+  -- all bytes between two neighbouring bounds have the same matching entry
   pub one_match : (byte : ℕ) → start ≤ byte → byte < end → byte_match (is_within ranges) byte ≡ byte_match (is_within ranges) start
   one_match byte low high = byte_match_alike (is_within ranges) (is_within ranges) byte start (λ i in_range.
       both_or_neither (slice_index ranges.from i) (slice_index ranges.to i) start end byte low high
@@ -170,6 +179,7 @@ module _ (ranges : EntryRanges) (bounds : List ℕ) (start end k : ℕ) (all : A
 -- ---- the segment that has a byte
 
 module _ (s : Segments) (order : AreInOrder s) where
+  -- the ends of the segments ascend
   rise : (i j : ℕ) → i ≤ j → j < s.count → slice_index s.ends i ≤ slice_index s.ends j
   rise i zero before used = let same : i ≡ 0 = omega (arith, before) in rw same (omega arith)
   rise i (suc j) before used = elim (cases_eq i (suc j)) [

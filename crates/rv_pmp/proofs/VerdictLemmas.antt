@@ -51,10 +51,12 @@ pub none_from_any : (p : ℕ → Bool) (a n : ℕ) → list_any p (range_with_le
 none_from_any p a n none b low high =
     false_from_ne_true (p b) (λ passes. both_ways _ none (any_at p a n b low high passes))
 
+-- an or whose first part fails is the second
 or_rest : (x y : Bool) → x ≡ false → (x || y) ≡ y
 or_rest true y fails = absurd (both_ways true fails refl)
 or_rest false y fails = refl
 
+-- an and whose first part holds is the second
 and_rest : (x y : Bool) → x ≡ true → (x && y) ≡ y
 and_rest true y passes = refl
 and_rest false y passes = absurd (both_ways false refl passes)
@@ -116,16 +118,16 @@ find_cases p a (suc n) = elim (cases_Bool (p a)) [
     record { low = omega arith; high = omega arith; passes = found; first = λ j j_low j_high. absurd (omega arith) },
   )
   | inr other ↦ elim (find_cases p (a + 1) n) [
-    | inl found ↦ let is = found.2 in inl (
+    | inl found ↦ let found_is = found.2 in inl (
       found.0,
       cond-false (p a) _ _ other ∙ found.1,
       record {
-        low = omega (arith, is.low);
-        high = omega (arith, is.high);
-        passes = is.passes;
+        low = omega (arith, found_is.low);
+        high = omega (arith, found_is.high);
+        passes = found_is.passes;
         first = λ j j_low j_high. elim (cases_eq a j) [
           | inl same ↦ ap p (sym same) ∙ other
-          | inr apart ↦ is.first j (omega arith) j_high
+          | inr apart ↦ found_is.first j (omega arith) j_high
         ];
       },
     )

@@ -16,6 +16,7 @@ pub record Cfg : Type 0 where
   pub w : Bool
   pub r : Bool
 
+-- the fields of a cfg byte: L in bit 7, A in bits 4:3, and X, W and R in bits 2 to 0
 abbrev pub fields_of : ℕ → Cfg
 fields_of cfg = record { l = is_set cfg 7; a = bits cfg 4 3; x = is_set cfg 2; w = is_set cfg 1; r = is_set cfg 0 }
 

@@ -6,9 +6,11 @@ pub record Entries : Type 0 where
   pub cfgs : List ℕ
   pub addrs : List ℕ
 
+-- the cfg byte of entry i
 abbrev pub cfg_of : Entries → ℕ → ℕ
 cfg_of entries i = slice_index entries.cfgs i
 
+-- the pmpaddr value of entry i
 abbrev pub addr_of : Entries → ℕ → ℕ
 addr_of entries i = slice_index entries.addrs i
 
@@ -16,11 +18,11 @@ addr_of entries i = slice_index entries.addrs i
 abbrev pub addr_before : Entries → ℕ → ℕ
 addr_before entries i = if i == 0 then 0 else addr_of entries (i - 1)
 
--- the entries at reset
+-- the entries at reset: all off, with 0 as address
 abbrev pub reset : Entries
 reset = record { cfgs = replicate 16 0; addrs = replicate 16 0 }
 
--- there are sixteen
+-- both lists of the entries have sixteen elements
 pub record HasSixteen (entries : Entries) : Type 0 where
   pub cfgs : length entries.cfgs ≡ 16
   pub addrs : length entries.addrs ≡ 16

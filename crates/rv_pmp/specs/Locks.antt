@@ -9,7 +9,7 @@ use Rattle.rv_pmp.specs.Entries.{Entries, cfg_of}
 abbrev pub is_cfg_locked : Entries → ℕ → Bool
 is_cfg_locked entries i = is_locked (cfg_of entries i)
 
--- no entry is locked
+-- the L bit of no entry is set
 abbrev pub HasNoLock : Entries → Type 0
 HasNoLock entries = (i : ℕ) → i < 16 → is_cfg_locked entries i ≡ false
 

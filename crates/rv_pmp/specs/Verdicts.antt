@@ -32,6 +32,7 @@ no_match_verdict M = AllowedFree
 no_match_verdict S = DeniedFree
 no_match_verdict U = DeniedFree
 
+-- the verdict by the matching entry, which must match all bytes, or by the mode if no entry matches
 abbrev pub verdict_by : Entries → Mode → Access → List ℕ → Option ℕ → Verdict
 verdict_by entries mode access bytes None = no_match_verdict mode
 verdict_by entries mode access bytes (Some i) = match_verdict entries mode access i (list_all (covers entries i) bytes)

@@ -8,11 +8,13 @@ use Rattle.rv_script.specs.declared.keyword.Keyword.TheVariants.{Step, Run, Brea
 use Rattle.rv_script.specs.declared.keyword.Keyword.TheVariants.{Access, Timer, Hart, Sched}
 use Rattle.rv_script.specs.Command.{spelling_of, keywords, keyword_of}
 
+-- a function of one of two options is that of each
 mapped_if : {A B : Type 0} (f : A → B) (b : Bool) (x : A) (o : Option A) (p : Option B) → option_map f o ≡ p
     → option_map f (cond b (Some x) o) ≡ cond b (Some (f x)) p
-mapped_if f true x o p is = refl
-mapped_if f false x o p is = is
+mapped_if f true x o p map_is = refl
+mapped_if f false x o p map_is = map_is
 
+-- a search in a mapped list finds the function of what a search in the list finds
 found_in_map : {A B : Type 0} (f : A → B) (test : B → Bool) (xs : List A) → option_map f (find (λ x. test (f x)) xs) ≡ find test (map f xs)
 found_in_map f test [] = refl
 found_in_map f test (x ∷ xs) = mapped_if f (test (f x)) x (find (λ x. test (f x)) xs) (find test (map f xs)) (found_in_map f test xs)
@@ -21,15 +23,17 @@ found_in_map f test (x ∷ xs) = mapped_if f (test (f x)) x (find (λ x. test (f
 abbrev row_of : Bor (List ℕ) × Keyword → List ℕ × Keyword
 row_of row = (row.0.now, row.1)
 
+-- the value of the row that was found
 values : (r : Option (Bor (Bor (List ℕ) × Keyword)))
     → option_map (λ x. x.now.1) r ≡ option_map (λ (x : List ℕ × Keyword). x.1) (option_map row_of (option_map (λ x. x.now) r))
 values None = refl
 values (Some x) = refl
 
+-- the row that the search in the table finds is that of the definition
 pub row-found : (word : List ℕ) (rows : List (Bor (List ℕ) × Keyword)) (r : Option (Bor (Bor (List ℕ) × Keyword)))
     → option_map (λ x. x.now) r ≡ find (λ row. bytes_eq word row.0.now) rows
     → option_map (λ x. x.now.1) r ≡ option_map (λ (row : List ℕ × Keyword). row.1) (find (λ row. bytes_eq word row.0) (map row_of rows))
-row-found word rows r is = values r ∙ ap (λ o. option_map (λ x. x.1) (option_map row_of o)) is
+row-found word rows r map_is = values r ∙ ap (λ o. option_map (λ x. x.1) (option_map row_of o)) map_is
     ∙ ap (option_map (λ x. x.1)) (found_in_map row_of (λ x. bytes_eq word x.0) rows)
 
 -- the keyword in the row of a word
@@ -37,6 +41,7 @@ second : (r : Option Keyword) → option_map (λ (row : List ℕ × Keyword). ro
 second None = refl
 second (Some k) = refl
 
+-- the keyword of a word in the table is that of the definition
 pub keyword_of-rows : (word : List ℕ)
     → option_map (λ (row : List ℕ × Keyword). row.1) (find (λ row. bytes_eq word row.0) (map (λ k. (spelling_of k, k)) keywords)) ≡ keyword_of word
 unfolding keyword_of

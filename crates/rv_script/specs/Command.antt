@@ -6,8 +6,8 @@ use Rattle.std.specs.List.{starts_with}
 use Rattle.std.specs.Str.{bytes_eq}
 use Rattle.rv_text.specs.GoodLines.{is_good_line}
 use Rattle.rv_text.specs.Words.{words_of}
-use Rattle.rv_platform.specs.Blocks.{no_block}
-use Rattle.rv_platform.specs.declared.block.Block.{Block}
+use Rattle.rv_memory.specs.Blocks.{no_block}
+use Rattle.rv_memory.specs.declared.block.Block.{Block}
 use Rattle.rv_script.specs.Numbers.{hexadecimal_of, csr_number_of, byte_of_text, decimal_of}
 use Rattle.rv_script.specs.Within.{within}
 use Rattle.rv_script.specs.Schedules.{hart_named, schedule_of}
@@ -66,6 +66,7 @@ pub data Form : Type 0 where
   TwoOperands : (make : List ℕ → List ℕ → Option Command) → Form
   FourOperands : (make : List ℕ → List ℕ → List ℕ → List ℕ → Option Command) → Form
 
+-- the command of a form and its operands; none if their number is wrong or one cannot be read
 abbrev pub made : Form → List (List ℕ) → Option Command
 made (NoOperand command) [] = Some command
 made (OneOperand make) (t ∷ []) = make t
@@ -77,9 +78,11 @@ made _ _ = None
 abbrev pub one : {A : Type 0} → (List ℕ → Option A) → (A → Command) → Form
 one read make = OneOperand (λ t. option_map make (read t))
 
+-- the form of a command with two operands, each with its reader
 abbrev pub two : {A B : Type 0} → (List ℕ → Option A) → (List ℕ → Option B) → (A → B → Command) → Form
 two first second make = TwoOperands (λ t u. option_and_then (λ a. option_map (make a) (second u)) (first t))
 
+-- the form of a command with four operands, each with its reader
 abbrev pub four : {A B C D : Type 0} → (List ℕ → Option A) → (List ℕ → Option B) → (List ℕ → Option C) → (List ℕ → Option D)
     → (A → B → C → D → Command) → Form
 four first second third fourth make =
@@ -91,6 +94,7 @@ pub record CommandRow : Type 0 where
   pub spelling : List ℕ
   pub form : Form
 
+-- the keyword of each command, and the form of its operands
 abbrev pub command_row : Keyword → CommandRow
 command_row keyword.Step = record { spelling = codes "step"; form = one (decimal_within 1 1000000) command.Step }
 command_row keyword.Run = record { spelling = codes "run"; form = one (decimal_within 1 1000000) command.Run }
@@ -112,15 +116,18 @@ command_row keyword.Timer = record { spelling = codes "timer"; form = one switch
 command_row keyword.Hart = record { spelling = codes "hart"; form = one hart_named command.Hart }
 command_row keyword.Sched = record { spelling = codes "sched"; form = one schedule_of command.Sched }
 
+-- all keywords
 abbrev pub keywords : List Keyword
 keywords =
     keyword.Step ∷ keyword.Run ∷ keyword.Sched ∷ keyword.Break ∷ keyword.Clear ∷ keyword.Watch ∷ keyword.Unwatch ∷ keyword.Reg ∷ keyword.Regs
     ∷ keyword.SetReg ∷ keyword.Csr ∷ keyword.Mem ∷ keyword.Poke ∷ keyword.Dis ∷ keyword.Pmp ∷ keyword.Enclaves ∷ keyword.Access ∷ keyword.Timer
     ∷ keyword.Hart ∷ []
 
+-- the text of a keyword
 abbrev pub spelling_of : Keyword → List ℕ
 spelling_of k = (command_row k).spelling
 
+-- the command of a keyword and its operands
 abbrev pub operands_of : Keyword → List (List ℕ) → Option Command
 operands_of k = made (command_row k).form
 
@@ -128,6 +135,7 @@ operands_of k = made (command_row k).form
 unfoldable pub keyword_of : List ℕ → Option Keyword
 keyword_of word = find (λ k. bytes_eq word (spelling_of k)) keywords
 
+-- the command of a keyword, or the error of an unknown keyword or of bad operands
 abbrev pub named : Option Keyword → List (List ℕ) → Result Command CommandFault
 named None operands = Err UnknownCommand
 named (Some k) operands = ok_or (operands_of k operands) BadOperand

@@ -13,6 +13,7 @@ hart_named operand = if bytes_eq operand (codes "0") then Some 0 else (if bytes_
 unfoldable pub is_hart_digit : ℕ → Bool
 is_hart_digit byte = byte == 48 || byte == 49
 
+-- the hart of a digit of the schedule: 1 for the digit 1 (code 49), and otherwise 0
 unfoldable pub hart_of_digit : ℕ → ℕ
 hart_of_digit digit = if digit == 49 then 1 else 0
 

@@ -2,7 +2,7 @@
 
 ghost use Rattle.std.specs.Prelude.{◌≡◌, [], ◌∷◌, map};
 ghost use Rattle.rv_word.specs.Cases.{option_case};
-ghost use Rattle.rv_platform.specs.Blocks.{no_block};
+ghost use Rattle.rv_memory.specs.Blocks.{no_block};
 ghost use Rattle.rv_script.specs.Command.{bytes_named};
 ghost use Rattle.rv_script.specs.Command.{decimal_within, register_of, switch_of, mode_of, access_of, width_of, operands_of, meaning_of, parse_of, number_of_fault};
 
@@ -11,7 +11,7 @@ use crate::numbers::{byte, csr_number, decimal, hexadecimal};
 use crate::schedule::{Schedule, hart_operand};
 use crate::within::Within;
 use rv_encoding::CsrNumber;
-use rv_platform::Block;
+use rv_memory::Block;
 use rv_pmp::{Access, Mode};
 use rv_text::{first_words, is_good_line};
 use rv_word::{Reg, Width};

@@ -17,15 +17,18 @@ pub lowest : (bit : Bool) (rest : ℕ) → ((digit bit + 2 * rest) % 2 == 1) ≡
 lowest true rest = let e : (1 + 2 * rest) % 2 ≡ 1 = omega arith in rw e refl
 lowest false rest = let e : (0 + 2 * rest) % 2 ≡ 0 = omega arith in rw e refl
 
+-- the rest of a number that is made of a lowest bit and a rest
 pub above : (bit : Bool) (rest : ℕ) → (digit bit + 2 * rest) / 2 ≡ rest
 above true rest = omega arith
 above false rest = omega arith
 
+-- and with the same bit again changes nothing
 and-again : (x y : Bool) → ((x && y) && y) ≡ (x && y)
 and-again true true = refl
 and-again true false = refl
 and-again false y = refl
 
+-- the common bits with the same mask again are the same
 shared-again : (count word mask : ℕ) → shared count (shared count word mask) mask ≡ shared count word mask
 shared-again zero word mask = refl
 shared-again (suc count) word mask =
@@ -45,6 +48,7 @@ digit-below zero below = refl
 digit-below (suc zero) below = refl
 digit-below (suc (suc n)) below = absurd (omega arith)
 
+-- the lowest bit of a number as 0 or 1
 pub digit-rem : (n : ℕ) → digit (n % 2 == 1) ≡ n % 2
 digit-rem n = digit-below (n % 2) (omega arith)
 
@@ -56,12 +60,14 @@ masked [] bits = []
 masked (m ∷ ms) [] = []
 masked (m ∷ ms) (bit ∷ bits) = (m && bit) ∷ masked ms bits
 
+-- and is the same in both orders
 and-comm : (x y : Bool) → (x && y) ≡ (y && x)
 and-comm true true = refl
 and-comm true false = refl
 and-comm false true = refl
 and-comm false false = refl
 
+-- the common bits of a list and a mask are the bits of the list in the mask
 pub bitwise-masked : (bits mask : List Bool) → bitwise (λ x y. x && y) bits mask ≡ masked mask bits
 bitwise-masked [] [] = refl
 bitwise-masked [] (m ∷ ms) = refl
@@ -73,14 +79,17 @@ abbrev pub bits_from : ℕ → ℕ → ℕ → List Bool
 bits_from zero k word = []
 bits_from (suc count) k word = is_set word k ∷ bits_from count (suc k) word
 
+-- half of a word shifted right by k is the word shifted right by k + 1
 halved : (word k : ℕ) → word / 2 ^ k / 2 ≡ word / 2 ^ suc k
 halved word k = div-div-eq-div-mul word (2 ^ k) 2 ∙ sym (ap (λ n. word / n) (pow-suc 2 k))
 
+-- the bits of a word shifted right by k are its bits from k up
 pub bit_list-from : (count k word : ℕ) → bit_list count (word / 2 ^ k) ≡ bits_from count k word
 bit_list-from zero k word = refl
 bit_list-from (suc count) k word =
     rw (halved word k) (ap (λ bits. is_set word k ∷ bits) (bit_list-from count (suc k) word))
 
+-- a word under a mask is the number of its bits in the mask
 pub by_places : (word mask : ℕ) → and_by_bits word mask ≡ word_of_bits (masked (bit_list 32 mask) (bits_from 32 0 word))
 unfolding by_bits
 by_places word mask =
@@ -89,21 +98,26 @@ by_places word mask =
 
 -- ---- the bits that a register keeps are the word under its mask, and masking them again changes nothing
 
+-- a register that keeps the bits of a mask keeps its own value
 kept_again : (keep : ℕ → ℕ) (mask : ℕ) → ((word : ℕ) → and_by_bits word mask ≡ keep word) → (word : ℕ) → keep (keep word) ≡ keep word
-kept_again keep mask is word =
-    sym (is (keep word)) ∙ ap (λ n. and_by_bits n mask) (sym (is word)) ∙ masked_again word mask ∙ is word
+kept_again keep mask by_mask word =
+    sym (by_mask (keep word)) ∙ ap (λ n. and_by_bits n mask) (sym (by_mask word)) ∙ masked_again word mask ∙ by_mask word
 
+-- mie keeps the bits of 0xAAA
 pub enabled_is : (word : ℕ) → and_by_bits word 0xAAA ≡ enabled_of word
 unfolding kept_bits
 enabled_is word = omega (arith, by_places word 0xAAA)
 
+-- a value of mie written again is the same
 pub enabled_again : (word : ℕ) → enabled_of (enabled_of word) ≡ enabled_of word
 enabled_again word = kept_again enabled_of 0xAAA enabled_is word
 
+-- the software bits of mip are those of 0x222
 pub software_is : (word : ℕ) → and_by_bits word 0x222 ≡ software_pending_of word
 unfolding kept_bits
 software_is word = omega (arith, by_places word 0x222)
 
+-- the software bits of mip taken again are the same
 pub software_again : (word : ℕ) → software_pending_of (software_pending_of word) ≡ software_pending_of word
 software_again word = kept_again software_pending_of 0x222 software_is word
 
@@ -112,12 +126,15 @@ pub software_of : (word : ℕ) → software_pending_of word ≡ word / 2 ^ 1 % 2
 unfolding kept_bits
 software_of word = omega (arith, digit-rem (word / 2 ^ 1), digit-rem (word / 2 ^ 5), digit-rem (word / 2 ^ 9))
 
+-- the software bits of mip are at most 0x222
 pub software_at_most : (word : ℕ) → software_pending_of word ≤ 0x222
 software_at_most word = omega (arith, software_of word)
 
+-- mcountinhibit keeps the bits CY and IR
 pub inhibited_is : (word : ℕ) → and_by_bits word 0x5 ≡ inhibited_of word
 unfolding kept_bits
 inhibited_is word = omega (arith, by_places word 0x5)
 
+-- a value of mcountinhibit written again is the same
 pub inhibited_again : (word : ℕ) → inhibited_of (inhibited_of word) ≡ inhibited_of word
 inhibited_again word = kept_again inhibited_of 0x5 inhibited_is word

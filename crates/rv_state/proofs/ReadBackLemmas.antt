@@ -32,9 +32,11 @@ word_of_bit_list (suc count) word below =
     let rest = word_of_bit_list count (word / 2) (omega (arith, pow-suc 2 count)) in
     omega (arith, rest, digit-rem word)
 
+-- the bits of a word from bit 2 up are those of the word shifted right by 2
 above : (word : ℕ) → word < 2 ^ 32 → word_of_bits (bits_from 30 2 word) ≡ word / 4
 above word below = ap word_of_bits (sym (bit_list-from 30 2 word)) ∙ word_of_bit_list 30 (word / 4) (omega arith)
 
+-- a word rounded down to a multiple of 4 is the word without its two lowest bits
 pub aligned-is : (word : ℕ) → word < 2 ^ 32 → aligned_to_4 word ≡ and_by_bits word 0xFFFFFFFC
 aligned-is word below = omega (arith, above word below, by_places word 0xFFFFFFFC)
 
@@ -44,6 +46,7 @@ vector-is word below = omega (arith, above word below, by_places word 0xFFFFFFFD
 
 -- ---- sstatus and mstatus
 
+-- sstatus reads as the written word under its mask
 pub sstatus-kept : (status : Mstatus) (word : ℕ) → sstatus_word (with_sstatus status word) ≡ and_by_bits word 0x00080122
 sstatus-kept status word = omega (arith, by_places word 0x00080122)
 
@@ -55,33 +58,39 @@ mpp-number (suc (suc zero)) below = refl
 mpp-number (suc (suc (suc zero))) below = refl
 mpp-number (suc (suc (suc (suc n)))) below = absurd (omega arith)
 
+-- the field MPP is the number of bits 11 and 12
 mpp-digits : (word : ℕ) → bits word 12 11 ≡ digit (is_set word 11) + 2 * digit (is_set word 12)
 mpp-digits word = omega (arith, digit-rem (word / 2 ^ 11), digit-rem (word / 2 ^ 12))
 
+-- mstatus reads as the written word under its mask, whether MPP would be 2 or not
 mstatus-kept-by : (word : ℕ) (is_two : Bool) → (bits word 12 11 == 2) ≡ is_two
     → mstatus_word (mstatus_of word) ≡ and_by_bits word (if is_two then 0x007A01AA else 0x007A19AA)
-mstatus-kept-by word true e =
+mstatus-kept-by word true test_is =
     let mode : mode_number (mode_of_mpp (bits word 12 11)) ≡ 0 =
-    mpp-number (bits word 12 11) (omega arith) ∙ ap (λ (b : Bool). if b then 0 else bits word 12 11) e
+    mpp-number (bits word 12 11) (omega arith) ∙ ap (λ (b : Bool). if b then 0 else bits word 12 11) test_is
     in
     omega (arith, mode, by_places word 0x007A01AA)
-mstatus-kept-by word false e =
+mstatus-kept-by word false test_is =
     let mode : mode_number (mode_of_mpp (bits word 12 11)) ≡ bits word 12 11 =
-    mpp-number (bits word 12 11) (omega arith) ∙ ap (λ (b : Bool). if b then 0 else bits word 12 11) e
+    mpp-number (bits word 12 11) (omega arith) ∙ ap (λ (b : Bool). if b then 0 else bits word 12 11) test_is
     in
     omega (arith, mode, mpp-digits word, by_places word 0x007A19AA)
 
+-- mstatus reads as the written word under its mask
 pub mstatus-kept : (word : ℕ) → mstatus_word (mstatus_of word) ≡ and_by_bits word (mstatus_mask word)
 mstatus-kept word = mstatus-kept-by word (bits word 12 11 == 2) refl
 
 -- ---- every register
 
+-- the low half of a counter after a write of the low half is the written word
 low-half : (counter word : ℕ) → word < 2 ^ 32 → bits (with_low_half counter word) 31 0 ≡ word
 low-half counter word below = omega arith
 
+-- the high half of a counter after a write of the high half is the written word
 high-half : (counter word : ℕ) → word < 2 ^ 32 → bits (with_high_half counter word) 63 32 ≡ word
 high-half counter word below = omega arith
 
+-- each register reads as the kept bits of the written word
 reading-written : (name : CsrName) (word : ℕ) (c : CsrState) → word < 2 ^ 32 → reading name (written name word c) ≡ kept name word c
 unfolding csr_of
 reading-written Sstatus word c below = sstatus-kept c.mstatus word
@@ -142,24 +151,27 @@ abbrev stored : Bool → Bool → Bool → CsrState → Result CsrState CsrFault
 stored low read_only refused left =
     if low then Err Privilege else (if read_only then Err ReadOnly else (if refused then Err Trapped else Ok left))
 
+-- a write that is Ok passed all three tests
 ok-by-tests : (low read_only refused : Bool) (left after : CsrState) → stored low read_only refused left ≡ Ok after
     → (low ≡ false) × (refused ≡ false) × (left ≡ after)
-ok-by-tests true read_only refused left after e = cc
-ok-by-tests false true refused left after e = cc
-ok-by-tests false false true left after e = cc
-ok-by-tests false false false left after e = (refl, refl, cc)
+ok-by-tests true read_only refused left after store_is = cc
+ok-by-tests false true refused left after store_is = cc
+ok-by-tests false false true left after store_is = cc
+ok-by-tests false false false left after store_is = (refl, refl, cc)
 
+-- a write that is Ok is read back, by the register of the number
 reads-back : (found : Option CsrName) (low read_only : Bool) (before after : CsrState) (word : ℕ) (mode : Mode) → word < 2 ^ 32
     → on_register found (λ name. stored low read_only (is_trapped name mode before) (written name word before)) ≡ Ok after
     → on_register found (λ name. if low then Err Privilege else (if is_trapped name mode after then Err Trapped else Ok (reading name after)))
     ≡ Ok (kept_at found word before)
-reads-back None low read_only before after word mode below e = cc
-reads-back (Some name) low read_only before after word mode below e =
-    let tests = ok-by-tests low read_only (is_trapped name mode before) (written name word before) after e in
+reads-back None low read_only before after word mode below on_register_is = cc
+reads-back (Some name) low read_only before after word mode below on_register_is =
+    let tests = ok-by-tests low read_only (is_trapped name mode before) (written name word before) after on_register_is in
     rw (tests.0, ← tests.2, trapped-after name word mode before tests.1, reading-written name word before below) refl
 
+-- a write that succeeds is read back, under the mask of the register
 pub write_reads_back : (before after : CsrState) (number word : ℕ) (mode : Mode) → word < 2 ^ 32 → write_result before number word mode ≡ Ok after
     → ReadsBack before after number word mode
 unfolding write_result read_result ReadsBack
-write_reads_back before after number word mode below e =
-    reads-back (csr_numbered number) (nat_lt (mode_number mode) (least_mode number)) (is_read_only number) before after word mode below e
+write_reads_back before after number word mode below write_is =
+    reads-back (csr_numbered number) (nat_lt (mode_number mode) (least_mode number)) (is_read_only number) before after word mode below write_is

@@ -4,6 +4,7 @@ use Rattle.std.specs.Prelude.{ℕ}
 use Rattle.rv_state.specs.declared.csr_fault.CsrFault.{CsrFault}
 use Rattle.rv_state.specs.declared.csr_fault.CsrFault.TheVariants.{Missing, Privilege, ReadOnly, Trapped}
 
+-- a number for each kind of fault, by which faults are compared
 abbrev pub csr_fault_number : CsrFault → ℕ
 csr_fault_number Missing = 1
 csr_fault_number Privilege = 2

@@ -11,6 +11,7 @@ pub record CsrRow : Type 0 where
   pub name : ℕ → List ℕ
   pub register : ℕ → CsrName
 
+-- the row of a single register: its number, its name in assembly, and its register
 abbrev pub csr : ℕ → List ℕ → CsrName → CsrRow
 csr own name register = record { is_of = λ number. number == own; name = λ _. name; register = λ _. register }
 

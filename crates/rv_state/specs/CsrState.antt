@@ -30,6 +30,7 @@ pub record CsrState : Type 0 where
   pub scause : ℕ
   pub stval : ℕ
 
+-- the registers at reset: all 0, with all PMP entries off and the timer line clear
 abbrev pub at_reset : CsrState
 at_reset = record {
   mstatus = mstatus_at_reset;

@@ -35,6 +35,7 @@ is_read_only number = bits number 11 10 == 0b11
 
 -- ---- the listing (section 2.2): number, name and register; for each zero register, why the manual allows zero
 
+-- all rows of the table; the first row that has a number decides
 unfoldable pub csr_listing : List CsrRow
 csr_listing =
     -- table 2.3, Supervisor Trap Setup; no interrupt is delegated, so every bit of sie and sip is 0 (section 3.1.9)
@@ -100,6 +101,7 @@ csr_listing =
 unfoldable pub csr_numbered : ℕ → Option CsrName
 csr_numbered number = option_map (λ (row : CsrRow). row.register number) (row_of_number csr_listing number)
 
+-- the name in assembly of the register with this number, if there is one
 abbrev pub name_of_number : ℕ → Option (List ℕ)
 name_of_number number = option_map (λ (row : CsrRow). row.name number) (row_of_number csr_listing number)
 
@@ -131,6 +133,7 @@ pub record Csr : Type 0 where
 abbrev pub constant : ℕ → Csr
 constant value = record { reads = λ _. value; leaves = λ _ c. c }
 
+-- how each register is read, and what a write leaves in the state
 unfoldable pub csr_of : CsrName → Csr
 csr_of Sstatus = record { reads = λ c. sstatus_word c.mstatus; leaves = λ word c. record c { mstatus = with_sstatus c.mstatus word } }
 csr_of Stvec = record { reads = λ c. c.stvec; leaves = λ word c. record c { stvec = vector_of word } }
@@ -157,9 +160,11 @@ csr_of Minstreth = record { reads = λ c. bits c.minstret 63 32; leaves = λ wor
 csr_of Mcountinhibit = record { reads = λ c. c.mcountinhibit; leaves = λ word c. record c { mcountinhibit = inhibited_of word } }
 csr_of Zero = constant 0
 
+-- the word that a read of the register returns
 abbrev pub reading : CsrName → CsrState → ℕ
 reading name c = (csr_of name).reads c
 
+-- the state after a write of a word to the register
 abbrev pub written : CsrName → ℕ → CsrState → CsrState
 written name word c = (csr_of name).leaves word c
 
@@ -170,6 +175,7 @@ abbrev pub is_trapped : CsrName → Mode → CsrState → Bool
 is_trapped Satp S c = c.mstatus.tvm
 is_trapped _ _ c = false
 
+-- an access to the register of a number; a number without a register is a fault
 abbrev pub on_register : {A : Type 0} → Option CsrName → (CsrName → Result A CsrFault) → Result A CsrFault
 on_register None access = Err faults.Missing
 on_register (Some name) access = access name

@@ -29,6 +29,7 @@ abbrev pub first_interrupt : ℕ → ℕ → Option Interrupt
 first_interrupt mip mie =
     find (λ interrupt. is_set mip (interrupt_number interrupt) && is_set mie (interrupt_number interrupt)) interrupt_order
 
+-- whether the mode is M
 abbrev pub is_machine : Mode → Bool
 is_machine M = true
 is_machine _ = false

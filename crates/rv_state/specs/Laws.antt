@@ -20,6 +20,7 @@ use Rattle.rv_state.specs.declared.csr_name.CsrName.TheVariants.{Pmpcfg, Pmpaddr
 abbrev pub mstatus_mask : ℕ → ℕ
 mstatus_mask word = if bits word 12 11 == 2 then 0x007A01AA else 0x007A19AA
 
+-- the word that each register reads after a write of `word`
 abbrev pub kept : CsrName → ℕ → CsrState → ℕ
 kept Sstatus word c = and_by_bits word 0x00080122
 kept Stvec word c = and_by_bits word 0xFFFFFFFD
@@ -46,6 +47,7 @@ kept Minstreth word c = word
 kept Mcountinhibit word c = and_by_bits word 0x00000005
 kept Zero word c = 0
 
+-- the word that the register of a number reads after a write; 0 if there is none
 abbrev pub kept_at : Option CsrName → ℕ → CsrState → ℕ
 kept_at None word c = 0
 kept_at (Some name) word c = kept name word c

@@ -9,36 +9,47 @@ use Rattle.rv_state.specs.declared.mstatus.Mstatus.{Mstatus}
 
 -- ---- the bit of each field (figure 3.6); for MPP the lower of its two bits
 
+-- SIE: interrupts are enabled in mode S
 abbrev pub sie_bit : ℕ
 sie_bit = 1
 
+-- MIE: interrupts are enabled in mode M
 abbrev pub mie_bit : ℕ
 mie_bit = 3
 
+-- SPIE: SIE before the trap to mode S
 abbrev pub spie_bit : ℕ
 spie_bit = 5
 
+-- MPIE: MIE before the trap to mode M
 abbrev pub mpie_bit : ℕ
 mpie_bit = 7
 
+-- SPP: the mode before the trap to mode S (one bit)
 abbrev pub spp_bit : ℕ
 spp_bit = 8
 
+-- MPP: the mode before the trap to mode M (two bits)
 abbrev pub mpp_bit : ℕ
 mpp_bit = 11
 
+-- MPRV: loads and stores are checked in the mode MPP
 abbrev pub mprv_bit : ℕ
 mprv_bit = 17
 
+-- MXR: loads from executable pages are permitted
 abbrev pub mxr_bit : ℕ
 mxr_bit = 19
 
+-- TVM: satp is trapped in mode S
 abbrev pub tvm_bit : ℕ
 tvm_bit = 20
 
+-- TW: wfi is trapped below mode M
 abbrev pub tw_bit : ℕ
 tw_bit = 21
 
+-- TSR: sret is trapped in mode S
 abbrev pub tsr_bit : ℕ
 tsr_bit = 22
 

@@ -6,6 +6,7 @@ use Rattle.rv_state.specs.CsrState.{CsrState}
 use Rattle.rv_state.specs.CsrTable.{vector_of}
 use Rattle.rv_state.specs.declared.s_context.SContext.{SContext}
 
+-- the registers of mode S that a context switch saves
 abbrev pub s_context : CsrState → SContext
 s_context c = record {
   stvec = c.stvec;
@@ -19,6 +20,7 @@ s_context c = record {
   mxr = c.mstatus.mxr;
 }
 
+-- the state with the registers of mode S restored, as writes store them
 abbrev pub with_s_context : CsrState → SContext → CsrState
 with_s_context c s = record c {
   stvec = vector_of s.stvec;

@@ -9,12 +9,12 @@ use Rattle.rv_streams.specs.declared.fault.BenchFault.TheVariants.{TooLong, Asm}
 -- the output for a text that is not too long and is assembled
 pub asm_output-ok : (text words : List ℕ) → length text ≤ 4194304 → assembled text ≡ Ok words → asm_output text ≡ Ok (asm_text words)
 unfolding asm_output
-asm_output-ok text words few is = let short : nat_lt 4194304 (length text) ≡ false = grind (arith, nat_tests) in rw (short, is) refl
+asm_output-ok text words few assembled_is = let short : nat_lt 4194304 (length text) ≡ false = grind (arith, nat_tests) in rw (short, assembled_is) refl
 
 -- the output for a text that is not too long and has an error
 pub asm_output-fault : (text : List ℕ) (fault : AsmFault) → length text ≤ 4194304 → assembled text ≡ Err fault → asm_output text ≡ Err (Asm fault)
 unfolding asm_output
-asm_output-fault text fault few is = let short : nat_lt 4194304 (length text) ≡ false = grind (arith, nat_tests) in rw (short, is) refl
+asm_output-fault text fault few assembled_is = let short : nat_lt 4194304 (length text) ≡ false = grind (arith, nat_tests) in rw (short, assembled_is) refl
 
 -- the output for a text that is too long
 pub asm_output-too_long : (text : List ℕ) → 4194304 < length text → asm_output text ≡ Err TooLong

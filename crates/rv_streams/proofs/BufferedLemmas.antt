@@ -11,8 +11,8 @@ use Rattle.rv_streams.proofs.LineTextLemmas.{has_feed-take}
 pub ahead_given : (buffer rest given : List ℕ) (start end count room : ℕ) → count ≡ min (length (take (end - start) (drop start buffer))) room
     → given ≡ take count (take (end - start) (drop start buffer))
     → take (end - start) (drop start buffer) ++ rest ≡ given ++ (take (end - (start + count)) (drop (start + count) buffer) ++ rest)
-ahead_given buffer rest given start end count room is copied =
-    let few : count ≤ end - start = omega (arith, is, length-take (end - start) (drop start buffer)) in
+ahead_given buffer rest given start end count room count_is copied =
+    let few : count ≤ end - start = omega (arith, count_is, length-take (end - start) (drop start buffer)) in
     let split : take (end - start) (drop start buffer) ≡ take count (drop start buffer) ++ take (end - (start + count)) (drop (start + count) buffer) =
     ap (λ n. take n (drop start buffer)) (omega arith) ∙ (take-add count (end - (start + count)) (drop start buffer)
     ∙ ap (λ t. take count (drop start buffer) ++ take (end - (start + count)) t) (drop-drop count start buffer)) in
@@ -20,23 +20,24 @@ ahead_given buffer rest given start end count room is copied =
     ap (λ t. t ++ rest) split ∙ (append_assoc (take count (drop start buffer)) _ rest
     ∙ ap (λ t. t ++ (take (end - (start + count)) (drop (start + count) buffer) ++ rest)) prefix)
 
--- the same for the bytes of one line, which are some of those read ahead
+-- some bytes of one line of those read ahead are returned, and the others stay
 pub line_given : (buffer rest given line : List ℕ) (start end count room : ℕ) → line ≡ take (length line) (take (end - start) (drop start buffer))
     → count ≡ min (length line) room → given ≡ take count line
     → take (end - start) (drop start buffer) ++ rest ≡ given ++ (take (end - (start + count)) (drop (start + count) buffer) ++ rest)
-line_given buffer rest given line start end count room prefix is copied =
+line_given buffer rest given line start end count room prefix count_is copied =
     let ahead = take (end - start) (drop start buffer) in
     let few : length line ≤ length ahead = omega (arith, ap length prefix, length-take (length line) ahead) in
-    let same : take count line ≡ take count ahead = ap (take count) prefix ∙ take-take count (length line) ahead (omega (arith, is)) in
-    ahead_given buffer rest given start end count count (omega (arith, is, few)) (copied ∙ same)
+    let same : take count line ≡ take count ahead = ap (take count) prefix ∙ take-take count (length line) ahead (omega (arith, count_is)) in
+    ahead_given buffer rest given start end count count (omega (arith, count_is, few)) (copied ∙ same)
 
 -- the bytes up to the first line feed
 pub feedless-whole : (text : List ℕ) (end : ℕ) → end ≡ position_or_len (λ b. b == 10) text → end ≡ length text
     → has_feed (take (length text - 1) text) ≡ false
-feedless-whole text end is all = has_feed-take (length text - 1) text (all_taken text (sym is ∙ all))
+feedless-whole text end end_is all = has_feed-take (length text - 1) text (all_taken text (sym end_is ∙ all))
 
+-- the bytes before the first line feed have no line feed
 pub feedless-cut : (text : List ℕ) (end : ℕ) → end ≡ position_or_len (λ b. b == 10) text → end < length text
     → has_feed (take (length (take (end + 1) text) - 1) (take (end + 1) text)) ≡ false
-feedless-cut text end is within =
+feedless-cut text end end_is within =
     let len : length (take (end + 1) text) - 1 ≡ end = omega (arith, length-take (end + 1) text) in
-    rw len (ap has_feed (take-take end (end + 1) text (omega arith)) ∙ (ap (λ n. has_feed (take n text)) is ∙ no_feed text))
+    rw len (ap has_feed (take-take end (end + 1) text (omega arith)) ∙ (ap (λ n. has_feed (take n text)) end_is ∙ no_feed text))

@@ -62,16 +62,16 @@ SinkFlushed-after h first last = record {
 -- a text was written, and the sink flushed once after it
 pub flushed_once : {W A E : Type 0} (h : SinkGhosts W) {old new : W} (r : Result A E) {a : A} → r ≡ Ok a → OnOk r (NoneFailed h old new)
     → OnOk r ((h.is_flushed new ≡ true) × (h.flushes new ≡ h.flushes old + 1)) → SinkFlushed h old new
-flushed_once h (Ok a) is worked flushed = record { worked = worked; flushed = flushed.0; once = flushed.1 }
-flushed_once h (Err e) is worked flushed = let never : Err e ≡ Ok _ = is in cc
+flushed_once h (Ok a) result_is worked flushed = record { worked = worked; flushed = flushed.0; once = flushed.1 }
+flushed_once h (Err e) result_is worked flushed = let never : Err e ≡ Ok _ = result_is in cc
 
--- a flush that succeeded
+-- a flush that succeeded is one more flush, without a failure
 pub SinkFlushed-flush : {W A E : Type 0} (h : SinkGhosts W) {old new : W} (r : Result A E) {a : A} → r ≡ Ok a
     → h.failures new ≡ counted_if (is_err r) (h.failures old) → h.refusals new ≡ h.refusals old → h.is_flushed new ≡ (h.is_flushed old || is_ok r)
     → h.flushes new ≡ counted_if (is_ok r) (h.flushes old) → SinkFlushed h old new
-SinkFlushed-flush h {old = old} (Ok a) is failures refusals flushed once =
+SinkFlushed-flush h {old = old} (Ok a) result_is failures refusals flushed once =
     record { worked = (failures, refusals); flushed = flushed ∙ or-true (h.is_flushed old); once = once }
-SinkFlushed-flush h (Err e) is failures refusals flushed once = let never : Err e ≡ Ok _ = is in cc
+SinkFlushed-flush h (Err e) result_is failures refusals flushed once = let never : Err e ≡ Ok _ = result_is in cc
 
 -- the property holds for two calls, one after the other
 pub EndsWithSource-more : {S : Type 0} {g : Ghosts S} (old mid new : Lines S g) → EndsWithSource old mid → EndsWithSource mid new → EndsWithSource old new
@@ -82,10 +82,12 @@ EndsWithSource-more {S} {g} old mid new first next = record {
   same = next.same ∙ first.same;
   before = λ follows. first.before (next.before follows);
 } where
+  -- without a new end, the number of ends is unchanged
   go_on : (b : Bool) → mid.is_at_end ≡ b → new.is_at_end ≡ false → g.ends new.source ≡ g.ends old.source
   go_on true was e = let is = (next.stays was).0 in cc
   go_on false was e = next.going e ∙ first.going was
 
+  -- a new end is one that the source reported
   go_to : (b : Bool) → mid.is_at_end ≡ b → new.is_at_end ≡ true → HasEnded old new
   go_to true was e = elim (first.ended was) [
     | inl at_end ↦ inl at_end

@@ -39,6 +39,7 @@ pub record TakesInImage (unread left rest : List ℕ) (ends : Bool) (image shown
   pub other : is_separator shown ≡ false
   pub few : length image ≤ 33554432
 
+-- the line is not the separator
 not_separator : {unread left rest : List ℕ} {ends : Bool} {image shown : List ℕ} → (at : TakesInImage unread left rest ends image shown)
     → is_separator at.takes.line ≡ false
 not_separator at = ends_script-shown Separator _ _ _ _ at.takes ∙ at.other
@@ -57,9 +58,11 @@ image_of-faulty lines others line sound few faulty =
     let below : ltb 33554432 (length (bytes_of_lines lines)) ≡ false = grind (arith, nat_tests) in
     rw (take_while-stop is_image_line lines line others sound faulty, below, list_all-stop is_image_line lines line others sound faulty) refl
 
+-- the bytes of two lists of lines are those of the first and then of the second
 bytes_of_lines-append : (xs ys : List (List ℕ)) → bytes_of_lines (xs ++ ys) ≡ bytes_of_lines xs ++ bytes_of_lines ys
 bytes_of_lines-append xs ys = flat_map-append (λ line. unwrap_or (line_bytes line) []) xs ys
 
+-- the bytes with one more line
 bytes_of_lines-push : (lines : List (List ℕ)) (line bytes : List ℕ) → line_bytes line ≡ Some bytes
     → bytes_of_lines (lines ++ line ∷ []) ≡ bytes_of_lines lines ++ bytes
 bytes_of_lines-push lines line bytes encodes =
@@ -69,12 +72,12 @@ bytes_of_lines-push lines line bytes encodes =
 -- too many bytes before a line with an error are reported first
 image_of-many : (lines others : List (List ℕ)) (line bytes : List ℕ) → list_all is_image_line lines ≡ true → line_bytes line ≡ Some bytes
     → 33554432 < length (bytes_of_lines lines) + length bytes → image_of (lines ++ line ∷ others) ≡ Err TooLong
-image_of-many lines others line bytes sound is many =
-    let passes : is_image_line line ≡ true = rw is refl in
+image_of-many lines others line bytes sound line_bytes_is many =
+    let passes : is_image_line line ≡ true = rw line_bytes_is refl in
     let more = bytes_of_lines (take_while is_image_line others) in
     let all : bytes_of_lines (take_while is_image_line (lines ++ line ∷ others)) ≡ bytes_of_lines lines ++ (bytes ++ more) =
     ap bytes_of_lines (take_while-pass is_image_line lines line others sound passes) ∙ (bytes_of_lines-append lines (line ∷ take_while is_image_line others)
-    ∙ ap (λ o. bytes_of_lines lines ++ (unwrap_or o [] ++ more)) is) in
+    ∙ ap (λ o. bytes_of_lines lines ++ (unwrap_or o [] ++ more)) line_bytes_is) in
     let long : 33554432 < length (bytes_of_lines lines ++ (bytes ++ more)) =
     omega (arith, length-append (bytes_of_lines lines) (bytes ++ more), length-append bytes more) in
     let over : ltb 33554432 (length (bytes_of_lines lines ++ (bytes ++ more))) ≡ true = grind (arith, nat_tests) in
@@ -83,18 +86,20 @@ image_of-many lines others line bytes sound is many =
 -- a line that is no separator belongs to the image
 before_separator-other : (lines others : List (List ℕ)) (line : List ℕ) → list_all (λ l. not (is_separator l)) lines ≡ true
     → is_separator line ≡ false → before_separator (lines ++ line ∷ others) ≡ lines ++ line ∷ before_separator others
-before_separator-other lines others line unmarked e = take_while-pass (λ l. not (is_separator l)) lines line others unmarked (ap not e)
+before_separator-other lines others line unmarked not_separator = take_while-pass (λ l. not (is_separator l)) lines line others unmarked (ap not not_separator)
 
 -- the shown bytes of a line have the same word as the line
 pub TakesLine-word : (left rest : List ℕ) (ends : Bool) (shown : List ℕ) (word : Option (List ℕ)) → (takes : TakesLine left rest ends shown)
     → word ≡ line_word shown → line_word takes.line ≡ word
-TakesLine-word left rest ends shown word takes is = sym (line_word-take takes.line) ∙ (ap line_word (sym takes.prefix) ∙ sym is)
+TakesLine-word left rest ends shown word takes word_is = sym (line_word-take takes.line) ∙ (ap line_word (sym takes.prefix) ∙ sym word_is)
 
+-- the lines of the text are those so far, the next one and the rest
 lines_with : (unread left rest : List ℕ) (ends : Bool) (image shown : List ℕ) → (so_far : EncodesImage unread left false image)
     → (takes : TakesLine left rest ends shown)
     → lines_of unread ≡ so_far.lines ++ takes.line ∷ lines_of rest
 lines_with unread left rest ends image shown so_far takes = so_far.reads.all ∙ ap (λ t. so_far.lines ++ t) takes.lines
 
+-- the lines before the separator are those so far, the next one and the rest
 before_separator_with : (unread left rest : List ℕ) (ends : Bool) (image shown : List ℕ) → (so_far : EncodesImage unread left false image)
     → (takes : TakesLine left rest ends shown) → is_separator takes.line ≡ false
     → before_separator (lines_of unread) ≡ so_far.lines ++ takes.line ∷ before_separator (lines_of rest)
@@ -102,6 +107,7 @@ before_separator_with unread left rest ends image shown so_far takes other =
     ap before_separator (lines_with unread left rest ends image shown so_far takes)
     ∙ before_separator-other so_far.lines (lines_of rest) takes.line so_far.unmarked other
 
+-- an option that has an element with a property
 some_and : (found : Option (List ℕ)) (P : List ℕ → Type 0) → IsSomeAnd found P → (bytes : List ℕ) × (found ≡ Some bytes) × P bytes
 some_and None P h = absurd h
 some_and (Some bytes) P h = (bytes, refl, h)
@@ -153,14 +159,14 @@ module _ {unread left rest : List ℕ} {ends : Bool} {image shown : List ℕ} wh
   -- a line that is no separator and gives bytes appends them
   pub EncodesImage-more : {word new : List ℕ} → TakesInImage unread left rest ends image shown
       → Some word ≡ line_word shown → IsSomeAnd (bytes_of_digits word) (λ bytes. new ≡ image ++ bytes) → EncodesImage unread rest ends new
-  EncodesImage-more {word = word} {new = new} at is gives =
+  EncodesImage-more {word = word} {new = new} at word_is gives =
       let so_far = at.so_far in
       let takes = at.takes in
       let (bytes, writes, grown) = some_and (bytes_of_digits word) (λ bytes. new ≡ image ++ bytes) gives in
       let line = takes.line in
-      let has = TakesLine-word left rest ends shown (Some word) takes is in
+      let has_word = TakesLine-word left rest ends shown (Some word) takes word_is in
       let unmarked : is_separator line ≡ false = not_separator at in
-      let encodes : line_bytes line ≡ Some bytes = ap (option_and_then bytes_of_digits) has ∙ writes in
+      let encodes : line_bytes line ≡ Some bytes = ap (option_and_then bytes_of_digits) has_word ∙ writes in
       let passes : is_image_line line ≡ true = ap is_some encodes in record {
         lines = so_far.lines ++ line ∷ [];
         reads = ReadsLines-more unread left rest ends shown so_far.lines so_far.reads takes;
@@ -173,13 +179,13 @@ module _ {unread left rest : List ℕ} {ends : Bool} {image shown : List ℕ} wh
   pub EncodesImage-refused : {word : List ℕ} → TakesInImage unread left rest ends image shown
       → Some word ≡ line_word shown → IsSomeAnd (bytes_of_digits word) (λ bytes. (0 < length bytes) × (length image + length bytes ≤ 33554432))
       → ReadsPrefixOfImage unread rest
-  EncodesImage-refused {word = word} at is gives =
+  EncodesImage-refused {word = word} at word_is gives =
       let so_far = at.so_far in
       let takes = at.takes in
       let (bytes, writes, (some, few)) = some_and (bytes_of_digits word) (λ bytes. (0 < length bytes) × (length image + length bytes ≤ 33554432)) gives in
       let line = takes.line in
-      let has = TakesLine-word left rest ends shown (Some word) takes is in
-      let encodes : line_bytes line ≡ Some bytes = ap (option_and_then bytes_of_digits) has ∙ writes in
+      let has_word = TakesLine-word left rest ends shown (Some word) takes word_is in
+      let encodes : line_bytes line ≡ Some bytes = ap (option_and_then bytes_of_digits) has_word ∙ writes in
       let sound = list_all-push is_image_line so_far.lines line so_far.sound (ap is_some encodes) in
       let all = bytes_of_lines-push so_far.lines line bytes encodes in
       let short : length (bytes_of_lines (so_far.lines ++ line ∷ [])) ≤ 33554432 =
@@ -193,29 +199,29 @@ module _ {unread left rest : List ℕ} {ends : Bool} {image shown : List ℕ} wh
   -- a line that does not have exactly one word, or none, is the first line with an error
   pub EncodesImage-no_word : TakesInImage unread left rest ends image shown
       → None ≡ line_word shown → (image_in unread ≡ Err Hex) × StopsAtFault unread rest Hex
-  EncodesImage-no_word at is =
-      let has = TakesLine-word left rest ends shown None at.takes is in
-      EncodesImage-faulty unread left rest ends image shown at.so_far at.takes at.few (not_separator at) (ap (option_and_then bytes_of_digits) has)
+  EncodesImage-no_word at no_word =
+      let has_word = TakesLine-word left rest ends shown None at.takes no_word in
+      EncodesImage-faulty unread left rest ends image shown at.so_far at.takes at.few (not_separator at) (ap (option_and_then bytes_of_digits) has_word)
 
   -- a line whose word is not hexadecimal digits is the first line with an error
   pub EncodesImage-no_digits : {word : List ℕ} → TakesInImage unread left rest ends image shown
       → Some word ≡ line_word shown → bytes_of_digits word ≡ None → (image_in unread ≡ Err Hex) × StopsAtFault unread rest Hex
-  EncodesImage-no_digits {word = word} at is none =
-      let has = TakesLine-word left rest ends shown (Some word) at.takes is in
-      EncodesImage-faulty unread left rest ends image shown at.so_far at.takes at.few (not_separator at) (ap (option_and_then bytes_of_digits) has ∙ none)
+  EncodesImage-no_digits {word = word} at word_is none =
+      let has_word = TakesLine-word left rest ends shown (Some word) at.takes word_is in
+      EncodesImage-faulty unread left rest ends image shown at.so_far at.takes at.few (not_separator at) (ap (option_and_then bytes_of_digits) has_word ∙ none)
 
   -- a line with too many bytes is the first line with an error
   pub EncodesImage-many : {word : List ℕ} → TakesInImage unread left rest ends image shown
       → Some word ≡ line_word shown → IsSomeAnd (bytes_of_digits word) (λ bytes. 33554432 < length image + length bytes)
       → (image_in unread ≡ Err TooLong) × StopsAtFault unread rest TooLong
-  EncodesImage-many {word = word} at is gives =
+  EncodesImage-many {word = word} at word_is gives =
       let so_far = at.so_far in
       let takes = at.takes in
       let few = at.few in
       let (bytes, writes, many) = some_and (bytes_of_digits word) (λ bytes. 33554432 < length image + length bytes) gives in
-      let has = TakesLine-word left rest ends shown (Some word) takes is in
+      let has_word = TakesLine-word left rest ends shown (Some word) takes word_is in
       let other = not_separator at in
-      let encodes : line_bytes takes.line ≡ Some bytes = ap (option_and_then bytes_of_digits) has ∙ writes in
+      let encodes : line_bytes takes.line ≡ Some bytes = ap (option_and_then bytes_of_digits) has_word ∙ writes in
       let short : length (bytes_of_lines so_far.lines) ≤ 33554432 = omega (arith, few, ap length so_far.spelled) in
       let long : 33554432 < length (bytes_of_lines so_far.lines) + length bytes = omega (arith, many, ap length so_far.spelled) in (
         ap image_of (before_separator_with unread left rest ends image shown so_far takes other)

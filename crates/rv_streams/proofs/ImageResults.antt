@@ -18,10 +18,11 @@ use Rattle.rv_streams.proofs.ScriptLemmas.{FindsEnd-whole, FindsEnd-separator}
 
 -- a line without a valid word, or with a word other than `--`, is no separator
 pub no_separator : (line : List ℕ) → None ≡ line_word line → is_separator line ≡ false
-no_separator line is = ap is_dashes (sym is)
+no_separator line no_word = ap is_dashes (sym no_word)
 
+-- a line whose first word is not `--` is not a separator
 pub other_word : (line word : List ℕ) → Some word ≡ line_word line → bytes_eq word (codes "--") ≡ false → is_separator line ≡ false
-other_word line word is other = ap is_dashes (sym is) ∙ other
+other_word line word word_is other = ap is_dashes (sym word_is) ∙ other
 
 module _ {S : Type 0} {g : Ghosts S} (Z : Type 0) (old new : Lines S g) (source : SourceWorked g old.source new.source) (emptied : held new ≡ []) where
   -- the result at a line whose bytes are not appended
@@ -29,21 +30,21 @@ module _ {S : Type 0} {g : Ghosts S} (Z : Type 0) (old new : Lines S g) (source 
       → (g.follows_input new.source → TakesInImage (unread old) left (unread new) new.is_at_end image shown)
       → Some word ≡ line_word shown → AddsBytes word image added (Err fault)
       → ReadsImage {Z = Z} old new (Err fault)
-  refused left image added shown word Hex at is adds = record {
+  refused left image added shown word Hex at word_is adds = record {
     source = source;
     emptied = emptied;
-    image = λ follows. (EncodesImage-no_digits (at follows) is adds.0).0;
-    reads = λ follows. (EncodesImage-no_digits (at follows) is adds.0).1;
+    image = λ follows. (EncodesImage-no_digits (at follows) word_is adds.0).0;
+    reads = λ follows. (EncodesImage-no_digits (at follows) word_is adds.0).1;
   }
-  refused left image added shown word TooLong at is adds = record {
+  refused left image added shown word TooLong at word_is adds = record {
     source = source;
     emptied = emptied;
-    image = λ follows. (EncodesImage-many (at follows) is adds.0).0;
-    reads = λ follows. (EncodesImage-many (at follows) is adds.0).1;
+    image = λ follows. (EncodesImage-many (at follows) word_is adds.0).0;
+    reads = λ follows. (EncodesImage-many (at follows) word_is adds.0).1;
   }
-  refused left image added shown word NoMemory at is adds =
-      record { source = source; emptied = emptied; reads = λ follows. EncodesImage-refused (at follows) is adds.0 }
-  refused left image added shown word _ at is adds = absurd adds
+  refused left image added shown word NoMemory at word_is adds =
+      record { source = source; emptied = emptied; reads = λ follows. EncodesImage-refused (at follows) word_is adds.0 }
+  refused left image added shown word _ at word_is adds = absurd adds
 
   -- the result if no line of the image is left
   pub image_read : (mid : Lines S g) (image : Vec ℕ Z) → FindsEnd Separator mid new → vec_len image ≤ 33554432

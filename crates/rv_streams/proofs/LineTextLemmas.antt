@@ -4,6 +4,7 @@ use Rattle.std.proofs.Common.{sym, ◌∙◌, ap, arith, append_assoc, append-ni
 use Rattle.std.proofs.Math.Seq.{take-append-add}
 use Rattle.std.proofs.lemmas.Bool.{cases_lt}
 use Rattle.std.proofs.lemmas.List.{take-append-le, take-append-drop, take_all, take-take, length-take, length-append}
+use Rattle.rv_text.specs.GoodLines.{significant_bytes, kept_bytes}
 use Rattle.rv_text.specs.Lines.{has_feed, lines_of, after_line, after_lines}
 use Rattle.rv_streams.specs.LineText.{ReadsLineText, TakesLine, ReadsLines}
 use Rattle.rv_text.specs.Lines.{without_return}
@@ -11,18 +12,21 @@ use Rattle.rv_text.proofs.LineLemmas.{has_feed-append, eq_false, through_last_fe
 use Rattle.rv_text.proofs.LineLemmas.{after_line-feed, after_line-open, after_lines-more, through_last_feed-append}
 
 -- without a further byte, the held bytes are read
-pub ReadsText-none : (held left : List ℕ) → length held ≤ 122 → has_feed held ≡ false → ReadsLineText (held ++ left) left held
-ReadsText-none held left short open_ = record { text = held; split = refl; unfinished = open_; prefix = sym (take_all 122 held short) }
+pub ReadsText-none : (held left : List ℕ) → length held ≤ kept_bytes → has_feed held ≡ false → ReadsLineText (held ++ left) left held
+ReadsText-none held left short open_ = record { text = held; split = refl; unfinished = open_; prefix = sym (take_all kept_bytes held short) }
 
+-- a text without a line feed has none after another byte
 pub has_feed-push : (text : List ℕ) (byte : ℕ) → has_feed text ≡ false → byte ≢ 10 → has_feed (text ++ byte ∷ []) ≡ false
-has_feed-push text byte h ne = rw (has_feed-append text (byte ∷ []), h, eq_false byte 10 ne) refl
+has_feed-push text byte no_feed ne = rw (has_feed-append text (byte ∷ []), no_feed, eq_false byte 10 ne) refl
 
+-- a prefix of a text without a line feed has none
 pub has_feed-take : (n : ℕ) (text : List ℕ) → has_feed text ≡ false → has_feed (take n text) ≡ false
 has_feed-take n text h = go _ _ (sym (has_feed-append (take n text) (drop n text)) ∙ (ap has_feed (take-append-drop n text) ∙ h)) where
   go : (a b : Bool) → a || b ≡ false → a ≡ false
   go true b h = h
   go false b h = refl
 
+-- the kept part of a line without a line feed has none
 pub has_feed-kept : (most : ℕ) (line text : List ℕ) → has_feed line ≡ false → has_feed text ≡ false → has_feed (take most (line ++ text)) ≡ false
 has_feed-kept most line text first second = has_feed-take most (line ++ text) (rw (has_feed-append line text, first) second)
 
@@ -30,17 +34,18 @@ has_feed-kept most line text first second = has_feed-take most (line ++ text) (r
 pub has_feed-before_last : (part text : List ℕ) (last count : ℕ) → count ≤ length part → take count part ≡ text ++ last ∷ []
     → length text + 1 ≡ length (take count part) → has_feed (take (count - 1) part) ≡ false → has_feed text ≡ false
 has_feed-before_last part text last count room cut len none =
-    let size : length text ≡ count - 1 = omega (arith, len, length-take count part, room) in
-    let is : take (count - 1) part ≡ text =
+    let length_is : length text ≡ count - 1 = omega (arith, len, length-take count part, room) in
+    let text_is : take (count - 1) part ≡ text =
     sym (take-take (count - 1) count part (omega arith)) ∙ (ap (take (count - 1)) cut
-    ∙ (take-append-le (count - 1) text (last ∷ []) (omega (arith, size)) ∙ take_all (count - 1) text (omega (arith, size)))) in
-    sym (ap has_feed is) ∙ none
+    ∙ (take-append-le (count - 1) text (last ∷ []) (omega (arith, length_is)) ∙ take_all (count - 1) text (omega (arith, length_is)))) in
+    sym (ap has_feed text_is) ∙ none
 
 -- the part ends with the line feed
 pub feed_next : (old left part text : List ℕ) (last : ℕ) → old ≡ part ++ left → part ≡ text ++ last ∷ [] → last ≡ 10 → old ≡ text ++ 10 ∷ left
 feed_next old left part text last all cut feed =
     all ∙ (ap (λ t. t ++ left) cut ∙ (append_assoc text (last ∷ []) left ∙ ap (λ n. text ++ n ∷ left) feed))
 
+-- the first n bytes, or all if there are fewer
 take-min : (n : ℕ) (text : List ℕ) → take (min (length text) n) text ≡ take n text
 take-min n text = elim (cases_lt n (length text)) [
   | inl less ↦ ap (λ k. take k text) (omega arith)
@@ -50,11 +55,12 @@ take-min n text = elim (cases_lt n (length text)) [
 -- as much of the text as there is room for
 pub take-room : (most count : ℕ) (line text : List ℕ) → length line ≤ most → count ≡ min (length text) (most - length line)
     → line ++ take count text ≡ take most (line ++ text)
-take-room most count line text short is =
+take-room most count line text short count_is =
     let sum : length line + (most - length line) ≡ most = omega (arith, short) in
-    ap (λ n. line ++ take n text) is ∙ (ap (λ t. line ++ t) (take-min (most - length line) text)
+    ap (λ n. line ++ take n text) count_is ∙ (ap (λ t. line ++ t) (take-min (most - length line) text)
     ∙ (sym (take-append-add line text (most - length line)) ∙ ap (λ n. take n (line ++ text)) sum))
 
+-- the first n bytes depend on the first n bytes of the first part only
 take-kept : (n : ℕ) (xs ys : List ℕ) → take n (take n xs ++ ys) ≡ take n (xs ++ ys)
 take-kept n xs ys = elim (cases_lt n (length xs)) [
   | inl less ↦
@@ -65,16 +71,17 @@ take-kept n xs ys = elim (cases_lt n (length xs)) [
 
 -- the next bytes of the text are read, and as many of them are kept as there is room for
 pub ReadsText-more : (unread old left kept more : List ℕ) → ReadsLineText unread old kept → old ≡ more ++ left → has_feed more ≡ false
-    → ReadsLineText unread left (take 122 (kept ++ more))
+    → ReadsLineText unread left (take kept_bytes (kept ++ more))
 ReadsText-more unread old left kept more reads next none = record {
   text = reads.text ++ more;
   split = reads.split ∙ (ap (λ t. reads.text ++ t) next ∙ sym (append_assoc reads.text more left));
   unfinished = rw (has_feed-append reads.text more, reads.unfinished) none;
-  prefix = ap (λ t. take 122 (t ++ more)) reads.prefix ∙ take-kept 122 reads.text more;
+  prefix = ap (λ t. take kept_bytes (t ++ more)) reads.prefix ∙ take-kept kept_bytes reads.text more;
 }
 
 -- a line is taken when its line feed is read
-pub TakesLine-feed : (unread left kept shown : List ℕ) (is_at_end : Bool) → ReadsLineText unread (10 ∷ left) kept → shown ≡ take 121 (without_return kept)
+pub TakesLine-feed : (unread left kept shown : List ℕ) (is_at_end : Bool) → ReadsLineText unread (10 ∷ left) kept
+    → shown ≡ take significant_bytes (without_return kept)
     → TakesLine unread left is_at_end shown
 TakesLine-feed unread left kept shown is_at_end reads prefix =
     let text = reads.text in
@@ -88,19 +95,21 @@ TakesLine-feed unread left kept shown is_at_end reads prefix =
       whole = λ _. whole;
       lines = ap lines_of split ∙ (lines_of-append (text ++ 10 ∷ []) left whole ∙ ap (λ t. t ++ lines_of left) is_line);
       rest = sym (ap after_line reads.split ∙ after_line-feed text left reads.unfinished);
-      prefix = prefix ∙ (ap (λ t. take 121 (without_return t)) reads.prefix ∙ cut-kept text);
+      prefix = prefix ∙ (ap (λ t. take significant_bytes (without_return t)) reads.prefix ∙ cut-kept text);
     }
 
+-- a text without a line feed that is not empty is one line
 last_line : (text : List ℕ) → has_feed text ≡ false → 0 < length text → lines_of text ≡ text ∷ []
-last_line [] h some = absurd (omega arith)
-last_line (x ∷ xs) h some = lines_of-last x xs h
+last_line [] no_feed some = absurd (omega arith)
+last_line (x ∷ xs) no_feed some = lines_of-last x xs no_feed
 
 -- at the end of the source, the remaining bytes are a line unless there are none
-pub TakesLine-end : (unread left kept shown : List ℕ) → ReadsLineText unread left kept → left ≡ [] → 0 < length kept → shown ≡ take 121 kept
+pub TakesLine-end : (unread left kept shown : List ℕ) → ReadsLineText unread left kept → left ≡ [] → 0 < length kept
+    → shown ≡ take significant_bytes kept
     → TakesLine unread [] true shown
 TakesLine-end unread left kept shown reads none some prefix =
     let text = reads.text in
-    let nonempty : 0 < length text = omega (arith, ap length reads.prefix, length-take 122 text) in
+    let nonempty : 0 < length text = omega (arith, ap length reads.prefix, length-take kept_bytes text) in
     let split : unread ≡ text ++ [] = reads.split ∙ ap (λ t. text ++ t) none in
     let is_line = last_line text reads.unfinished nonempty in record {
       text = text;
@@ -110,7 +119,7 @@ TakesLine-end unread left kept shown reads none some prefix =
       whole = λ e. cc;
       lines = ap lines_of (split ∙ append-nil text) ∙ is_line;
       rest = sym (ap after_line (split ∙ append-nil text) ∙ after_line-open text reads.unfinished);
-      prefix = prefix ∙ (ap (take 121) reads.prefix ∙ take-take 121 122 text (omega arith));
+      prefix = prefix ∙ (ap (take significant_bytes) reads.prefix ∙ take-take significant_bytes kept_bytes text (omega arith));
     }
 
 -- no line is taken yet

@@ -6,14 +6,14 @@ use Rattle.std.proofs.lemmas.Result.{err_from_is_err_and}
 -- an `Ok` after mapping was the same `Ok` before
 pub ok_mapped : {A E F : Type 0} (Q : E → F → Type 0) (r : Result A E) (s : Result A F) (x : A)
     → MatchResult r (λ y. s ≡ Ok y) (λ e. IsErrAnd s (Q e)) → s ≡ Ok x → r ≡ Ok x
-ok_mapped Q (Ok y) s x cases is = let same : y ≡ x = cc in ap Ok same
-ok_mapped Q (Err e) s x cases is = let bad = err_from_is_err_and s cases in let e : s ≡ Err bad.0 = bad.1 in cc
+ok_mapped Q (Ok y) s x cases result_is = let same : y ≡ x = cc in ap Ok same
+ok_mapped Q (Err e) s x cases result_is = let bad = err_from_is_err_and s cases in let e : s ≡ Err bad.0 = bad.1 in cc
 
 -- an `Err` after mapping was an `Err` before
 pub err_mapped : {A E F : Type 0} (Q : E → F → Type 0) (r : Result A E) (s : Result A F) (f : F)
     → MatchResult r (λ y. s ≡ Ok y) (λ e. IsErrAnd s (Q e)) → s ≡ Err f → (e : E) × (r ≡ Err e)
-err_mapped Q (Ok y) s f cases is = let e : s ≡ Ok y = cases in cc
-err_mapped Q (Err e) s f cases is = (e, refl)
+err_mapped Q (Ok y) s f cases result_is = let e : s ≡ Ok y = cases in cc
+err_mapped Q (Err e) s f cases result_is = (e, refl)
 
 -- a property of an error holds of the result that `?` returns for it
 pub passed_on : {T E : Type 0} (P : Result T E → Type 0) (r : Result T E) (e : E) → IsErrAnd r (λ x. x ≡ e) → P (Err e) → P r
@@ -29,4 +29,4 @@ mapped P Q f (Err e) s cases only ok err =
 
 -- a property of an `Ok` whose value is known
 pub IsOkAnd-at : {A E : Type 0} (r : Result A E) (x : A) (P : A → Type 0) → r ≡ Ok x → P x → IsOkAnd r P
-IsOkAnd-at r x P is p = subst (λ s. IsOkAnd s P) (sym is) p
+IsOkAnd-at r x P result_is p = subst (λ s. IsOkAnd s P) (sym result_is) p

@@ -4,6 +4,7 @@ use Rattle.std.proofs.Common.{IsTrue, None, refl, sym, ◌∙◌, ap, subst, lit
 use Rattle.std.proofs.lemmas.List.{length-append}
 use Rattle.std.proofs.lemmas.List.Folds.{list_any-append}
 use Rattle.std.specs.List.{list_all, list_any, take_while}
+use Rattle.rv_text.specs.GoodLines.{significant_bytes}
 use Rattle.rv_text.specs.Lines.{lines_of, after_line, after_lines}
 use Rattle.rv_text.specs.Words.{words_of}
 use Rattle.rv_streams.specs.declared.device.Source.{Ghosts}
@@ -22,8 +23,8 @@ use Rattle.rv_streams.proofs.TakeWhileLemmas.{take_while-all, take_while-stop, t
 
 -- ---- the lines of a script, and the line that ends it
 
--- the first 121 bytes of a line have the same word as the line
-pub line_word-take : (line : List ℕ) → line_word (take 121 line) ≡ line_word line
+-- the significant bytes of a line have the same word as the line
+pub line_word-take : (line : List ℕ) → line_word (take significant_bytes line) ≡ line_word line
 unfolding line_word
 line_word-take line = if_good-take (λ l. only_word (words_of l)) None line
 
@@ -33,21 +34,25 @@ pub ends_script-shown : (end : ScriptEnd) (left rest : List ℕ) (ends : Bool) (
 ends_script-shown Input left rest ends shown takes = refl
 ends_script-shown Separator left rest ends shown takes = ap is_dashes (sym (line_word-take takes.line) ∙ ap line_word (sym takes.prefix))
 
+-- each line is a line of a script that ends with the input
 all_within : (lines : List (List ℕ)) → list_all (is_script_line Input) lines ≡ true
 all_within [] = refl
 all_within (line ∷ lines) = all_within lines
 
+-- the lines of the script are those before its end
 script_lines-is : (end : ScriptEnd) (lines : List (List ℕ)) → script_lines end lines ≡ take_while (is_script_line end) lines
 script_lines-is Input lines = sym (take_while-all (is_script_line Input) lines (all_within lines))
 script_lines-is Separator lines = refl
 
+-- lines of the script alone are all of the script
 pub script_lines-all : (end : ScriptEnd) (lines : List (List ℕ)) → list_all (is_script_line end) lines ≡ true → script_lines end lines ≡ lines
 script_lines-all end lines inside = script_lines-is end lines ∙ take_while-all (is_script_line end) lines inside
 
+-- the lines of the script before the line that ends it
 script_lines-stop : (end : ScriptEnd) (lines others : List (List ℕ)) (line : List ℕ) → list_all (is_script_line end) lines ≡ true
     → ends_script end line ≡ true → script_lines end (lines ++ line ∷ others) ≡ lines
-script_lines-stop end lines others line inside e = script_lines-is end (lines ++ line ∷ others)
-    ∙ take_while-stop (is_script_line end) lines line others inside (ap not e)
+script_lines-stop end lines others line inside ends_script_is = script_lines-is end (lines ++ line ∷ others)
+    ∙ take_while-stop (is_script_line end) lines line others inside (ap not ends_script_is)
 
 -- the lines of a script in a prefix of lines are a prefix of the script's lines in all
 pub script_lines-prefix : (end : ScriptEnd) (xs ys : List (List ℕ))
@@ -55,6 +60,7 @@ pub script_lines-prefix : (end : ScriptEnd) (xs ys : List (List ℕ))
 script_lines-prefix Input xs ys = (ys, refl)
 script_lines-prefix Separator xs ys = take_while-prefix (is_script_line Separator) xs ys
 
+-- an or with true is true
 or_true : (b : Bool) → (b || true) ≡ true
 or_true true = refl
 or_true false = refl
@@ -62,9 +68,9 @@ or_true false = refl
 -- the input has a separator if one of its lines is one
 has_separator-there : (lines others : List (List ℕ)) (line unread : List ℕ) → lines_of unread ≡ lines ++ line ∷ others → is_separator line ≡ true
     → IsTrue (has_separator unread)
-has_separator-there lines others line unread all e = subst IsTrue (sym (ap (list_any is_separator) all
+has_separator-there lines others line unread all separator = subst IsTrue (sym (ap (list_any is_separator) all
     ∙ (list_any-append is_separator lines (line ∷ others)
-    ∙ ap (λ b. list_any is_separator lines || (b || list_any is_separator others)) e))) (or_true (list_any is_separator lines))
+    ∙ ap (λ b. list_any is_separator lines || (b || list_any is_separator others)) separator))) (or_true (list_any is_separator lines))
 
 -- ---- a script that was read completely
 
@@ -96,6 +102,7 @@ ReadsScript-ended end unread left rest is_at_end lines so_far none none_too =
       rest = none_too ∙ sym behind;
     }
 
+-- the lines of the text are those that were read, the next one and the rest
 lines_with : (unread left rest : List ℕ) (is_at_end ends : Bool) (shown : List ℕ) (lines : List (List ℕ)) → ReadsLines unread left is_at_end lines
     → (takes : TakesLine left rest ends shown)
     → lines_of unread ≡ lines ++ takes.line ∷ lines_of rest
@@ -105,8 +112,8 @@ lines_with unread left rest is_at_end ends shown lines reads takes = reads.all �
 ReadsScript-through : (end : ScriptEnd) (unread left rest : List ℕ) (ends : Bool) (shown : List ℕ) (lines : List (List ℕ))
     → TakesScript end unread left false lines → TakesLine left rest ends shown → ends_script end shown ≡ true
     → ReadsScript end unread rest lines
-ReadsScript-through end unread left rest ends shown lines so_far takes e =
-    let last = ends_script-shown end left rest ends shown takes ∙ e in
+ReadsScript-through end unread left rest ends shown lines so_far takes ends_script_is =
+    let last = ends_script-shown end left rest ends shown takes ∙ ends_script_is in
     let reads = ReadsLines-more unread left rest ends shown lines so_far.reads takes in record {
       closing = takes.line ∷ [];
       is_at_end = ends;

@@ -6,34 +6,41 @@ use Rattle.std.specs.List.{list_all, take_while}
 
 -- lines that all pass the test, and others
 take_while-append : (p : List ℕ → Bool) (xs ys : List (List ℕ)) → list_all p xs ≡ true → take_while p (xs ++ ys) ≡ xs ++ take_while p ys
-take_while-append p [] ys h = refl
-take_while-append p (x ∷ xs) ys h = take_while-cons p x (xs ++ ys) ∙ go (p x) h (λ all. take_while-append p xs ys all) where
+take_while-append p [] ys all_pass = refl
+take_while-append p (x ∷ xs) ys all_pass = take_while-cons p x (xs ++ ys) ∙ go (p x) all_pass (λ all. take_while-append p xs ys all) where
   go : (b : Bool) → b && list_all p xs ≡ true → (list_all p xs ≡ true → take_while p (xs ++ ys) ≡ xs ++ take_while p ys)
       → cond b (x ∷ take_while p (xs ++ ys)) [] ≡ x ∷ (xs ++ take_while p ys)
   go true all more = ap (λ t. x ∷ t) (more all)
   go false all more = cc
 
+-- an element that passes the test is taken
 take_while-cons_yes : (p : List ℕ → Bool) (x : List ℕ) (xs : List (List ℕ)) → p x ≡ true → take_while p (x ∷ xs) ≡ x ∷ take_while p xs
 take_while-cons_yes p x xs e = take_while-cons p x xs ∙ ap (λ b. cond b (x ∷ take_while p xs) []) e
 
+-- an element that fails the test ends the list
 take_while-cons_no : (p : List ℕ → Bool) (x : List ℕ) (xs : List (List ℕ)) → p x ≡ false → take_while p (x ∷ xs) ≡ []
 take_while-cons_no p x xs e = take_while-cons p x xs ∙ ap (λ b. cond b (x ∷ take_while p xs) []) e
 
+-- if all elements pass the test, all are taken
 pub take_while-all : (p : List ℕ → Bool) (xs : List (List ℕ)) → list_all p xs ≡ true → take_while p xs ≡ xs
 take_while-all p xs all = ap (take_while p) (sym (append-nil xs)) ∙ (take_while-append p xs [] all ∙ append-nil xs)
 
+-- the elements before the first that fails the test are taken
 pub take_while-stop : (p : List ℕ → Bool) (xs : List (List ℕ)) (x : List ℕ) (ys : List (List ℕ)) → list_all p xs ≡ true → p x ≡ false
     → take_while p (xs ++ x ∷ ys) ≡ xs
 take_while-stop p xs x ys all e = take_while-append p xs (x ∷ ys) all ∙ (ap (λ t. xs ++ t) (take_while-cons_no p x ys e) ∙ append-nil xs)
 
+-- after elements that pass the test, one more is taken, and then those of the rest
 pub take_while-pass : (p : List ℕ → Bool) (xs : List (List ℕ)) (x : List ℕ) (ys : List (List ℕ)) → list_all p xs ≡ true → p x ≡ true
     → take_while p (xs ++ x ∷ ys) ≡ xs ++ x ∷ take_while p ys
 take_while-pass p xs x ys all e = take_while-append p xs (x ∷ ys) all ∙ ap (λ t. xs ++ t) (take_while-cons_yes p x ys e)
 
+-- all elements pass the test, with one more that passes
 pub list_all-push : (p : List ℕ → Bool) (xs : List (List ℕ)) (x : List ℕ) → list_all p xs ≡ true → p x ≡ true
     → list_all p (xs ++ x ∷ []) ≡ true
 list_all-push p xs x all e = list_all-append p xs (x ∷ []) ∙ (rw (all, e) refl)
 
+-- not all elements pass the test, if one in the middle fails it
 pub list_all-stop : (p : List ℕ → Bool) (xs : List (List ℕ)) (x : List ℕ) (ys : List (List ℕ)) → list_all p xs ≡ true → p x ≡ false
     → list_all p (xs ++ x ∷ ys) ≡ false
 list_all-stop p xs x ys all e = list_all-append p xs (x ∷ ys) ∙ (rw (all, e) refl)

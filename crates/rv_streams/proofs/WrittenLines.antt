@@ -12,11 +12,11 @@ module _ {X : Type 0} (line : X → List ℕ) (items : List X) where
   pub lines-more : (k : ℕ) (d : X) (old mid new before held gathered : List ℕ) → k < length items
       → WritesUpTo old mid (flat_map line (take k items)) before → WritesUpTo mid new before held → gathered ≡ held ++ line (get_or items k d)
       → WritesUpTo old new (flat_map line (take (k + 1) items)) gathered
-  lines-more k d old mid new before held gathered inside so_far wrote is =
+  lines-more k d old mid new before held gathered inside so_far wrote gathered_is =
       WritesUpTo-line old new _ held (line (get_or items k d)) _ gathered (WritesUpTo-on old mid new _ before held so_far wrote)
       (ap (flat_map line) (take_more items k d inside)
       ∙ (flat_map-append line (take k items) (get_or items k d ∷ [])
-      ∙ ap (λ t. flat_map line (take k items) ++ t) (append-nil (line (get_or items k d))))) is
+      ∙ ap (λ t. flat_map line (take k items) ++ t) (append-nil (line (get_or items k d))))) gathered_is
 
   -- the sink stops within the lines so far
   pub lines-stopped : (k : ℕ) (old mid new before : List ℕ) → WritesUpTo old mid (flat_map line (take k items)) before → WritesPrefix mid new before

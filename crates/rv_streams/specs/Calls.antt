@@ -18,7 +18,7 @@ module _ {W : Type 0} (h : SinkGhosts W) (old new : W) where
   abbrev pub NoneFailed : Type 0
   NoneFailed = (h.failures new ≡ h.failures old) × (h.refusals new ≡ h.refusals old)
 
-  -- the same, and the sink was not flushed
+  -- no call of the sink failed, and the sink was not flushed
   pub record SinkWorked : Type 0 where
     pub worked : NoneFailed
     pub unflushed : h.flushes new ≡ h.flushes old

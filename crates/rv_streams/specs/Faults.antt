@@ -3,6 +3,7 @@ use Rattle.std.specs.Prelude.{ℕ, Result}
 use Rattle.rv_streams.specs.declared.fault.BenchFault.{BenchFault}
 use Rattle.rv_streams.specs.declared.fault.BenchFault.TheVariants.{Image, Ram, Read, Write, Hex, TooLong, NoMemory, Asm}
 
+-- a number for each kind of error, by which errors are compared
 abbrev pub bench_fault_number : BenchFault → ℕ
 bench_fault_number (Image fault) = 1
 bench_fault_number (Ram fault) = 2

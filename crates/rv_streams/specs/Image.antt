@@ -24,6 +24,7 @@ bytes_of_digits text = if (length text % 2 == 0) && list_all (λ c. is_digit c 1
 abbrev pub line_bytes : List ℕ → Option (List ℕ)
 line_bytes line = option_and_then bytes_of_digits (line_word line)
 
+-- whether a line of the image is hexadecimal, so that it has bytes
 abbrev pub is_image_line : List ℕ → Bool
 is_image_line line = is_some (line_bytes line)
 

@@ -3,16 +3,17 @@ use Rattle.std.specs.Prelude.{◌≡◌, ℕ, Bool, true, false, List, [], ◌�
 use Rattle.rv_streams.specs.declared.line.Stop.{Stop}
 use Rattle.rv_streams.specs.declared.line.Stop.TheVariants.{LineFeed, End}
 use Rattle.rv_text.specs.Characters.{line_feed}
+use Rattle.rv_text.specs.GoodLines.{significant_bytes, kept_bytes}
 use Rattle.rv_text.specs.Lines.{has_feed, lines_of, through_last_feed, after_line, after_lines}
 
--- a text without a line feed was read, up to the remaining bytes, and its first 122 bytes are kept
+-- a text without a line feed was read, up to the remaining bytes, and its first `kept_bytes` bytes are kept
 pub record ReadsLineText (unread left kept : List ℕ) : Type 0 where
   pub text : List ℕ
   pub split : unread ≡ text ++ left
   pub unfinished : has_feed text ≡ false
-  pub prefix : kept ≡ take 122 text
+  pub prefix : kept ≡ take kept_bytes text
 
--- The first line of the unread bytes was taken, up to the remaining bytes, and its first 121 bytes are shown. Its text ends with a line feed, or
+-- The first line of the unread bytes was taken, up to the remaining bytes, and its significant bytes are shown. Its text ends with a line feed, or
 -- with the last byte of the source.
 pub record TakesLine (unread left : List ℕ) (is_at_end : Bool) (shown : List ℕ) : Type 0 where
   pub text : List ℕ
@@ -22,7 +23,7 @@ pub record TakesLine (unread left : List ℕ) (is_at_end : Bool) (shown : List �
   pub whole : is_at_end ≡ false → through_last_feed text ≡ text
   pub lines : lines_of unread ≡ line ∷ lines_of left
   pub rest : left ≡ after_line unread
-  pub prefix : shown ≡ take 121 line
+  pub prefix : shown ≡ take significant_bytes line
 
 -- These lines were taken one by one, up to the remaining bytes.
 pub record ReadsLines (unread left : List ℕ) (is_at_end : Bool) (lines : List (List ℕ)) : Type 0 where

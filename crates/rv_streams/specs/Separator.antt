@@ -16,6 +16,7 @@ only_word (first ∷ second ∷ words) = None
 unfoldable pub line_word : List ℕ → Option (List ℕ)
 line_word line = if is_good_line line then only_word (words_of line) else None
 
+-- whether the first word of a line is `--`
 abbrev pub is_dashes : Option (List ℕ) → Bool
 is_dashes None = false
 is_dashes (Some word) = bytes_eq word (codes "--")

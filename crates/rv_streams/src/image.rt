@@ -1,5 +1,6 @@
 //! Reads the image in a text of hexadecimal lines.
 ghost use Rattle.std.specs.Prelude.{◌≤◌, vec_len, length};
+ghost use Rattle.rv_text.specs.GoodLines.{max_line};
 ghost use Rattle.rv_streams.specs.Image.{AddsBytes};
 ghost use Rattle.rv_streams.specs.ReadImage.{ReadsImage};
 ghost use Rattle.rv_streams.specs.Unread.{EndsWithSource};
@@ -24,7 +25,7 @@ pub const IMAGE_MAX: usize = 33554432;
 /// - `NoMemory`, if memory is exhausted.
 fn add_bytes(image: &mut Vec<u8>, word: &[u8]) -> Result<(), BenchFault>
     requires image { vec_len image.old ≤ 33554432 }
-    requires word { length word.now ≤ 120 }
+    requires word { length word.now ≤ max_line }
     ensures outcome { AddsBytes word.now image.old.items image.new.items result }
     ensures len { vec_len image.new ≤ 33554432 }
 {

@@ -1,9 +1,10 @@
 //! The lines of a source.
 ghost use Rattle.std.specs.Prelude.{◌≡◌, ◌<◌, ◌≤◌, true, false, [], length, IsTrue};
+ghost use Rattle.rv_text.specs.GoodLines.{kept_bytes};
 ghost use Rattle.rv_text.specs.Lines.{has_feed};
 
 use crate::device::{DeviceFault, Source};
-use crate::line::{KEPT_MAX, Line, SHOWN_MAX, Stop, read_text, shown_len, take_prefix};
+use crate::line::{KEPT_BYTES, Line, SIGNIFICANT_BYTES, Stop, read_text, shown_len, take_prefix};
 use crate::separator::ScriptEnd;
 use arrayvec::ArrayVec;
 
@@ -14,9 +15,9 @@ use arrayvec::ArrayVec;
 #[derive(Drop, Debug)]
 pub struct Lines<S: Source> {
     source: S,
-    line: ArrayVec<u8, KEPT_MAX>,
+    line: ArrayVec<u8, KEPT_BYTES>,
     is_at_end: bool,
-    ghost short: { length line.items ≤ 122 },
+    ghost short: { length line.items ≤ kept_bytes },
     ghost unfinished: { has_feed line.items ≡ false },
     ghost told: { is_at_end ≡ true → 0 < S.ends source },
     ghost empty: { is_at_end ≡ true → line.items ≡ [] },
@@ -94,7 +95,7 @@ impl<S: Source> Lines<S> {
                 if self.line.is_empty() {
                     return Ok(None);
                 }
-                Ok(Some(take_prefix(&mut self.line, SHOWN_MAX)))
+                Ok(Some(take_prefix(&mut self.line, SIGNIFICANT_BYTES)))
             }
         }
     }

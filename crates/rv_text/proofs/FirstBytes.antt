@@ -5,10 +5,12 @@ use Rattle.std.specs.List.{position_or_len}
 use Rattle.std.proofs.lemmas.List.Sums.{position_or_len_is}
 use Rattle.memchr.specs.Find.{IsFirstByte}
 
+-- a test that does not hold is false
 fails : (b : Bool) → ¬ (b ≡ true) → b ≡ false
 fails true h = absurd (h refl)
 fails false h = refl
 
+-- the index of the first byte that passes a test, or the length of the text
 pub position-first_byte : (test : ℕ → Bool) (text : List ℕ) (r : Option ℕ) → IsFirstByte test text r → unwrap_or r (length text) ≡ position_or_len test text
 position-first_byte test text None none =
     sym (position_or_len_is test text (length text) 0 (omega arith) (λ k below. fails _ (none k (omega arith) below)) (λ below. absurd (omega arith)))

@@ -12,18 +12,22 @@ use Rattle.std.proofs.lemmas.Nat.{and_mask, pow-add}
 use Rattle.std.proofs.Math.Nat.{div-div-eq-div-mul, pow-suc}
 use Rattle.rv_text.specs.Digits.{hex_digits}
 
+-- the character of a digit is in ASCII
 pub digit_char-lt : (digit : ℕ) → digit < 16 → digit_char digit < 128
 digit_char-lt digit below = grind (arith, nat_tests)
 
+-- the hexadecimal text of a number has `places` digits
 pub length-hex_digits : (places n : ℕ) → length (hex_digits places n) ≡ places
 unfolding hex_digits
 length-hex_digits zero n = refl
 length-hex_digits (suc places) n = omega (arith, length-append (hex_digits places (n / 16)) (digit_char (n % 16) ∷ []), length-hex_digits places (n / 16))
 
+-- a number of no digits has the empty text
 pub hex_digits-start : (n : ℕ) → [] ≡ hex_digits 0 n
 unfolding hex_digits
 hex_digits-start n = refl
 
+-- a number shifted right by one digit less, and then divided by 16, is shifted by all of the digits
 shifted_more : (value places written : ℕ) → written < places → value / 2 ^ (4 * (places - (written + 1))) / 16 ≡ value / 2 ^ (4 * (places - written))
 shifted_more value places written more =
     let exponent : 4 * (places - (written + 1)) + 4 ≡ 4 * (places - written) = omega arith in
@@ -33,20 +37,23 @@ shifted_more value places written more =
 -- one more digit at the end
 digit_more : (written before shown : ℕ) → before ≡ shown / 16 → hex_digits written before ++ digit_char (bit_and shown 15) ∷ [] ≡ hex_digits (written + 1) shown
 unfolding hex_digits
-digit_more written before shown is =
+digit_more written before shown before_is =
     let last : bit_and shown 15 ≡ shown % 16 = and_mask shown 4 in
-    rw (is, last, add-one written)
+    rw (before_is, last, add-one written)
 
+-- the next digit of a number follows the digits that are written
 pub hex_digits_more : (value places written : ℕ) → written < places
     → hex_digits written (value / 2 ^ (4 * (places - written))) ++ digit_char (bit_and (value / 2 ^ (4 * (places - (written + 1)))) 15) ∷ []
     ≡ hex_digits (written + 1) (value / 2 ^ (4 * (places - (written + 1))))
 hex_digits_more value places written more = digit_more written _ _ (sym (shifted_more value places written more))
 
+-- after all digits, the text is that of the whole number
 pub hex_digits-all : (value places : ℕ) → hex_digits places (value / 2 ^ (4 * (places - places))) ≡ hex_digits places value
 hex_digits-all value places =
     let none : places - places ≡ 0 = omega arith in
     rw none (ap (hex_digits places) (omega arith))
 
+-- an element of an option that has one under a condition is that one, and the condition holds
 pub SomeIff-at_some : {T : Type 0} (o : Option T) (P : Type 0) (v x : T) → SomeIff o P v → o ≡ Some x → P × (x ≡ v)
 SomeIff-at_some None P v x h e = absurd (none-some x e)
 SomeIff-at_some (Some y) P v x h e =
@@ -61,6 +68,7 @@ AllDigits-hex_digits (suc places) n =
     let digit : digit_value (digit_char (n % 16)) ≡ n % 16 = digit_value-digit_char (n % 16) (omega arith) in
     digits_push 16 (hex_digits places (n / 16)) (digit_char (n % 16)) (AllDigits-hex_digits places (n / 16)) (rw digit (omega arith))
 
+-- the hexadecimal digits of a number have its value, if they are enough
 pub digits_value-hex_digits : (places n : ℕ) → n < 16 ^ places → digits_value 16 (hex_digits places n) ≡ n
 unfolding hex_digits
 digits_value-hex_digits zero n small = omega arith

@@ -6,17 +6,21 @@ use Rattle.std.specs.List.{slice_split, onto_first, list_all}
 use Rattle.rv_text.specs.GoodLines.{is_blank}
 use Rattle.rv_text.specs.Words.{is_filled, words_of}
 
+-- the words, one after another
 abbrev joined : List (List ℕ) → List ℕ
 joined [] = []
 joined (word ∷ words) = word ++ joined words
 
+-- whether no byte of a word is blank
 abbrev has_no_blank : List ℕ → Bool
 has_no_blank word = list_all (λ byte. not (is_blank byte)) word
 
+-- a byte put before the first word is put before all words together
 joined-onto_first : (x : ℕ) (words : List (List ℕ)) → joined (onto_first x words) ≡ x ∷ joined words
 joined-onto_first x [] = refl
 joined-onto_first x (word ∷ words) = refl
 
+-- the parts between blanks, one after another, are the bytes that are not blank
 joined-slice_split : (line : List ℕ) → joined (slice_split is_blank line) ≡ filter (λ byte. not (is_blank byte)) line
 joined-slice_split [] = refl
 joined-slice_split (x ∷ xs) = go (is_blank x) (joined-slice_split xs) where
@@ -26,32 +30,39 @@ joined-slice_split (x ∷ xs) = go (is_blank x) (joined-slice_split xs) where
   go true more = more
   go false more = joined-onto_first x (slice_split is_blank xs) ∙ ap (λ t. x ∷ t) more
 
+-- a text with a byte is filled
 filled : (x : ℕ) (xs : List ℕ) → is_filled (x ∷ xs) ≡ true
 filled x xs = grind (arith, nat_tests)
 
+-- the words without the empty ones are the same together
 joined-filter : (words : List (List ℕ)) → joined (filter is_filled words) ≡ joined words
 joined-filter [] = refl
 joined-filter ([] ∷ words) = joined-filter words
 joined-filter ((x ∷ xs) ∷ words) = rw (filled x xs) (ap (λ t. x ∷ (xs ++ t)) (joined-filter words))
 
+-- the words of a line, one after another, are the bytes of the line that are not blank
 pub joined-words_of : (line : List ℕ) → joined (words_of line) ≡ filter (λ byte. not (is_blank byte)) line
 unfolding words_of
 joined-words_of line = joined-filter (slice_split is_blank line) ∙ joined-slice_split line
 
+-- the words without the empty ones are all filled
 all_filled : (words : List (List ℕ)) → list_all is_filled (filter is_filled words) ≡ true
 all_filled [] = refl
 all_filled ([] ∷ words) = all_filled words
 all_filled ((x ∷ xs) ∷ words) = rw (filled x xs, filled x xs) (all_filled words)
 
+-- each word of a line has a byte
 pub words_of-filled : (line : List ℕ) → list_all is_filled (words_of line) ≡ true
 unfolding words_of
 words_of-filled line = all_filled (slice_split is_blank line)
 
+-- a byte that is not blank, put before the first word, leaves words without blanks
 no_blank-onto_first : (x : ℕ) (words : List (List ℕ)) → is_blank x ≡ false → list_all has_no_blank words ≡ true
     → list_all has_no_blank (onto_first x words) ≡ true
-no_blank-onto_first x [] h all = rw h refl
-no_blank-onto_first x (word ∷ words) h all = rw h all
+no_blank-onto_first x [] not_blank all = rw not_blank refl
+no_blank-onto_first x (word ∷ words) not_blank all = rw not_blank all
 
+-- the parts between blanks have no blank
 no_blank-slice_split : (line : List ℕ) → list_all has_no_blank (slice_split is_blank line) ≡ true
 no_blank-slice_split [] = refl
 no_blank-slice_split (x ∷ xs) = go (is_blank x) refl (no_blank-slice_split xs) where
@@ -60,6 +71,7 @@ no_blank-slice_split (x ∷ xs) = go (is_blank x) refl (no_blank-slice_split xs)
   go true is more = more
   go false is more = no_blank-onto_first x (slice_split is_blank xs) is more
 
+-- filtered words without blanks have none
 no_blank-filter : (words : List (List ℕ)) → list_all has_no_blank words ≡ true → list_all has_no_blank (filter is_filled words) ≡ true
 no_blank-filter [] all = refl
 no_blank-filter ([] ∷ words) all = no_blank-filter words all
@@ -70,6 +82,7 @@ no_blank-filter ((x ∷ xs) ∷ words) all = rw (filled x xs) (go (has_no_blank 
   go true all more = more all
   go false all more = cc
 
+-- no word of a line has a blank
 pub words_of-no_blank : (line : List ℕ) → list_all has_no_blank (words_of line) ≡ true
 unfolding words_of
 words_of-no_blank line = no_blank-filter (slice_split is_blank line) (no_blank-slice_split line)

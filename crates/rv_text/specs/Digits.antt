@@ -11,8 +11,10 @@ hex_digits (suc places) n = hex_digits places (n / 16) ++ digit_char (n % 16) �
 abbrev pub hex8 : ℕ → List ℕ
 hex8 n = hex_digits 8 n
 
+-- a number as three hexadecimal digits
 abbrev pub hex3 : ℕ → List ℕ
 hex3 n = hex_digits 3 n
 
+-- a number as two hexadecimal digits
 abbrev pub hex2 : ℕ → List ℕ
 hex2 n = hex_digits 2 n

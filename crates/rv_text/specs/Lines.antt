@@ -40,6 +40,7 @@ abbrev pub after_lines : ℕ → List ℕ → List ℕ
 after_lines zero text = text
 after_lines (suc n) text = after_lines n (after_line text)
 
+-- whether the text has no byte
 abbrev pub is_empty : List ℕ → Bool
 is_empty [] = true
 is_empty (b ∷ bs) = false

@@ -7,6 +7,7 @@ use Rattle.rv_word.specs.Division.{quotient, remainder, unsigned_quotient, unsig
 abbrev least : ℕ
 least = 0x80000000
 
+-- the word of -1
 abbrev minus_one : ℕ
 minus_one = 0xFFFFFFFF
 
@@ -14,6 +15,7 @@ minus_one = 0xFFFFFFFF
 div-overflow : quotient least minus_one ≡ least
 div-overflow = refl
 
+-- the remainder of the division that overflows is 0
 rem-overflow : remainder least minus_one ≡ 0
 rem-overflow = refl
 
@@ -21,6 +23,7 @@ rem-overflow = refl
 divu-of_these : unsigned_quotient least minus_one ≡ 0
 divu-of_these = refl
 
+-- the unsigned remainder of the same words is the dividend
 remu-of_these : unsigned_remainder least minus_one ≡ least
 remu-of_these = refl
 
@@ -28,11 +31,14 @@ remu-of_these = refl
 div-by_zero : (dividend : ℕ) → quotient dividend 0 ≡ 0xFFFFFFFF
 div-by_zero dividend = refl
 
+-- the signed remainder by 0 is the dividend
 rem-by_zero : (dividend : ℕ) → remainder dividend 0 ≡ dividend
 rem-by_zero dividend = refl
 
+-- the unsigned quotient by 0 is the largest word
 divu-by_zero : (dividend : ℕ) → unsigned_quotient dividend 0 ≡ 0xFFFFFFFF
 divu-by_zero dividend = refl
 
+-- the unsigned remainder by 0 is the dividend
 remu-by_zero : (dividend : ℕ) → unsigned_remainder dividend 0 ≡ dividend
 remu-by_zero dividend = refl

@@ -11,10 +11,12 @@ use Rattle.rv_word.specs.Logic.{bit_list, word_of_bits, digit, bitwise, by_bits,
 half-lt : (k a : ℕ) → a < 2 ^ suc k → a / 2 < 2 ^ k
 half-lt k a below = omega (arith, pow-suc 2 k)
 
+-- g computes f on each pair of bits, from the lowest up
 record GoesByBits (f : Bool → Bool → Bool) (g : ℕ → ℕ → ℕ) : Type 0 where
   none : g 0 0 ≡ 0
   step : (a b : ℕ) → g a b ≡ digit (f (a % 2 == 1) (b % 2 == 1)) + 2 * g (a / 2) (b / 2)
 
+-- a function that goes by bits is the number of the bits that f gives
 number_of-bitwise : (f : Bool → Bool → Bool) (g : ℕ → ℕ → ℕ) → GoesByBits f g → (k a b : ℕ) → a < 2 ^ k → b < 2 ^ k
     → word_of_bits (bitwise f (bit_list k a) (bit_list k b)) ≡ g a b
 number_of-bitwise f g goes zero a b p q =
@@ -27,6 +29,7 @@ number_of-bitwise f g goes (suc k) a b p q =
 
 -- ---- the four operations on the lowest bits r and s
 
+-- `&` of two single bits
 last_and : (r s : ℕ) → r < 2 → s < 2 → bit_and r s ≡ digit (r == 1 && s == 1)
 last_and zero zero p q = refl
 last_and zero (suc zero) p q = refl
@@ -35,6 +38,7 @@ last_and (suc zero) (suc zero) p q = refl
 last_and (suc (suc r)) s p q = absurd (omega arith)
 last_and r (suc (suc s)) p q = absurd (omega arith)
 
+-- `|` of two single bits
 last_or : (r s : ℕ) → r < 2 → s < 2 → bit_or r s ≡ digit (r == 1 || s == 1)
 last_or zero zero p q = refl
 last_or zero (suc zero) p q = refl
@@ -43,6 +47,7 @@ last_or (suc zero) (suc zero) p q = refl
 last_or (suc (suc r)) s p q = absurd (omega arith)
 last_or r (suc (suc s)) p q = absurd (omega arith)
 
+-- `^` of two single bits
 last_xor : (r s : ℕ) → r < 2 → s < 2 → bit_xor r s ≡ digit (exclusive_or (r == 1) (s == 1))
 last_xor zero zero p q = refl
 last_xor zero (suc zero) p q = refl
@@ -51,6 +56,7 @@ last_xor (suc zero) (suc zero) p q = refl
 last_xor (suc (suc r)) s p q = absurd (omega arith)
 last_xor r (suc (suc s)) p q = absurd (omega arith)
 
+-- and-not of two single bits
 last_and_not : (r s : ℕ) → r < 2 → s < 2 → digit (r == 1 && not (s == 1)) + bit_and s r ≡ r
 last_and_not zero zero p q = refl
 last_and_not zero (suc zero) p q = refl
@@ -61,6 +67,7 @@ last_and_not r (suc (suc s)) p q = absurd (omega arith)
 
 -- ---- each of them as one step: the lowest bits, and the halves
 
+-- a number is twice its half and its lowest bit
 halved : (n : ℕ) → n ≡ n / 2 * 2 ^ 1 + n % 2
 halved n = sym (div-add-mod' n 2)
 
@@ -68,18 +75,21 @@ halved n = sym (div-add-mod' n 2)
 split : (g : ℕ → ℕ → ℕ) (a b : ℕ) → g a b ≡ g (a / 2 * 2 ^ 1 + a % 2) (b / 2 * 2 ^ 1 + b % 2)
 split g a b = ap (λ n. g n b) (halved a) ∙ ap (g (a / 2 * 2 ^ 1 + a % 2)) (halved b)
 
+-- `&` goes by bits
 and-step : (a b : ℕ) → bit_and a b ≡ digit (a % 2 == 1 && b % 2 == 1) + 2 * bit_and (a / 2) (b / 2)
 and-step a b =
     let block = and_block 1 (a / 2) (b / 2) (a % 2) (b % 2) (omega arith) (omega arith) in
     let last = last_and (a % 2) (b % 2) (omega arith) (omega arith) in
     split bit_and a b ∙ block ∙ omega (arith, last)
 
+-- `|` goes by bits
 or-step : (a b : ℕ) → bit_or a b ≡ digit (a % 2 == 1 || b % 2 == 1) + 2 * bit_or (a / 2) (b / 2)
 or-step a b =
     let block = or_block 1 (a / 2) (b / 2) (a % 2) (b % 2) (omega arith) (omega arith) in
     let last = last_or (a % 2) (b % 2) (omega arith) (omega arith) in
     split bit_or a b ∙ block ∙ omega (arith, last)
 
+-- `^` goes by bits
 xor-step : (a b : ℕ) → bit_xor a b ≡ digit (exclusive_or (a % 2 == 1) (b % 2 == 1)) + 2 * bit_xor (a / 2) (b / 2)
 xor-step a b =
     let block = xor_block 1 (a / 2) (b / 2) (a % 2) (b % 2) (omega arith) (omega arith) in
@@ -96,18 +106,22 @@ and_not-step a b =
 
 -- ---- on words
 
+-- `&` of two words is their and, bit by bit
 pub bit_and_is : (left right : ℕ) → left < 2 ^ 32 → right < 2 ^ 32 → bit_and left right ≡ and_by_bits left right
 unfolding by_bits
 bit_and_is left right p q = sym (number_of-bitwise (λ x y. x && y) bit_and (record { none = refl; step = and-step }) 32 left right p q)
 
+-- `|` of two words is their or, bit by bit
 pub bit_or_is : (left right : ℕ) → left < 2 ^ 32 → right < 2 ^ 32 → bit_or left right ≡ or_by_bits left right
 unfolding by_bits
 bit_or_is left right p q = sym (number_of-bitwise (λ x y. x || y) bit_or (record { none = refl; step = or-step }) 32 left right p q)
 
+-- `^` of two words is their exclusive or, bit by bit
 pub bit_xor_is : (left right : ℕ) → left < 2 ^ 32 → right < 2 ^ 32 → bit_xor left right ≡ xor_by_bits left right
 unfolding by_bits
 bit_xor_is left right p q = sym (number_of-bitwise exclusive_or bit_xor (record { none = refl; step = xor-step }) 32 left right p q)
 
+-- `&` with the complement of a word is the and-not of both, bit by bit
 pub bit_and_not_is : (left right : ℕ) → left < 2 ^ 32 → right < 2 ^ 32 → bit_and left (2 ^ 32 - 1 - right) ≡ and_not_by_bits left right
 unfolding by_bits
 bit_and_not_is left right p q =

@@ -15,6 +15,7 @@ pub record IsDivision (dividend divisor quotient remainder : ℤ) : Type 0 where
 abbrev pub IsQuotient : ℤ → ℤ → ℕ → Type 0
 IsQuotient dividend divisor word = (q : ℤ) × (r : ℤ) × IsDivision dividend divisor q r × (word ≡ low_word q)
 
+-- the word is the remainder of a division whose quotient is rounded toward zero
 abbrev pub IsRemainder : ℤ → ℤ → ℕ → Type 0
 IsRemainder dividend divisor word = (q : ℤ) × (r : ℤ) × IsDivision dividend divisor q r × (word ≡ low_word r)
 
@@ -30,6 +31,7 @@ quotient dividend divisor =
     else (if overflows dividend divisor then dividend
     else low_word (int_div (signed dividend) (signed divisor)))
 
+-- the signed remainder of rem: the dividend for a divisor of 0, and 0 on overflow
 abbrev pub remainder : ℕ → ℕ → ℕ
 remainder dividend divisor =
     if divisor == 0 then dividend
@@ -41,11 +43,14 @@ remainder dividend divisor =
 abbrev pub IsUnsignedQuotient : ℕ → ℕ → ℕ → Type 0
 IsUnsignedQuotient dividend divisor word = (r : ℕ) × (r < divisor) × (word * divisor + r ≡ dividend)
 
+-- the word is the remainder of a division of unsigned numbers
 abbrev pub IsUnsignedRemainder : ℕ → ℕ → ℕ → Type 0
 IsUnsignedRemainder dividend divisor word = (q : ℕ) × (word < divisor) × (q * divisor + word ≡ dividend)
 
+-- the unsigned quotient of divu: 2 ^ 32 - 1 for a divisor of 0
 abbrev pub unsigned_quotient : ℕ → ℕ → ℕ
 unsigned_quotient dividend divisor = if divisor == 0 then 2 ^ 32 - 1 else dividend / divisor
 
+-- the unsigned remainder of remu: the dividend for a divisor of 0
 abbrev pub unsigned_remainder : ℕ → ℕ → ℕ
 unsigned_remainder dividend divisor = if divisor == 0 then dividend else dividend % divisor

@@ -6,6 +6,7 @@ abbrev pub bit_list : ℕ → ℕ → List Bool
 bit_list zero number = []
 bit_list (suc count) number = (number % 2 == 1) ∷ bit_list count (number / 2)
 
+-- a bit as a number
 abbrev pub digit : Bool → ℕ
 digit true = 1
 digit false = 0
@@ -25,18 +26,23 @@ bitwise f (x ∷ xs) (y ∷ ys) = f x y ∷ bitwise f xs ys
 unfoldable pub by_bits : (Bool → Bool → Bool) → ℕ → ℕ → ℕ → ℕ
 by_bits f count left right = word_of_bits (bitwise f (bit_list count left) (bit_list count right))
 
+-- the exclusive or of two bits
 abbrev pub exclusive_or : Bool → Bool → Bool
 exclusive_or true b = not b
 exclusive_or false b = b
 
+-- the bits that both words have
 abbrev pub and_by_bits : ℕ → ℕ → ℕ
 and_by_bits left right = by_bits (λ x y. x && y) 32 left right
 
+-- the bits that one of the words has
 abbrev pub or_by_bits : ℕ → ℕ → ℕ
 or_by_bits left right = by_bits (λ x y. x || y) 32 left right
 
+-- the bits that exactly one of the words has
 abbrev pub xor_by_bits : ℕ → ℕ → ℕ
 xor_by_bits left right = by_bits exclusive_or 32 left right
 
+-- the bits that the left word has and the right one has not
 abbrev pub and_not_by_bits : ℕ → ℕ → ℕ
 and_not_by_bits left right = by_bits (λ x y. x && not y) 32 left right

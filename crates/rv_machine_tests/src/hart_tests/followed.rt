@@ -1,6 +1,7 @@
 //! Executes the lines of a test on a machine.
 
-use rv_hart::{BoxedCache, Interval, Limits, Machine, StepOutcome, Trap};
+use rv_fast_path::{BoxedCache, Interval, Limits, Machine};
+use rv_hart::{StepOutcome, Trap};
 use rv_memory::{RAM_BASE, Ram};
 use rv_pmp::Mode;
 use rv_word::{Reg, le_bytes};

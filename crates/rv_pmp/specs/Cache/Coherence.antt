@@ -18,9 +18,11 @@ IsCacheOf entries cache =
 abbrev pub with_fetch : Cache → OpenRange → Cache
 with_fetch cache range = record cache { ranges = record cache.ranges { fetch = range } }
 
+-- the cache with another open range for loads
 abbrev pub with_read : Cache → OpenRange → Cache
 with_read cache range = record cache { ranges = record cache.ranges { read = range } }
 
+-- the cache with another open range for stores
 abbrev pub with_write : Cache → OpenRange → Cache
 with_write cache range = record cache { ranges = record cache.ranges { write = range } }
 
@@ -28,5 +30,6 @@ with_write cache range = record cache { ranges = record cache.ranges { write = r
 unfoldable pub cache_now : Caches → Cache
 cache_now caches = if caches.is_second then caches.second else caches.first
 
+-- of the two caches, the one that was not used last
 unfoldable pub cache_before : Caches → Cache
 cache_before caches = if caches.is_second then caches.first else caches.second

@@ -24,7 +24,8 @@ is_within ranges i byte = nat_le (slice_index ranges.from i) byte && nat_lt byte
 abbrev pub AreRanges : Entries → EntryRanges → Type 0
 AreRanges entries ranges = (i byte : ℕ) → i < 16 → covers entries i byte ≡ is_within ranges i byte
 
--- both ends of each nonempty range are among the bounds, and so is 2^35
+-- Both ends of each nonempty range are among the bounds, and so is 2^35, above which no entry matches a byte. The largest block of an entry is that
+-- of NAPOT with all 32 bits of pmpaddr set: 8 * 2^32 bytes from 0 on.
 pub record AreBounds (ranges : EntryRanges) (bounds : List ℕ) : Type 0 where
   pub from : (i : ℕ) → i < 16 → slice_index ranges.from i < slice_index ranges.to i → Contains bounds (slice_index ranges.from i)
   pub to : (i : ℕ) → i < 16 → slice_index ranges.from i < slice_index ranges.to i → Contains bounds (slice_index ranges.to i)
@@ -49,7 +50,7 @@ AreMatched covering segments =
     (k byte : ℕ) → k < segments.count → start_of segments k ≤ byte → byte < slice_index segments.ends k →
     byte_match covering byte ≡ slice_index_or segments.byte_matches k None
 
--- The segments are those of the entries, and have every address below 2^35.
+-- The segments are those of the entries, and have every address below 2^35. No entry matches a byte at 2^35 or above.
 unfoldable pub AreSegments : Entries → Segments → Type 0
 AreSegments entries segments =
     AreInOrder segments × (2 ^ 35 ≤ reach_of segments) × AreMatched (covers entries) segments

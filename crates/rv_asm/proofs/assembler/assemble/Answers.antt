@@ -5,26 +5,32 @@ use Rattle.rv_asm.proofs.DenotesLemmas.{denotes_assembled, assembled_denoted}
 use Rattle.rv_asm.proofs.PassResults.{name_fails_if, twice_line, words_decide_if}
 use Rattle.rv_asm.proofs.assembler.assemble.Goals as goal
 
+-- `assemble` meets clause `only` of its contract where `?` returns the error of `pass`
 pub returns-in_err-pass-clause-only : goal.returns-in_err-pass-clause-only
 returns-in_err-pass-clause-only c = assembled_denoted c.args.text.now
 
+-- `assemble` meets clause `line` of its contract in the arm `Some`
 pub returns-in-Some-clause-line : goal.returns-in-Some-clause-line
 returns-in-Some-clause-line c =
-    let has : HasRead c.in_ok-pass.pass (readings c.args.text.now) = c.in_ok-pass.ensures.ok.0 in
-    twice_line c.args.text.now c.in_ok-pass.pass c.in-Some.line has c.in-Some.is
+    let has_read : HasRead c.in_ok-pass.pass (readings c.args.text.now) = c.in_ok-pass.ensures.ok.0 in
+    twice_line c.args.text.now c.in_ok-pass.pass c.in-Some.line has_read c.in-Some.is
 
+-- `assemble` meets clause `ok` of its contract
 pub returns-clause-ok : goal.returns-clause-ok
 returns-clause-ok c =
     let found = c.in_ok-pass.ensures.ok in
     words_decide_if c.args.text.now c.in_ok-pass.pass c.words_of.result found.0 found.1 c.in_default.is c.words_of.ensures.ok
 
+-- `assemble` meets clause `fault` of its contract
 pub returns-clause-fault : goal.returns-clause-fault
 returns-clause-fault c =
     let found = c.in_ok-pass.ensures.ok in
     name_fails_if c.args.text.now c.in_ok-pass.pass c.words_of.result found.0 found.1 c.in_default.is c.words_of.ensures.fault
 
+-- `assemble` meets clause `denotes` of its contract
 pub returns-clause-denotes : goal.returns-clause-denotes
 returns-clause-denotes c = IfOk-weaker c.words_of.result _ _ (λ words. denotes_assembled c.args.text.now words.items) (returns-clause-ok c)
 
+-- `assemble` meets clause `only` of its contract
 pub returns-clause-only : goal.returns-clause-only
 returns-clause-only c = assembled_denoted c.args.text.now

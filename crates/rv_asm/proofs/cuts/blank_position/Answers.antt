@@ -7,6 +7,7 @@ use Rattle.rv_text.specs.GoodLines.{is_blank}
 use Rattle.rv_text.proofs.Positions.{unwrap_or-position}
 use Rattle.rv_asm.proofs.cuts.blank_position.Goals as goal
 
+-- `blank_position` meets clause `value` of its contract
 pub returns-clause-value : goal.returns-clause-value
 returns-clause-value c =
     let text = c.args.text.now in

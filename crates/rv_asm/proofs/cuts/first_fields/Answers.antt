@@ -7,6 +7,7 @@ use Rattle.std.proofs.lemmas.Grind.{common_steps}
 use Rattle.rv_asm.specs.Cuts.{trimmed, comma_fields}
 use Rattle.rv_asm.proofs.cuts.first_fields.Goals as goal
 
+-- `first_fields` meets its contract in the arm `None`
 pub returns-in-None : goal.returns-in-None
 unfolding comma_fields
 returns-in-None c =
@@ -20,6 +21,7 @@ returns-in-None c =
     let few : length c.loop-field.yielded ≤ 4 = omega (arith, ap length c.loop-field.invariant.kept, c.loop-field.invariant.few) in
     rw c.loop-field.invariant.kept (grind (arith, common_steps, end.0, end.1, few))
 
+-- `first_fields` meets its contract where the test `is_full` holds
 pub returns-then-is_full : goal.returns-then-is_full
 unfolding comma_fields
 returns-then-is_full c =

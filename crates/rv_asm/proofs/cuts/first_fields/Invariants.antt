@@ -1,5 +1,6 @@
 use Rattle.std.proofs.Common.{◌≡◌, ◌≤◌, length}
 use Rattle.rv_asm.proofs.cuts.first_fields.Given as goal
 
+-- the fields so far are those that the iterator has yielded, at most four
 abbrev pub invariant-loop-field : goal.invariant-loop-field
 invariant-loop-field l = record { kept : l.fields.items ≡ l.yielded; few : length l.fields.items ≤ 4 }

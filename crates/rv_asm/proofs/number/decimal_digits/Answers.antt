@@ -4,6 +4,7 @@ use Rattle.std.proofs.lemmas.Int.Digits.{digits_value_more}
 use Rattle.rv_text.proofs.DigitValues.{all_digits_more}
 use Rattle.rv_asm.proofs.number.decimal_digits.Goals as goal
 
+-- an iteration of the loop over `byte` preserves the invariant
 pub loop-byte-preserved : goal.loop-byte-preserved
 loop-byte-preserved c =
     let byte : c.from.result ≡ get_or c.args.text.now c.loop-byte.byte-index 0 = search arith in

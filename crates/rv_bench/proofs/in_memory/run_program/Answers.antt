@@ -5,11 +5,12 @@ use Rattle.rv_bench.proofs.in_memory.run_program.Goals as goal
 
 -- a count that a test finds to be 0 has not risen
 none_counted : (old new : ℕ) (some : Bool) → some ≡ nat_lt 0 new → some ≡ false → old < new → ⊥
-none_counted old new some is not risen = grind (arith, nat_tests)
+none_counted old new some some_is not risen = grind (arith, nat_tests)
 
 none_risen : (old new : ℕ) → new ≡ 0 → old < new → ⊥
-none_risen old new is risen = omega (arith, is, risen)
+none_risen old new none_new risen = omega (arith, none_new, risen)
 
+-- `run_program` meets its contract
 pub returns : goal.returns
 returns c =
     let sink = c.perform-status.new.sink in

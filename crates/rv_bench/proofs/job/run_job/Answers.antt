@@ -1,5 +1,6 @@
 use Rattle.rv_bench.proofs.JobResults.{does_meets}
 use Rattle.rv_bench.proofs.job.run_job.Goals as goal
 
+-- `run_job` meets clause `output` of its contract (`MeetsOutput`)
 pub returns-clause-output : goal.returns-clause-output
 returns-clause-output g c = does_meets _ _ _ _ _ _ _ _ c.dispatch.ensures

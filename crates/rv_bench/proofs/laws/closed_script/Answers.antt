@@ -1,5 +1,6 @@
 use Rattle.rv_bench.proofs.SecretScript.{secret_script_law}
 use Rattle.rv_bench.proofs.laws.closed_script.Goals as goal
 
+-- proves the law (`SecretScriptLaw`) that is the contract of `closed_script`
 pub returns : goal.returns
 returns c = secret_script_law

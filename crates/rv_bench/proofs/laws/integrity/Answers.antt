@@ -1,5 +1,6 @@
 use Rattle.rv_bench.proofs.IntegrityLemmas.{started_integrity}
 use Rattle.rv_bench.proofs.laws.integrity.Goals as goal
 
+-- proves the law (`ScriptIntegrityLaw`) that is the contract of `integrity`
 pub returns : goal.returns
 returns c = started_integrity

@@ -3,6 +3,7 @@ use Rattle.rv_bench.proofs.PairLemmas.{marked_step}
 use Rattle.rv_bench.proofs.pair.push_marked.Goals as goal
 use Rattle.rv_bench.proofs.pair.push_marked.Goals.{then-begins, else-begins}
 
+-- an iteration of the loop over `byte` preserves the invariant
 pub loop-byte-preserved : goal.loop-byte-preserved
 loop-byte-preserved c =
     let joined : c.if-begins.out.items ≡ c.loop-byte.out.items ++ cond c.loop-byte.begins c.args.mark.now [] = elim c.if-begins.branch [

@@ -1,5 +1,6 @@
 use Rattle.rv_bench.proofs.ProgramResults.{runs_program}
 use Rattle.rv_bench.proofs.program.perform.Goals as goal
 
+-- `perform` meets clause `output` of its contract (`RunsProgram`)
 pub returns-clause-output : goal.returns-clause-output
 returns-clause-output g c = runs_program _ _ _ _ _ _ _ _ c.performed.ensures

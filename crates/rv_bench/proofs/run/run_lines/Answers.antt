@@ -29,14 +29,14 @@ turn g c =
       emptied = search rules;
     }
 
--- its reply was written
+-- the sink has the replies so far, and then that to this line
 wrote : (g : given.Over) (c : After-is_over g)
     → g.W.Sink.taken c.write_all.new.sink ≡ g.W.Sink.taken c.loop-told.sink ++ g.T.Told.AsSlice.items c.respond_to_line.new.out
 wrote g c =
     let done = ok_mapped _ c.write_all.result c.map_err-in-Some.result _ c.map_err-in-Some.ensures.cases c.in_ok-map_err.was in
     IfOk-at_ok _ done c.write_all.ensures.written ∙ ap (λ t. g.W.Sink.taken c.loop-told.sink ++ t) c.as_slice-in-Some.ensures
 
--- and no call of the sink failed
+-- no call of the sink failed while the reply was written
 worked : (g : given.Over) (c : After-is_over g) → SinkWorked g.W.Sink c.loop-told.sink c.write_all.new.sink
 worked g c = record {
   worked = IfOk-at_ok _ (ok_mapped _ c.write_all.result c.map_err-in-Some.result _ c.map_err-in-Some.ensures.cases c.in_ok-map_err.was) c.write_all.ensures.ok;
@@ -49,9 +49,11 @@ over : (g : given.Over) (c : After-is_over g)
 over g c = ap (λ (by : Responding g.row.T-State.Denot). by.is_over (g.T.Responder.state c.respond_to_line.new.self))
     (sym (c.respond_to_line.ensures.kept ∙ c.loop-told.invariant.kept)) ∙ sym c.is_over.ensures
 
+-- the invariant of the loop over `told` holds before its first iteration
 pub loop-told-init : goal.loop-told-init
 loop-told-init g c = record { kept = refl; so_far = SoFar-none c.requires }
 
+-- an iteration of the loop over `told` preserves the invariant
 pub loop-told-preserved : goal.loop-told-preserved
 loop-told-preserved g c =
     let at = goal.at.loop-told-preserved g c in record {
@@ -60,29 +62,34 @@ loop-told-preserved g c =
           (over g at.After-is_over ∙ c.if-is_over.false);
     }
 
+-- `run_lines` meets clause `outcome` of its contract (`RespondsToScript`) where `?` returns the error of `line`
 pub returns-in_err-line-clause-outcome : goal.returns-in_err-line-clause-outcome
 returns-in_err-line-clause-outcome g c =
-    let is : c.from_residual.result ≡ Err Read = search rules in
+    let fault_is : c.from_residual.result ≡ Err Read = search rules in
     let failed = err_mapped _ c.next_line_before.result c.map_err.result _ c.map_err.ensures.cases c.in_err-line.was in
-    rw is (SoFar-read c.next_line_before.new.self c.loop-told.invariant.so_far (IfErr-at_err _ failed.1 c.next_line_before.ensures.read.err)
+    rw fault_is (SoFar-read c.next_line_before.new.self c.loop-told.invariant.so_far (IfErr-at_err _ failed.1 c.next_line_before.ensures.read.err)
     c.next_line_before.ensures.read.end (search rules) (λ follows. IfErr-at_err _ failed.1 (c.next_line_before.ensures.read.kept follows)))
 
+-- `run_lines` meets clause `end` of its contract (`EndsWithSource`) where `?` returns the error of `line`
 pub returns-in_err-line-clause-end : goal.returns-in_err-line-clause-end
 returns-in_err-line-clause-end g c = EndsWithSource-more _ _ _ c.loop-told.invariant.so_far.ends c.next_line_before.ensures.read.end
 
+-- `run_lines` meets clause `outcome` of its contract (`RespondsToScript`) where `?` returns the error of `map_err`
 pub returns-in_err-map_err-clause-outcome : goal.returns-in_err-map_err-clause-outcome
 returns-in_err-map_err-clause-outcome g c =
-    let is : c.from_residual-in_err-map_err.result ≡ Err Write = search rules in
+    let fault_is : c.from_residual-in_err-map_err.result ≡ Err Write = search rules in
     let prefix = subst (WritesPrefix (g.W.Sink.taken c.loop-told.sink) (g.W.Sink.taken c.write_all.new.sink)) c.as_slice-in-Some.ensures in
-    rw is (Turn-stops (turn g (goal.at.returns-in_err-map_err-clause-outcome g c).After-respond_to_line) c.write_all.new.sink (search rules)
+    rw fault_is (Turn-stops (turn g (goal.at.returns-in_err-map_err-clause-outcome g c).After-respond_to_line) c.write_all.new.sink (search rules)
     (prefix c.write_all.ensures.prefix))
 
+-- `run_lines` meets clause `outcome` of its contract (`RespondsToScript`) where the test `is_over` holds
 pub returns-then-is_over-clause-outcome : goal.returns-then-is_over-clause-outcome
 returns-then-is_over-clause-outcome g c =
     let at = goal.at.returns-then-is_over-clause-outcome g c in
     Turn-over (turn g at.After-respond_to_line) (worked g at.After-is_over) (wrote g at.After-is_over)
     (over g at.After-is_over ∙ c.if-is_over.true)
 
+-- `run_lines` meets clause `outcome` of its contract (`RespondsToScript`)
 pub returns-clause-outcome : goal.returns-clause-outcome
 returns-clause-outcome g c =
     let found = ok_mapped _ c.next_line_before.result c.map_err.result _ c.map_err.ensures.cases c.in_ok-line.was ∙ ap Ok c.in_default.is in

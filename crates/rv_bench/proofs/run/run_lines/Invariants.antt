@@ -3,6 +3,7 @@ use Rattle.rv_streams.specs.Unread.{calls_left}
 use Rattle.rv_bench.proofs.LoopTurns.{SoFar}
 use Rattle.rv_bench.proofs.run.run_lines.Given as goal
 
+-- the responder's contract is that of the start, and the lines so far have their responses
 abbrev pub invariant-loop-told : goal.invariant-loop-told
 invariant-loop-told g l = record {
   kept : g.T.Responder.responding l.responding ≡ g.T.Responder.responding l.initial.responding;
@@ -10,5 +11,6 @@ invariant-loop-told g l = record {
       (g.T.Responder.state l.responding) l.lines l.sink;
 }
 
+-- the number of calls that the source can still answer decreases
 abbrev pub decreases-loop-told : goal.decreases-loop-told
 decreases-loop-told g l = calls_left l.lines

@@ -7,6 +7,7 @@ use Rattle.rv_bench.specs.Run.{RunsLines}
 use Rattle.rv_bench.proofs.Runs.{one_bench-fails, one_bench-runs}
 use Rattle.rv_bench.proofs.run.run_script.Goals as goal
 
+-- `run_script` meets clause `outcome` of its contract (`RunsLines`)
 pub returns-clause-outcome : goal.returns-clause-outcome
 returns-clause-outcome g c =
     let responds = c.in_ok-run_lines.ensures.outcome in

@@ -2,6 +2,7 @@ use Rattle.std.proofs.Common.{◌∙◌, ap, sym, Ok}
 use Rattle.rv_bench.proofs.Streams.{streamed}
 use Rattle.rv_bench.proofs.run.run_stream.Goals as goal
 
+-- `run_stream` meets clause `outcome` of its contract (`RunsStream`)
 pub returns-clause-outcome : goal.returns-clause-outcome
 returns-clause-outcome g c =
     streamed g.W.Sink c.args.setup.now c.as_slice.result.now c.args.lines.now c.read_image.new.lines c.run_bench.new.lines c.args.sink.now c.run_bench.new.sink

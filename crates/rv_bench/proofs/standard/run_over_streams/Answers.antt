@@ -2,6 +2,7 @@ use Rattle.std.proofs.Common.{rules}
 use Rattle.rv_bench.proofs.StandardResults.{runs_over}
 use Rattle.rv_bench.proofs.standard.run_over_streams.Goals as goal
 
+-- `run_over_streams` meets its contract (`RunsOverStreams`)
 pub returns : goal.returns
 returns g c =
     let writer = c.perform_arguments-source.new.sink.log in

@@ -10,6 +10,7 @@ use Rattle.rv_bench.proofs.Entering.{two_benches-fail, two_benches-stop, two_ben
 use Rattle.rv_bench.proofs.Twins.{make_pair_at}
 use Rattle.rv_bench.proofs.twin.run_second.Goals as goal
 
+-- `run_second` meets clause `outcome` of its contract (`RunsSecond`) in the default arm
 pub returns-in_default-clause-outcome : goal.returns-in_default-clause-outcome
 returns-in_default-clause-outcome g c =
     let before = g.W.Sink.taken c.args.sink.now in
@@ -32,6 +33,7 @@ returns-in_default-clause-outcome g c =
       λ follows. (refl, prefix),
     )))
 
+-- `run_second` meets clause `outcome` of its contract (`RunsSecond`) where `?` returns the error of `run_lines`
 pub returns-in_err-run_lines-clause-outcome : goal.returns-in_err-run_lines-clause-outcome
 returns-in_err-run_lines-clause-outcome g c =
     let runs : ℕ → Option Pair → Type 0 = λ slot pair.
@@ -41,6 +43,7 @@ returns-in_err-run_lines-clause-outcome g c =
     (RunsSecond g.W.Sink c.in-Some.found.slot (Some c.in-Some.found.pair) c.args.lines.now c.run_lines.new.lines c.args.sink.now c.run_lines.new.sink)
     c.from_residual.result _ c.from_residual.ensures.1 (two_benches-stop g.W.Sink c.in-Some.found.slot _ _ _ _ _ _ c.in_err-run_lines.ensures.outcome))
 
+-- `run_second` meets clause `outcome` of its contract (`RunsSecond`)
 pub returns-clause-outcome : goal.returns-clause-outcome
 returns-clause-outcome g c =
     let responds = c.in_ok-run_lines.ensures.outcome in

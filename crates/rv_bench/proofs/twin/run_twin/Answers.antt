@@ -6,6 +6,7 @@ use Rattle.rv_bench.proofs.Runs.{one_bench-runs, one_bench-state}
 use Rattle.rv_bench.proofs.Twins.{first_fails, not_started, second_part}
 use Rattle.rv_bench.proofs.twin.run_twin.Goals as goal
 
+-- `run_twin` meets clause `outcome` of its contract (`RunsTwin`) where `?` returns the error of `benches`
 pub returns-in_err-benches-clause-outcome : goal.returns-in_err-benches-clause-outcome
 returns-in_err-benches-clause-outcome g c =
     passed_on (RunsTwin g.W.Sink c.args.setup.now c.args.slot c.args.lines.now c.read_image.new.lines c.args.sink.now c.args.sink.now)
@@ -17,6 +18,7 @@ returns-in_err-benches-clause-outcome g c =
       ends = c.in_ok-image.ensures.end;
     }) _ c.in_err-benches.ensures)
 
+-- `run_twin` meets clause `outcome` of its contract (`RunsTwin`) where `?` returns the error of `run_lines`
 pub returns-in_err-run_lines-clause-outcome : goal.returns-in_err-run_lines-clause-outcome
 returns-in_err-run_lines-clause-outcome g c =
     passed_on (RunsTwin g.W.Sink c.args.setup.now c.args.slot c.args.lines.now c.run_lines.new.lines c.args.sink.now c.run_lines.new.sink)
@@ -29,6 +31,7 @@ returns-in_err-run_lines-clause-outcome g c =
     })
     _ c.in_ok-benches.ensures _ _ c.run_lines.ensures.end _ c.in_err-run_lines.ensures.outcome)
 
+-- `run_twin` meets clause `outcome` of its contract (`RunsTwin`)
 pub returns-clause-outcome : goal.returns-clause-outcome
 returns-clause-outcome g c =
     let first = c.in_ok-run_lines.ensures.outcome in
@@ -49,8 +52,10 @@ returns-clause-outcome g c =
     })
     c.run_second.new.lines c.run_second.new.sink c.run_second.ensures.end c.run_second.result c.run_second.ensures.outcome
 
+-- `run_twin` meets clause `end` of its contract (`EndsWithSource`) where `?` returns the error of `run_lines`
 pub returns-in_err-run_lines-clause-end : goal.returns-in_err-run_lines-clause-end
 returns-in_err-run_lines-clause-end g c = EndsWithSource-more _ _ _ c.in_ok-image.ensures.end c.run_lines.ensures.end
 
+-- `run_twin` meets clause `end` of its contract (`EndsWithSource`)
 pub returns-clause-end : goal.returns-clause-end
 returns-clause-end g c = EndsWithSource-more _ _ _ c.in_ok-image.ensures.end (EndsWithSource-more _ _ _ c.run_lines.ensures.end c.run_second.ensures.end)

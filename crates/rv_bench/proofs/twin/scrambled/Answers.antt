@@ -3,11 +3,13 @@ use Rattle.rv_debug.specs.BothBenches.{can_scramble, scrambled}
 use Rattle.rv_bench.proofs.Twins.{not_pair, are_pair}
 use Rattle.rv_bench.proofs.twin.scrambled.Goals as goal
 
+-- `scrambled` meets clause `pair` of its contract where the test `not scramble` holds
 pub returns-then-not-scramble-clause-pair : goal.returns-then-not-scramble-clause-pair
 returns-then-not-scramble-clause-pair c =
     let none : can_scramble c.args.slot c.args.benches.second ≡ false = sym c.scramble.ensures.asked ∙ c.if-not-scramble.true in
     not_pair c.args.slot c.args.benches.first (ap (can_scramble c.args.slot) (sym c.args.benches.equal) ∙ none)
 
+-- `scrambled` meets clause `pair` of its contract
 pub returns-clause-pair : goal.returns-clause-pair
 returns-clause-pair c =
     let can : can_scramble c.args.slot c.args.benches.second ≡ true = sym c.scramble.ensures.asked ∙ c.if-not-scramble.false in

@@ -4,6 +4,7 @@ use Rattle.clap.specs.Words.{app_of, with_rule}
 use Rattle.rv_command_line.specs.CommandRows.{rule_in}
 use Rattle.rv_command_line.proofs.command_line.command_of.Goals as goal
 
+-- an iteration of the loop over `option` preserves the invariant
 pub loop-option-preserved : goal.loop-option-preserved
 loop-option-preserved c =
     let first = drop_more c.args.row.now.options.now c.loop-option.option-index _ c.loop-option-test.true in

@@ -4,6 +4,7 @@ use Rattle.clap.specs.declared.builder.command.Command.TheViews.{out-Command as 
 use Rattle.rv_command_line.specs.CommandRows.{app_in, rule_in}
 use Rattle.rv_command_line.proofs.command_line.command_of.Given as goal
 
+-- with the options that are left, the command is that of the row
 abbrev pub invariant-loop-option : goal.invariant-loop-option
 invariant-loop-option l = record {
   app : fold with_rule (app_of l.command) (map rule_in (drop l.option-index l.row.options.now)) ≡ app_in l.row;

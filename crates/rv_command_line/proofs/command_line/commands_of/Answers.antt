@@ -5,6 +5,7 @@ use Rattle.clap.specs.Words.{shape_of}
 use Rattle.rv_command_line.specs.CommandRows.{IsLocal, shape_in}
 use Rattle.rv_command_line.proofs.command_line.commands_of.Goals as goal
 
+-- an iteration of the loop over `row` preserves the invariant
 pub loop-row-preserved : goal.loop-row-preserved
 loop-row-preserved c =
     let rows = c.args.rows.now in

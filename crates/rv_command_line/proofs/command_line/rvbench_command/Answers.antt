@@ -22,6 +22,7 @@ told names alike (Ok command) e = record {
 }
 told names alike (Err error) none = record { simple = tt; free = tt; faults = tt; subcommand = tt }
 
+-- `rvbench_command` meets its contract
 pub returns : goal.returns
 returns c =
     let made = c.in_ok-subcommands in

@@ -17,10 +17,12 @@ no_help : (k : ErrorKind) → (k ≡ kind.DisplayHelp → ⊥) → not (is_help 
 no_help kind.DisplayHelp other = absurd (other refl)
 no_help _ other = refl
 
+-- `fault` meets its contract in the arm `Ok`
 pub returns-in-Ok : goal.returns-in-Ok
 returns-in-Ok c faults (inl memory) = let asked = sym c.kind.ensures ∙ c.in-DisplayHelp.is in cc
 returns-in-Ok c faults (inr h) = among is_help _ faults (rw (sym c.kind.ensures ∙ c.in-DisplayHelp.is) refl) h
 
+-- `fault` meets its contract in the default arm
 pub returns-in_default : goal.returns-in_default
 returns-in_default c faults (inl memory) = absurd (c.in_default.not-OutOfMemory (c.kind.ensures ∙ memory))
 returns-in_default c faults (inr h) = among (λ k. not (is_help k)) _ faults (no_help _ (λ e. c.in_default.not-DisplayHelp (c.kind.ensures ∙ e))) h

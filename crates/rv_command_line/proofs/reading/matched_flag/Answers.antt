@@ -17,6 +17,7 @@ reads_truth E text None read = rw (other (codes "true") read.1.0, other (codes "
     other : (t : List ℕ) → (text ≡ t → ⊥) → bytes_eq text t ≡ false
     other t differs = false_from_ne_true (bytes_eq text t) (λ e. differs ((bytes_eq-Decides text t).0 e))
 
+-- `matched_flag` meets its contract
 pub returns : goal.returns
 returns c = got truth_in_text (found_of c.args.matches.now) c.args.id.now c.get_one.result c.get_one.ensures.none
     (λ text e. reads_truth _ text _ (c.get_one.ensures.value text e))

@@ -3,8 +3,10 @@ use Rattle.clap.proofs.WalkLemmas.{first_value-rows}
 use Rattle.clap.specs.Words.{found_of}
 use Rattle.rv_command_line.proofs.reading.matched_kind.Goals as goal
 
+-- `matched_kind` meets its contract where `?` returns the error of `get_str`
 pub returns-in_err-get_str : goal.returns-in_err-get_str
 returns-in_err-get_str c = rw (sym (first_value-rows (found_of c.args.matches.now) (codes "kind"))) (search rules)
 
+-- `matched_kind` meets its contract
 pub returns : goal.returns
 returns c = rw (sym (first_value-rows (found_of c.args.matches.now) (codes "kind"))) (search rules)

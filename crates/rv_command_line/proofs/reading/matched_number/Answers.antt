@@ -4,6 +4,7 @@ use Rattle.rv_command_line.proofs.Numbers.{got, reads_number}
 use Rattle.rv_command_line.specs.Job.{number_in_text}
 use Rattle.rv_command_line.proofs.reading.matched_number.Goals as goal
 
+-- `matched_number` meets its contract
 pub returns : goal.returns
 returns c = got (number_in_text 32) (found_of c.args.matches.now) c.args.id.now c.get_one.result c.get_one.ensures.none (λ text e.
     reads_number 32 text (λ u x. ParsesUnsigned 32 10 u x × ExplainsUnsignedError 10 u x × HasUnsignedDigitsIfOk u x) c.get_one.result

@@ -8,6 +8,7 @@ use Rattle.rv_command_line.specs.Refusals.{refusals_of}
 use Rattle.rv_command_line.proofs.Taken.{answers}
 use Rattle.rv_command_line.proofs.reading.read_words.Goals as goal
 
+-- `read_words` meets its contract in the arm `Ok` of `try_get_matches_from`
 pub returns-in-Ok-try_get_matches_from : goal.returns-in-Ok-try_get_matches_from
 returns-in-Ok-try_get_matches_from c =
     let words = texts c.args.words.now in
@@ -21,6 +22,7 @@ with_more [] more error (inl e) = inl e
 with_more [] more error (inr h) = absurd h
 with_more (k ∷ ks) more error had = had
 
+-- `read_words` meets clause `fault` of its contract in the arm `Err`
 pub returns-in-Err-clause-fault : goal.returns-in-Err-clause-fault
 returns-in-Err-clause-fault c =
     let words = texts c.args.words.now in

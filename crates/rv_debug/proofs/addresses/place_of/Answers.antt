@@ -1,5 +1,6 @@
 use Rattle.rv_debug.proofs.AddressLemmas.{searched-place}
 use Rattle.rv_debug.proofs.addresses.place_of.Goals as goal
 
+-- `place_of` meets its contract
 pub returns : goal.returns
 returns c = searched-place _ _ _ c.requires c.binary_search.ensures.position

@@ -4,7 +4,7 @@ use Rattle.rv_debug.specs.EnclaveText.{slot_text}
 use Rattle.rv_debug.proofs.Prelude.{flat_map}
 use Rattle.rv_debug.proofs.enclaves.push_slots.Given as goal
 
--- the lines so far
+-- the output so far ends with the line of each slot that the loop has passed
 abbrev pub invariant-loop-slot : goal.invariant-loop-slot
 invariant-loop-slot l = record {
   items : l.out.items ≡ l.fn.out.items ++ flat_map (λ slot. slot_text slot (slot_at l.table slot)) (take l.slot-index l.slots);

@@ -1,5 +1,6 @@
 use Rattle.rv_debug.proofs.Declassification.{relation_law}
 use Rattle.rv_debug.proofs.laws.equivalent_benches_are_related.Goals as goal
 
+-- proves the law (`BenchRelationLaw`) that is the contract of `equivalent_benches_are_related`
 pub returns : goal.returns
 returns c = relation_law

@@ -1,5 +1,6 @@
 use Rattle.rv_debug.proofs.HostInfluence.{host_influence}
 use Rattle.rv_debug.proofs.laws.host_influences_through_window.Goals as goal
 
+-- proves the law (`HostInfluenceLaw`) that is the contract of `host_influences_through_window`
 pub returns : goal.returns
 returns c = host_influence

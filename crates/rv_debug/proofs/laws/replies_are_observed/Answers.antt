@@ -1,5 +1,6 @@
 use Rattle.rv_debug.proofs.Observation.{observation}
 use Rattle.rv_debug.proofs.laws.replies_are_observed.Goals as goal
 
+-- proves the law (`ObservationLaw`) that is the contract of `replies_are_observed`
 pub returns : goal.returns
 returns c = observation

@@ -1,5 +1,6 @@
 use Rattle.rv_debug.proofs.Isolation.{running}
 use Rattle.rv_debug.proofs.laws.running_is_undisturbed.Goals as goal
 
+-- proves the law (`RunningLaw`) that is the contract of `running_is_undisturbed`
 pub returns : goal.returns
 returns c = running

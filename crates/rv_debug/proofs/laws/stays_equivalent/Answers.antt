@@ -1,5 +1,6 @@
 use Rattle.rv_debug.proofs.StateAlike.{equivalence}
 use Rattle.rv_debug.proofs.laws.stays_equivalent.Goals as goal
 
+-- proves the law (`EquivalenceLaw`) that is the contract of `stays_equivalent`
 pub returns : goal.returns
 returns c = equivalence

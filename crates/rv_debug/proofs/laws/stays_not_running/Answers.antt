@@ -1,5 +1,6 @@
 use Rattle.rv_debug.proofs.NotRunning.{rest_law}
 use Rattle.rv_debug.proofs.laws.stays_not_running.Goals as goal
 
+-- proves the law (`RunsOnNoHartLaw`) that is the contract of `stays_not_running`
 pub returns : goal.returns
 returns c = rest_law

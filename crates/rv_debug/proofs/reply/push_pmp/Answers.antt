@@ -4,6 +4,7 @@ use Rattle.rv_debug.proofs.Prelude.{pmp_text}
 use Rattle.rv_debug.proofs.RegisterLines.{flat_map-range_more}
 use Rattle.rv_debug.proofs.reply.push_pmp.Goals as goal
 
+-- an iteration of the loop over `number` preserves the invariant
 pub loop-number-preserved : goal.loop-number-preserved
 loop-number-preserved c = record {
   items = rw (c.push_entry.ensures.items, c.loop-number.invariant.items, c.cfg.ensures, c.addr.ensures, c.new-index.ensures)

@@ -4,6 +4,7 @@ use Rattle.rv_debug.proofs.Prelude.{registers_text}
 use Rattle.rv_debug.proofs.RegisterLines.{flat_map-range_more, length-register_text}
 use Rattle.rv_debug.proofs.reply.push_registers.Goals as goal
 
+-- an iteration of the loop over `number` preserves the invariant
 pub loop-number-preserved : goal.loop-number-preserved
 loop-number-preserved c =
     let line = length-register_text c.loop-number.number c.get.result (omega arith) in

@@ -6,12 +6,14 @@ use Rattle.rv_debug.proofs.ScheduleLoop.{has_next, no_more, rest, scheduled_step
 use Rattle.rv_debug.proofs.ScheduledSteps.{after_schedule}
 use Rattle.rv_debug.proofs.scheduled.run_digits.Goals as goal
 
+-- the call of `step_hart` meets its `requires`
 pub step_hart-outcome-requires : goal.step_hart-outcome-requires
 step_hart-outcome-requires g c =
     let count = harts_of (g.T.Harts.as_target c.loop-digit.target) in
     let next = has_next count c.args.digits.now c.loop-digit.digit-index _ c.loop-digit-test.true refl c.loop-digit.invariant.has in
     subst (λ (hart : ℕ). hart < count) (sym c.hart-hart.ensures.which) next.0
 
+-- an iteration of the loop over `digit` preserves the invariant
 pub loop-digit-preserved : goal.loop-digit-preserved
 loop-digit-preserved g c =
     let target = g.T.Harts.as_target in
@@ -31,6 +33,7 @@ loop-digit-preserved g c =
       second = omega (arith, c.add.ensures.second_one, so_far.second);
     }
 
+-- `run_digits` meets its contract
 pub returns : goal.returns
 returns g c =
     c.loop-digit.invariant.scheduled_steps

@@ -1,5 +1,6 @@
 use Rattle.rv_debug.proofs.TargetRuns.{runs_selected}
 use Rattle.rv_debug.proofs.target.run_monitored.Goals as goal
 
+-- `run_monitored` meets its contract
 pub returns : goal.returns
 returns c = runs_selected _ _ _ _ _ _ c.run_steps.ensures

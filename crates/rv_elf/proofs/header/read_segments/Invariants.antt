@@ -2,6 +2,7 @@ use Rattle.std.proofs.Common.{◌≡◌, ◌≤◌, length}
 use Rattle.rv_elf.proofs.SegmentLemmas.{first_segments}
 use Rattle.rv_elf.proofs.header.read_segments.Given as goal
 
+-- the segments so far are those of the first `index` program headers
 abbrev pub invariant-loop-index : goal.invariant-loop-index
 invariant-loop-index l = record {
   read : l.segments.items ≡ first_segments l.file l.index;

@@ -2,5 +2,6 @@ use Rattle.std.proofs.Common.{drop}
 use Rattle.rv_elf.proofs.LoadLoop.{Loads}
 use Rattle.rv_elf.proofs.loading.load.Given as goal
 
+-- the segments before the index are loaded, and the others are left
 abbrev pub invariant-loop-segment : goal.invariant-loop-segment
 invariant-loop-segment l = Loads l.bytes l.plan l.fn.ram (drop l.segment-index l.plan.segments) l.ram

@@ -2,8 +2,10 @@ use Rattle.std.proofs.Common.{◌≡◌, length}
 use Rattle.rv_elf.specs.Segments.{has_overlap}
 use Rattle.rv_elf.proofs.planning.has_overlap.Given as goal
 
+-- no segment that the loop has passed shares a byte with another
 abbrev pub invariant-loop-rest : goal.invariant-loop-rest
 invariant-loop-rest l = has_overlap l.rest ≡ has_overlap l.segments
 
+-- the rest of the segments gets shorter
 abbrev pub decreases-loop-rest : goal.decreases-loop-rest
 decreases-loop-rest l = length l.rest

@@ -2,6 +2,7 @@ use Rattle.std.proofs.Common.{◌≡◌, ◌≤◌, length, take}
 use Rattle.rv_elf.specs.Segments.{occupying}
 use Rattle.rv_elf.proofs.planning.occupying.Given as goal
 
+-- the segments taken so far are those before the index that occupy memory
 abbrev pub invariant-loop-segment : goal.invariant-loop-segment
 invariant-loop-segment l = record {
   taken : l.taken.items ≡ occupying (take l.segment-index l.segments);

@@ -4,6 +4,7 @@ use Rattle.rv_elf.proofs.PlanLemmas.{is_valid, raw_has_none, raw_outside}
 use Rattle.rv_elf.specs.declared.elf_fault.ElfFault.TheVariants.{SegmentOutside}
 use Rattle.rv_elf.proofs.planning.plan_raw.Goals as goal
 
+-- the result has the invariant of its type when `plan_raw` returns
 pub invariant_of-result : goal.invariant_of-result
 invariant_of-result c =
     is_valid (record {
@@ -15,10 +16,12 @@ invariant_of-result c =
     })
     (rw (c.occupying-segments.ensures, c.first_address-address.ensures) (raw_has_none c.args.len c.args.monitored)) (search rules)
 
+-- `plan_raw` meets clause `least` of its contract where the test `len-ram_size` holds
 pub returns-then-len-ram_size-clause-least : goal.returns-then-len-ram_size-clause-least
 returns-then-len-ram_size-clause-least c =
     raw_plan_least c.args.len c.args.ram_size c.args.monitored (Err SegmentOutside)
     (rw (raw_outside c.args.len c.args.ram_size c.args.monitored (search rules)) refl)
 
+-- `plan_raw` meets clause `least` of its contract where `?` returns the error of `check_places`
 pub returns-in_err-check_places-clause-least : goal.returns-in_err-check_places-clause-least
 returns-in_err-check_places-clause-least c = raw_plan_least c.args.len c.args.ram_size c.args.monitored c.from_residual.result (search rules)

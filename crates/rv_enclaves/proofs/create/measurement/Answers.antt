@@ -7,6 +7,7 @@ joined : {a b c d e r a' b' c' d' e' r' : List ℕ} → a ≡ a' → b ≡ b' �
     → ((((a ++ b) ++ c) ++ d) ++ e) ++ r ≡ (a' ++ (b' ++ (c' ++ (d' ++ e')))) ++ r'
 joined ha hb hc hd he hr = rw (ha, hb, hc, hd, he, hr) (simp append_assoc)
 
+-- `measurement` meets its contract
 pub returns : goal.returns
 unfolding measurement_of
 returns c =

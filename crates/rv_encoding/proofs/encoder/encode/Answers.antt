@@ -2,12 +2,14 @@ use Rattle.std.proofs.Common.{◌+◌, rules}
 use Rattle.rv_encoding.proofs.DecodingLemmas.{word_of_parts, only_spelled, decoded_spelled}
 use Rattle.rv_encoding.proofs.encoder.encode.Goals as goal
 
+-- `encode` meets clause `only` of its contract
 pub returns-clause-only : goal.returns-clause-only
 returns-clause-only c =
-    let is = word_of_parts c.args.instr.now c.match_of.result c.fields_of.result c.match_of.ensures c.fields_of.ensures.value in
-    λ other. only_spelled (c.match_of.result + c.fields_of.result) c.args.instr.now other (c.fields_of.ensures.in_range, is)
+    let word_is = word_of_parts c.args.instr.now c.match_of.result c.fields_of.result c.match_of.ensures c.fields_of.ensures.value in
+    λ other. only_spelled (c.match_of.result + c.fields_of.result) c.args.instr.now other (c.fields_of.ensures.in_range, word_is)
 
+-- `encode` meets clause `round_trip` of its contract
 pub returns-clause-round_trip : goal.returns-clause-round_trip
 returns-clause-round_trip c =
-    let is = word_of_parts c.args.instr.now c.match_of.result c.fields_of.result c.match_of.ensures c.fields_of.ensures.value in
-    decoded_spelled (c.match_of.result + c.fields_of.result) c.args.instr.now (search rules) (c.fields_of.ensures.in_range, is)
+    let word_is = word_of_parts c.args.instr.now c.match_of.result c.fields_of.result c.match_of.ensures c.fields_of.ensures.value in
+    decoded_spelled (c.match_of.result + c.fields_of.result) c.args.instr.now (search rules) (c.fields_of.ensures.in_range, word_is)

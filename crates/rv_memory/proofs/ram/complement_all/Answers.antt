@@ -11,6 +11,7 @@ one_more i [] below = absurd (omega arith)
 one_more zero (byte ∷ bytes) below = refl
 one_more (suc i) (byte ∷ bytes) below = ap (λ rest. complement_of byte ∷ rest) (one_more i bytes (omega arith))
 
+-- an iteration of the loop over `byte` preserves the invariant
 pub loop-byte-preserved : goal.loop-byte-preserved
 loop-byte-preserved c =
     let i = c.loop-byte.byte-index in

@@ -5,11 +5,13 @@ use Rattle.rv_monitor.proofs.StepInvariant.{unlocked_after}
 use Rattle.rv_monitor.proofs.Switched.{handled_stored}
 use Rattle.rv_monitor.proofs.monitored_machine.step_hart.Goals as goal
 
+-- the call of `handle` meets clause `unlocked` of its `requires`
 pub handle-next-requires-clause-unlocked : goal.handle-next-requires-clause-unlocked
 handle-next-requires-clause-unlocked g c =
     let after : Stepped = record { state = record { hart = c.step_at-step.new.self; memory = c.step_at-step.new.ram }; outcome = c.step_at-step.result } in
     unlocked_after c.args.hart_state.now c.args.shared.now after c.in-Some.trap c.in-Some.is c.requires.reprogrammed c.step_at-step.ensures.laws.trap_keeps
 
+-- `step_hart` meets clause `legal` of its contract (`HostContextIsLegal`) in the arm `Some`
 pub returns-in-Some-clause-legal : goal.returns-in-Some-clause-legal
 returns-in-Some-clause-legal g c =
     let hart_state : HartState = record c.args.hart_state.now { hart = c.step_at-step.new.self } in

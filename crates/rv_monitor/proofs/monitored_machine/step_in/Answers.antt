@@ -1,23 +1,33 @@
-use Rattle.std.proofs.Common.{rules}
+use Rattle.std.proofs.Common.{sym, ◌∙◌, rules}
 use Rattle.rv_monitor.proofs.Held.{stepping}
 use Rattle.rv_monitor.proofs.monitored_machine.step_in.Goals as goal
 
+-- the call of `program_other_pmp` meets its `requires`
 pub program_other_pmp-requires : goal.program_other_pmp-requires
 program_other_pmp-requires g c =
-    let is = stepping c.args.by_hart.now c.args.harts c.args.hart c.args.shared.now _ c.index-by_hart-hart.result _ _ (search rules)
+    let step_is = stepping c.args.by_hart.now c.args.harts c.args.hart c.args.shared.now _ c.index-by_hart-hart.result _ _ (search rules)
     c.requires.has c.requires.few c.requires.kept c.step_hart-outcome.ensures.meaning in
-    record { has = c.requires.has; few = c.requires.few; own = is.own_laid; unlocked = is.unlocked }
+    record { has = c.requires.has; few = c.requires.few; own = step_is.own_laid; unlocked = step_is.unlocked }
 
+-- `step_in` meets its contract in the arm `None`
 pub returns-in-None : goal.returns-in-None
 returns-in-None g c =
-    let is = stepping c.args.by_hart.now c.args.harts c.args.hart c.args.shared.now _ c.index-by_hart-hart.result _ _ (search rules)
+    let step_is = stepping c.args.by_hart.now c.args.harts c.args.hart c.args.shared.now _ c.index-by_hart-hart.result _ _ (search rules)
     c.requires.has c.requires.few c.requires.kept c.step_hart-outcome.ensures.meaning in
-    let meaning = is.quiet c.in-None.is in
-    record { meaning = meaning; legal = is.stored _ c.step_hart-outcome.ensures.legal c.requires.stored meaning }
+    let meaning = step_is.quiet c.in-None.is in record { meaning = meaning; kept = step_is.kept _ c.step_hart-outcome.ensures.legal meaning }
 
-pub returns-in-Some : goal.returns-in-Some
-returns-in-Some g c =
-    let is = stepping c.args.by_hart.now c.args.harts c.args.hart c.args.shared.now _ c.index-by_hart-hart.result _ _ (search rules)
+-- `step_in` meets its contract where the test `is_redirected` holds
+pub returns-then-is_redirected : goal.returns-then-is_redirected
+returns-then-is_redirected g c =
+    let step_is = stepping c.args.by_hart.now c.args.harts c.args.hart c.args.shared.now _ c.index-by_hart-hart.result _ _ (search rules)
     c.requires.has c.requires.few c.requires.kept c.step_hart-outcome.ensures.meaning in
-    let meaning = is.laid _ _ c.in-Some.is c.program_other_pmp.ensures in
-    record { meaning = meaning; legal = is.stored _ c.step_hart-outcome.ensures.legal c.requires.stored meaning }
+    let meaning = step_is.redirects _ c.in-Some.is (sym c.is_redirected.ensures ∙ c.if-is_redirected.true) in
+    record { meaning = meaning; kept = step_is.kept _ c.step_hart-outcome.ensures.legal meaning }
+
+-- `step_in` meets its contract where the test `is_redirected` fails
+pub returns-else-is_redirected : goal.returns-else-is_redirected
+returns-else-is_redirected g c =
+    let step_is = stepping c.args.by_hart.now c.args.harts c.args.hart c.args.shared.now _ c.index-by_hart-hart.result _ _ (search rules)
+    c.requires.has c.requires.few c.requires.kept c.step_hart-outcome.ensures.meaning in
+    let meaning = step_is.laid _ _ c.in-Some.is c.program_other_pmp.ensures in
+    record { meaning = meaning; kept = step_is.kept _ c.step_hart-outcome.ensures.legal meaning }

@@ -3,6 +3,7 @@ use Rattle.std.proofs.lemmas.List.{length-map, ext_get_or, get_or-map}
 use Rattle.rv_pmp.specs.Cfg.{stored_cfg}
 use Rattle.rv_pmp.proofs.cfg_byte.all_stored.Goals as goal
 
+-- `all_stored` meets its contract
 pub returns : goal.returns
 returns c =
     let loop = c.loop-k in

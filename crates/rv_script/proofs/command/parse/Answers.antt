@@ -5,6 +5,7 @@ use Rattle.rv_script.specs.Command.{parse_of, meaning_of}
 use Rattle.rv_script.proofs.Commands.{meaning_of-take}
 use Rattle.rv_script.proofs.command.parse.Goals as goal
 
+-- `parse` meets its contract
 pub returns : goal.returns
 unfolding parse_of
 returns c =

@@ -3,6 +3,7 @@ use Rattle.std.proofs.lemmas.Bool.Decides.{nat_tests}
 use Rattle.rv_script.proofs.Schedules.{all_of_two}
 use Rattle.rv_script.proofs.schedule.name_only.Goals as goal
 
+-- `name_only` meets its contract where the test `harts ≥ 2` holds
 pub returns-then-harts-ge2 : goal.returns-then-harts-ge2
 returns-then-harts-ge2 c =
     let some = c.if-harts-ge2.true in rw (all_of_two c.args.harts some c.args.digits.now) (grind (arith, nat_tests, some))

@@ -32,6 +32,7 @@ unread Z g h old new sink TooLong reads = (
 unread Z g h old new sink NoMemory reads = (reads, refl)
 unread Z g h old new sink _ reads = absurd reads
 
+-- `run_asm` meets its contract (`RunsAsm`) where `?` returns the error of `text`
 pub returns-in_err-text : goal.returns-in_err-text
 returns-in_err-text g c =
     passed_on (RunsAsm g.S.Source g.W.Sink c.args.source.now c.read_whole.new.source c.args.sink.now c.args.sink.now)
@@ -40,7 +41,7 @@ returns-in_err-text g c =
 
 -- a text that is not too long
 few : (text read : List ℕ) → read ≡ text → length text ≤ 4194304 → length read ≤ 4194304
-few text read is short = subst (λ t. length t ≤ 4194304) (sym is) short
+few text read read_is short = subst (λ t. length t ≤ 4194304) (sym read_is) short
 
 -- the output has a line for each word
 is_ok : (g : given.Over) (c : In-Ok g) → g.S.Source.follows_input c.read_whole.new.source → asm_output (g.S.Source.remaining c.args.source.now) ≡ Ok (asm_text c.in-Ok.words.items)
@@ -48,6 +49,7 @@ is_ok g c follows =
     let read = c.as_slice.ensures.value ∙ c.in_ok-text.ensures.2 follows in
     ap asm_output (sym read) ∙ asm_output-ok _ _ (few _ _ c.as_slice.ensures.value c.in_ok-text.ensures.1) c.in-Ok.ensures.ok
 
+-- `run_asm` meets its contract (`RunsAsm`) in the arm `Ok`
 pub returns-in-Ok : goal.returns-in-Ok
 returns-in-Ok g c =
     let whole = is_ok g (goal.at.returns-in-Ok g c).In-Ok in
@@ -77,13 +79,14 @@ faulty : {S W : Type 0} (g : SourceGhosts S) (h : SinkGhosts W) (old new : S) (s
     → ReadsWholeText g old new → (g.follows_input new → text ≡ g.remaining old) → length text ≤ 4194304
     → (1 ≤ fault.line) × (fault.line ≤ length (lines_of text)) → FailsFor text fault
     → RunsAsm g h old new sink sink (Err (Asm fault))
-faulty g h old new sink text fault reads is short line told = (
+faulty g h old new sink text fault reads text_is short line told = (
   reads,
-  λ follows. subst (λ t. (1 ≤ fault.line) × (fault.line ≤ length (lines_of t))) (is follows) line,
-  λ follows. subst (λ t. FailsAsm t fault) (is follows) (fails text fault short told),
+  λ follows. subst (λ t. (1 ≤ fault.line) × (fault.line ≤ length (lines_of t))) (text_is follows) line,
+  λ follows. subst (λ t. FailsAsm t fault) (text_is follows) (fails text fault short told),
   refl,
 )
 
+-- `run_asm` meets its contract (`RunsAsm`)
 pub returns : goal.returns
 returns g c =
     faulty g.S.Source g.W.Sink c.args.source.now c.read_whole.new.source c.args.sink.now c.as_slice.result.now c.in-Err.fault

@@ -3,6 +3,7 @@ use Rattle.rv_streams.specs.AssemblyText.{word_line}
 use Rattle.rv_streams.proofs.WrittenLines.{lines-more, lines-stopped}
 use Rattle.rv_streams.proofs.asm.write_words.Goals as goal
 
+-- an iteration of the loop over `word` preserves the invariant
 pub loop-word-preserved : goal.loop-word-preserved
 loop-word-preserved g c = record {
   failures = search rules;
@@ -13,11 +14,13 @@ loop-word-preserved g c = record {
       c.in_ok-make_room.ensures.written c.push_word.ensures.items;
 }
 
+-- `write_words` meets clause `prefix` of its contract (`WritesPrefix`) where `?` returns the error of `make_room`
 pub returns-in_err-make_room-clause-prefix : goal.returns-in_err-make_room-clause-prefix
 returns-in_err-make_room-clause-prefix g c =
     lines-stopped word_line c.args.words.now c.loop-word.word-index _ _ _ _ c.loop-word.invariant.written
     c.make_room.ensures.prefix
 
+-- `write_words` meets clause `prefix` of its contract (`WritesPrefix`)
 pub returns-clause-prefix : goal.returns-clause-prefix
 returns-clause-prefix g c =
     lines-stopped word_line c.args.words.now c.loop-word.word-index _ _ _ _ c.loop-word.invariant.written

@@ -7,6 +7,7 @@ use Rattle.rv_streams.specs.Transfer.{WritesPrefix}
 use Rattle.rv_streams.proofs.WrittenLines.{lines-more, lines-stopped, lines-all}
 use Rattle.rv_streams.proofs.dis.write_disassembly.Goals as goal
 
+-- an iteration of the loop over `bytes` preserves the invariant
 pub loop-bytes-preserved : goal.loop-bytes-preserved
 loop-bytes-preserved g c = record {
   failures = search rules;
@@ -18,18 +19,21 @@ loop-bytes-preserved g c = record {
       (c.push_disassembly.ensures.items ∙ ap (λ word. c.make_room.new.gathered.items ++ dis_line word) c.le_word.ensures.value);
 }
 
+-- `write_disassembly` meets clause `prefix` of its contract (`WritesPrefix`) where `?` returns the error of `make_room`
 pub returns-in_err-make_room-clause-prefix : goal.returns-in_err-make_room-clause-prefix
 returns-in_err-make_room-clause-prefix g c =
     subst (WritesPrefix _ _) (sym (flat_map-map dis_line word_of_bytes c.args.words.now))
     (lines-stopped (λ bytes. dis_line (word_of_bytes bytes)) c.args.words.now c.loop-bytes.bytes-index _ _ _ _ c.loop-bytes.invariant.written
     c.make_room.ensures.prefix)
 
+-- `write_disassembly` meets clause `prefix` of its contract (`WritesPrefix`)
 pub returns-clause-prefix : goal.returns-clause-prefix
 returns-clause-prefix g c =
     subst (WritesPrefix _ _) (sym (flat_map-map dis_line word_of_bytes c.args.words.now))
     (lines-stopped (λ bytes. dis_line (word_of_bytes bytes)) c.args.words.now c.loop-bytes.bytes-index _ _ _ _ c.loop-bytes.invariant.written
     c.write_last.ensures.prefix)
 
+-- `write_disassembly` meets clause `written` of its contract
 pub returns-clause-written : goal.returns-clause-written
 returns-clause-written g c =
     on_ok_weaker c.write_last.result

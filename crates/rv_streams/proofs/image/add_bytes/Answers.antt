@@ -69,20 +69,23 @@ bytes_of_digits-decoded word =
           rw (even) (sym (decode_pairs-is 0 word even))
     ]
 
+-- `add_bytes` meets clause `outcome` of its contract (`AddsBytes`) where the test `is_err` holds
 pub returns-then-is_err-clause-outcome : goal.returns-then-is_err-clause-outcome
 returns-then-is_err-clause-outcome c = (rw (bytes_of_digits-decoded c.args.word.now) (search rules), refl)
 
+-- `add_bytes` meets clause `outcome` of its contract (`AddsBytes`) where the test `len-count > IMAGE_MAX` holds
 pub returns-then-len-count-gt-IMAGE_MAX-clause-outcome : goal.returns-then-len-count-gt-IMAGE_MAX-clause-outcome
 returns-then-len-count-gt-IMAGE_MAX-clause-outcome c = (rw (bytes_of_digits-decoded c.args.word.now) (search rules), refl)
 
+-- `add_bytes` meets clause `outcome` of its contract (`AddsBytes`)
 pub returns-clause-outcome : goal.returns-clause-outcome
 returns-clause-outcome c = by_result c.add_behind.result refl where
   by_result : (r : Outcome) → c.add_behind.result ≡ r → AddsBytes c.args.word.now c.args.image.now.items c.add_behind.new.bytes.items r
-  by_result (Ok done) is =
-      let items = rw is at c.add_behind.ensures.items in rw (bytes_of_digits-decoded c.args.word.now) (grind (arith, common_steps))
-  by_result (Err fault) is =
-      let items = rw is at c.add_behind.ensures.items in
-      let full = rw is at c.add_behind.ensures.full in
-      let memory : fault ≡ NoMemory = rw is at c.add_behind.ensures.fault in
+  by_result (Ok done) result_is =
+      let items = rw result_is at c.add_behind.ensures.items in rw (bytes_of_digits-decoded c.args.word.now) (grind (arith, common_steps))
+  by_result (Err fault) result_is =
+      let items = rw result_is at c.add_behind.ensures.items in
+      let full = rw result_is at c.add_behind.ensures.full in
+      let memory : fault ≡ NoMemory = rw result_is at c.add_behind.ensures.fault in
       subst (λ f. AddsBytes c.args.word.now c.args.image.now.items c.add_behind.new.bytes.items (Err f)) (sym memory)
       (rw (bytes_of_digits-decoded c.args.word.now) (grind (arith, common_steps)), items)

@@ -26,18 +26,20 @@ taken g c other follows =
       few = omega arith;
     }
 
+-- `read_image` meets clause `outcome` of its contract (`ReadsImage`) where `?` returns the error of `line`
 pub returns-in_err-line-clause-outcome : goal.returns-in_err-line-clause-outcome
 returns-in_err-line-clause-outcome g c =
-    let is : c.from_residual.result ≡ Err Read = search rules in
+    let fault_is : c.from_residual.result ≡ Err Read = search rules in
     let failed = err_mapped _ c.next_line.result c.map_err.result _ c.map_err.ensures.cases c.in_err-line.was in
     let going = IfErr-at_err _ failed.1 c.next_line.ensures.read.err in
-    rw is (record {
+    rw fault_is (record {
       source = search rules;
       going = going.1;
       reads = λ follows. EncodesImage-read _ _ _ _ _ (EncodesImage-going _ _ _ _ (c.loop-image.invariant.image (c.next_line.ensures.read.end.before follows)) going.0) (omega arith)
           (IfErr-at_err _ failed.1 (c.next_line.ensures.read.kept follows));
     })
 
+-- `read_image` meets clause `outcome` of its contract (`ReadsImage`) in the default arm of `only_word`
 pub returns-in_default-only_word-clause-outcome : goal.returns-in_default-only_word-clause-outcome
 returns-in_default-only_word-clause-outcome g c =
     let at = taken g (goal.at.returns-in_default-only_word-clause-outcome g c).After-as_slice (no_separator _ c.in_default-only_word.ensures) in
@@ -49,9 +51,11 @@ returns-in_default-only_word-clause-outcome g c =
     } in
     finds
 
+-- the call of `add_bytes` meets clause `word` of its `requires`
 pub add_bytes-requires-clause-word : goal.add_bytes-requires-clause-word
 add_bytes-requires-clause-word g c = length-line_word _ _ (sym c.in-Some-only_word.ensures)
 
+-- an iteration of the loop over `image` preserves the invariant
 pub loop-image-preserved : goal.loop-image-preserved
 loop-image-preserved g c = record {
   short = search rules;
@@ -63,6 +67,7 @@ loop-image-preserved g c = record {
       c.in-Some-only_word.ensures c.in_ok-add_bytes.ensures.outcome;
 }
 
+-- `read_image` meets clause `outcome` of its contract (`ReadsImage`) where `?` returns the error of `add_bytes`
 pub returns-in_err-add_bytes-clause-outcome : goal.returns-in_err-add_bytes-clause-outcome
 returns-in_err-add_bytes-clause-outcome g c =
     passed_on (ReadsImage c.args.lines.now c.next_line.new.self) c.from_residual-in_err-add_bytes.result _ c.from_residual-in_err-add_bytes.ensures.1
@@ -71,6 +76,7 @@ returns-in_err-add_bytes-clause-outcome g c =
     (other_word _ _ c.in-Some-only_word.ensures (sym c.is_dashes.ensures ∙ c.if-is_dashes.false)))
     c.in-Some-only_word.ensures c.in_err-add_bytes.ensures.outcome)
 
+-- `read_image` meets clause `outcome` of its contract (`ReadsImage`) where the test `is_dashes` holds
 pub returns-then-is_dashes-clause-outcome : goal.returns-then-is_dashes-clause-outcome
 returns-then-is_dashes-clause-outcome g c =
     let found = ok_mapped _ c.next_line.result c.map_err.result _ c.map_err.ensures.cases c.in_ok-line.was ∙ ap Ok c.in-Some.is in
@@ -84,6 +90,7 @@ returns-then-is_dashes-clause-outcome g c =
     }))
     c.loop-image.invariant.short (λ follows. c.loop-image.invariant.image (c.next_line.ensures.read.end.before follows))
 
+-- `read_image` meets clause `outcome` of its contract (`ReadsImage`)
 pub returns-clause-outcome : goal.returns-clause-outcome
 returns-clause-outcome g c =
     let found = ok_mapped _ c.next_line.result c.map_err.result _ c.map_err.ensures.cases c.in_ok-line.was ∙ ap Ok c.in_default.is in

@@ -12,5 +12,6 @@ invariant-loop-image g l = record {
   image : g.S.Source.follows_input l.lines.source → EncodesImage (unread l.initial.lines) (unread l.lines) l.lines.is_at_end l.image.items;
 }
 
+-- the number of calls that the source can still answer decreases
 abbrev pub decreases-loop-image : goal.decreases-loop-image
 decreases-loop-image g l = calls_left l.lines

@@ -1,4 +1,5 @@
 use Rattle.std.proofs.Common.{◌≡◌, ◌+◌, ◌≤◌, ◌++◌, false, length}
+use Rattle.rv_text.specs.GoodLines.{kept_bytes}
 use Rattle.rv_text.specs.Lines.{has_feed}
 use Rattle.rv_streams.specs.LineText.{ReadsLineText}
 use Rattle.rv_streams.proofs.line.read_text.Given as goal
@@ -11,10 +12,11 @@ invariant-loop-count g l = record {
   before : g.S.Source.follows_input l.source → g.S.Source.follows_input l.initial.source;
   failures : g.S.Source.failures l.source ≡ g.S.Source.failures l.initial.source;
   ends : g.S.Source.ends l.source ≡ g.S.Source.ends l.initial.source;
-  short : length l.line.items ≤ 122;
+  short : length l.line.items ≤ kept_bytes;
   unfinished : has_feed l.line.items ≡ false;
   falls : g.S.Source.calls_left l.source + length l.line.items ≤ g.S.Source.calls_left l.initial.source + length l.initial.line.items;
 }
 
+-- the number of calls that the source can still answer decreases
 abbrev pub decreases-loop-count : goal.decreases-loop-count
 decreases-loop-count g l = g.S.Source.calls_left l.source

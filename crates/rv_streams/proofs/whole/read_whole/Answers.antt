@@ -24,6 +24,7 @@ refused Z g old new text part added NoMemory same source going split adds = reco
 }
 refused Z g old new text part added _ same source going split adds = absurd adds
 
+-- `read_whole` meets its contract (`ReadsText`) where `?` returns the error of `add_part`
 pub returns-in_err-add_part : goal.returns-in_err-add_part
 returns-in_err-add_part g c =
     let found = ok_mapped _ c.read_some.result c.map_err.result _ c.map_err.ensures.cases c.in_ok-count.was in

@@ -12,5 +12,6 @@ invariant-loop-text g l = record {
   prefix : g.S.Source.follows_input l.source → g.S.Source.remaining l.initial.source ≡ l.text.items ++ g.S.Source.remaining l.source;
 }
 
+-- the number of calls that the source can still answer decreases
 abbrev pub decreases-loop-text : goal.decreases-loop-text
 decreases-loop-text g l = g.S.Source.calls_left l.source

@@ -5,11 +5,13 @@ use Rattle.std.proofs.lemmas.Bool.Decides.{nat_tests}
 use Rattle.rv_text.proofs.LineCuts.{lines-cut, lines-whole}
 use Rattle.rv_text.proofs.lines.split_line.Goals as goal
 
+-- `split_line` meets clause `lines` of its contract where the test `end-text` holds
 pub returns-then-end-text-clause-lines : goal.returns-then-end-text-clause-lines
 returns-then-end-text-clause-lines c =
     let some : 0 < length c.args.text.now = grind (arith, nat_tests) in
     lines-whole c.args.text.now some (sym c.position_of-end.ensures.value ∙ c.if-end-text.true)
 
+-- `split_line` meets clause `lines` of its contract
 pub returns-clause-lines : goal.returns-clause-lines
 returns-clause-lines c =
     let text = c.args.text.now in

@@ -4,6 +4,7 @@ use Rattle.std.proofs.lemmas.Int.Digits.{digits_value_more}
 use Rattle.rv_text.proofs.DigitValues.{number_step-lt, number-lt, all_digits_more}
 use Rattle.rv_text.proofs.number.digits.Goals as goal
 
+-- the sum that gives `value` does not overflow
 pub overflow_add-value : goal.overflow_add-value
 overflow_add-value c =
     let kept = c.loop-byte.invariant in
@@ -12,6 +13,7 @@ overflow_add-value c =
     c.requires.fits (omega arith) (omega arith) kept.digits kept.value (omega (arith, c.in_ok-digit.ensures.value)) in
     omega (arith, fits)
 
+-- the product that gives `value` does not overflow
 pub overflow_mul-value : goal.overflow_mul-value
 overflow_mul-value c =
     let kept = c.loop-byte.invariant in
@@ -20,6 +22,7 @@ overflow_mul-value c =
     c.requires.fits (omega arith) (omega arith) kept.digits kept.value (omega (arith, c.in_ok-digit.ensures.value)) in
     omega (arith, fits)
 
+-- an iteration of the loop over `byte` preserves the invariant
 pub loop-byte-preserved : goal.loop-byte-preserved
 loop-byte-preserved c =
     let byte : c.from.result ≡ get_or c.args.text.now c.loop-byte.byte-index 0 = search arith in
@@ -30,6 +33,7 @@ loop-byte-preserved c =
       value = grind (arith, common_steps, digits_value_more);
     }
 
+-- `digits` meets clause `below` of its contract
 pub returns-clause-below : goal.returns-clause-below
 returns-clause-below c =
     let kept = c.loop-byte.invariant in

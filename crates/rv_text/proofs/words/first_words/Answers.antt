@@ -4,6 +4,7 @@ use Rattle.std.proofs.lemmas.Bool.Decides.{nat_tests}
 use Rattle.rv_text.proofs.WordCuts.{words-full}
 use Rattle.rv_text.proofs.words.first_words.Goals as goal
 
+-- `first_words` meets its contract after the loop over `rest`
 pub returns-after-loop-rest : goal.returns-after-loop-rest
 returns-after-loop-rest c =
     let len : length (map (λ word. word.now) c.loop-rest.words.items) ≡ 6 =

@@ -9,5 +9,6 @@ invariant-loop-rest l = record {
   few : length l.words.items ≤ 6;
 }
 
+-- the number of words up to six decreases
 abbrev pub decreases-loop-rest : goal.decreases-loop-rest
 decreases-loop-rest l = 6 - length l.words.items

@@ -6,5 +6,6 @@ use Rattle.rv_text.proofs.words.next_word.Given as goal
 abbrev pub invariant-loop-rest : goal.invariant-loop-rest
 invariant-loop-rest l = record { all : words_of l.text ≡ words_of l.rest }
 
+-- the rest of the text gets shorter
 abbrev pub decreases-loop-rest : goal.decreases-loop-rest
 decreases-loop-rest l = length l.rest

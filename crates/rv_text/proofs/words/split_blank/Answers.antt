@@ -6,11 +6,13 @@ use Rattle.rv_text.specs.Words.{words_of}
 use Rattle.rv_text.proofs.WordCuts.{words-whole, words-cut}
 use Rattle.rv_text.proofs.words.split_blank.Goals as goal
 
+-- `split_blank` meets clause `words` of its contract where the test `end-text` holds
 pub returns-then-end-text-clause-words : goal.returns-then-end-text-clause-words
 unfolding words_of
 returns-then-end-text-clause-words c =
     words-whole c.args.text.now (sym c.blank_position-end.ensures.value ∙ c.if-end-text.true) ∙ sym (append-nil _)
 
+-- `split_blank` meets clause `words` of its contract
 pub returns-clause-words : goal.returns-clause-words
 returns-clause-words c =
     let text = c.args.text.now in

@@ -8,15 +8,16 @@ use Rattle.rv_word.specs.BitFields.{sign_extended}
 use Rattle.rv_word.proofs.BitFieldLemmas.{sign_extended_by_shifts, signed-sign_extended}
 use Rattle.rv_word.proofs.bit_field.sext.Goals as goal
 
+-- `sext` meets its contract
 pub returns : goal.returns
 returns c =
     let fits : FitsSigned w32 c.cast_signed.result = search rules in
     let shifted : FitsSigned w32 (shr_z c.cast_signed.result (2 ^ (32 - c.args.width))) =
     record { sfits = omega (arith, mag_shr c.cast_signed.result (2 ^ (32 - c.args.width)), fits) } in
-    let is : c.cast_unsigned.result ≡ cast_unsigned w32 (shr_z c.cast_signed.result (2 ^ (32 - c.args.width))) =
+    let word_is : c.cast_unsigned.result ≡ cast_unsigned w32 (shr_z c.cast_signed.result (2 ^ (32 - c.args.width))) =
     simp to_z-of_z at c.cast_unsigned.ensures in
     let extended : c.cast_unsigned.result ≡ sign_extended c.args.value c.args.width =
-    is
+    word_is
     ∙ ap (λ z. cast_unsigned w32 (shr_z z (2 ^ (32 - c.args.width)))) c.cast_signed.ensures
     ∙ sign_extended_by_shifts c.args.value c.args.width c.requires.positive c.requires.within in
     record {

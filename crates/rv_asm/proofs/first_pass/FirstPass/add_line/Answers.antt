@@ -7,6 +7,7 @@ use Rattle.rv_asm.specs.Program.{line_size}
 use Rattle.rv_asm.proofs.LabelLemmas.{reads_more, own_fault-none, label_fault-none}
 use Rattle.rv_asm.proofs.first_pass.FirstPass.add_line.Goals as goal
 
+-- `FirstPass::add_line` meets clause `ok` of its contract
 pub returns-clause-ok : goal.returns-clause-ok
 returns-clause-ok c = λ before has.
     let line = c.in-Ok.line in
@@ -16,6 +17,7 @@ returns-clause-ok c = λ before has.
     rw (said, c.optional_size.ensures.value)
     (reads_more c.args.self.now c.add_label.new.self before line has added small, own_fault-none before line c.args.self.now.words has.words small)
 
+-- `FirstPass::add_line` meets clause `fault` of its contract where the test `is_err` holds
 pub returns-then-is_err-clause-fault : goal.returns-then-is_err-clause-fault
 returns-then-is_err-clause-fault c = λ before has.
     let line = c.in-Ok.line in

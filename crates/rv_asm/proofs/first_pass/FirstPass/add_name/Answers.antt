@@ -5,6 +5,7 @@ use Rattle.rv_asm.specs.LabelMap.{places_of}
 use Rattle.rv_asm.proofs.LabelLemmas.{adds_new}
 use Rattle.rv_asm.proofs.first_pass.FirstPass.add_name.Goals as goal
 
+-- `FirstPass::add_name` meets clause `ok` of its contract in the arm `Ok`
 pub returns-in-Ok-clause-ok : goal.returns-in-Ok-clause-ok
 returns-in-Ok-clause-ok c =
     let pass = c.args.self.now in
@@ -19,5 +20,6 @@ returns-in-Ok-clause-ok c =
       repeated = rw absent refl;
     }
 
+-- `FirstPass::add_name` meets clause `err` of its contract in the arm `Err`
 pub returns-in-Err-clause-err : goal.returns-in-Err-clause-err
 returns-in-Err-clause-err c = rw c.bytes.ensures at (sym c.contains_key.ensures ∙ c.if-contains_key.false)

@@ -1,5 +1,6 @@
 use Rattle.rv_bench.proofs.PairLemmas.{pair_line-prefix}
 use Rattle.rv_bench.proofs.pair.Pair.respond_to_line.Goals as goal
 
+-- `Pair::respond_to_line` meets clause `prefix` of its contract
 pub returns-clause-prefix : goal.returns-clause-prefix
 returns-clause-prefix c = λ other same. pair_line-prefix _ _ other _ same

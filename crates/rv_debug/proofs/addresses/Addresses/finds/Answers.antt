@@ -2,5 +2,6 @@ use Rattle.std.proofs.Common.{◌∙◌}
 use Rattle.rv_debug.proofs.AddressLemmas.{found-is}
 use Rattle.rv_debug.proofs.addresses.Addresses.finds.Goals as goal
 
+-- `Addresses::finds` meets its contract
 pub returns : goal.returns
 returns c = c.is_ok.ensures.value ∙ found-is _ _ _ (rw (c.as_slice.ensures.value, c.self.view_is) at c.place_of.ensures)

@@ -3,21 +3,25 @@ use Rattle.rv_debug.proofs.Prelude.{HasPlace}
 use Rattle.rv_debug.proofs.AddressLemmas.{find-here, find-near, find-far}
 use Rattle.rv_debug.proofs.addresses.Addresses.lowest_from.Goals as goal
 
+-- `Addresses::lowest_from` meets its contract in the arm `Ok`
 pub returns-in-Ok : goal.returns-in-Ok
 returns-in-Ok c =
     let found = rw c.as_slice.ensures.value at c.in-Ok.ensures in
     rw (← c.self.view_is) (find-here _ _ _ _ c.self.invariant c.requires found.0 found.1)
 
+-- `Addresses::lowest_from` meets its contract where the test `place ≤ n` holds
 pub returns-then-place-len : goal.returns-then-place-len
 returns-then-place-len c =
     rw (← c.self.view_is) (find-far _ _ _ _ c.self.invariant (rw c.as_slice.ensures.value at c.in-Err.ensures) (λ inside. absurd (omega arith)))
 
+-- `Addresses::lowest_from` meets its contract where the test `found-address` holds
 pub returns-then-found-address : goal.returns-then-found-address
 returns-then-found-address c =
     let same = ap (λ xs. get_or xs c.in-Err.place 0) c.as_slice-2.ensures.value in
     let far : c.args.address + c.args.count ≤ get_or c.self.inside.sorted.items c.in-Err.place 0 = omega (arith, same) in
     rw (← c.self.view_is) (find-far _ _ _ _ c.self.invariant (rw c.as_slice.ensures.value at c.in-Err.ensures) (λ _. far))
 
+-- `Addresses::lowest_from` meets its contract
 pub returns : goal.returns
 returns c =
     let place : HasPlace c.self.inside.sorted.items c.args.address c.in-Err.place = rw c.as_slice.ensures.value at c.in-Err.ensures in

@@ -1,5 +1,6 @@
 use Rattle.rv_debug.proofs.AddressLemmas.{find-no_span}
 use Rattle.rv_debug.proofs.addresses.Addresses.lowest_in.Goals as goal
 
+-- `Addresses::lowest_in` meets its contract in the arm `None`
 pub returns-in-None : goal.returns-in-None
 returns-in-None c = rw c.in-None.is (find-no_span c.args.self.now)

@@ -3,6 +3,7 @@ use Rattle.rv_debug.proofs.Prelude.{BenchState, can_scramble}
 use Rattle.rv_debug.proofs.NotRunning.{scramble_rests}
 use Rattle.rv_debug.proofs.bench.Bench.scramble.Goals as goal
 
+-- `Bench::scramble` meets clause `not_running` of its contract
 pub returns-clause-not_running : goal.returns-clause-not_running
 returns-clause-not_running c done =
     let can = subst (λ (bench : BenchState). can_scramble c.args.slot bench ≡ true) c.self.view_is (sym c.scramble.ensures.asked ∙ done) in

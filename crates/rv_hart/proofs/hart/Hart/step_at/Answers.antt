@@ -8,6 +8,7 @@ use Rattle.rv_hart.proofs.Interrupted.{takes_pending}
 use Rattle.rv_hart.proofs.StepLaws.{after_step, trap_keeps, keeps_mprv_clear, keeps_machine_parts, changes_stored, touches_permitted}
 use Rattle.rv_hart.proofs.hart.Hart.step_at.Goals as goal
 
+-- `Hart::step_at` meets clause `laws` of its contract (`ObeysHartLaws`)
 pub returns-clause-laws : goal.returns-clause-laws
 returns-clause-laws g c = record {
   x0 = c.invariant.ensures.x0;

@@ -4,6 +4,7 @@ use Rattle.rv_memory.proofs.Complements.{complements, length-complements, inside
 use Rattle.rv_memory.proofs.MemoryLaws.{changes_only}
 use Rattle.rv_memory.proofs.ram.Ram.complement.Goals as goal
 
+-- `Ram::complement` meets clause `only` of its contract (`ChangesOnly`)
 pub returns-clause-only : goal.returns-clause-only
 returns-clause-only c =
     let index = c.args.base - ram_base in

@@ -2,6 +2,7 @@ use Rattle.std.proofs.Common.{◌<◌, ℕ, sym, subst}
 use Rattle.rv_monitor.proofs.Prelude.{MonitoredMachine, count_of}
 use Rattle.rv_monitor.proofs.monitored_machine.MonitoredMachine.invariant.Goals as goal
 
+-- `MonitoredMachine::invariant` meets clause `first` of its contract
 pub returns-clause-first : goal.returns-clause-first
 returns-clause-first c =
-    subst (λ (machine : MonitoredMachine). 0 < count_of machine) c.self.view_is (subst (λ (n : ℕ). 0 < n) (sym c.counts.ensures) c.self.invariant.2)
+    subst (λ (machine : MonitoredMachine). 0 < count_of machine) c.self.view_is (subst (λ (n : ℕ). 0 < n) (sym c.counts.ensures) c.self.invariant.1)

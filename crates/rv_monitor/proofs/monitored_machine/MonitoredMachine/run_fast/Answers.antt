@@ -1,24 +1,18 @@
 use Rattle.std.proofs.Common.{◌≡◌, subst}
 use Rattle.rv_monitor.proofs.Prelude.{MonitoredMachine, count_of, machine_of_parts}
-use Rattle.rv_monitor.proofs.FastSteps.{steps_count, steps_kept}
+use Rattle.rv_monitor.proofs.FastSteps.{steps_count}
 use Rattle.rv_monitor.proofs.monitored_machine.MonitoredMachine.run_fast.Goals as goal
 
+-- `self` has the invariant of its type when `MonitoredMachine::run_fast` returns
 pub invariant_of-self : goal.invariant_of-self
 invariant_of-self c =
-    let inside = c.self.inside in
-    let held_in = c.self.invariant in
-    let is = c.run_fast_in.ensures in
-    let new = c.run_fast_in.new in (
-      steps_kept c.args.hart c.args.limits.now c.run_fast_in.result (machine_of_parts inside.by_hart inside.harts inside.shared)
-          (machine_of_parts new.by_hart inside.harts new.shared) is.steps held_in.0,
-      is.legal,
-      held_in.2,
-      held_in.3,
-    )
+    let held_in = c.self.invariant in (c.run_fast_in.ensures.kept, held_in.1, held_in.2)
 
+-- `MonitoredMachine::run_fast` meets clause `invariant` of its contract (`FullInvariant`)
 pub returns-clause-invariant : goal.returns-clause-invariant
 returns-clause-invariant c = (invariant_of-self c).0
 
+-- `MonitoredMachine::run_fast` meets clause `harts` of its contract
 pub returns-clause-harts : goal.returns-clause-harts
 returns-clause-harts c =
     let inside = c.self.inside in

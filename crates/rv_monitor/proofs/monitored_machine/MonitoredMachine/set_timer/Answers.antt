@@ -2,12 +2,14 @@ use Rattle.rv_monitor.proofs.Prelude.{hart_state_of, timer_line_set}
 use Rattle.rv_monitor.proofs.Held.{put_at, written_holds}
 use Rattle.rv_monitor.proofs.monitored_machine.MonitoredMachine.set_timer.Goals as goal
 
+-- `MonitoredMachine::set_timer` meets clause `meaning` of its contract
 pub returns-clause-meaning : goal.returns-clause-meaning
 returns-clause-meaning c =
     let inside = c.self.inside in
     put_at inside.by_hart c.set_timer_in.new.by_hart inside.harts c.args.hart inside.shared (timer_line_set c.args.raised)
     c.args.self.now c.self.view_is c.requires c.set_timer_in.ensures
 
+-- `self` has the invariant of its type when `MonitoredMachine::set_timer` returns
 pub invariant_of-self : goal.invariant_of-self
 invariant_of-self c =
     let inside = c.self.inside in
@@ -15,5 +17,6 @@ invariant_of-self c =
     written_holds inside.by_hart c.set_timer_in.new.by_hart inside.harts c.args.hart inside.shared
     (hart_state_of c.args.hart machine).hart.regs c.args.raised machine c.self.view_is c.requires c.self.invariant (returns-clause-meaning c)
 
+-- `MonitoredMachine::set_timer` meets clause `invariant` of its contract (`FullInvariant`)
 pub returns-clause-invariant : goal.returns-clause-invariant
 returns-clause-invariant c = (invariant_of-self c).0

@@ -2,6 +2,7 @@ use Rattle.std.proofs.Common.{arith, length-set, ◌∙◌}
 use Rattle.rv_pmp.proofs.BoundsLemmas.{ranges_more}
 use Rattle.rv_pmp.proofs.entry_ranges.EntryRanges.of.Goals as goal
 
+-- an iteration of the loop over `number` preserves the invariant
 pub loop-number-preserved : goal.loop-number-preserved
 loop-number-preserved c =
     let loop = c.loop-number in

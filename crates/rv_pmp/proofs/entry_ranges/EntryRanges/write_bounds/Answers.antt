@@ -3,6 +3,7 @@ use Rattle.rv_pmp.proofs.BoundsLemmas.{none_more, both_more, all_written}
 use Rattle.rv_pmp.proofs.entry_ranges.EntryRanges.write_bounds.Goals as goal
 use Rattle.rv_pmp.proofs.entry_ranges.EntryRanges.write_bounds.Goals.{then-from-to, else-from-to}
 
+-- an iteration of the loop over `number` preserves the invariant
 pub loop-number-preserved : goal.loop-number-preserved
 loop-number-preserved c =
     let loop = c.loop-number in
@@ -11,6 +12,7 @@ loop-number-preserved c =
       | else-from-to w ↦ rw (w.bounds-is, w.count-is) (none_more c.args.self.now loop.bounds loop.count loop.number loop.invariant w.if-from-to.false)
     ]
 
+-- `EntryRanges::write_bounds` meets clause `all` of its contract (`AreBounds`)
 pub returns-clause-all : goal.returns-clause-all
 returns-clause-all c =
     let loop = c.loop-number in

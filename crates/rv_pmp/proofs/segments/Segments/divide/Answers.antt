@@ -46,7 +46,7 @@ loop-k-preserved c =
           })
     ]
 
--- all bounds are reached
+-- after the last bound, the segments reach the end of the addresses
 pub returns-clause-whole : goal.returns-clause-whole
 returns-clause-whole c =
     let bounds = c.sort_unstable.new.self in

@@ -13,11 +13,11 @@ returns-then-eq c =
     let covering = is_within a.ranges.now in
     let found = c.index-self-count.result in
     let last = a.self.now.count - 1 in
-    let is = get_or_default a.self.now.byte_matches last None found (omega (arith, c.if-count-gt0.true)) in
+    let match_is = get_or_default a.self.now.byte_matches last None found (omega (arith, c.if-count-gt0.true)) in
     let same = option_same (slice_index_or a.self.now.byte_matches last found) c.byte_match-byte_match.result (sym c.eq.ensures ∙ c.if-eq.true) in
     let new =
     goes_on covering a.self.now a.start a.end (byte_match covering a.start) r.order r.matched r.start r.some r.alike
-    c.if-count-gt0.true (omega arith) (is ∙ same ∙ c.byte_match-byte_match.ensures) in
+    c.if-count-gt0.true (omega arith) (match_is ∙ same ∙ c.byte_match-byte_match.ensures) in
     record { room = omega arith; reach = new.reach; order = new.order; matched = new.matched }
 
 -- a segment is added

@@ -3,6 +3,7 @@ use Rattle.std.proofs.lemmas.List.Sorted.{IsPartitionPoint-from_clause, IsPartit
 use Rattle.rv_pmp.proofs.SegmentLemmas.{used_rise, at_segment}
 use Rattle.rv_pmp.proofs.segments.Segments.segment.Goals as goal
 
+-- `Segments::segment` meets its contract
 pub returns : goal.returns
 returns c =
     let s = c.args.self.now in
@@ -10,5 +11,5 @@ returns c =
     let fits : s.count ≤ length s.ends = omega (arith, c.requires.order.at_most) in
     let parted = IsPartitionedBy-leb (λ end. end) _ byte (used_rise s c.requires.order fits) in
     let point = IsPartitionPoint-from_clause (λ end. leb end byte) _ _ c.partition_point.ensures.partitioned parted (λ a r q k. search rules) in
-    let is = at_segment s byte c.partition_point.result fits c.requires.inside c.partition_point.ensures.bound point in
-    record { used = is.used; in_range = omega (arith, is.used, c.requires.order.at_most); from = is.from; to = is.to }
+    let segment_is = at_segment s byte c.partition_point.result fits c.requires.inside c.partition_point.ensures.bound point in
+    record { used = segment_is.used; in_range = omega (arith, segment_is.used, c.requires.order.at_most); from = segment_is.from; to = segment_is.to }

@@ -2,5 +2,6 @@ use Rattle.std.proofs.Common.{◌∙◌}
 use Rattle.rv_script.proofs.Keywords.{keyword_of-rows}
 use Rattle.rv_script.proofs.keyword.Keyword.find.Goals as goal
 
+-- `Keyword::find` meets its contract
 pub returns : goal.returns
 returns c = c.matching.ensures ∙ keyword_of-rows c.args.word.now

@@ -6,8 +6,9 @@ use Rattle.rv_script.proofs.schedule.Schedule.new.Goals as goal
 
 -- a word copied to the start of zeros is followed by the other zeros
 copied : (most : ℕ) (word prefix : List ℕ) → prefix ≡ word → prefix ++ drop (length word) (replicate most 0) ≡ word ++ replicate (most - length word) 0
-copied most word prefix is = ap₂ (λ (a b : List ℕ). a ++ b) is (drop-replicate (length word) most 0)
+copied most word prefix prefix_is = ap₂ (λ (a b : List ℕ). a ++ b) prefix_is (drop-replicate (length word) most 0)
 
+-- `Schedule::new` meets its contract
 pub returns : goal.returns
 unfolding schedule_of
 returns c =

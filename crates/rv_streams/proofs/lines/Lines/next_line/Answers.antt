@@ -6,6 +6,7 @@ use Rattle.rv_streams.proofs.lines.Lines.next_line.Goals as goal
 is_some : (n : ℕ) (empty : Bool) → empty ≡ (n == 0) → empty ≡ false → 0 < n
 is_some n empty e h = grind arith
 
+-- `Lines::next_line` meets clause `read` of its contract (`ReadsLine`) in the arm `LineFeed`
 pub returns-in-LineFeed-clause-read : goal.returns-in-LineFeed-clause-read
 returns-in-LineFeed-clause-read g c = record {
   line = λ follows. rw c.take_prefix.ensures.rest (
@@ -21,6 +22,7 @@ returns-in-LineFeed-clause-read g c = record {
   falls = search rules;
 }
 
+-- `Lines::next_line` meets clause `read` of its contract (`ReadsLine`) where the test `is_empty` fails
 pub returns-else-is_empty-clause-read : goal.returns-else-is_empty-clause-read
 returns-else-is_empty-clause-read g c = record {
   line = λ follows.
@@ -39,6 +41,7 @@ returns-else-is_empty-clause-read g c = record {
   falls = search rules;
 }
 
+-- `Lines::next_line` meets clause `read` of its contract (`ReadsLine`) where the test `is_empty` holds
 pub returns-then-is_empty-clause-read : goal.returns-then-is_empty-clause-read
 returns-then-is_empty-clause-read g c = record {
   line = search rules;

@@ -1,5 +1,6 @@
 use Rattle.rv_streams.specs.CallLog.{after_flush}
 use Rattle.rv_streams.proofs.log.CallLog.flushed.Given as goal
 
+-- the log with one more flush
 abbrev pub ghost-chosen : goal.ghost-chosen
 ghost-chosen a = after_flush a.about.now

@@ -1,4 +1,5 @@
 use Rattle.rv_streams.proofs.stdio.ReaderSource.new.Given as goal
 
+-- the input that the source is assumed to have
 abbrev pub ghost-with_input : goal.ghost-with_input
 ghost-with_input g a = g.input

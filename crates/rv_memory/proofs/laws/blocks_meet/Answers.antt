@@ -1,0 +1,6 @@
+use Rattle.rv_memory.proofs.BlockLaws.{meets_law}
+use Rattle.rv_memory.proofs.laws.blocks_meet.Goals as goal
+
+-- proves the law (`MeetsLaw`) that is the contract of `blocks_meet`
+pub returns : goal.returns
+returns c = meets_law

@@ -1,0 +1,21 @@
+-- Blocks of addresses, given by a first address and a number of bytes, and the block that the monitor reserves for itself. (Keystone, EuroSys
+-- 2020, in this project's profile. No public standard defines the range.)
+use Rattle.std.specs.Prelude.{ℕ, ◌+◌, Bool, ◌&&◌, nat_le, nat_lt}
+use Rattle.rv_memory.specs.declared.block.Block.{Block}
+
+-- the block without bytes
+abbrev pub no_block : Block
+no_block = record { base = 0; size = 0 }
+
+-- the range that the monitor reserves for itself
+abbrev pub monitor_block : Block
+monitor_block = record { base = 0x80000000; size = 0x10000 }
+
+-- whether a byte address is in a block
+abbrev pub has : Block → ℕ → Bool
+has block byte = nat_le block.base byte && nat_lt byte (block.base + block.size)
+
+-- whether two blocks share a byte
+abbrev pub meets : Block → Block → Bool
+meets a b =
+    nat_lt 0 a.size && (nat_lt 0 b.size && (nat_lt a.base (b.base + b.size) && nat_lt b.base (a.base + a.size)))
