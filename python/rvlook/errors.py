@@ -4,6 +4,7 @@ from __future__ import annotations
 import os
 import sys
 from contextlib import contextmanager
+from functools import partial
 from typing import Iterator, List
 
 from rvlook.escapes import visible
@@ -73,19 +74,9 @@ def print_line(severity: str, line: str) -> None:
         print_plain(text)
 
 
-def error(line: str) -> None:
-    """Reports that an argument or an input was refused, or that the work failed."""
-    print_line("error", line)
-
-
-def warn(line: str) -> None:
-    """Reports a finding, or that the result is incomplete."""
-    print_line("warning", line)
-
-
-def note(line: str) -> None:
-    """Reports a choice that rvlook made."""
-    print_line("note", line)
+error = partial(print_line, "error")  # reports that an argument or an input was refused, or that the work failed
+warn = partial(print_line, "warning")  # reports a finding, or that the result is incomplete
+note = partial(print_line, "note")  # reports a choice that rvlook made
 
 
 def package_missing(module: str, package: str, what: str) -> str:

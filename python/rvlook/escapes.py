@@ -22,9 +22,14 @@ def visible_line(line: str) -> str:
     return visible(line.replace("\t", " "))
 
 
-def name_of(data: bytes) -> str:
-    """Returns the name that these bytes of a file are: UTF-8 if they are that, else ISO 8859-1; made visible."""
+def text_of(data: bytes) -> str:
+    """Returns the text that these bytes of a file are: UTF-8 if they are that, else ISO 8859-1."""
     try:
-        return visible(data.decode("utf-8"))
+        return data.decode("utf-8")
     except UnicodeDecodeError:
-        return visible(data.decode("latin-1"))
+        return data.decode("latin-1")
+
+
+def name_of(data: bytes) -> str:
+    """Returns the name that these bytes of a file are, made visible."""
+    return visible(text_of(data))

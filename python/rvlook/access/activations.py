@@ -5,19 +5,15 @@ from array import array
 from collections import Counter
 from dataclasses import dataclass, field
 from functools import lru_cache
-from typing import Generator, Iterable, Iterator, NamedTuple, Optional, Sequence, TYPE_CHECKING
+from typing import Generator, Iterable, Iterator, NamedTuple, Optional, Sequence
 
 from rvlook.protocol import names
 from rvlook.protocol.instructions import MemoryOperand, instruction_of
 from rvlook.protocol.memory_map import RAM_BASE
-from rvlook.protocol.reader import Reader
+from rvlook.protocol.reader import Need, Reader, Reads
 from rvlook.protocol.replies import NO_TRAP, Enclave, enclave_of, register_values
-from rvlook.protocol.run import End
+from rvlook.protocol.run import End, Run
 from rvlook.protocol.stretch import Stretch
-
-if TYPE_CHECKING:
-    from rvlook.protocol.reader import Need, Reads
-    from rvlook.protocol.run import Run
 
 DIVISIONS = ("div", "divu", "rem", "remu")
 MODES = {b"U": 0, b"S": 1, b"M": 3}
@@ -70,18 +66,18 @@ class Activation:
 
 def access_of(line: bytes) -> Need[MemoryOperand] | None:
     """Returns the access of the instruction in a reply of `dis`, with the registers of its address and its stored value; None if it has none."""
-    it = instruction_of(line)
-    memory = it.memory if it else None
+    instruction = instruction_of(line)
+    memory = instruction.memory if instruction else None
     return (memory, (memory.base, memory.register) if memory.kind == "w" else (memory.base,), False) if memory else None
 
 
 def operands_of(line: bytes) -> Need[MemoryOperand] | None:
     """Returns the same as `access_of`, or the two operands of a division, as an access of the kind `d`."""
-    it = instruction_of(line)
-    if it is None or it.name not in DIVISIONS:
+    instruction = instruction_of(line)
+    if instruction is None or instruction.name not in DIVISIONS:
         return access_of(line)
-    _, one, two = it.operands
-    return MemoryOperand("d", 0, one, 0, two), (one, two), False
+    _, one, two = instruction.operands
+    return MemoryOperand("d", width=0, base=one, offset=0, register=two), (one, two), False
 
 
 @lru_cache(maxsize=65536)
@@ -154,7 +150,7 @@ class Activations:
         _, activation.after = self.seen(activation.world, step, activation.enclave)
         activation.last, activation.pc, activation.ended_by = step, pc, ended_by or ""
         if ended_by is None:
-            before, after = (["hart %d" % it] if self.run.setup.harts > 1 else [] for it in (activation.hart, self.viewer.hart))
+            before, after = map(self.run.setup.choice, (activation.hart, self.viewer.hart))
             values = register_values(self.viewer.bench.ask(*before, "regs", *after)[len(before)])
             activation.ended_by, activation.answer = ENDED_BY.get(values[10], "?"), (values[10], values[11])
         return activation
@@ -169,7 +165,8 @@ class Activations:
 
     def whole(self, world: str) -> Enclave | None:
         """Returns all of RAM in place of the region of an enclave, for a bare run; None for an enclave that is not live."""
-        return Enclave(0, "Running", RAM_BASE, self.run.setup.ram, 0, 0, RAM_BASE, "") if world == BARE else None
+        ram = self.run.setup.ram
+        return Enclave(0, "Running", RAM_BASE, ram, window=0, window_size=0, entry=RAM_BASE, measurement="") if world == BARE else None
 
 
 def extend(activation: Activation, part: Stretch, reads: Reads[MemoryOperand]) -> None:
@@ -178,8 +175,8 @@ def extend(activation: Activation, part: Stretch, reads: Reads[MemoryOperand]) -
     activation.pcs.extend(map(pc_and_mode, columns.pcs, columns.modes))
     activation.steps.extend(range(part.first, part.first + part.count))
     activation.traps.update((begin_at + n, it) for n, it in enumerate(columns.traps) if it != NO_TRAP)
-    for n, it in operations_of(part, reads):
-        activation.operations.append(it)
+    for n, operation in operations_of(part, reads):
+        activation.operations.append(operation)
         activation.operations_at.append(begin_at + n)
 
 
@@ -190,7 +187,7 @@ def operations_of(part: Stretch, reads: Reads[MemoryOperand]) -> Iterator[tuple[
         trap, pc = traps[n], number_of(pcs[n])
         if kind == "d":
             if trap == NO_TRAP:
-                yield n, Operation(first + n, pc, kind, 0, 0, (values[at], values[at + 1]), True)
+                yield n, Operation(first + n, pc, kind, address=0, width=0, values=(values[at], values[at + 1]), done=True)
         elif trap == NO_TRAP or trap[:8].decode() in names.ACCESS_FAULTS:
             stored = values[at + 1].to_bytes(4, "little")[:width] if kind == "w" else b""
             yield n, Operation(first + n, pc, kind, values[at] + offset & 0xFFFFFFFF, width, stored, trap == NO_TRAP)

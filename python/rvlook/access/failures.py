@@ -1,4 +1,5 @@
-"""The failures of a run: each trap that is neither a call nor an interrupt, and each call that the monitor refuses.
+"""The failures of a run: each trap that is neither a call nor an interrupt, and each call that the monitor refuses. Also the failures that an author
+expects (--expect), and the report of all failures.
 
 A long run is not examined step by step. mcycle counts every step and minstret only retired instructions, so their difference counts traps. One
 bench does parts of the run at full speed, and reads both counters after each part. A second bench does the parts with traps in single steps. A
@@ -9,20 +10,20 @@ import itertools
 import re
 from bisect import bisect_right
 from dataclasses import dataclass, replace
-from typing import Iterable, Iterator, NamedTuple, Sequence, TYPE_CHECKING
+from typing import Iterable, Iterator, NamedTuple, Sequence
 
-from rvlook.image.lacking import PAGE, extension_of
-from rvlook.output.printer import Json, place_text
+from rvlook.errors import UsageError, note, warn
+from rvlook.image.detect import PAGE, extension_of
+from rvlook.output.findings import ReportedCases
+from rvlook.output.printer import Json, Printer, place_text
 from rvlook.protocol import names
-from rvlook.protocol.replies import Location, register_values, step_of
-from rvlook.protocol.run import Steps
+from rvlook.protocol.bench import Bench
+from rvlook.protocol.nearest import nearest
+from rvlook.protocol.replies import Location, Ran, register_values, step_of
+from rvlook.protocol.run import Run
 from rvlook.protocol.schedule import turns_of
-
-if TYPE_CHECKING:
-    from rvlook.protocol.bench import Bench
-    from rvlook.protocol.replies import Ran
-    from rvlook.protocol.run import Run
-    from rvlook.protocol.symbols import Symbols
+from rvlook.protocol.symbols import Symbols
+from rvlook.protocol.timeline import Line, steps_within
 
 PART = 1 << 16  # steps between two looks at the counters
 PARTS = 16  # parts in one exchange
@@ -33,6 +34,9 @@ ILLEGAL = "00000002"
 ECALLS = ("00000008", "00000009", "0000000b")
 A0, READ, REGISTERS = 10, (10, 16, 17), 32  # the status of a call; that, its number and its key; all registers
 MASK = 0xFFFFFFFF
+MOST_SHOWN = 20  # failures that are printed; each of them counts
+CAUSES = [name for cause, name in names.CAUSES.items() if cause[0] == "0" and not name.startswith("ecall")]
+KNOWN = {it.lower(): it for it in (*names.STATUSES.values(), *CAUSES, *names.MARKS.values())}
 
 
 class Turn(NamedTuple):
@@ -74,9 +78,9 @@ def failures_of(run: Run, schedule: str, steps: int) -> list[Failure]:
     found: dict[tuple[object, ...], Failure] = {}
     with run.setup.bench() as leader, run.setup.bench() as follower, run.setup.bench() as reader:
         scan = Scan(run, Lagging(leader), Lagging(follower), Lagging(reader))
-        for it in itertools.islice(scan.failures(parts_of(turns(run, schedule, steps))), MOST):
-            old = found.get(it.key)
-            found[it.key] = it if old is None else replace(old, count=old.count + 1)
+        for failure in itertools.islice(scan.failures(parts_of(turns(run, schedule, steps))), MOST):
+            old = found.get(failure.key)
+            found[failure.key] = failure if old is None else replace(old, count=old.count + 1)
     return sorted(found.values(), key=lambda it: it.step)
 
 
@@ -84,28 +88,17 @@ def turns(run: Run, schedule: str, left: int) -> Iterator[Turn]:
     """Yields the first `left` steps of a run: those of the script, and then those of the schedule or of the selected hart."""
     pending: list[str] = []
     for item in run.plan:
-        if isinstance(item, Steps):
-            count = min(item.count, left)
-            yield Turn(tuple(pending), hart_of(pending, run), count)
-            pending, left = pending_hart(pending), left - count
-        elif item.changes_state:
-            pending.append(item.text)
+        if isinstance(item, Line):
+            pending += [item.text] if item.changes_state else []
+            continue
+        for hart, count in steps_within(item, 0, left).by_hart():
+            yield Turn((*pending, *run.setup.choice(hart)), hart, count)
+            pending, left = [], left - count
     tail = turns_of(schedule) if schedule else iter(lambda: (run.hart, PART), None)
     while left > 0:
         hart, count = next(tail)
-        yield Turn((*pending, *(["hart %d" % hart] if run.setup.harts > 1 else ())), hart, min(count, left))
+        yield Turn((*pending, *run.setup.choice(hart)), hart, min(count, left))
         pending, left = [], left - count
-
-
-def hart_of(commands: Sequence[str], run: Run) -> int:
-    """Returns the hart that is selected after these commands, which begin with the last selection."""
-    chosen = [int(it.split()[1]) for it in commands if it.split()[0] == "hart"]
-    return chosen[-1] if chosen and run.setup.harts > 1 else 0
-
-
-def pending_hart(commands: Sequence[str]) -> list[str]:
-    """Returns the last command that selects a hart, if there is one."""
-    return [it for it in commands if it.split()[0] == "hart"][-1:]
 
 
 def parts_of(every: Iterable[Turn]) -> Iterator[list[Turn]]:
@@ -141,9 +134,8 @@ class Lagging:
 
     def block(self, text: bytes, count: int) -> bytes:
         """Does what was skipped, and then commands whose replies have `count` lines; returns these replies."""
-        if self.skipped:
-            skipped, self.skipped = "".join(it + "\n" for it in self.skipped).encode(), []
-            self.bench.block(skipped, skipped.count(b"\n"))
+        skipped, self.skipped = self.skipped, []
+        self.bench.replies_to(skipped)
         return self.bench.block(text, count) if count else b""
 
 
@@ -204,8 +196,8 @@ class Scan:
         trapped = list(trapped_in(part, self.follower.block(text, text.count(b"\n")), position, starts))
         calls = [it for it in trapped if it.ran.trap and it.ran.trap.cause == names.ECALL_FROM_S and it.ran.world == it.at.world != "bare"]
         refused = dict(zip(calls, self.refused(part, position, calls)))
-        for it in trapped:
-            found = refused[it] if it in refused else trap_of(it)
+        for trap in trapped:
+            found = refused[trap] if trap in refused else trap_of(trap)
             if found:
                 yield found
 
@@ -261,11 +253,11 @@ def location_of(line: bytes) -> Location:
     return Location(ran.pc, ran.mode, ran.world)
 
 
-def trap_of(it: Trapped) -> Failure | None:
+def trap_of(trapped: Trapped) -> Failure | None:
     """Returns the failure of a step that trapped, or None for a call or an interrupt."""
-    assert it.ran.trap is not None
-    cause, value = it.ran.trap.cause, it.ran.trap.value
-    return None if cause in ECALLS or cause.startswith("8") else Failure(names.trap_name(cause, value), it.step, it.hart, it.at, value)
+    assert trapped.ran.trap is not None
+    cause, value = trapped.ran.trap.cause, trapped.ran.trap.value
+    return None if cause in ECALLS or cause.startswith("8") else Failure(names.trap_name(cause, value), trapped.step, trapped.hart, trapped.at, value)
 
 
 def refused_call(step: int, hart: int, at: Location, registers: Sequence[int]) -> Failure | None:
@@ -276,19 +268,82 @@ def refused_call(step: int, hart: int, at: Location, registers: Sequence[int]) -
     return Failure(names.STATUSES[registers[A0]], step, hart, at, call=call.name if call else "ecall")
 
 
-def failure_text(it: Failure, symbols: Symbols) -> str:
+def failure_text(failure: Failure, symbols: Symbols) -> str:
     """Returns a failure as a line: what failed, where, and how often."""
-    times = ", %d times" % it.count if it.count > 1 else ""
-    where = (it.at.mode, it.at.world, it.step, place_text(it.at.pc, symbols) + times)
-    if it.call:
-        return "%s refused with %s in %s of %s at step %d, %s" % (it.call, it.name, *where)
-    extension = extension_of(int(it.value, 16)) if it.name == names.cause_name(ILLEGAL) else None
-    value = "%s, %s, see %s" % (it.value, extension, PAGE) if extension else it.value
-    return "%s (value %s) in %s of %s at step %d, %s" % (it.name, value, *where)
+    times = ", %d times" % failure.count if failure.count > 1 else ""
+    where = (failure.at.mode, failure.at.world, failure.step, place_text(failure.at.pc, symbols) + times)
+    if failure.call:
+        return "%s refused with %s in %s of %s at step %d, %s" % (failure.call, failure.name, *where)
+    extension = extension_of(int(failure.value, 16)) if failure.name == names.cause_name(ILLEGAL) else None
+    value = "%s, %s, see %s" % (failure.value, extension, PAGE) if extension else failure.value
+    return "%s (value %s) in %s of %s at step %d, %s" % (failure.name, value, *where)
 
 
-def failure_object(it: Failure, symbols: Symbols) -> dict[str, Json]:
+def failure_object(failure: Failure, symbols: Symbols) -> dict[str, Json]:
     """Returns a failure as the members of an object."""
-    pc = int(it.at.pc, 16)
-    return {"name": it.name, "call": it.call or None, "value": it.value or None, "step": it.step, "hart": it.hart, "pc": it.at.pc, "mode": it.at.mode,
-            "world": it.at.world, "symbol": symbols.name(pc), "source": symbols.source(pc), "count": it.count}
+    pc = int(failure.at.pc, 16)
+    return {"name": failure.name, "call": failure.call or None, "value": failure.value or None, "step": failure.step, "hart": failure.hart,
+            "pc": failure.at.pc, "mode": failure.at.mode, "world": failure.at.world, "symbol": symbols.name(pc), "source": symbols.source(pc),
+            "count": failure.count}
+
+
+@dataclass(frozen=True)
+class Expectation:
+    """A failure that an author expects. `name` is that of a cause or of a status, and `place` the function or the address of the instruction. Each
+    may be empty, which is any."""
+    text: str
+    name: str
+    place: str = ""
+
+    def has(self, failure: Failure, symbols: Symbols) -> bool:
+        """Returns whether a failure is expected."""
+        pc = int(failure.at.pc, 16)
+        return self.name in ("", failure.name) and (not self.place or self.place == symbols.function(pc) or symbols.address(self.place) == pc)
+
+
+def expectation_of(text: str, symbols: Symbols) -> Expectation:
+    """Parses the value of --expect: a cause or a status, @PLACE, or both. Raises UsageError."""
+    name, _, place = text.partition("@")
+    known = KNOWN.get(" ".join(name.replace("-", " ").lower().split()), "")
+    if not known and (name or not place):
+        near = nearest(name, KNOWN)
+        meant = ", such as '%s'" % KNOWN[near] if near else ""
+        raise UsageError("invalid --expect '%s' (expected @PLACE or the name of a trap or a status%s)" % (text, meant))
+    if place and symbols.address(place) is None:
+        raise UsageError("'%s' is neither a hexadecimal address nor a symbol" % place)
+    return Expectation(text, known, place)
+
+
+class FailureReport:
+    """The report of the failures of a run. Failures that nobody expects are findings."""
+
+    def __init__(self, expected: Sequence[Expectation], symbols: Symbols, printer: Printer, findings: ReportedCases) -> None:
+        self.expected, self.symbols, self.printer, self.findings = expected, symbols, printer, findings
+
+    def show(self, failures: Sequence[Failure]) -> None:
+        """Prints the failures: those that are expected as notes, the others as warnings."""
+        self.printer.stream.flush()
+        for number, failure in enumerate(failures):
+            is_expected = any(other.has(failure, self.symbols) for other in self.expected)
+            text = failure_text(failure, self.symbols)
+            if not is_expected:
+                self.findings.add(text, text)
+            if self.printer.as_json:
+                self.printer.object("failure", **failure_object(failure, self.symbols), expected=is_expected)
+            elif number < MOST_SHOWN and is_expected:
+                note("expected: " + text)
+            elif number < MOST_SHOWN:
+                warn(text)
+        if len(failures) > MOST_SHOWN and not self.printer.as_json:
+            warn("%d more traps and refused calls are not shown; use --json" % (len(failures) - MOST_SHOWN))
+        if sum(it.count for it in failures) >= MOST:
+            self.findings.add("all failures", "the search for traps and refused calls ended after %d of them" % MOST)
+            warn("the search for traps and refused calls ended after %d of them" % MOST)
+
+    def show_missing(self, failures: Sequence[Failure]) -> None:
+        """Reports each expected failure that did not occur as a finding."""
+        for other in self.expected:
+            if not any(other.has(it, self.symbols) for it in failures):
+                text = "--expect '%s': it did not occur" % other.text
+                self.findings.add(text, text)
+                warn("--expect '%s': it did not occur" % other.text)

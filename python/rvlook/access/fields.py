@@ -1,20 +1,18 @@
 """Names of the fields of a window, from the structures to which the parameters of functions point."""
 from __future__ import annotations
 
-from typing import Sequence, TYPE_CHECKING
+from typing import Sequence
 
+from rvlook.access.activations import Activation
+from rvlook.image.variables import Member, Parameter
 from rvlook.protocol.replies import value_of
-
-if TYPE_CHECKING:
-    from rvlook.access.activations import Activation
-    from rvlook.image.variables import Member, Parameter
-    from rvlook.protocol.run import Run
-    from rvlook.protocol.symbols import Symbols
+from rvlook.protocol.run import Run
+from rvlook.protocol.symbols import Symbols
 
 A0 = 10
 
 
-class Fields:
+class WindowFields:
     """Names of the fields of the window. `rows` has the address and the member of each."""
 
     def __init__(self, symbols: Symbols) -> None:
@@ -37,9 +35,10 @@ class Fields:
 
     def known(self, address: int) -> str | None:
         """Returns the name of the field at an address, or None."""
-        for at, it in self.rows:
-            if at <= address < at + it.size:
-                return it.name + (index_text((address - at) // it.element) if it.element else offset_text(address - at))
+        for at, parameter in self.rows:
+            if at <= address < at + parameter.size:
+                offset = "+%x" % (address - at) if address > at else ""
+                return parameter.name + (index_text((address - at) // parameter.element) if parameter.element else offset)
         for at, it in self.rows:
             if not it.size and at <= address:
                 return it.name + index_text((address - at) // it.element)
@@ -51,15 +50,10 @@ def index_text(index: int) -> str:
     return "[%d]" % index
 
 
-def offset_text(offset: int) -> str:
-    """Returns an offset; empty for 0."""
-    return "+%x" % offset if offset else ""
-
-
 class FieldReader:
     """Adds the fields that the calls of each activation of a run show."""
 
-    def __init__(self, run: Run, parameters: Sequence[Parameter], fields: Fields) -> None:
+    def __init__(self, run: Run, parameters: Sequence[Parameter], fields: WindowFields) -> None:
         self.run, self.parameters, self.fields = run, parameters, fields
         self.known: set[int] = set()  # functions
 
@@ -74,8 +68,7 @@ class FieldReader:
             self.known.add(function)
             with self.run.replay() as replay:
                 replay.go(step - 1)
-                choose = ["hart %d" % activation.hart] if self.run.setup.harts > 1 else ["reg 0"]
                 for it in (it for it in self.parameters if it.function == function):
-                    value = value_of(replay.bench.ask(*choose, "reg %d" % (A0 + it.number))[-1][0])
-                    if activation.enclave.window <= value < activation.enclave.window + activation.enclave.window_size:
+                    value = value_of(replay.bench.ask(*self.run.setup.choice(activation.hart), "reg %d" % (A0 + it.number))[-1][0])
+                    if activation.enclave.shares(value):
                         self.fields.add(value, it.members)

@@ -6,22 +6,16 @@ from __future__ import annotations
 import re
 from bisect import bisect_right
 from dataclasses import dataclass
-from typing import Iterator, Optional, Sequence, TYPE_CHECKING
+from typing import Iterator, Optional, Sequence
 
-from rvlook.protocol import names
 from rvlook.access.failures import Failure, refused_call
-from rvlook.access.ranges import Range, derived_rights, meaning, table_boundaries, verdicts_of
-from rvlook.protocol.reader import Reader
-from rvlook.protocol.replies import Location, enclave_of, register_values, step_of
-from rvlook.protocol.run import End
+from rvlook.access.ranges import Range, Verdicts, derived_rights, meaning, table_boundaries, verdicts_of
+from rvlook.protocol import names
+from rvlook.protocol.reader import Need, Reader
+from rvlook.protocol.replies import Enclave, Location, Ran, enclave_of, register_values, step_of
+from rvlook.protocol.run import End, Run
 from rvlook.protocol.stretch import Stretch
-
-if TYPE_CHECKING:
-    from rvlook.protocol.reader import Need
-    from rvlook.protocol.replies import Enclave, Ran
-    from rvlook.protocol.run import Replay, Run
-    from rvlook.protocol.timeline import Timeline
-    from rvlook.access.ranges import Verdicts
+from rvlook.protocol.timeline import Timeline
 
 CALLED = re.compile(rb"trap=(?:00000009|80000007):")
 ENTRY_WRITTEN = re.compile(rb" csrr\w+ x\d+, 0x3[ab][0-9a-f],")  # pmpcfg0 to pmpaddr15, by the text of dis
@@ -90,18 +84,12 @@ def events(run: Run) -> Iterator[Event | End]:
 def events_and_refusals(run: Run) -> Iterator[Event | Failure | End]:
     """Yields the same as `events`, and each call that the monitor refuses."""
     finder = EventFinder(run)
-    end = None
     with run.replay() as replay:
         yield finder.at_reset(replay)
         for item in (changed_steps(run) if run.setup.monitor else changed_entries(run)):
-            if isinstance(item, End):
-                end = item
-            else:
-                event = finder.at_step(replay, *item)
-                if event:
-                    yield event
-    assert end is not None
-    yield end
+            found = item if isinstance(item, End) else finder.at_step(replay, *item)
+            if found:
+                yield found
 
 
 def changed_steps(run: Run) -> Iterator[tuple[int, int] | End]:
@@ -144,14 +132,14 @@ class EventFinder:
     def __init__(self, run: Run) -> None:
         self.run, self.setup = run, run.setup
         self.verdicts: dict[tuple[str, ...], list[Verdicts]] = {}
-        self.state = RightsState((), (), ())  # nothing is known yet
+        self.state = RightsState(entries=(), worlds=(), enclaves=())  # nothing is known yet
 
-    def at_reset(self, replay: Replay) -> Event:
+    def at_reset(self, replay: Timeline) -> Event:
         """Returns the event at reset."""
         self.state = self.state_of(replay, [self.run.world] * self.setup.harts)
         return self.event(0, 0, Cause("reset"), Location(self.run.pc, self.run.mode, self.run.world))
 
-    def at_step(self, replay: Replay, step: int, hart: int) -> Event | Failure | None:
+    def at_step(self, replay: Timeline, step: int, hart: int) -> Event | Failure | None:
         """Returns the event after a step, or a refused call; None if nothing has changed."""
         bench = replay.bench
         before = bench.ask(*replay.lines_to(step - 1), *replay.lines_up_to_next(), "regs")[-1]
@@ -167,18 +155,16 @@ class EventFinder:
         cause = cause_of(ran, old, hart, register_values(before), register_values(after), text)
         return self.event(step, hart, cause, Location(pc, ran.mode, ran.world))
 
-    def state_of(self, replay: Replay | Timeline, worlds: Sequence[str]) -> RightsState:
+    def state_of(self, replay: Timeline, worlds: Sequence[str]) -> RightsState:
         """Reads the PMP entries of each hart and the table of enclaves. Queries the access rights only for entries that are new."""
         bench, entries = replay.bench, []
         for hart in range(self.setup.harts):
-            bench.ask(*(["hart %d" % hart] if self.setup.harts > 1 else ["reg 0"]))
-            lines = tuple(bench.ask("pmp")[0])
+            lines = tuple(bench.ask(*self.setup.choice(hart), "pmp")[-1])
             if lines not in self.verdicts:
                 self.verdicts[lines] = verdicts_of(bench, lines, self.setup.modes, self.setup.ram)
             entries.append(lines)
-        if self.setup.harts > 1:
-            bench.ask("hart %d" % replay.hart)
-        return RightsState(tuple(entries), tuple(worlds), tuple(enclave_of(line) for line in bench.ask("enclaves")[0]))
+        table = bench.ask(*self.setup.choice(replay.hart), "enclaves")[-1]
+        return RightsState(tuple(entries), tuple(worlds), tuple(map(enclave_of, table)))
 
     def event(self, step: int, hart: int, cause: Cause, location: Location) -> Event:
         """Returns the event after step `step`, in the present state. `location` is the pc before the step, and mode and world after it."""

@@ -2,21 +2,16 @@
 from __future__ import annotations
 
 from bisect import bisect_right
-from typing import Iterable, Iterator, Sequence, TYPE_CHECKING
+from typing import Iterable, Iterator, Sequence
 
-from rvlook.protocol import names
 from rvlook.access.failures import Failure, failure_object
-from rvlook.access.map import events_and_refusals
+from rvlook.access.map import Column, Event, Row, events_and_refusals
 from rvlook.access.ranges import NOTHING, Range
-from rvlook.protocol.run import End
-from rvlook.output.printer import Style, enclave_object, end_object, end_text, hex8, place_text, run_object
-
-if TYPE_CHECKING:
-    from rvlook.access.map import Column, Event, Row
-    from rvlook.output.printer import Printer, ObjectWriter
-    from rvlook.protocol.replies import Enclave
-    from rvlook.protocol.run import Run
-    from rvlook.protocol.symbols import Symbols
+from rvlook.output.printer import ObjectWriter, Printer, Style, enclave_object, end_object, end_text, hex8, place_text, run_object
+from rvlook.protocol import names
+from rvlook.protocol.replies import Enclave
+from rvlook.protocol.run import End, Run
+from rvlook.protocol.symbols import Symbols
 
 CELL = 6
 
@@ -42,14 +37,14 @@ def show_map(run: Run, symbols: Symbols, printer: Printer, is_brief: bool = Fals
         printer.line("(in brackets: worlds that are not running; their rights are derived from the enclave table)")
 
 
-def show_refused(printer: Printer, it: Failure, run: Run, symbols: Symbols) -> None:
+def show_refused(printer: Printer, failure: Failure, run: Run, symbols: Symbols) -> None:
     """Writes a call that the monitor refused, as a line or as an object."""
     if printer.as_json:
-        printer.object("failure", **failure_object(it, symbols), expected=None)
+        printer.object("failure", **failure_object(failure, symbols), expected=None)
         return
-    hart = "hart %d  " % it.hart if run.setup.harts > 1 else ""
-    heading = "%sstep %d  %s refused: %s" % (hart, it.step, it.call, it.name)
-    printer.line(printer.styled(heading, Style.bad) + "  at " + place_text(it.at.pc, symbols))
+    hart = "hart %d  " % failure.hart if run.setup.harts > 1 else ""
+    heading = "%sstep %d  %s refused: %s" % (hart, failure.step, failure.call, failure.name)
+    printer.line(printer.styled(heading, Style.bad) + "  at " + place_text(failure.at.pc, symbols))
 
 
 def write_event(printer: ObjectWriter, event: Event, symbols: Symbols) -> None:
@@ -64,6 +59,11 @@ def write_event(printer: ObjectWriter, event: Event, symbols: Symbols) -> None:
 
 
 def heading_of(event: Event) -> str:
+    """Returns the hart of an event, if there are several, its step and its cause."""
+    return ("hart %d  " % event.hart if sum(not it.derived for it in event.columns) > 1 else "") + step_and_cause(event)
+
+
+def step_and_cause(event: Event) -> str:
     """Returns the step and the cause of an event."""
     if event.cause == "reset":
         return "reset"
@@ -76,9 +76,7 @@ def heading_of(event: Event) -> str:
 
 def print_event(printer: Printer, event: Event, symbols: Symbols) -> None:
     """Prints an event: its cause and place, the enclaves, and the ranges."""
-    hart = "hart %d  " % event.hart if sum(not it.derived for it in event.columns) > 1 else ""
-    heading = "%s%s" % (hart, heading_of(event))
-    printer.line(printer.styled(heading, Style.heading) + "  at " + place_text(event.pc, symbols))
+    printer.line(printer.styled(heading_of(event), Style.heading) + "  at " + place_text(event.pc, symbols))
     lines = [enclave_text(it) for it in event.enclaves]
     lines += ["    measurement " + it.measurement for it in event.enclaves if event.cause == "create" and it.slot == event.slot]
     heads = [head for column in event.columns for head in heads_of(column, event)]
@@ -91,8 +89,7 @@ def print_event(printer: Printer, event: Event, symbols: Symbols) -> None:
 
 def print_brief(printer: Printer, event: Event, before: Event | None, symbols: Symbols) -> None:
     """Prints what an event changes: the running world, the enclaves, and the ranges whose access rights change."""
-    hart = "hart %d  " % event.hart if sum(not it.derived for it in event.columns) > 1 else ""
-    parts = [printer.styled(hart + heading_of(event), Style.heading), "at " + place_text(event.pc, symbols)]
+    parts = [printer.styled(heading_of(event), Style.heading), "at " + place_text(event.pc, symbols)]
     if before and event.world != before.world:
         parts.append("switch to %s" % event.world)
     printer.line("  ".join(parts))

@@ -3,14 +3,11 @@ the enclave table gives them."""
 from __future__ import annotations
 
 from dataclasses import dataclass
-from typing import Iterable, Sequence, TYPE_CHECKING
+from typing import Iterable, Sequence
 
+from rvlook.protocol.bench import Bench
 from rvlook.protocol.memory_map import MONITOR_END, RAM_BASE
-from rvlook.protocol.replies import entry_of
-
-if TYPE_CHECKING:
-    from rvlook.protocol.bench import Bench
-    from rvlook.protocol.replies import Enclave, PmpEntry
+from rvlook.protocol.replies import Enclave, PmpEntry, entry_of
 
 KINDS = "rwx"
 TOR, NA4, NAPOT = 1, 2, 3
@@ -76,44 +73,33 @@ def verdicts_of(bench: Bench, pmp_lines: Sequence[str], modes: str, ram: int) ->
 def merged(found: Iterable[Verdicts]) -> list[Verdicts]:
     """Joins adjacent ranges that have the same replies, including the entry that decides. An access across their boundary has that reply too."""
     rows: list[Verdicts] = []
-    for it in found:
-        if rows and (rows[-1].may, rows[-1].replies) == (it.may, it.replies):
-            rows[-1] = Verdicts(Range(rows[-1].range.first, it.range.end), it.may, it.replies)
+    for part in found:
+        if rows and (rows[-1].may, rows[-1].replies) == (part.may, part.replies):
+            rows[-1] = Verdicts(Range(rows[-1].range.first, part.range.end), part.may, part.replies)
         else:
-            rows.append(it)
+            rows.append(part)
     return rows
-
-
-def region_of(enclave: Enclave) -> Range:
-    """Returns the range of an enclave's region."""
-    return Range(enclave.base, enclave.base + enclave.size)
-
-
-def window_of(enclave: Enclave) -> Range:
-    """Returns the range of an enclave's window."""
-    return Range(enclave.window, enclave.window + enclave.window_size)
 
 
 def derived_rights(world: str, enclaves: Sequence[Enclave], at: int) -> str:
     """Returns the access rights of a world that runs on no hart to a byte, by the enclave table: three letters, as `rw-`."""
     if at < MONITOR_END:
         return NOTHING
-    regions = [it.world for it in enclaves if region_of(it).first <= at < region_of(it).end]
+    regions = [it.world for it in enclaves if it.has(at)]
     if regions:
         return ALL if regions == [world] else NOTHING
     if world == "host":
         return ALL
-    windows = [it.world for it in enclaves if window_of(it).first <= at < window_of(it).end]
-    return DATA if world in windows else NOTHING
+    return DATA if any(it.world == world and it.shares(at) for it in enclaves) else NOTHING
 
 
 def table_boundaries(enclaves: Sequence[Enclave], ram: int) -> set[int]:
     """Returns the boundaries of the monitor's range, the regions and the windows."""
     cuts = {RAM_BASE, MONITOR_END, RAM_BASE + ram}
-    for it in enclaves:
-        cuts.update((it.base, it.base + it.size))
-        if it.window_size:
-            cuts.update((it.window, it.window + it.window_size))
+    for enclave in enclaves:
+        cuts.update((enclave.base, enclave.base + enclave.size))
+        if enclave.window_size:
+            cuts.update((enclave.window, enclave.window + enclave.window_size))
     return cuts
 
 
@@ -121,6 +107,6 @@ def meaning(enclaves: Sequence[Enclave], at: int) -> str:
     """Returns what a byte belongs to, by the enclave table; empty if to nothing."""
     if at < MONITOR_END:
         return "monitor"
-    found = ["region of " + it.world for it in enclaves if region_of(it).first <= at < region_of(it).end]
-    found += ["window of " + it.world for it in enclaves if window_of(it).first <= at < window_of(it).end]
+    found = ["region of " + it.world for it in enclaves if it.has(at)]
+    found += ["window of " + it.world for it in enclaves if it.shares(at)]
     return ", ".join(found)

@@ -4,22 +4,18 @@ A trap inside M, an access under MPRV or an early return would meet such a state
 from __future__ import annotations
 
 from dataclasses import dataclass
-from typing import Iterator, Optional, Sequence, TYPE_CHECKING
+from typing import Iterator, Optional, Sequence
 
 from rvlook.access.map import Event, events
 from rvlook.access.map_text import changed_rows, row_at
 from rvlook.access.ranges import Range
 from rvlook.errors import warn
-from rvlook.output.printer import end_object, end_text, hex8, place_text, run_object
+from rvlook.output.findings import ReportedCases
+from rvlook.output.printer import Printer, end_object, end_text, hex8, place_text, run_object
 from rvlook.protocol import names
-from rvlook.protocol.run import End
+from rvlook.protocol.run import End, Run
 from rvlook.protocol.stretch import Stretch
-
-if TYPE_CHECKING:
-    from rvlook.output.findings import ReportedCases
-    from rvlook.output.printer import Printer
-    from rvlook.protocol.run import Run
-    from rvlook.protocol.symbols import Symbols
+from rvlook.protocol.symbols import Symbols
 
 
 @dataclass(frozen=True)
@@ -50,11 +46,6 @@ def mode_returns(run: Run) -> Iterator[tuple[int, str, str] | End]:
             after = zip([*columns.pcs[1:], last[0]], [*columns.modes[1:], last[1]])
             yield from ((step, pc.decode(), mode.decode()) for step, (was, (pc, mode)) in enumerate(zip(columns.modes, after), item.first)
                         if was == b"M" != mode)
-
-
-def returns(run: Run) -> Iterator[Return | End]:
-    """Yields each return from M with its access rights, and then the End."""
-    yield from returns_of(run, [it for it in events(run) if isinstance(it, Event)])
 
 
 def returns_of(run: Run, changes: Sequence[Event]) -> Iterator[Return | End]:
@@ -96,13 +87,13 @@ def show_returns(run: Run, symbols: Symbols, printer: Printer, findings: Reporte
     if printer.as_json:
         run_object(printer, run, symbols)
     before = None
-    for item in returns(run):
+    for item in returns_of(run, [it for it in events(run) if isinstance(it, Event)]):
         if isinstance(item, End):
             (end_object(printer, item) if printer.as_json else end_text(printer, item, symbols))
             continue
         (write_return if printer.as_json else print_return)(printer, item, before, symbols)
-        for it in item.transients:
-            text = transient_text(it, symbols)
+        for transient in item.transients:
+            text = transient_text(transient, symbols)
             warn(text)
             findings.add("returns", text)
         before = item.event
@@ -127,8 +118,8 @@ def write_return(printer: Printer, item: Return, before: Optional[Event], symbol
                                 "last": hex8(it.range.end - 1), "may": it.may} for it in item.transients])
 
 
-def transient_text(it: Transient, symbols: Symbols) -> str:
+def transient_text(transient: Transient, symbols: Symbols) -> str:
     """Returns a transient state as a line."""
-    place = symbols.line(int(it.event.pc, 16)) or symbols.name(int(it.event.pc, 16)) or it.event.pc
+    place = symbols.line(int(transient.event.pc, 16)) or symbols.name(int(transient.event.pc, 16)) or transient.event.pc
     return "in M at step %d, %s: S may access %s %08x-%08x, and neither before the trap nor after it" % (
-        it.event.step, place, it.may, it.range.first, it.range.end - 1)
+        transient.event.step, place, transient.may, transient.range.first, transient.range.end - 1)

@@ -4,31 +4,124 @@ instruction, a store through sp, or a store through another pointer that came fr
 A stack is a pair of symbols NAME_stack_bottom and NAME_stack_top. The host uses those whose NAME ends with `host`, an enclave in mode S those
 with `runtime`, in mode U those with `application`. On the bare bench M uses those with `monitor`, if there are any; S and U are not
 checked if the image has an enclave. All of this is derived from the instruction at pc, registers before the step, and the symbols.
+
+For pointers that come from sp, each register has a coefficient: how often the stack pointer is a summand of its value. It is 1 for a pointer into
+the stack, and 0 for a number, for any other pointer, and for the difference of two pointers into the stack.
 """
 from __future__ import annotations
 
 import re
+from dataclasses import dataclass, field
+from enum import Enum
 from functools import lru_cache
-from typing import Container, NamedTuple, Sequence, TYPE_CHECKING
+from typing import Container, NamedTuple, Optional, Sequence
 
-from rvlook.access.pointers import SP, Effect, Pointers, operation_of
-from rvlook.output.printer import hex8
 from rvlook.protocol import names
-from rvlook.protocol.reader import Reader
+from rvlook.protocol.instructions import Instruction, MemoryOperand, instruction_of
+from rvlook.protocol.reader import Need, Reader, Reads
 from rvlook.protocol.replies import NO_TRAP
+from rvlook.protocol.run import Run
 from rvlook.protocol.stretch import Stretch
+from rvlook.protocol.symbols import Symbols
 
-if TYPE_CHECKING:
-    from rvlook.access.pointers import PointerOperation
-    from rvlook.protocol.reader import Need, Reads
-    from rvlook.protocol.run import Run
-    from rvlook.protocol.symbols import Symbols
-
+SP, A0, A1 = 2, 10, 11
+WORD = 4  # bytes of a pointer
+REGISTERS = 32
 NAME = re.compile(r"(.*(host|runtime|application|monitor))_stack_bottom\Z")
 KINDS = {"host": ("host",), "runtime": ("runtime", "application"), "application": ("runtime", "application")}  # the stacks of a world, by one of them
 POINTED = {"host": ("host",), "runtime": ("runtime", "application"), "application": ("application",)}  # the stacks that a store may reach
 MASK = 0xFFFFFFFF
 TIMER, CALL = names.TIMER.encode(), names.ECALL_FROM_S.encode()
+
+
+class Effect(Enum):
+    """The effect of an instruction on pointers."""
+    ADD = "add"
+    SUBTRACT = "subtract"
+    COPY = "copy"  # a pointer moves by a constant, or is aligned
+    NUMBER = "number"  # the result is no pointer into the stack
+    BUILD = "build"  # the upper part of a constant
+    LOAD = "load"
+    STORE = "store"
+
+
+SUMS = {"add": Effect.ADD, "or": Effect.ADD, "sub": Effect.SUBTRACT}
+
+
+class PointerOperation(NamedTuple):
+    """An instruction that writes a register or accesses memory: the register that it writes, and its operands."""
+    kind: Effect
+    writes: int = 0
+    sources: tuple[int, int] = (0, 0)
+    memory: Optional[MemoryOperand] = None
+
+    @property
+    def register(self) -> int | None:
+        """Returns the register that must be read: the base of an access, or sp after a write of it; None if none is needed."""
+        if self.memory:
+            return self.memory.base
+        return SP if self.writes == SP else None
+
+
+def operation_of(line: bytes) -> PointerOperation | None:
+    """Decodes a reply of `dis`; returns None for an instruction that neither writes a register nor accesses memory."""
+    instruction = instruction_of(line)
+    if instruction is None:
+        return None
+    if instruction.memory:
+        kind = Effect.LOAD if instruction.memory.kind == "r" else Effect.STORE
+        return PointerOperation(kind, instruction.writes, (instruction.memory.base, instruction.memory.register), instruction.memory)
+    return computation_of(instruction) if instruction.writes else None
+
+
+def computation_of(instruction: Instruction) -> PointerOperation:
+    """Decodes an instruction that writes a register and accesses no memory."""
+    if instruction.name in SUMS:
+        return PointerOperation(SUMS[instruction.name], instruction.writes, (instruction.operands[1], instruction.operands[2]))
+    if instruction.name in ("addi", "ori") or instruction.name == "andi" and instruction.operands[2] < 0:
+        return PointerOperation(Effect.COPY, instruction.writes, (instruction.operands[1], 0))
+    return PointerOperation(Effect.BUILD if instruction.name in ("lui", "auipc") else Effect.NUMBER, instruction.writes)
+
+
+@dataclass
+class Pointers:
+    """The coefficients of the registers of a world, and those of the words that it stored, by address."""
+    registers: list[int] = field(default_factory=lambda: [0, 0, 1, *[0] * (REGISTERS - 3)])
+    words: dict[int, int] = field(default_factory=dict)
+
+    def is_pointer(self, register: int) -> bool:
+        """Returns whether a register has a pointer into the stack."""
+        return self.registers[register] == 1
+
+    def has_source(self, operation: PointerOperation) -> bool:
+        """Returns whether an operand of a computation is a pointer into the stack."""
+        return operation.kind in (Effect.ADD, Effect.SUBTRACT, Effect.COPY) and any(self.is_pointer(register) for register in operation.sources)
+
+    def execute(self, operation: PointerOperation, address: int) -> None:
+        """Takes the effect of an instruction; `address` is that of its access."""
+        registers, (one, two) = self.registers, operation.sources
+        result = 0
+        if operation.kind is Effect.STORE:
+            self.store(address, registers[two] if operation.memory and operation.memory.width == WORD else 0)
+        elif operation.kind is Effect.LOAD:
+            result = self.words.get(address, 0) if operation.memory and operation.memory.width == WORD else 0
+        elif operation.kind is Effect.COPY:
+            result = registers[one]
+        elif operation.kind in (Effect.ADD, Effect.SUBTRACT):
+            result = registers[one] + (registers[two] if operation.kind is Effect.ADD else -registers[two])
+        if operation.writes:
+            registers[operation.writes] = int(operation.kind is not Effect.BUILD) if operation.writes == SP else result
+
+    def store(self, address: int, coefficient: int) -> None:
+        """Takes the store of a word with a coefficient."""
+        if coefficient:
+            self.words[address] = coefficient
+        else:
+            self.words.pop(address, None)
+
+    def answer(self) -> None:
+        """Takes the answer of the monitor to a call, which is in a0 and a1."""
+        self.registers[A0] = self.registers[A1] = 0
 
 
 class Stack(NamedTuple):
@@ -48,15 +141,6 @@ class Overflow(NamedTuple):
     is_store: bool
     address: int
     stack: Stack
-
-
-class StepPlace(NamedTuple):
-    """A step: its number, its hart, and the pc, the mode and the world before it."""
-    step: int
-    hart: int
-    pc: str
-    mode: str
-    world: str
 
 
 def stacks_of(symbols: Symbols) -> dict[str, list[Stack]]:
@@ -95,22 +179,22 @@ class OverflowFinder:
         columns, world = stretch.columns, b""
         values = dict(zip(reads.indices, map(reads.values.__getitem__, reads.starts)))
         operations = {line: operation_of(line) for line in set(reads.lines)}
-        steps = zip(columns.pcs, columns.modes, columns.worlds, columns.traps, columns.after, reads.lines)
-        for at, (pc, mode, now, trap, after, line) in enumerate(steps):
+        steps = zip(columns.pcs, columns.worlds, columns.traps, columns.after, reads.lines)
+        for at, (pc, now, trap, after, line) in enumerate(steps):
             if now != world:
                 world = now
                 pointers = self.enter(stretch.hart, world.decode(), int(pc, 16))
-            it = operations[line]
-            if trap != NO_TRAP and (trap.startswith(TIMER) if it else after != world):
+            operation = operations[line]
+            if trap != NO_TRAP and (trap.startswith(TIMER) if operation else after != world):
                 self.left_at[world.decode()] = int(pc, 16)
-            if it and not trap.startswith(TIMER):
+            if operation and not trap.startswith(TIMER):
                 value = values.get(at, 0)
-                address = (value + it.memory.offset) & MASK if it.memory else value
-                if it.kind is Effect.STORE or it.writes == SP:
-                    self.check(StepPlace(stretch.first + at, stretch.hart, pc.decode(), mode.decode(), world.decode()), it, pointers, address)
+                address = (value + operation.memory.offset) & MASK if operation.memory else value
+                if operation.kind is Effect.STORE or operation.writes == SP:
+                    self.check(stretch, at, operation, pointers, address)
                 if trap == NO_TRAP:
-                    pointers.execute(it, address)
-            elif not it and trap.startswith(CALL):
+                    pointers.execute(operation, address)
+            elif not operation and trap.startswith(CALL):
                 pointers.answer()
 
     def enter(self, hart: int, world: str, pc: int) -> Pointers:
@@ -121,22 +205,25 @@ class OverflowFinder:
             self.pointers[key] = Pointers()
         return self.pointers[key]
 
-    def check(self, place: StepPlace, it: PointerOperation, pointers: Pointers, address: int) -> None:
-        """Checks the use of a stack by a step."""
-        kind = kind_of(place.world, place.mode, self.stacks)
+    def check(self, stretch: Stretch, at: int, operation: PointerOperation, pointers: Pointers, address: int) -> None:
+        """Checks the use of a stack by the step of a stretch with an index."""
+        columns = stretch.columns
+        world = columns.worlds[at].decode()
+        kind = kind_of(world, columns.modes[at].decode(), self.stacks)
         if kind is None or kind in self.found or kind not in self.stacks:
             return
-        if it.kind is Effect.STORE and it.memory:
-            wanted: Sequence[str] = (kind,) if it.memory.base == SP else POINTED.get(kind, ()) if pointers.is_pointer(it.memory.base) else ()
-        elif it.writes == SP and it.kind not in (Effect.BUILD, Effect.LOAD) and address:  # 0 is no stack: a handler exchanges sp with sscratch
-            wanted = (kind,) if pointers.has_source(it) else self.stacks_of_world(kind)
-        else:
-            return
+        wanted: Sequence[str] = ()
+        if operation.kind is Effect.STORE and operation.memory:
+            base = operation.memory.base
+            wanted = (kind,) if base == SP else POINTED.get(kind, ()) if pointers.is_pointer(base) else ()
+        elif operation.writes == SP and operation.kind not in (Effect.BUILD, Effect.LOAD) and address:
+            # 0 is no stack: a handler exchanges sp with sscratch
+            wanted = (kind,) if pointers.has_source(operation) else self.stacks_of_world(kind)
         stacks = [stack for name in wanted for stack in self.stacks.get(name, ())]
-        is_store = it.kind is Effect.STORE
+        is_store = operation.kind is Effect.STORE
         if stacks and not any(stack.bottom <= address and address - (not is_store) < stack.top for stack in stacks):
             own = min(self.stacks[kind], key=lambda stack: min(abs(stack.bottom - address), abs(stack.top - address)))
-            self.found[kind] = Overflow(place.step, place.hart, place.world, int(place.pc, 16), is_store, address, own)
+            self.found[kind] = Overflow(stretch.first + at, stretch.hart, world, int(columns.pcs[at], 16), is_store, address, own)
 
     def stacks_of_world(self, kind: str) -> Sequence[str]:
         """Returns the kinds of stacks to which a world may switch; none if the symbols do not define each of them."""
@@ -148,8 +235,8 @@ class OverflowFinder:
 def need_of(line: bytes) -> Need[PointerOperation] | None:
     """Returns the operation of the instruction in a reply of `dis`, and the register that it needs: the base of its access, or sp after a write of
     it; None if it needs none."""
-    it = operation_of(line)
-    return (it, (it.register,), it.memory is None) if it and it.register is not None else None
+    operation = operation_of(line)
+    return (operation, (operation.register,), operation.memory is None) if operation and operation.register is not None else None
 
 
 def overflows(run: Run, symbols: Symbols) -> list[Overflow]:
@@ -165,10 +252,10 @@ def overflows(run: Run, symbols: Symbols) -> list[Overflow]:
     return sorted(finder.found.values(), key=lambda it: it.step)
 
 
-def overflow_text(it: Overflow, symbols: Symbols) -> str:
+def overflow_text(overflow: Overflow, symbols: Symbols) -> str:
     """Returns an overflow as a line: its place, and how many bytes it is outside."""
-    where = symbols.source(it.pc) or symbols.name(it.pc) or hex8(it.pc)
-    use = "store to" if it.is_store else "sp set to"
-    outside, bound, side = ("below", it.stack.bottom, "bottom") if it.address < it.stack.bottom else ("above", it.stack.top, "top")
+    use = "store to" if overflow.is_store else "sp set to"
+    stack, address = overflow.stack, overflow.address
+    outside, bound, side = ("below", stack.bottom, "bottom") if address < stack.bottom else ("above", stack.top, "top")
     return "stack overflow in %s at step %d, %s: %s %08x, %d bytes %s %s_stack_%s" % (
-        it.world, it.step, where, use, it.address, abs(bound - it.address), outside, it.stack.name, side)
+        overflow.world, overflow.step, symbols.place(overflow.pc), use, address, abs(bound - address), outside, stack.name, side)

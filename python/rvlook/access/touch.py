@@ -1,29 +1,90 @@
-"""The subcommand `touch`: what each world read, wrote and executed, and what it was permitted to."""
+"""The subcommand `touch`: what each world fetched, read and wrote, and what it was permitted to. With --lcov, the lines and functions that it
+executed, for genhtml."""
 from __future__ import annotations
 
 import re
 from bisect import bisect_left, bisect_right
 from collections import Counter, defaultdict
 from dataclasses import dataclass
-from typing import Iterable, Iterator, Optional, TYPE_CHECKING
+from typing import Iterable, Iterator, NamedTuple, Optional, Sequence
 
-from rvlook.protocol import names
-from rvlook.access.accesses import accesses
 from rvlook.access.map import Event, events
 from rvlook.access.ranges import NOTHING, Range
 from rvlook.access.returns import Return, returns_of
+from rvlook.errors import RvlookError
+from rvlook.escapes import visible
+from rvlook.image.symbols import files_of
+from rvlook.output.printer import Json, Printer, Style, end_object, end_text, hex8, run_object
+from rvlook.protocol import names
+from rvlook.protocol.instructions import MemoryOperand, instruction_of
+from rvlook.protocol.reader import Need, Reader, Reads
+from rvlook.protocol.replies import NO_TRAP
+from rvlook.protocol.run import End, Run
 from rvlook.protocol.stretch import Stretch
-from rvlook.output.printer import Style, end_object, end_text, hex8, run_object
-
-if TYPE_CHECKING:
-    from rvlook.output.printer import Printer
-    from rvlook.protocol.run import Run
-    from rvlook.protocol.symbols import Symbol, Symbols
-    from rvlook.output.printer import Json
+from rvlook.protocol.symbols import Symbol, Symbols
 
 KINDS = {"r": "read", "w": "wrote", "x": "executed"}
 LEAST_SIZE = 4096
 LOWER_MODE = re.compile(rb"mode=[SU]")
+
+
+class Access(NamedTuple):
+    """Accesses of a world of one kind (`r`, `w` or `x`) at an address, `width` bytes each, done or refused. On the bare bench the world may be a
+    mode."""
+    world: str
+    kind: str
+    address: int
+    width: int
+    done: bool
+
+
+def accesses(run: Run, by_mode: bool = False) -> tuple[Counter[Access], End]:
+    """Counts the accesses of a run by kind, address and width; returns the counts and the end of the run. With `by_mode` each mode is a world."""
+    counter, end = Counting(by_mode), None
+    with Reader(run, base_of) as reader:
+        for item in run.stretches():
+            if isinstance(item, Stretch):
+                counter.take(item, reader.read(item))
+            elif isinstance(item, End):
+                end = item
+    assert end is not None
+    return counter.found(), end
+
+
+def base_of(line: bytes) -> Need[MemoryOperand] | None:
+    """Returns the access of the instruction in a reply of `dis`, and its base register; None if it has no access."""
+    instruction = instruction_of(line)
+    return (instruction.memory, (instruction.memory.base,), False) if instruction and instruction.memory else None
+
+
+class Counting:
+    """Counts steps by their fields, and loads and stores by address and width. With `by_mode` each mode is a world."""
+
+    def __init__(self, by_mode: bool) -> None:
+        self.by_mode = by_mode
+        self.steps: Counter[tuple[bytes, bytes, bytes]] = Counter()
+        self.touched: Counter[tuple[bytes, str, int, int, bool]] = Counter()
+
+    def take(self, stretch: Stretch, reads: Reads[MemoryOperand]) -> None:
+        """Counts the accesses of the steps of a stretch."""
+        columns = stretch.columns
+        worlds, traps = columns.modes if self.by_mode else columns.worlds, columns.traps
+        self.steps.update(zip(columns.pcs, worlds, traps))
+        bases = map(reads.values.__getitem__, reads.starts)
+        several = Counter(zip(map(worlds.__getitem__, reads.indices), reads.items, bases, map(traps.__getitem__, reads.indices)))
+        for (world, memory, base, trap), count in several.items():
+            if trap == NO_TRAP or trap[:8].decode() in names.ACCESS_FAULTS:
+                self.touched[world, memory.kind, base + memory.offset & 0xFFFFFFFF, memory.width, trap == NO_TRAP] += count
+
+    def found(self) -> Counter[Access]:
+        """Returns all counts. Each step fetches the word at pc, except if an interrupt replaces it."""
+        every = Counter({Access(it[0].decode(), *it[1:]): count for it, count in self.touched.items()})
+        for (pc, world, trap), count in self.steps.items():
+            cause, _, value = trap.decode().partition(":")
+            is_refused = cause in names.FETCH_FAULTS and value == pc.decode()
+            if not cause.startswith("8"):
+                every[Access(world.decode(), "x", int(pc, 16), 4, not is_refused)] += count
+        return every
 
 
 @dataclass(frozen=True)
@@ -67,10 +128,11 @@ class Touches:
     def __init__(self, run: Run) -> None:
         self.counts: dict[AccessKind, Counter[tuple[int, int]]] = defaultdict(Counter)
         self.permitted: dict[str, list[tuple[Range, str, set[str]]]] = defaultdict(list)
-        has_modes = enters_lower_mode(run)
+        # each mode of a bare run is a world, if it enters S or U
+        has_modes = not run.setup.monitor and any(isinstance(it, Stretch) and LOWER_MODE.search(it.data) for it in run.stretches())
         found, self.end = accesses(run, has_modes)
-        for it, count in found.items():
-            self.counts[AccessKind(it.world, it.kind, it.done)][it.address, it.width] += count
+        for key, count in found.items():
+            self.counts[AccessKind(key.world, key.kind, key.done)][key.address, key.width] += count
         changes = [it for it in events(run) if isinstance(it, Event)]
         for event in changes:
             (self.allow_mode(event, "M") if has_modes else self.allow(event))
@@ -107,7 +169,7 @@ class Touches:
 
     def bytes_of(self, world: str, kind: str) -> list[int]:
         """Returns the addresses that a world accessed, in ascending order."""
-        return sorted({address + i for address, width in self.counts[AccessKind(world, kind, True)] for i in range(width)})
+        return sorted({address + i for address, width in self.counts[AccessKind(world, kind, done=True)] for i in range(width)})
 
     def permitted_rows(self, world: str) -> Iterator[Permitted]:
         """Yields each range that a world was ever permitted to access, with its accesses there."""
@@ -120,7 +182,7 @@ class Touches:
 
     def executed(self, world: str) -> dict[int, int]:
         """Returns how often a world executed each instruction, by address."""
-        return {address: count for (address, _), count in self.counts[AccessKind(world, "x", True)].items()}
+        return {address: count for (address, _), count in self.counts[AccessKind(world, "x", done=True)].items()}
 
 
 def joined(rows: Iterable[tuple[Range, str, set[str]]]) -> list[tuple[Range, str, str]]:
@@ -171,19 +233,13 @@ def place_of(source: str) -> tuple[str, int]:
     return name, int(number)
 
 
-def by_file(lines: Iterable[tuple[str, int]]) -> Iterator[tuple[str, int, int, list[str]]]:
-    """Yields for each file its number of executed lines, its number of lines, and the numbers of the lines that were not executed."""
+def by_file(lines: Iterable[tuple[str, int]]) -> dict[str, list[tuple[int, int]]]:
+    """Returns for each file the numbers of its lines, each with its count."""
     files = defaultdict(list)
     for source, count in lines:
         name, number = place_of(source)
-        files[name].append((str(number), count))
-    for name, found in files.items():
-        yield name, sum(count > 0 for _, count in found), len(found), [number for number, count in found if not count]
-
-
-def enters_lower_mode(run: Run) -> bool:
-    """Returns whether a bare run enters S or U. Each mode is then a world."""
-    return not run.setup.monitor and any(isinstance(it, Stretch) and LOWER_MODE.search(it.data) for it in run.stretches())
+        files[name].append((number, count))
+    return files
 
 
 def show_touch(run: Run, symbols: Symbols, printer: Printer) -> None:
@@ -204,54 +260,77 @@ def all_touched(touches: Touches, world: str, symbols: Symbols) -> list[tuple[Ac
 
 def world_objects(touches: Touches, world: str, symbols: Symbols, printer: Printer) -> None:
     """Writes the accesses, permissions and coverage of a world as objects."""
-    for kind, it in all_touched(touches, world, symbols):
-        printer.object("touched", world=world, kind=kind.kind, first=hex8(it.range.first), last=hex8(it.range.end - 1),
-                       symbol=it.symbol, count=it.count, done=kind.done)
-    permitted_objects(touches, world, printer)
-    covered_objects(touches, world, symbols, printer)
-
-
-def permitted_objects(touches: Touches, world: str, printer: Printer) -> None:
-    """Writes the permitted ranges of a world as objects."""
-    for it in touches.permitted_rows(world):
-        printer.object("permitted", world=world, what=it.what, first=hex8(it.range.first), last=hex8(it.range.end - 1),
-                       kinds=it.kinds, size=it.range.end - it.range.first, touched=it.touched, lowest=hex8(it.lowest),
-                       highest=hex8(it.highest), enough=it.enough)
-
-
-def covered_objects(touches: Touches, world: str, symbols: Symbols, printer: Printer) -> None:
-    """Writes the functions and source lines that a world executed as objects."""
-    functions: list[dict[str, Json]] = [dict(name=symbol.name, first=hex8(symbol.address), size=size, executed=executed)
-                                        for symbol, size, executed in covered_functions(touches, world, symbols)]
-    lines: list[dict[str, Json]] = [dict(source=source, count=count) for source, count in covered_lines(touches, world, symbols)]
-    for kind, members in [("function", it) for it in functions] + [("line", it) for it in lines]:
-        printer.object(kind, world=world, **members)
+    rows: list[tuple[str, dict[str, Json]]] = [
+        ("touched", dict(kind=kind.kind, first=hex8(it.range.first), last=hex8(it.range.end - 1), symbol=it.symbol, count=it.count, done=kind.done))
+        for kind, it in all_touched(touches, world, symbols)]
+    rows += [("permitted", dict(what=it.what, first=hex8(it.range.first), last=hex8(it.range.end - 1), kinds=it.kinds,
+                                size=it.range.end - it.range.first, touched=it.touched, lowest=hex8(it.lowest), highest=hex8(it.highest),
+                                enough=it.enough)) for it in touches.permitted_rows(world)]
+    rows += [("function", dict(name=symbol.name, first=hex8(symbol.address), size=size, executed=executed))
+             for symbol, size, executed in covered_functions(touches, world, symbols)]
+    rows += [("line", dict(source=source, count=count)) for source, count in covered_lines(touches, world, symbols)]
+    for name, members in rows:
+        printer.object(name, world=world, **members)
 
 
 def world_text(touches: Touches, world: str, symbols: Symbols, printer: Printer) -> None:
     """Prints the accesses, permissions and coverage of a world."""
     printer.line(printer.styled(world, Style.heading))
-    lines = [touched_text(kind, it) for kind, it in all_touched(touches, world, symbols)]
+    lines = ["  %-16s %08x-%08x %7d  %s" % (KINDS[kind.kind] + ("" if kind.done else ", refused"), it.range.first, it.range.end - 1, it.count,
+                                            it.symbol or "") for kind, it in all_touched(touches, world, symbols)]
     lines += ["  %-16s %s" % ("permitted", permitted_text(it)) for it in touches.permitted_rows(world)]
     lines += ["  %-16s %8d of %6d bytes  %s" % ("covered", executed, size, symbol.name)
               for symbol, size, executed in covered_functions(touches, world, symbols)]
-    lines += ["  %-16s %8d of %6d lines  %s%s" % ("covered", done, count, name, ", not executed: " + " ".join(missed) if missed else "")
-              for name, done, count, missed in by_file(covered_lines(touches, world, symbols))]
+    for name, found in by_file(covered_lines(touches, world, symbols)).items():
+        missed = [str(number) for number, count in found if not count]
+        lines.append("  %-16s %8d of %6d lines  %s%s" % ("covered", len(found) - len(missed), len(found), name,
+                                                         ", not executed: " + " ".join(missed) if missed else ""))
     for line in lines + [""]:
         printer.line(line)
 
 
-def touched_text(kind: AccessKind, it: Touched) -> str:
-    """Returns a range that was accessed as a line."""
-    what = KINDS[kind.kind] + ("" if kind.done else ", refused")
-    return "  %-16s %08x-%08x %7d  %s" % (what, it.range.first, it.range.end - 1, it.count, it.symbol or "")
-
-
-def permitted_text(it: Permitted) -> str:
+def permitted_text(permitted: Permitted) -> str:
     """Returns a permitted range as a line, with how much of it was used."""
-    size = it.range.end - it.range.first
-    used = "  ".join("%s %d" % (kind, it.touched[kind]) for kind in it.kinds if kind != "-") if it.lowest is not None else "not accessed"
-    text = "%08x-%08x %7s  %s  %s" % (it.range.first, it.range.end - 1, names.size_text(size), it.kinds, used)
-    if it.what and it.lowest is not None and it.enough < size:
-        return "%s  %s, of which %s would be enough" % (text, it.what, names.size_text(it.enough))
-    return text + ("  " + it.what if it.what else "")
+    size = permitted.range.end - permitted.range.first
+    counts = ["%s %d" % (kind, permitted.touched[kind]) for kind in permitted.kinds if kind != "-"]
+    used = "  ".join(counts) if permitted.lowest is not None else "not accessed"
+    text = "%08x-%08x %7s  %s  %s" % (permitted.range.first, permitted.range.end - 1, names.size_text(size), permitted.kinds, used)
+    if permitted.what and permitted.lowest is not None and permitted.enough < size:
+        return "%s  %s, of which %s would be enough" % (text, permitted.what, names.size_text(permitted.enough))
+    return text + ("  " + permitted.what if permitted.what else "")
+
+
+def show_lcov(run: Run, symbols: Symbols, printer: Printer, paths: Sequence[str]) -> None:
+    """Prints a record of lcov, which is a test of it, for each world and each source file. Raises RvlookError if there are no source lines."""
+    if not symbols.has_lines():
+        raise RvlookError("no source lines; use an ELF file built with -g")
+    touches = Touches(run)
+    source_paths: dict[str, str] = {}
+    for path in paths:
+        source_paths.update((name, visible(file)) for name, file in files_of(path).items())
+    for world in touches.worlds():
+        functions = functions_by_file(touches, world, symbols)
+        for name, lines in by_file(covered_lines(touches, world, symbols)).items():
+            write_lcov(printer, world, source_paths.get(name, name), functions.get(name, []), lines)
+
+
+def functions_by_file(touches: Touches, world: str, symbols: Symbols) -> dict[str, list[tuple[int, str, int]]]:
+    """Returns for each file the functions that a world executed: line, name, and the count of the first instruction."""
+    executed = touches.executed(world)
+    found: dict[str, list[tuple[int, str, int]]] = {}
+    for symbol, _, _ in covered_functions(touches, world, symbols):
+        source = symbols.source(symbol.address)
+        if source:
+            name, line = place_of(source)
+            found.setdefault(name, []).append((line, symbol.name, executed.get(symbol.address, 0)))
+    return found
+
+
+def write_lcov(printer: Printer, world: str, path: str, functions: Sequence[tuple[int, str, int]], lines: Sequence[tuple[int, int]]) -> None:
+    """Prints the record of a source file in the format of lcov."""
+    rows = ["TN:" + world, "SF:" + path, *("FN:%d,%s" % (line, name) for line, name, _ in functions),
+            *("FNDA:%d,%s" % (count, name) for _, name, count in functions), "FNF:%d" % len(functions),
+            "FNH:%d" % sum(count > 0 for _, _, count in functions), *("DA:%d,%d" % it for it in lines), "LF:%d" % len(lines),
+            "LH:%d" % sum(count > 0 for _, count in lines), "end_of_record"]
+    for row in rows:
+        printer.line(row)

@@ -16,9 +16,9 @@ from rvlook.api.machine import Machine
 from rvlook.api.places import Place
 from rvlook.api.program import Program, load
 from rvlook.api.stepper import Snapshot
-from rvlook.api.values import AccessMap, Answer, Ending, NotReached, Rights, Trap, exited, interrupted, refused, stopped
+from rvlook.api.values import AccessMap, CallResult, Ending, NotReached, Rights, Trap, exited, interrupted, refused, stopped
 from rvlook.api.views import View
 from rvlook.errors import RvlookError, SymbolError
 
-__all__ = ["AccessMap", "Answer", "EnclaveHandle", "Ending", "Finding", "Findings", "Machine", "NotReached", "Place", "Program", "Rights",
+__all__ = ["AccessMap", "CallResult", "EnclaveHandle", "Ending", "Finding", "Findings", "Machine", "NotReached", "Place", "Program", "Rights",
            "RvlookError", "Snapshot", "SymbolError", "Trap", "View", "build", "exited", "find", "interrupted", "load", "refused", "stopped"]

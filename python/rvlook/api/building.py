@@ -33,9 +33,9 @@ def build(folder: PathLike, target: PathLike, monitor: Union[PathLike, None] = N
 def copy_of(source: str, copies: str) -> str:
     """Copies a folder into another one, with a link to each of its siblings; returns the path of the copy. Raises OSError."""
     parent, name = os.path.split(source)
-    for it in os.listdir(parent):
-        if it != name:
-            os.symlink(os.path.join(parent, it), os.path.join(copies, it))
+    for entry in os.listdir(parent):
+        if entry != name:
+            os.symlink(os.path.join(parent, entry), os.path.join(copies, entry))
     copy = os.path.join(copies, name)
     shutil.copytree(source, copy, ignore=LEFT_OUT)
     return copy

@@ -5,15 +5,16 @@ import os
 import re
 from typing import Any, List, Mapping, Optional
 
-from rvlook.api.find import Finding, Findings
+from rvlook.api.find import Findings
 from rvlook.api.machine import Machine
-from rvlook.api.values import AccessMap, Answer, Rights
+from rvlook.api.values import AccessMap, CallResult, Rights
 from rvlook.api.views import View
+from rvlook.output.printer import counted
 from rvlook.protocol.bench_line import lines_of
 
 SHOWN = 8  # bytes of a member that differs
 CONSOLE_LINES = 3
-COMMAND = "# rvbench "  # the beginning of the first line of a script
+COMMANDS = ("# rvbench ", "# ./rvbench ")  # the beginning of the line of a script with its command
 
 
 def compared(op: str, left: Any, right: Any) -> Optional[List[str]]:
@@ -22,7 +23,7 @@ def compared(op: str, left: Any, right: Any) -> Optional[List[str]]:
         return ["rights %s %s %s" % (left, op, right), left.reason]
     if op != "==":
         return None
-    if isinstance(left, Answer) and isinstance(right, Answer):
+    if isinstance(left, CallResult) and isinstance(right, CallResult):
         return ["%s == %s" % (left, right)]
     if isinstance(left, AccessMap) and isinstance(right, AccessMap):
         return ["access map == the expected one; these rights differ, expected -> actual:", *(left - right)]
@@ -54,16 +55,12 @@ def part(data: bytes, first: int) -> str:
 
 def findings_text(found: Findings, folder: str, name: str) -> str:
     """Returns the text of a search that found something, and writes the script of each finding."""
-    count = "1 finding" if len(found) == 1 else "%d findings" % len(found)
-    rows = ["%s, in %d check%s" % (count, len(found.checks), "" if len(found.checks) == 1 else "s")]
-    for number, it in enumerate(found, 1):
-        rows += [str(it), *script_rows(it, folder, "%s_%d" % (name, number))]
+    rows = ["%s, in %s" % (counted(len(found), "finding"), counted(len(found.checks), "check"))]
+    for number, finding in enumerate(found, 1):
+        rows.append(str(finding))
+        if finding.script:
+            rows.append("repeat:        " + command_for(finding.script, write_script(folder, "%s_%d" % (name, number), finding.script)))
     return "\n".join(rows + (["search again:  " + found.command] if found.command else []))
-
-
-def script_rows(it: Finding, folder: str, name: str) -> List[str]:
-    """Writes the script of a finding, if it has one; returns the line that says how to run it."""
-    return ["repeat:        " + command_for(it.script, write_script(folder, name, it.script))] if it.script else []
 
 
 def write_script(folder: str, name: str, script: str) -> str:
@@ -77,7 +74,7 @@ def write_script(folder: str, name: str, script: str) -> str:
 
 def command_for(script: str, path: str) -> str:
     """Returns the command that runs an input of rvbench: its first comment has it."""
-    line = next((it for it in lines_of(script) if it.startswith(("# rvbench ", "# ./rvbench "))), "# rvbench run < this file")
+    line = next((it for it in lines_of(script) if it.startswith(COMMANDS)), "# rvbench run < this file")
     return line[2:].replace("this file", path)
 
 

@@ -7,33 +7,30 @@ import os
 import shlex
 from contextlib import contextmanager
 from dataclasses import dataclass, replace
-from typing import Any, Callable, Dict, Iterator, List, Optional, Sequence, TYPE_CHECKING, Tuple, Union
+from typing import Any, Callable, Dict, Iterator, List, Optional, Sequence, Tuple, Union
 
-from rvlook.access.expectations import FailureReport
-from rvlook.access.failures import failure_text
+from rvlook.access.failures import FailureReport, failure_text
 from rvlook.access.stack import overflow_text, overflows as overflows_of
-from rvlook.api.program import RAM, STEPS
+from rvlook.api.program import RAM, STEPS, Program
 from rvlook.cli.opening import sets_order
 from rvlook.errors import UsageError, heard
-from rvlook.finders.inputs.report import details_of, find_inputs, print_text
-from rvlook.finders.inputs.scripts import texts_of
-from rvlook.finders.inputs.session import InputsOptions
-from rvlook.finders.leak_search import Leak, LeakOptions, compare_drawn, compare_given
+from rvlook.finders.inputs.report import InputsOptions, details_of, find_inputs, print_text, texts_of
+from rvlook.finders.leak_search import Compared, Leak, LeakOptions, compare_drawn, compare_given
 from rvlook.finders.leak_text import finish, pair_text, text_of_channel, text_of_pair
 from rvlook.finders.races.text import RacesOptions, find_races, texts
-from rvlook.finders.timer import find_timer, timer_text
+from rvlook.finders.timer import TimerOptions, find_timer, timer_text
 from rvlook.finders.window import WindowOptions, WindowSearch
 from rvlook.finders.window_text import activation_text, rows_that_are_findings
 from rvlook.image.variables import variables_of
 from rvlook.monitors.conform import ScriptPlan
-from rvlook.monitors.conform_text import LEAST_RAM, MonitorFiles, find_conform, rest_of, script_text, show_counts
-from rvlook.monitors.guard_runs import GuardPlan, do_runs
+from rvlook.monitors.conform_text import LEAST_RAM, MonitorFiles, find_conform, rest_of, show_counts
+from rvlook.monitors.guard import GuardPlan, do_runs
 from rvlook.monitors.guard_text import rest_of as rest_of_guard, show_results, show_run
 from rvlook.monitors.ranges_file import ownership_of
 from rvlook.output.findings import ReportedCases
 from rvlook.output.printer import Printer, place_text
 from rvlook.output.progress import Progress
-from rvlook.protocol.run import run_of
+from rvlook.protocol.run import Run, run_of
 from rvlook.protocol.schedule import TURN, alternating
 from rvlook.symbolic.branch_models import BranchModels
 from rvlook.symbolic.one_path import is_hidden
@@ -42,13 +39,6 @@ from rvlook.symbolic.questions import answers
 from rvlook.symbolic.scripts import input_of
 from rvlook.symbolic.text import details_of as details_of_path, heading_of, print_text as print_answers, unfinished_text
 from rvlook.symbolic.verify import find_verify
-
-if TYPE_CHECKING:
-    from rvlook.access.failures import Failure
-    from rvlook.access.stack import Overflow
-    from rvlook.api.program import Program
-    from rvlook.finders.leak_search import Compared
-    from rvlook.protocol.run import Run
 
 Names = Union[str, Sequence[str]]
 Path = Union[str, "os.PathLike[str]"]
@@ -91,17 +81,26 @@ class Findings(List[Finding]):
 
 
 @contextmanager
-def searching(words: Sequence[str], program: Optional[Program] = None) -> Iterator[Tuple[Findings, Printer]]:
-    """Gives findings to fill and the printer of their report. The notes and warnings of the body are those of the findings."""
-    found, text = Findings(command=command_of([*words[:1], *(image_arguments(program) if program else []), *words[1:]], program)), io.StringIO()
+def searching(finder: str, program: Optional[Program], *words: str, **options: Any) -> Iterator[Tuple[Findings, Printer]]:
+    """Gives findings to fill and the printer of their report. The notes and warnings of the body are those of the findings. `words` and `options` are
+    for the command line that repeats the search."""
+    found, text = Findings(command=command_of(finder, program, *words, **options)), io.StringIO()
     with heard() as messages:
-        yield found, Printer(False, text)
+        yield found, Printer(as_json=False, stream=text)
     found.report, found.notes = text.getvalue(), "".join(it + "\n" for it in messages)
 
 
-def command_of(words: Sequence[str], program: Optional[Program]) -> str:
-    """Returns the command line of a search; empty if no command line loads the program in the same way."""
-    return "" if program is not None and program.has_boot else " ".join(map(shlex.quote, ["rvlook", *words]))
+def command_of(finder: str, program: Optional[Program], *words: str, **options: Any) -> str:
+    """Returns the command line of a search; empty if no command line loads the program in the same way. `at="key"` is --at key, a list is an option
+    for each element, and True is a flag. None and False are left out."""
+    if program is not None and program.has_boot:
+        return ""
+    arguments = ["rvlook", finder, *(image_arguments(program) if program else []), *words]
+    every = [(name, it) for name, value in options.items() for it in ([value] if isinstance(value, (str, bool, int, float)) else value or ())]
+    for name, it in every:
+        if it is not False:
+            arguments += ["--" + name.replace("_", "-")] + ([] if it is True else [str(it)])
+    return shlex.join(arguments)
 
 
 def image_arguments(program: Program) -> List[str]:
@@ -110,16 +109,6 @@ def image_arguments(program: Program) -> List[str]:
     found = [setup.image.name, "--monitor" if setup.monitor else "--no-monitor", *program.files]
     for name, value, default in (("harts", setup.harts, 1), ("ram", setup.ram, RAM), ("steps", setup.limit, STEPS)):
         found += ["--" + name, str(value)] if value != default else []
-    return found
-
-
-def option_arguments(options: Dict[str, Any]) -> List[str]:
-    """Returns options as arguments: `at="key"` as --at key, a list as an option for each element, True as a flag. None and False are left out."""
-    found: List[str] = []
-    for name, value in options.items():
-        for it in [value] if isinstance(value, (str, bool, int, float)) else value or ():
-            if it is not False:
-                found += ["--" + name.replace("_", "-")] + ([] if it is True else [str(it)])
     return found
 
 
@@ -139,7 +128,7 @@ def ordered(program: Program, finder: str) -> Run:
     if setup.harts == 1 or sets_order(setup.lines):
         return program.run
     if finder not in ("window", "verify"):
-        raise UsageError("%s has no schedule for two harts; set the order of the harts in the script" % finder)
+        raise UsageError("%s with two harts requires a script that chooses the harts, such as 'sched 01' or 'hart 1'" % finder)
     return run_of(replace(setup, schedule=alternating(TURN)))
 
 
@@ -148,9 +137,9 @@ def leaks(program: Program, secret: str, values: Sequence[bytes] = (), *, tries:
     """Compares runs that differ only in a secret: with two `values`, or with `tries` pairs of drawn ones (by default 8). docs/ASK.md has the options
     of `leak`."""
     count = None if values else tries or 8
-    words = option_arguments(dict(at=secret, tries=tries if values else count, public=public, strict=strict, slot=slot, seed=seed, seconds=seconds))
     options = LeakOptions(secret, slot, several(public), strict, values, count, seed=seed, seconds=seconds)
-    with searching(["leak", *(it.hex() for it in values), *words], program) as (found, printer):
+    with searching("leak", program, *(it.hex() for it in values), at=secret, tries=tries if values else count, public=public, strict=strict,
+                   slot=slot, seed=seed, seconds=seconds) as (found, printer):
         leak = Leak(ordered(program, "leak"), options, is_hidden)
         if values:
             pair = compare_given(leak)
@@ -167,15 +156,14 @@ def leaks(program: Program, secret: str, values: Sequence[bytes] = (), *, tries:
 
 def leak_finding(program: Program, title: str, text: str, pair: Compared) -> Finding:
     """Returns a difference of two runs as a finding, at its first instruction."""
-    assert pair.found is not None
-    first = next((it for it in pair.found.all() if it.what == title), pair.found.all()[0])
+    every = pair.comparison.all()
+    first = next((it for it in every if it.what == title), every[0])
     return Finding(title, text, step=first.steps[0], **at_place(program, first.pc))
 
 
 def window(program: Program, secret: Optional[str] = None, *, public: Names = (), slot: Optional[int] = None) -> Findings:
     """Finds double fetches from the window, and data that remains there or depends on a secret. Raises Unfinished if no enclave runs."""
-    words = option_arguments(dict(at=secret, public=public, slot=slot))
-    with searching(["window", *words], program) as (found, printer):
+    with searching("window", program, at=secret, public=public, slot=slot) as (found, printer):
         run = ordered(program, "window")
         search, names = WindowSearch(run, variables_of(None, run.setup.image), WindowOptions(secret, slot, several(public))), []
         for activation, view in search.views():
@@ -188,41 +176,36 @@ def window(program: Program, secret: Optional[str] = None, *, public: Names = ()
 
 
 def inputs(program: Program, secret: Optional[str] = None, *, public: Names = (), runs: int = 300, seed: int = 0, entry: bool = False,
-           slot: int = 0, seconds: Optional[float] = None) -> Findings:
+           slot: int = 0, seconds: Optional[float] = None, jobs: int = 1) -> Findings:
     """Varies what the host gives an enclave in `runs` runs, and finds what the host can make it do. A trap or a refused call in the run itself is a
     finding, too. Raises Unfinished if the enclave does not return in the run itself."""
-    words = option_arguments(dict(at=secret, public=public, runs=runs, seed=seed, entry=entry, slot=slot, seconds=seconds))
-    options = InputsOptions(slot, secret, several(public), entry, runs, seed, seconds)
-    with searching(["inputs", *words], program) as (found, printer):
+    options = InputsOptions(slot, secret, several(public), entry, runs, seed, seconds, jobs=jobs)
+    with searching("inputs", program, at=secret, public=public, runs=runs, seed=seed, entry=entry, slot=slot, seconds=seconds,
+                   jobs=jobs if jobs > 1 else None) as (found, printer):
         run, cases = ordered(program, "inputs"), ReportedCases()
         report = FailureReport((), program.symbols, printer, cases)
         result = find_inputs(run, variables_of(None, run.setup.image), options, report.show, BranchModels())
-        found += [failure_finding(program, it) for it in result.failures]
-        search = result.session.search
+        found += [Finding(it.call or it.name, failure_text(it, program.symbols), step=it.step, **at_place(program, int(it.at.pc, 16)))
+                  for it in result.failures]
+        search = result.search
         if search:
             print_text(search, result.groups, printer, options)
         for number, (group, heading) in enumerate(zip(result.groups, result.headings), 1):
             assert search is not None
-            it = group.first
-            found.append(Finding("finding %d" % number, "\n".join([heading, *details_of(search, group)]),
-                                 texts_of(search, it, heading)[0].decode("latin-1"), step=it.trace.steps[it.index], **at_place(program, it.pc)))
+            script, step = texts_of(search, group[0], heading)[0].decode("latin-1"), group[0].trace.steps[group[0].index]
+            found.append(Finding("finding %d" % number, "\n".join([heading, *details_of(search, group)]), script, step=step,
+                                 **at_place(program, group[0].pc)))
         found.checks = (*(it.name for it in cases.cases), *(it.title for it in found[len(result.failures):]), "e%d: inputs of the host" % slot)
-        found.unfinished = result.cut or (result.session.cut_text if result.session.cut else "")
+        found.unfinished = result.not_replayed or result.cut_text
     return found
 
 
-def failure_finding(program: Program, it: Failure) -> Finding:
-    """Returns a trap or a refused call as a finding."""
-    text = failure_text(it, program.symbols)
-    return Finding(it.call or it.name, text, step=it.step, **at_place(program, int(it.at.pc, 16)))
-
-
 def races(program: Program, *, forbid: Names = (), outcome: Names = (), timers: int = 0, preemptions: Optional[int] = None, end: Names = (),
-          limit: int = 0, seconds: Optional[float] = None) -> Findings:
+          limit: int = 0, seconds: Optional[float] = None, jobs: int = 1) -> Findings:
     """Searches all schedules of two harts and of `timers` timer interrupts for final states that `forbid` names."""
-    words = option_arguments(dict(forbid=forbid, outcome=outcome, timer=timers, preemptions=preemptions, end=end, limit=limit, seconds=seconds))
-    options = RacesOptions(several(forbid), several(outcome), several(end), preemptions, timers, limit=limit, seconds=seconds)
-    with searching(["races", *words], program) as (found, printer):
+    options = RacesOptions(several(forbid), several(outcome), several(end), preemptions, timers, limit=limit, seconds=seconds, jobs=jobs)
+    with searching("races", program, forbid=forbid, outcome=outcome, timer=timers, preemptions=preemptions, end=end, limit=limit, seconds=seconds,
+                   jobs=jobs if jobs > 1 else None) as (found, printer):
         report = find_races(program.run, options)
         texts(report, printer)
         bad = [(it[0].text, it[1]) for it in report.bad] if report.conditions else [
@@ -238,15 +221,14 @@ def conform(monitor: Path, *, only: str = "", tries: int = 60, items: int = 120,
             deep: bool = False, ram: Optional[int] = None, boot: Optional[str] = None, memory: Optional[str] = None,
             seconds: Optional[float] = None) -> Findings:
     """Compares a monitor of your own with the proved one, call by call (docs/OWN_MONITOR.md). `script` of the finding is the shrunk script for it."""
-    words = option_arguments(dict(only=only or None, tries=tries, items=items, jobs=jobs, exact=exact, seed=seed, deep=deep, ram=ram, boot=boot,
-                                  memory=memory, seconds=seconds))
     files = MonitorFiles(os.fspath(monitor), ram=LEAST_RAM if ram is None else ram, boot=boot, exact=exact, memory=memory)
     has_ram = any(it is not None for it in (ram, boot, memory))
     plan = ScriptPlan(tries, items, str(seed), only, seconds, jobs, deep, has_ram)
-    with searching(["conform", os.fspath(monitor), *words]) as (found, printer):
+    with searching("conform", None, os.fspath(monitor), only=only or None, tries=tries, items=items, jobs=jobs, exact=exact, seed=seed, deep=deep,
+                   ram=ram, boot=boot, memory=memory, seconds=seconds) as (found, printer):
         result = find_conform(files, plan, lambda it: show_counts(it, printer))
         if result.shrunk:
-            found.append(Finding("conform", result.finding, script_text(result.shrunk)))
+            found.append(Finding("conform", result.finding, "".join(line + "\n" for line in result.shrunk.played.own_log)))
         found.checks, found.unfinished = ("conform",), rest_of(result.outcome, plan)
     return found
 
@@ -256,9 +238,9 @@ def guard(image: Path, ranges: Path, *, host: Optional[Path] = None, timers: int
     """Checks that an M-mode monitor with calls of any kind isolates the worlds in S and U (docs/OWN_MONITOR.md). `ranges` is the file that says
     who owns which memory. A finding has the step below M and the pc of the trap."""
     path = None if host is None else os.fspath(host)
-    words = option_arguments(dict(host=path, timers=timers, seed=seed, steps=steps, jobs=jobs, ram=ram, boot=boot))
     files = MonitorFiles(os.fspath(image), path, ram=ram, boot=boot)
-    with searching(["guard", os.fspath(image), os.fspath(ranges), *words]) as (found, printer):
+    with searching("guard", None, os.fspath(image), os.fspath(ranges), host=path, timers=timers, seed=seed, steps=steps, jobs=jobs, ram=ram,
+                   boot=boot) as (found, printer):
         setup, symbols = files.setup()
         plan = GuardPlan(setup, ownership_of(os.fspath(ranges), symbols), symbols, steps, seed, timers, jobs)
         with Progress() as progress:
@@ -271,18 +253,19 @@ def guard(image: Path, ranges: Path, *, host: Optional[Path] = None, timers: int
     return found
 
 
-def timer(program: Program, *, slot: int = 0, every: int = 1) -> Findings:
+def timer(program: Program, *, slot: int = 0, every: int = 1, jobs: int = 1) -> Findings:
     """Interrupts an enclave before every Nth of its steps, and compares the result. Raises Unfinished if there is no enclave in the slot."""
-    with searching(["timer", *option_arguments(dict(slot=slot, every=every))], program) as (found, printer):
+    with searching("timer", program, slot=slot, every=every, jobs=jobs if jobs > 1 else None) as (found, printer):
         run = ordered(program, "timer")
-        outcome, last = find_timer(run, slot, every)
-        timer_text(run, program.symbols, printer, slot, every, outcome)
-    it = outcome.difference
-    if it is not None:
-        pc = None if it.pc is None else int(it.pc, 16)
-        place = "" if it.pc is None else " at " + place_text(it.pc, program.symbols)
-        found.append(Finding("step %d of e%d%s" % (it.number, slot, place), "%s instead of %s" % (it.actual, it.expected), step=it.number,
-                             **at_place(program, pc)))
+        options = TimerOptions(slot, every, jobs)
+        outcome, last = find_timer(run, options)
+        timer_text(run, printer, options, outcome)
+    difference = outcome.difference
+    if difference is not None:
+        pc = None if difference.pc is None else int(difference.pc, 16)
+        place = "" if difference.pc is None else " at " + place_text(difference.pc, program.symbols)
+        found.append(Finding("step %d of e%d%s" % (difference.number, slot, place), "%s instead of %s" % (difference.actual, difference.expected),
+                             step=difference.number, **at_place(program, pc)))
     found.checks = ("e%d: same result with timer interrupts" % slot,)
     if outcome.not_resumed is not None:
         found.unfinished = "the host does not resume the enclave in slot %d after the interrupt at its step %d" % (slot, outcome.not_resumed.number)
@@ -296,18 +279,19 @@ def verify(program: Program, secret: Names = (), *, public: Names = (), must_kno
            bound: int = VerifyOptions.bound, loops: bool = False, seconds: float = VerifyOptions.seconds, slot: int = 0) -> Findings:
     """Explores all paths of an enclave, for all inputs and secrets (docs/VERIFY.md). Findings whose replay differs are left out. `unfinished` is
     empty only if the result is COMPLETE. Raises Unfinished if no enclave runs in the slot, or z3 is missing."""
-    words = option_arguments(dict(at=secret, public=public, must_know=must_know, must_matter=must_matter, wiped=wiped, given=given, length=length,
-                                  allow=allow, calm=calm, each=each, activations=activations, bound=bound, loops=loops, seconds=seconds, slot=slot))
     options = VerifyOptions(slot, several(secret), several(public), several(must_know), several(must_matter), wiped, several(given),
                             several(length), several(allow), calm, not each, activations, bound, loops, seconds)
-    with searching(["verify", *words], program) as (found, printer):
+    with searching("verify", program, at=secret, public=public, must_know=must_know, must_matter=must_matter, wiped=wiped, given=given, length=length,
+                   allow=allow, calm=calm, each=each, activations=activations, bound=bound, loops=loops, seconds=seconds,
+                   slot=slot) as (found, printer):
         run = ordered(program, "verify")
         search = find_verify(run, program.symbols, variables_of(None, run.setup.image), options)
         asked = answers(search)
-        for it in (it for answer in asked for it in answer.findings):
-            heading = heading_of(search, it)
-            script = input_of(run, it, heading).decode("latin-1")
-            found.append(Finding(heading, "\n".join(details_of_path(search, it)), script, step=len(it.pcs), **at_place(program, it.pc)))
+        for example in (it for answer in asked for it in answer.findings):
+            heading = heading_of(search, example)
+            script = input_of(run, example, heading).decode("latin-1")
+            text = "\n".join(details_of_path(search, example))
+            found.append(Finding(heading, text, script, step=len(example.pcs), **at_place(program, example.pc)))
         print_answers(search, asked, printer)
         found.checks, found.unfinished = tuple(it.name for it in asked), unfinished_text(search)
     if search.is_cut:
@@ -317,15 +301,10 @@ def verify(program: Program, secret: Names = (), *, public: Names = (), must_kno
 
 def overflows(program: Program) -> Findings:
     """Finds stack overflows in the run of the program (docs/AUTHORS.md, Stacks)."""
-    found = Findings([overflow_finding(it, program) for it in overflows_of(program.run, program.symbols)],
-                     command_of(["touch", *image_arguments(program)], program))
+    found = Findings([Finding("stack overflow", overflow_text(it, program.symbols), step=it.step, **at_place(program, it.pc))
+                      for it in overflows_of(program.run, program.symbols)], command_of("touch", program))
     found.checks = ("stack",)
     return found
-
-
-def overflow_finding(it: Overflow, program: Program) -> Finding:
-    """Returns a stack overflow as a finding."""
-    return Finding("stack overflow", overflow_text(it, program.symbols), None, it.pc, it.step, program.symbols.line(it.pc))
 
 
 FINDERS: Dict[str, Callable[..., Findings]] = {

@@ -4,22 +4,23 @@ A call replaces the next instruction of the host by an `ecall` for one step. Aft
 are then as before. The registers that the call used get their values back. Other registers stay as the monitor left them."""
 from __future__ import annotations
 
+from functools import lru_cache
 from typing import Dict, List, Optional, Sequence, TYPE_CHECKING
 
-from rvlook.api.stepper import LIMIT, MadeCall, Snapshot, Stepper, pokes
-from rvlook.api.values import Answer, NotReached, answer_of
+from rvlook.api.places import PlaceLike
+from rvlook.api.stepper import LIMIT, MadeCall, Snapshot, Stepper
+from rvlook.api.values import CallResult, NotReached, answer_of
 from rvlook.api.views import View
 from rvlook.errors import RvlookError
 from rvlook.monitors.encodings import BACK, ECALL, MRET
 from rvlook.monitors.sides import words_in
 from rvlook.protocol import names
 from rvlook.protocol.memory_map import MONITOR_END, RAM_BASE
-from rvlook.protocol.replies import Enclave, Ran, bytes_of, memory_commands, register_values, step_of
+from rvlook.protocol.replies import Enclave, Ran, bytes_of, memory_commands, poke_commands, register_values, step_of
+from rvlook.protocol.run import Setup
 
 if TYPE_CHECKING:
     from rvlook.api.machine import Machine
-    from rvlook.api.places import PlaceLike
-    from rvlook.protocol.run import Setup
 
 A0, A1, A6, A7 = 10, 11, 16, 17
 WORD = 4  # bytes of an instruction
@@ -33,21 +34,14 @@ class HostStepper(Stepper):
     def __init__(self, setup: Setup, schedule: str, interrupts: Optional[int], at: Optional[Snapshot]) -> None:
         super().__init__(setup, schedule, at)
         self.interrupts = interrupts
-        self.places: Dict[int, List[int]] = {}  # of each instruction that was looked for
-
-    def words(self, word: int) -> List[int]:
-        """Returns the addresses of an instruction in the image. Raises RvlookError if there are too many for breakpoints."""
-        if word not in self.places:
-            self.places[word] = self.find_words(word)
-        return self.places[word]
+        self.words = lru_cache(maxsize=None)(self.find_words)
 
     def find_words(self, word: int) -> List[int]:
-        """Searches the image for an instruction. Raises RvlookError if there are too many for breakpoints."""
+        """Returns the addresses of an instruction in the image. Raises RvlookError if there are too many for breakpoints."""
         image, found = self.setup.image, []
         start = MONITOR_END if self.setup.monitor else RAM_BASE
         for address, size in [(it.address, it.in_memory) for it in image.segments()] or [(start, len(image.data or b""))]:
-            rows = self.ask(*memory_commands(address, size))
-            found += words_in(b"".join(bytes_of(it[0]) for it in rows), address, word)
+            found += words_in(self.read_bytes(address, size), address, word)
         if len(found) > MOST_BREAKS:
             raise RvlookError("the image has %d copies of one instruction, and the simulator %d breakpoints; run to a place instead" % (
                 len(found), MOST_BREAKS))
@@ -97,7 +91,7 @@ class HostStepper(Stepper):
         self.leave_m()
         self.calls[self.hart] = self.calls[self.hart]._replace(has_entered=self.is_inside())
 
-    def answer(self, limit: Optional[int] = None) -> Answer:
+    def answer(self, limit: Optional[int] = None) -> CallResult:
         """Runs an enclave until the host has its answer, and resumes it after each of the `interrupts`. Raises NotReached at the limit in steps."""
         if self.hart not in self.calls:
             raise RvlookError("no call is under way on hart %d; call run() or resume() first" % self.hart)
@@ -122,7 +116,7 @@ class HostStepper(Stepper):
         call = self.calls[self.hart]
         home = call.left_at - WORD
         old = self.read_bytes(home, 2 * WORD)
-        self.do(*pokes(home, ECALL.to_bytes(WORD, "little") + BACK.to_bytes(WORD, "little")))
+        self.do(*poke_commands(home, ECALL.to_bytes(WORD, "little") + BACK.to_bytes(WORD, "little")))
         self.set_stops([call.left_at], [])
         resume = ["timer on", "step 1", "setreg %d %x" % (A0, call.slot), "setreg %d %x" % (A6, names.Call.resume), "step 1", "step 1",
                   "run %d" % every]
@@ -132,7 +126,7 @@ class HostStepper(Stepper):
                 break
             *_, last = self.do(*resume)
             ran = step_of(last[0])
-        self.do(*pokes(home, old))
+        self.do(*poke_commands(home, old))
 
     def read_bytes(self, address: int, size: int) -> bytes:
         """Reads bytes, whatever the access rights are. Raises RvlookError outside the RAM."""
@@ -147,8 +141,8 @@ class HostStepper(Stepper):
         """Executes an instruction in place of the next one, whose bytes are then as before."""
         at = self.pc
         old = self.read_bytes(at, WORD)
-        *_, ran = self.do(*before, *pokes(at, word.to_bytes(WORD, "little")), "step 1")
-        self.do(*pokes(at, old))
+        *_, ran = self.do(*before, *poke_commands(at, word.to_bytes(WORD, "little")), "step 1")
+        self.do(*poke_commands(at, old))
         self.took(step_of(ran[0]))
 
 
@@ -185,16 +179,16 @@ class EnclaveHandle:
         address = self.entry.window if self.machine.setup.monitor else self.machine.program.place("window_base").address
         return self.machine.view(structure, address)
 
-    def run(self, until: Optional[PlaceLike] = None, touches: Optional[PlaceLike] = None) -> Answer:
+    def run(self, until: Optional[PlaceLike] = None, touches: Optional[PlaceLike] = None) -> CallResult:
         """Enters the enclave, and returns its answer. With `until` it stays before the instruction at that place. With `touches` it stays after the
         first load or store of a byte there. `finish` goes on. Raises NotReached."""
         return self.go("run", until, touches)
 
-    def resume(self, until: Optional[PlaceLike] = None, touches: Optional[PlaceLike] = None) -> Answer:
+    def resume(self, until: Optional[PlaceLike] = None, touches: Optional[PlaceLike] = None) -> CallResult:
         """Resumes the enclave. The parameters and the result are those of `run`."""
         return self.go("resume", until, touches)
 
-    def go(self, name: str, until: Optional[PlaceLike], touches: Optional[PlaceLike]) -> Answer:
+    def go(self, name: str, until: Optional[PlaceLike], touches: Optional[PlaceLike]) -> CallResult:
         """Enters the enclave by a call. Raises NotReached if it exits before the place."""
         machine, self.hart = self.machine, self.machine.hart
         machine.enter({"a0": self.slot, "a6": names.Call[name].value, "a7": names.KEY})
@@ -204,20 +198,20 @@ class EnclaveHandle:
         what = "reaches %s" % until if until is not None else "touches %s" % touches
         places = machine.addresses(until)
         if machine.is_inside() and machine.pc in places:  # it begins there
-            return Answer("running", machine.where)
+            return CallResult("running", machine.where)
         ran = machine.advance([left_at, *places], machine.watched(touches))
         if ran.why.startswith(("break", "watch")) and machine.is_inside():
-            return Answer("running", machine.where)
+            return CallResult("running", machine.where)
         if machine.is_inside():
             machine.fail(what, ran)
         raise NotReached("the enclave never %s: the host has its answer, %s" % (what, machine.answer()))
 
-    def finish(self) -> Answer:
+    def finish(self) -> CallResult:
         """Goes on after `run` or `resume` with a place, until the host has the answer. Selects the hart of the enclave. Raises NotReached."""
         if self.machine.hart != self.hart:
             self.machine.hart = self.hart
         return self.machine.answer()
 
-    def destroy(self) -> Answer:
+    def destroy(self) -> CallResult:
         """Destroys the enclave, and returns the answer of the monitor."""
         return self.machine.call("destroy", self.slot)

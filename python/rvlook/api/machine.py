@@ -3,23 +3,22 @@ from __future__ import annotations
 
 from typing import Any, List, Optional, TYPE_CHECKING
 
-from rvlook.access.map import Cause, EventFinder
+from rvlook.access.map import Cause, Event, EventFinder
 from rvlook.api.host import MOST_WATCHED, WORD, EnclaveHandle, HostStepper, number_of
-from rvlook.api.stepper import UNTIL_THE_END, Snapshot, pokes
-from rvlook.api.values import AccessMap, Answer, Ending, Rights
+from rvlook.api.places import PlaceLike
+from rvlook.api.stepper import UNTIL_THE_END, Snapshot
+from rvlook.api.values import AccessMap, CallResult, Ending, Rights
 from rvlook.api.views import View, bytes_for, value_of
 from rvlook.api.writers import writer_of
 from rvlook.errors import RvlookError
 from rvlook.image.types import Type
 from rvlook.protocol import names
 from rvlook.protocol.bench_line import ended
-from rvlook.protocol.nearest import nearest
-from rvlook.protocol.replies import Enclave, Location, enclave_of, register_values
+from rvlook.protocol.nearest import meant
+from rvlook.protocol.replies import Enclave, Location, enclave_of, poke_commands, register_values
 from rvlook.protocol.timeline import Timeline, commands_of
 
 if TYPE_CHECKING:
-    from rvlook.access.map import Event
-    from rvlook.api.places import PlaceLike
     from rvlook.api.program import Program
 
 CREATE = ("region_base", "region_size", "window_base", "window_size", "enclave_entry")  # symbols of examples/shared/link.ld
@@ -44,8 +43,7 @@ class Registers:
 def csr_number(name: str) -> int:
     """Returns the number of a control and status register. Raises RvlookError, with the most similar name."""
     if name not in names.CSRS:
-        near = nearest(name, [*names.NUMBER_OF, *names.CSRS])
-        raise RvlookError("no register '%s'%s" % (name, "; did you mean '%s'?" % near if near else ""))
+        raise RvlookError("no register '%s'%s" % (name, meant(name, [*names.NUMBER_OF, *names.CSRS])))
     return names.CSRS[name]
 
 
@@ -58,12 +56,6 @@ class Machine(HostStepper):
         self.program: Program = program
         self.finder = EventFinder(program.run)
         self.registers = Registers(self)
-
-    def __enter__(self) -> Machine:
-        return self
-
-    def __exit__(self, *_: object) -> None:
-        self.close()
 
     # ---- forward
 
@@ -142,7 +134,7 @@ class Machine(HostStepper):
             raise RvlookError("the monitor refused create: %s" % answer)
         return EnclaveHandle(self, int(str(answer.value)))
 
-    def call(self, name: str, *arguments: PlaceLike) -> Answer:
+    def call(self, name: str, *arguments: PlaceLike) -> CallResult:
         """Makes a call of docs/MONITOR.md as the host, with a0 to a4 as `arguments`, and returns the answer. Raises NotReached if a running
         enclave never gives one."""
         if name not in names.Call.__members__:
@@ -150,7 +142,7 @@ class Machine(HostStepper):
         values = {"a%d" % n: self.program.place(it).address for n, it in enumerate(arguments)}
         return self.ecall(**values, a6=names.Call[name].value, a7=names.KEY)
 
-    def ecall(self, **registers: int) -> Answer:
+    def ecall(self, **registers: int) -> CallResult:
         """Executes an `ecall` of the host with these registers, and returns the answer. It serves calls that docs/MONITOR.md does not have: a0 of 0
         counts as `done` with a1, another a0 as `refused` with a0."""
         self.enter(registers)
@@ -177,7 +169,7 @@ class Machine(HostStepper):
 
     def write(self, place: PlaceLike, data: bytes) -> None:
         """Writes bytes, whatever the access rights are. Raises RvlookError outside the RAM."""
-        self.do(*pokes(self.program.place(place).address, data))
+        self.do(*poke_commands(self.program.place(place).address, data))
 
     def view(self, structure: str, place: PlaceLike) -> View:
         """Returns a structure at a place, whose members are attributes: `view("request", "window_base").pin = b"27182818"`. Raises SymbolError."""

@@ -3,16 +3,13 @@ from __future__ import annotations
 
 import re
 from dataclasses import dataclass
-from typing import TYPE_CHECKING, Optional, Tuple, Union
+from typing import Optional, Tuple, Union
 
 from rvlook.errors import SymbolError
-from rvlook.image.types import Type
-from rvlook.protocol.lines import no_symbol
+from rvlook.image.types import Type, Types
+from rvlook.protocol.commands import no_symbol
 from rvlook.protocol.nearest import nearest
-
-if TYPE_CHECKING:
-    from rvlook.image.types import Types
-    from rvlook.protocol.symbols import Symbols
+from rvlook.protocol.symbols import Symbols
 
 PlaceLike = Union[int, str]  # an address; or a name as docs/TESTS.md, Places, has it
 UNTYPED = Type("bytes", 0)
@@ -76,7 +73,7 @@ class Places:
 
     def of_line(self, where: str) -> Place:
         """Returns the place of the first instruction of a source line. Raises SymbolError, with the next line that has code."""
-        rows = [(source, address) for unit in self.symbols.units.units for address, source in unit.rows if source]
+        rows = [(source, address) for unit in self.symbols.units for address, source in unit.rows if source]
         found = min((address for source, address in rows if source == where), default=None)
         if found is None:
             file, number = where.rsplit(":", 1)

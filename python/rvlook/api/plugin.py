@@ -14,7 +14,7 @@ from rvlook.api.host import EnclaveHandle
 from rvlook.api.machine import Machine
 from rvlook.api.program import Constants, Program, load
 from rvlook.errors import RvlookError
-from rvlook.protocol.nearest import nearest
+from rvlook.protocol.nearest import meant
 
 MARKERS = (
     "program(path, **options): run the test over this program, an ELF file or a folder that examples/build builds; the options are those of load()",
@@ -43,8 +43,8 @@ def pytest_addoption(parser: pytest.Parser) -> None:
 
 def pytest_configure(config: pytest.Config) -> None:
     """Declares the markers."""
-    for it in MARKERS:
-        config.addinivalue_line("markers", it)
+    for marker in MARKERS:
+        config.addinivalue_line("markers", marker)
 
 
 def pytest_generate_tests(metafunc: pytest.Metafunc) -> None:
@@ -100,8 +100,8 @@ def program(request: pytest.FixtureRequest) -> Program:
 def machine(request: pytest.FixtureRequest, program: Program) -> Iterator[Machine]:
     """A machine at reset. The markers `schedules` and `interrupts` set its schedule and its interrupts."""
     given = request.node.callspec.params if hasattr(request.node, "callspec") else {}
-    with program.start(given.get("rvlook_schedules"), given.get("rvlook_interrupts")) as it:
-        yield it
+    with program.start(given.get("rvlook_schedules"), given.get("rvlook_interrupts")) as machine:
+        yield machine
 
 
 @pytest.fixture
@@ -133,8 +133,7 @@ def pytest_pyfunc_call(pyfuncitem: pytest.Function) -> Optional[bool]:
 def search(item: Any, finder: str, *arguments: Any, **options: Any) -> None:
     """Runs a finder over the program of a test. Raises Found for findings, and fails the test if the search did not finish or checked nothing."""
     if finder not in FINDERS:
-        near = nearest(finder, FINDERS)
-        raise RvlookError("no finder '%s'; %s" % (finder, "did you mean '%s'?" % near if near else "the finders are " + ", ".join(FINDERS)))
+        raise RvlookError("no finder '%s'%s" % (finder, meant(finder, FINDERS, "the finders are " + ", ".join(FINDERS))))
     if finder in FILES:
         files, rest = arguments[:FILES[finder]], arguments[FILES[finder]:]
         found = FINDERS[finder](*(path_of(item._request, it) for it in files), *rest, **options)

@@ -6,7 +6,7 @@ import io
 import os
 from dataclasses import replace
 from functools import cached_property
-from typing import Dict, Optional, Sequence, TYPE_CHECKING, Union
+from typing import Dict, Optional, Sequence, Union
 
 from rvlook.api.machine import Machine
 from rvlook.api.places import Place, PlaceLike, Places
@@ -17,14 +17,11 @@ from rvlook.image.symbols import symbols_from
 from rvlook.image.types import Type, Types, types_of
 from rvlook.output.printer import Printer
 from rvlook.page.page import page_template, show_page
-from rvlook.protocol.lines import error_text, resolved_script
+from rvlook.protocol.commands import error_text, resolved_script
 from rvlook.protocol.memory_map import MONITOR_END
-from rvlook.protocol.nearest import nearest
+from rvlook.protocol.nearest import meant
 from rvlook.protocol.run import Run, Setup, run_of
 from rvlook.protocol.schedule import LONGEST, alternating, random_schedule
-
-if TYPE_CHECKING:
-    from rvlook.protocol.inputs import Image, ScriptLine
 
 SEED = "seed "  # the prefix of a random schedule
 RAM = 1 << 20  # bytes
@@ -40,9 +37,7 @@ class Constants:
     def __getattr__(self, name: str) -> int:
         if name.startswith("__"):
             raise AttributeError(name)
-        near = nearest(name, self.__dict__)
-        raise SymbolError("no constant '%s'; %s" % (
-            name, "did you mean '%s'?" % near if near else "a compiler leaves out an enumeration that no code uses"))
+        raise SymbolError("no constant '%s'%s" % (name, meant(name, self.__dict__, "a compiler leaves out an enumeration that no code uses")))
 
 
 class Page:
@@ -50,7 +45,7 @@ class Page:
 
     def __init__(self, run: Run) -> None:
         text = io.StringIO()
-        show_page(run, run.setup.symbols, Printer(False, text), page_template(), [run.setup.image.name], [])
+        show_page(run, run.setup.symbols, Printer(as_json=False, stream=text), page_template(), [run.setup.image.name], [])
         self.html = text.getvalue()
 
     def _repr_html_(self) -> str:
@@ -104,8 +99,7 @@ class Program:
     def structure(self, name: str) -> Type:
         """Returns the type of a structure. Raises SymbolError, with the most similar name."""
         if name not in self.types.structures:
-            near = nearest(name, self.types.structures)
-            raise SymbolError("no structure '%s'; %s" % (name, "did you mean '%s'?" % near if near else "build the program with -g"))
+            raise SymbolError("no structure '%s'%s" % (name, meant(name, self.types.structures, "build the program with -g")))
         return self.types.structures[name]
 
     def page(self) -> Page:
@@ -136,7 +130,7 @@ def load(image: Union[str, os.PathLike[str]], *, monitor: Optional[bool] = None,
     data = image_of(os.fspath(image))
     names = symbols_from(symbols, data)
     lines = resolved_script(data.script + script_of(script), names)
-    setup = Setup(data, lines, needs_monitor(data, lines) if monitor is None else monitor, ram, "auto", harts, steps, "", names)
+    setup = Setup(data, lines, bool(reason_for_monitor(data, lines)) if monitor is None else monitor, ram, "auto", harts, steps, "", names)
     if harts > 1 and not setup.monitor:
         raise RvlookError("two harts require the monitor of rvbench; load the program with monitor=True")
     if boot:
@@ -146,8 +140,3 @@ def load(image: Union[str, os.PathLike[str]], *, monitor: Optional[bool] = None,
         raise RvlookError("\n".join(error_text(line, reply, names) for line, reply in run.errors))
     files = [it for name, path in (("--symbols", symbols), ("--script", script)) if path is not None for it in (name, path)]
     return Program(run, files, boot)
-
-
-def needs_monitor(image: Image, lines: tuple[ScriptLine, ...]) -> bool:
-    """Returns whether an image seems to be made for the monitor."""
-    return bool(reason_for_monitor(image, lines))

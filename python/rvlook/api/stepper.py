@@ -1,21 +1,20 @@
 """Moves a machine forward: to a breakpoint, a watched byte, an endless loop or a limit, by one hart or by a schedule of two."""
 from __future__ import annotations
 
+from dataclasses import replace
 from itertools import chain, islice
-from typing import Dict, Iterable, Iterator, List, NamedTuple, Optional, Sequence, Tuple, TYPE_CHECKING
+from typing import Dict, Iterable, Iterator, List, NamedTuple, Optional, Sequence, Tuple
 
 from rvlook.api.values import NotReached, Trap
 from rvlook.errors import RvlookError
 from rvlook.output.printer import place_text
+from rvlook.protocol.bench import Closing
 from rvlook.protocol.console import ENDED, WRITTEN, Console, consoles_of
-from rvlook.protocol.messages import line_error
-from rvlook.protocol.replies import Ran, Trap as RanTrap, step_of
-from rvlook.protocol.run import EQUAL
+from rvlook.protocol.commands import line_error
+from rvlook.protocol.replies import Ran, RanTrap, step_of
+from rvlook.protocol.run import EQUAL, Setup
 from rvlook.protocol.schedule import LONGEST, turns_of
 from rvlook.protocol.timeline import Action, Timeline
-
-if TYPE_CHECKING:
-    from rvlook.protocol.run import Setup
 
 LIMIT = 10000000  # steps of one call, unless the caller gives another limit
 LIMIT_BY_SCHEDULE = 200000  # the same with a schedule, whose steps take longer
@@ -46,7 +45,7 @@ class Snapshot(NamedTuple):
     calls: Tuple[Tuple[int, MadeCall], ...] = ()  # of each hart, the call under way
 
 
-class Stepper:
+class Stepper(Closing):
     """A machine that can be moved forward. `timeline` has the simulator and all that was done since reset."""
 
     def __init__(self, setup: Setup, schedule: str, at: Optional[Snapshot]) -> None:
@@ -140,7 +139,7 @@ class Stepper:
         self.ask()
         self.set_stops(places, watched)
         left, part, turns, pause = self.most(limit), PART, 0, TURNS
-        ran = Ran(0, "", "", "", "done", None)
+        ran = Ran(steps=0, pc="", mode="", world="", why="done", trap=None)
         self.trap = None
         while left > 0:
             is_long = bool(self.schedule) and turns == pause
@@ -154,11 +153,11 @@ class Stepper:
                     break
                 continue
             if ran.why == "break" or int(ran.pc, 16) in places:  # a `run` whose last step leads to a breakpoint replies `done`
-                ran = ran_with(ran, "break")
+                ran = replace(ran, why="break")
                 break
             turns, part = turns + 1, part * MORE
             if self.is_halted(ran, is_long or turns % TURNS == 0):
-                ran = ran_with(ran, "halted")
+                ran = replace(ran, why="halted")
                 break
         self.read_consoles()
         return ran
@@ -175,7 +174,8 @@ class Stepper:
 
     def most(self, limit: Optional[int]) -> int:
         """Returns the most steps of one call: the limit of the caller, or the default."""
-        return limit if limit is not None else LIMIT_BY_SCHEDULE if self.schedule else LIMIT
+        default = LIMIT_BY_SCHEDULE if self.schedule else LIMIT
+        return default if limit is None else limit
 
     def turn(self, most: int) -> Ran:
         """Does at most this many steps of the selected hart. With a schedule, the steps are of its next turn, which may end before."""
@@ -202,8 +202,7 @@ class Stepper:
         """Does turns of the schedule in long exchanges, up to the turn that leads to a stop; another machine finds it. Returns the number of
         steps, which is at most `most`."""
         done = 0
-        ahead = self.copied()
-        try:
+        with self.timeline.again(self.steps) as ahead:
             ahead.set_stops(list(self.timeline.stops))
             while True:
                 batch = list(islice(self.turns, LONG_BATCH))
@@ -215,8 +214,6 @@ class Stepper:
                 done += sum(it.steps for it in rans[:stop])
                 if stop < len(batch) or self.are_all_in_loops():
                     return done
-        finally:
-            ahead.close()
 
     def step_by(self, digits: str) -> None:
         """Does a step of the hart that each digit names, as the schedule has it, and keeps the last trap."""
@@ -224,7 +221,7 @@ class Stepper:
         for n in range(0, len(parts), LONG_BATCH):
             begin, batch = self.timeline.position, parts[n:n + LONG_BATCH]
             replies = self.do(*["sched " + it for it in batch])
-            last = max((k for k, it in enumerate(replies) if not all(line.endswith("trap=-") for line in it)), default=None)
+            last = max((number for number, it in enumerate(replies) if not all(line.endswith("trap=-") for line in it)), default=None)
             if last is not None:
                 self.trap = self.last_trap(begin + LONGEST * last, batch[last])
         if digits:
@@ -233,17 +230,10 @@ class Stepper:
 
     def last_trap(self, position: int, digits: str) -> Optional[Trap]:
         """Returns the last trap in the steps after a position. Another machine does them one by one, since the reply of `sched` has no order."""
-        ahead = self.timeline.again(position)
-        try:
+        with self.timeline.again(position) as ahead:
             replies = ahead.do_all([line for it in digits for line in ("hart " + it, "step 1")])
-        finally:
-            ahead.close()
         traps = [it.trap for it in (step_of(reply[0]) for reply in replies[1::2]) if it.trap]
         return trap_from(traps[-1])
-
-    def copied(self) -> Timeline:
-        """Returns another simulator at this point, without breakpoints and watchpoints."""
-        return Timeline(self.setup, self.timeline.past, self.hart)
 
     def took(self, ran: Ran) -> Ran:
         """Keeps the trap of steps that were done."""
@@ -265,11 +255,8 @@ class Stepper:
 
     def traps_forever(self) -> bool:
         """Returns whether the selected hart traps in the same way at each step. Another machine finds out, since a step here would count."""
-        ahead = self.copied()
-        try:
+        with self.timeline.again(self.steps) as ahead:
             replies = ahead.do_all(["step 1"] * EQUAL)
-        finally:
-            ahead.close()
         return "trap=-" not in replies[0][0] and all(it == replies[0] for it in replies)
 
     def fail(self, what: str, ran: Ran) -> None:
@@ -309,14 +296,9 @@ def runs_of(timeline: Timeline, turns: Sequence[Tuple[int, int]]) -> List[Ran]:
     return [step_of(it.decode()) for it in timeline.bench.block(text.encode(), 2 * len(turns)).splitlines()[1::2]]
 
 
-def trap_from(it: RanTrap) -> Trap:
+def trap_from(trap: RanTrap) -> Trap:
     """Returns the trap of a reply, as numbers."""
-    return Trap(int(it.cause, 16), int(it.value, 16))
-
-
-def ran_with(ran: Ran, why: str) -> Ran:
-    """Returns the result of a run with another reason."""
-    return Ran(ran.steps, ran.pc, ran.mode, ran.world, why, ran.trap)
+    return Trap(int(trap.cause, 16), int(trap.value, 16))
 
 
 def turns_after(schedule: str, count: int) -> Iterator[Tuple[int, int]]:
@@ -328,8 +310,3 @@ def turns_after(schedule: str, count: int) -> Iterator[Tuple[int, int]]:
     if left:
         yield hart, left
     yield from turns
-
-
-def pokes(address: int, data: bytes) -> List[str]:
-    """Returns the commands that write bytes."""
-    return ["poke %x %02x" % (address + n, it) for n, it in enumerate(data)]

@@ -14,9 +14,9 @@ def structure(program: Program, name: str, **members: Any) -> strategies.SearchS
     Raises SymbolError for an unknown structure or member."""
     kind = program.structure(name)
     own = {member: value_of(it) for member, (_, it) in kind.members.items()}
-    for member, it in members.items():
+    for member, given in members.items():
         kind.member(member)
-        own[member] = it if isinstance(it, strategies.SearchStrategy) else strategies.just(it)
+        own[member] = given if isinstance(given, strategies.SearchStrategy) else strategies.just(given)
     return strategies.fixed_dictionaries(own)
 
 

@@ -4,16 +4,14 @@ from __future__ import annotations
 import html
 import io
 from dataclasses import dataclass
-from typing import Iterator, Optional, TYPE_CHECKING
+from typing import Iterator, Optional
 
+from rvlook.access.map import Event
 from rvlook.access.map_text import changed_rows, print_event
 from rvlook.errors import RvlookError
 from rvlook.output.printer import Printer
 from rvlook.protocol import names
-
-if TYPE_CHECKING:
-    from rvlook.access.map import Event
-    from rvlook.protocol.symbols import Symbols
+from rvlook.protocol.symbols import Symbols
 
 EXITED, STOPPED, INTERRUPTED = range(3)  # a0 of the host after an enclave has exited
 LEFT = ("exited", "stopped", "interrupted")
@@ -49,7 +47,7 @@ class Ending:
 
 
 @dataclass(frozen=True)
-class Answer:
+class CallResult:
     """The answer of the monitor to a call of the host. `how` is `done`, `refused`, `exited`, `stopped`, `interrupted`, or `running` if the enclave
     has not exited yet. `value` is a1 as a number; for `refused` it is the name of the status, or a0 if the status has none."""
     how: str
@@ -63,36 +61,36 @@ class Answer:
     __repr__ = __str__
 
 
-def answer_of(is_entered: bool, a0: int, a1: int) -> Answer:
+def answer_of(is_entered: bool, a0: int, a1: int) -> CallResult:
     """Decodes a0 and a1 of the host after a call; `is_entered` says whether the call entered an enclave."""
     if a0 in names.STATUSES:
-        return Answer("refused", names.STATUSES[a0])
+        return CallResult("refused", names.STATUSES[a0])
     if is_entered and a0 < len(LEFT):
-        return Answer(LEFT[a0], 0 if a0 == INTERRUPTED else a1)
-    return Answer("done", a1) if a0 == 0 else Answer("refused", a0)
+        return CallResult(LEFT[a0], 0 if a0 == INTERRUPTED else a1)
+    return CallResult("done", a1) if a0 == 0 else CallResult("refused", a0)
 
 
-def stopped(value: int) -> Answer:
+def stopped(value: int) -> CallResult:
     """Returns the answer of an enclave that stops with a value; it can be resumed."""
-    return Answer("stopped", value)
+    return CallResult("stopped", value)
 
 
-def exited(value: int) -> Answer:
+def exited(value: int) -> CallResult:
     """Returns the answer of an enclave that exits with a value."""
-    return Answer("exited", value)
+    return CallResult("exited", value)
 
 
-def interrupted() -> Answer:
+def interrupted() -> CallResult:
     """Returns the answer of an enclave that the timer interrupted; it can be resumed."""
-    return Answer("interrupted")
+    return CallResult("interrupted")
 
 
-def refused(why: str) -> Answer:
+def refused(why: str) -> CallResult:
     """Returns the answer of a monitor that refuses a call with this status (docs/MONITOR.md), such as `refused("BadState")`. Raises ValueError for
     another name."""
     if why not in names.STATUSES.values():
         raise ValueError("no status '%s'; the statuses are %s" % (why, ", ".join(names.STATUSES.values())))
-    return Answer("refused", why)
+    return CallResult("refused", why)
 
 
 class Rights(str):
@@ -115,7 +113,7 @@ class AccessMap:
 
     def __str__(self) -> str:
         text = io.StringIO()
-        print_event(Printer(False, text), self.event, self.symbols)
+        print_event(Printer(as_json=False, stream=text), self.event, self.symbols)
         return text.getvalue()
 
     def __eq__(self, other: object) -> bool:

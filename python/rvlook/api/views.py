@@ -1,25 +1,16 @@
 """Views of memory by C types: numbers, bytes, lists, and structures whose members are attributes."""
 from __future__ import annotations
 
-from typing import Any, List, Mapping, Protocol, TYPE_CHECKING
+from typing import Any, List, Mapping, TYPE_CHECKING
 
 from rvlook.errors import RvlookError
+from rvlook.image.types import Type
 
 if TYPE_CHECKING:
-    from rvlook.image.types import Type
+    from rvlook.api.machine import Machine
 
 
-class Memory(Protocol):
-    """A memory of bytes."""
-
-    def read(self, place: int, size: int) -> bytes:
-        """Reads bytes."""
-
-    def write(self, place: int, data: bytes) -> None:
-        """Writes bytes."""
-
-
-def value_of(memory: Memory, address: int, kind: Type) -> Any:
+def value_of(memory: Machine, address: int, kind: Type) -> Any:
     """Reads a value of a type: a number, bytes, a list of values, or a view of a structure."""
     if kind.members:
         return View(memory, address, kind)
@@ -48,11 +39,11 @@ class View:
     """A structure in memory. Its members are attributes; each use of one reads or writes the memory of the machine. `view["pin"]` is the address
     of a member."""
     __slots__ = ("_memory", "_address", "_type")
-    _memory: Memory
+    _memory: Machine
     _address: int
     _type: Type
 
-    def __init__(self, memory: Memory, address: int, kind: Type) -> None:
+    def __init__(self, memory: Machine, address: int, kind: Type) -> None:
         for name, value in (("_memory", memory), ("_address", address), ("_type", kind)):
             object.__setattr__(self, name, value)
 

@@ -1,15 +1,12 @@
 """Finds what last stored a byte, by a repetition of the run with a watchpoint."""
 from __future__ import annotations
 
-from typing import Iterable, Iterator, List, Optional, Sequence, Tuple, TYPE_CHECKING
+from typing import Iterable, Iterator, List, Optional, Sequence, Tuple
 
 from rvlook.output.printer import place_text
 from rvlook.protocol.instructions import instruction_of
-from rvlook.protocol.run import MOST_STEPS
-from rvlook.protocol.timeline import Action, ScheduledSteps, Timeline, actions_between
-
-if TYPE_CHECKING:
-    from rvlook.protocol.run import Setup
+from rvlook.protocol.run import Setup
+from rvlook.protocol.timeline import MOST_STEPS, Action, ScheduledSteps, Timeline, actions_between
 
 MOST_ACCESSES = 50  # that are examined, from the last one on
 
@@ -30,18 +27,15 @@ def writer_of(setup: Setup, past: Sequence[Action], address: int) -> Optional[st
 def accesses(setup: Setup, past: Iterable[Action], address: int) -> List[Access]:
     """Returns the accesses to a byte, in the order of the run."""
     found: List[Access] = []
-    again = Timeline(setup)
-    try:
+    with Timeline(setup) as again:
         again.do("watch %x" % address)
-        for it in past:
-            if isinstance(it, ScheduledSteps):
-                found += [(step, False) for step in watched_steps(again, it)]
+        for action in past:
+            if isinstance(action, ScheduledSteps):
+                found += [(step, False) for step in watched_steps(again, action)]
             else:
-                again.do_all([*it.chosen, it.line])
-                if it.line.startswith("poke") and int(it.line.split()[1], 16) == address:
+                again.do_all([*action.chosen, action.text])
+                if action.text.startswith("poke") and int(action.text.split()[1], 16) == address:
                     found.append((again.position, True))
-    finally:
-        again.close()
     return found
 
 
@@ -68,12 +62,9 @@ def store_at(setup: Setup, past: Iterable[Action], step: int) -> Optional[str]:
     """Returns the instruction of a step as text if it is a store; else None."""
     before = tuple(actions_between(past, -1, step - 1))
     hart = next((it.last for it in actions_between(past, step - 1, step) if isinstance(it, ScheduledSteps)), 0)
-    timeline = Timeline(setup, before, hart)
-    try:
+    with Timeline(setup, before, hart) as timeline:
         pc = timeline.ask("regs")[0][32][3:]
         done = instruction_of(timeline.ask("dis " + pc)[0][0].encode())
         if done is None or done.memory is None or done.memory.kind != "w":
             return None
         return "%s at %s, step %d, in %s" % (done.abi, place_text(pc, setup.symbols), step, timeline.worlds[hart])
-    finally:
-        timeline.close()

@@ -26,9 +26,8 @@ import tempfile
 from dataclasses import dataclass
 from typing import Any, List, NoReturn, Sequence
 
-from rvlook.build.linking import Script, link, report_lacking, report_stacks
+from rvlook.build.linking import Script, install_elf, install_outputs, link, report_lacking, report_stacks
 from rvlook.build.objects import Workshop
-from rvlook.build.outputs import install_elf, install_outputs
 from rvlook.build.programs import DROP_UNUSED, compile_monitor, compile_programs, has, is_monitor
 from rvlook.build.toolchain import BuildError, toolchain_of
 from rvlook.errors import print_plain
@@ -150,8 +149,8 @@ def link_folders(workshop: Workshop, folders: Folders, given: str) -> str:
 
 def main(arguments: Sequence[str], examples: str) -> int:
     """Builds a folder with these arguments; returns the exit status: 0, or 1 after an error. `examples` is the folder of the examples."""
-    for it in (signal.SIGTERM, signal.SIGHUP):
-        signal.signal(it, stop)
+    for number in (signal.SIGTERM, signal.SIGHUP):
+        signal.signal(number, stop)
     for stream in (sys.stdout, sys.stderr):
         if isinstance(stream, io.TextIOWrapper):
             stream.reconfigure(errors="backslashreplace")

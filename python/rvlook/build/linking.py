@@ -1,16 +1,19 @@
-"""Links the objects to an ELF file, explains why that failed, and reports the stacks of the programs."""
+"""Links the objects to an ELF file, explains why that failed, reports the stacks of the programs, and writes what a build gives."""
 from __future__ import annotations
 
 import os
 import re
 from dataclasses import dataclass
-from typing import Sequence, Tuple
+from pathlib import Path
+from typing import Iterator, Sequence, Tuple
 
 from rvlook.build.objects import NamedSymbol, Workshop, symbols_in
-from rvlook.build.toolchain import BuildError, printable, run
+from rvlook.build.toolchain import BuildError, output_of, printable, run
 from rvlook.errors import print_plain
 from rvlook.escapes import visible
-from rvlook.image.lacking import lacking_texts
+from rvlook.image.detect import lacking_texts, sections_of
+from rvlook.image.files import digits_of
+from rvlook.output.files import replace_file
 from rvlook.protocol.inputs import Image
 
 TOO_SMALL = re.compile(r"region [`']([A-Z]*)'.*overflowed by ([0-9]+) bytes")
@@ -19,7 +22,9 @@ LINKED = ("-nostdlib", "-Wl,-n,-X")
 STACKS = {"host": "HOST", "application": "REGION", "runtime": "REGION"}  # the programs, and the part of link.ld that has their stacks
 BAD_NAME = re.compile(rb"[\x01-\x1f\x7f]")
 STRING_TABLE = 3  # a type of a section (ELF, Section Headers)
-NAMES_SIZE, HEADERS_AT, ENTRY_SIZE = 4, 0x20, 0x2E  # ELF32: bytes of a word, and where the header has the place and the size of section headers
+FUNCTION = re.compile(r"[0-9a-f]+ <(.*)>:\Z")
+CODE = re.compile(r"[0-9a-f]+:")
+DEBUGGING = "N"  # the kind of a symbol that nm shows and no program has
 
 
 @dataclass(frozen=True)
@@ -60,15 +65,8 @@ def reason(output: str, script: Script) -> str:
 def check_names(path: str) -> None:
     """Checks that no name in the string tables of an ELF32 file has a control character: a line break would add lines to what nm and objdump
     print. Raises BuildError."""
-    with open(path, "rb") as file:
-        data = file.read()
-
-    def word(at: int) -> int:
-        return int.from_bytes(data[at:at + NAMES_SIZE], "little")
-
-    size, count = (int.from_bytes(data[at:at + 2], "little") for at in (ENTRY_SIZE, ENTRY_SIZE + 2))
-    headers = (word(HEADERS_AT) + size * it for it in range(count))
-    tables = (data[word(at + 16):word(at + 16) + word(at + 20)] for at in headers if word(at + 4) == STRING_TABLE)
+    data = Path(path).read_bytes()
+    tables = (data[it.offset:it.offset + it.size] for it in sections_of(data) if it.kind == STRING_TABLE)
     bad = next((name for table in tables for name in table.split(b"\0") if BAD_NAME.search(name)), None)
     if bad is not None:
         raise BuildError("error: the symbol '%s' has a control character; rename it" % visible(bad.decode("utf-8", "replace")))
@@ -89,9 +87,8 @@ def report_stacks(workshop: Workshop, path: str, least: int) -> None:
 
 def report_lacking(path: str, name: str) -> None:
     """Warns of instructions that the machine does not have; `name` is that of the program in the warning."""
-    with open(path, "rb") as file:
-        for it in lacking_texts(Image(visible(name), b"", file.read())):
-            print_plain("build: warning: " + it)
+    for text in lacking_texts(Image(visible(name), b"", Path(path).read_bytes())):
+        print_plain("build: warning: " + text)
 
 
 def stack_size(symbols: Sequence[NamedSymbol], name: str) -> int | None:
@@ -99,3 +96,48 @@ def stack_size(symbols: Sequence[NamedSymbol], name: str) -> int | None:
     addresses = {it.name: int(it.address, 16) for it in symbols if it.address}
     bottom, top = addresses.get(name + "_stack_bottom", 0), addresses.get(name + "_stack_top", 0)
     return top - bottom if bottom and top else None
+
+
+def install_file(path: str, data: bytes) -> None:
+    """Replaces a file, never the target of a symbolic link. Raises BuildError; a device or a folder is refused."""
+    if os.path.exists(path) and not os.path.islink(path) and not os.path.isfile(path):
+        raise BuildError("error: '%s' is not a regular file" % visible(path))
+    try:
+        replace_file(path, data)
+    except OSError as fault:
+        raise BuildError("error: cannot write '%s': %s" % (visible(path), fault.strerror)) from None
+
+
+def install_elf(elf: str, path: str) -> None:
+    """Writes the ELF file with symbols and source lines to `path`."""
+    install_file(path, Path(elf).read_bytes())
+
+
+def install_outputs(workshop: Workshop, elf: str, kept: str | None) -> None:
+    """Writes symbols, listing and image into the folder, and the ELF file to `kept`. Strips the ELF file."""
+    symbols = "".join("%s  %s\n" % (it.address, it.name) for it in symbols_in(workshop.toolchain, elf, "-n") if it.kind != DEBUGGING and it.address)
+    listing = output_of([*workshop.toolchain.disassemble, "-d", "-M", "no-aliases,numeric", elf])
+    install_file(os.path.join(workshop.folder, "symbols"), symbols.encode("utf-8", "surrogateescape"))
+    install_file(os.path.join(workshop.folder, "listing"), (symbols + "".join(listing_of(listing))).encode("utf-8", "surrogateescape"))
+    if kept:
+        install_elf(elf, kept)
+    output_of([*workshop.toolchain.object_copy, "--strip-all", elf])
+    install_file(os.path.join(workshop.folder, "image"), digits_of(Path(elf).read_bytes()))
+
+
+def listing_of(text: str) -> Iterator[str]:
+    """Yields the lines of the listing from the output of objdump: an empty line and the name before each function, then address, bytes and
+    instruction. The tools group the four bytes of an instruction differently."""
+    name = None
+    for line in text.split("\n"):
+        fields = line.split()
+        function = FUNCTION.match(line)
+        if function:
+            name = function[1]
+        elif CODE.match(line) and len(fields) > 2:
+            is_word = len(fields[1]) == 8
+            code = bytes.fromhex(fields[1])[::-1].hex() if is_word else "".join(fields[1:5])
+            words = fields[2:] if is_word else fields[5:]
+            if words and words[0][0].isalpha():
+                yield ("\n%s:\n" % name if name is not None else "") + "%s  %s  %s\n" % (fields[0][:8], code, " ".join(words))
+                name = None

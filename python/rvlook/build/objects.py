@@ -30,13 +30,6 @@ def symbols_in(toolchain: Toolchain, path: str, *options: str) -> list[NamedSymb
     return [NamedSymbol(it[1], it[2], it[3]) for it in matches if it]
 
 
-@dataclass(frozen=True)
-class Names:
-    """The global names that objects define, and those that they use and none of them defines."""
-    defined: frozenset[str]
-    lacking: frozenset[str]
-
-
 @dataclass
 class Workshop:
     """The folder of the sources, the shared folder, a temporary folder of the objects, and the compiler with the options of CFLAGS."""
@@ -68,16 +61,16 @@ class Workshop:
 
     def string_functions(self, objects: Sequence[str], name: str) -> list[str]:
         """Returns the object of the string functions, of this name, if the objects use one that none of them defines; else nothing."""
-        if STRING_FUNCTIONS.isdisjoint(self.names(objects).lacking):
+        if STRING_FUNCTIONS.isdisjoint(self.names(objects)[1]):
             return []
         options = ("-O1", "-fno-lto", *APART, *self.toolchain.of_string_functions)
         return [self.compile(os.path.join(self.shared, "string.c"), name, *options)]
 
-    def names(self, objects: Iterable[str]) -> Names:
-        """Returns the global names of objects."""
+    def names(self, objects: Iterable[str]) -> tuple[set[str], set[str]]:
+        """Returns the global names that objects define, and those that they use and none of them defines."""
         symbols = [symbol for path in objects for symbol in self.symbols(path)]
-        defined = frozenset(it.name for it in symbols if it.address)
-        return Names(defined, frozenset(it.name for it in symbols if not it.address) - defined)
+        defined = {it.name for it in symbols if it.address}
+        return defined, {it.name for it in symbols if not it.address} - defined
 
     def symbols(self, path: str) -> Sequence[NamedSymbol]:
         """Returns the global symbols of an object that does not change any more."""

@@ -104,13 +104,13 @@ def separate(workshop: Workshop, programs: Programs) -> None:
     """Moves the enclave to sections that begin with .enclave. A name that both sides define, such as memcpy, becomes local to the enclave.
 
     An enclave cannot access memory of the host: raises BuildError if it uses a function that only the host has."""
-    of_host, of_enclave = workshop.names(programs.host), workshop.names(programs.enclave)
+    (of_host, _), (of_enclave, lacking) = workshop.names(programs.host), workshop.names(programs.enclave)
     for path in programs.enclave:
         workshop.copy_object(path, path, "--prefix-alloc-sections=.enclave")
-    missing = sorted(of_enclave.lacking & of_host.defined)
+    missing = sorted(lacking & of_host)
     if missing:
         raise BuildError("error: the enclave uses functions that only the host has: %s" % ", ".join(map(visible, missing)))
-    both = sorted(of_enclave.defined & of_host.defined)
+    both = sorted(of_enclave & of_host)
     if both:
         merged = workshop.merge(programs.enclave, "enclave.o")
         workshop.copy_object(merged, merged, *("--localize-symbol=" + it for it in both))

@@ -35,7 +35,8 @@ class Toolchain:
 
 def toolchain_of(name: str) -> Toolchain:
     """Returns the toolchain `clang` or `gcc`; with an empty name clang if it is installed, else gcc. Raises BuildError if a program is missing."""
-    return clang() if (name or ("clang" if shutil.which("clang") else "gcc")) == "clang" else gcc()
+    is_clang = name == "clang" or not name and shutil.which("clang")
+    return clang() if is_clang else gcc()
 
 
 def clang() -> Toolchain:

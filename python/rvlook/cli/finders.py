@@ -1,20 +1,17 @@
 """The subcommands that compare or examine the activations of an enclave."""
 from __future__ import annotations
 
-from typing import TYPE_CHECKING
+from argparse import Namespace
 
+from rvlook.cli.opening import opened, opened_monitored, options_from, refuse_empty_part
+from rvlook.errors import UsageError
 from rvlook.finders.leak_search import Leak, LeakOptions, values_in
 from rvlook.finders.leak_text import show_leak
-from rvlook.finders.timer import show_timer
+from rvlook.finders.timer import TimerOptions, show_timer
 from rvlook.finders.window import WindowOptions
 from rvlook.finders.window_text import show_window
 from rvlook.image.variables import variables_of
 from rvlook.symbolic.one_path import is_hidden
-from rvlook.cli.opening import opened, opened_monitored, refuse_empty_part
-from rvlook.errors import UsageError
-
-if TYPE_CHECKING:
-    from argparse import Namespace
 
 
 def do_window(arguments: Namespace) -> None:
@@ -22,8 +19,7 @@ def do_window(arguments: Namespace) -> None:
     if arguments.public and not arguments.at:
         raise UsageError("--public requires --at PLACE")
     run, _, printer = opened_monitored(arguments)
-    options = WindowOptions(arguments.at, arguments.slot, arguments.public or ())
-    show_window(run, variables_of(arguments.symbols, run.setup.image), printer, options, arguments.findings)
+    show_window(run, variables_of(arguments.symbols, run.setup.image), printer, options_from(WindowOptions, arguments), arguments.findings)
 
 
 def do_leak(arguments: Namespace) -> None:
@@ -35,12 +31,11 @@ def do_leak(arguments: Namespace) -> None:
         raise UsageError("leak requires two secrets (ONE TWO) or --tries N; see 'rvlook leak --help'")
     run, _, printer = opened(arguments)
     values = [] if arguments.tries is not None else values_in(arguments.secrets)
-    options = LeakOptions(arguments.at, arguments.slot, arguments.public or (), arguments.strict, values, arguments.tries, arguments.first,
-                          arguments.last, arguments.seed, arguments.seconds, arguments.jobs)
+    options = options_from(LeakOptions, arguments, is_strict=arguments.strict, values=values)
     show_leak(Leak(run, options, is_hidden), printer, arguments.findings)
 
 
 def do_timer(arguments: Namespace) -> None:
     """Runs `timer`."""
     run, _, printer = opened_monitored(arguments)
-    show_timer(run, printer, arguments.slot, arguments.every, arguments.findings)
+    show_timer(run, printer, options_from(TimerOptions, arguments), arguments.findings)

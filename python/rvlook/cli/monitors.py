@@ -1,17 +1,14 @@
 """The subcommands over an author's monitor."""
 from __future__ import annotations
 
-from typing import TYPE_CHECKING
+from argparse import Namespace
 
 from rvlook.monitors.conform import ScriptPlan
-from rvlook.monitors.conform_text import LEAST_RAM, ConformOutput, MonitorFiles, show_conform
-from rvlook.monitors.guard_runs import GuardPlan
+from rvlook.monitors.conform_text import LEAST_RAM, MonitorFiles, show_conform
+from rvlook.monitors.guard import GuardPlan
 from rvlook.monitors.guard_text import show_guard
 from rvlook.monitors.ranges_file import ownership_of
 from rvlook.output.printer import Printer
-
-if TYPE_CHECKING:
-    from argparse import Namespace
 
 
 def files_of(arguments: Namespace) -> MonitorFiles:
@@ -26,8 +23,7 @@ def do_conform(arguments: Namespace) -> None:
     has_ram = any(it is not None for it in (arguments.ram, arguments.boot, arguments.memory))
     plan = ScriptPlan(arguments.tries, arguments.items, str(arguments.seed), arguments.only, arguments.seconds, arguments.jobs, arguments.deep,
                       has_ram)
-    output = ConformOutput(arguments.scripts, arguments.table)
-    show_conform(files_of(arguments), plan, Printer(arguments.json), output, arguments.findings)
+    show_conform(files_of(arguments), plan, Printer(arguments.json), arguments.findings, arguments.scripts, arguments.table)
 
 
 def do_guard(arguments: Namespace) -> None:

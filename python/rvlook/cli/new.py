@@ -20,8 +20,8 @@ START = os.path.join("enclaves", "hello")
 
 def examples() -> str:
     """Returns the folder of the examples, with `build`. Raises Unfinished if there is none."""
-    for it in EXAMPLES:
-        folder = os.path.realpath(os.path.join(PACKAGE, it))
+    for example in EXAMPLES:
+        folder = os.path.realpath(os.path.join(PACKAGE, example))
         if os.path.exists(os.path.join(folder, "build")):
             return folder
     raise Unfinished("cannot find the examples, with which a new folder begins; run rvlook from a clone, or install it with ./install")
@@ -61,8 +61,8 @@ def files_of(source: str) -> dict[str, str]:
 
 def fill(template: str, target: str, commands: dict[str, str]) -> None:
     """Writes a template with the paths of the tools to a new file, with the mode of the template."""
-    with open(template, encoding="utf-8") as it:
-        text = it.read()
+    with open(template, encoding="utf-8") as file:
+        text = file.read()
     for name, command in commands.items():
         text = text.replace(name, command)
     create_file(target, os.fsencode(text))
@@ -71,8 +71,8 @@ def fill(template: str, target: str, commands: dict[str, str]) -> None:
 
 def remove(folder: str, keeps_folder: bool) -> None:
     """Removes what was written into a folder that was new or empty."""
-    for it in os.listdir(folder) if os.path.isdir(folder) else ():
-        path = os.path.join(folder, it)
+    for entry in os.listdir(folder) if os.path.isdir(folder) else ():
+        path = os.path.join(folder, entry)
         if os.path.isdir(path) and not os.path.islink(path):
             shutil.rmtree(path, ignore_errors=True)
         else:
@@ -85,7 +85,7 @@ def quotable(path: str) -> str:
     """Returns a path that a Makefile, its shell and a script may have in quotes. Raises Unfinished for one with another meaning there."""
     special = SPECIAL.search(path)
     if special:
-        raise Unfinished("the path '%s' has the character '%s', which a Makefile cannot hold; move the clone or the installation"
+        raise Unfinished("cannot write the path '%s' in a Makefile, because of the character '%s'; move the clone or the installation"
                          % (path, special[0]))
     return path
 

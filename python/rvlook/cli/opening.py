@@ -1,27 +1,24 @@
 """Opens the run that the arguments describe: its image, script, symbols and profile."""
 from __future__ import annotations
 
-from dataclasses import replace
-from typing import Iterable, TYPE_CHECKING
+from argparse import Namespace
+from dataclasses import fields
+from typing import Any, Callable, Iterable, TypeVar, cast
 
 from rvlook.errors import UsageError, note, warn
-from rvlook.image.detect import reason_for_monitor, has_compressed
+from rvlook.image.detect import has_compressed, lacking_texts, reason_for_monitor
 from rvlook.image.files import image_of, script_of
-from rvlook.image.lacking import lacking_texts
 from rvlook.image.symbols import symbols_from
 from rvlook.output.printer import Printer
 from rvlook.protocol.bench_line import tokens_of
-from rvlook.protocol.lines import error_text, resolved_script
-from rvlook.protocol.run import Setup, run_of
+from rvlook.protocol.inputs import Image, ScriptLine
+from rvlook.protocol.commands import error_text, resolved_script
+from rvlook.protocol.run import Run, Setup, run_of
 from rvlook.protocol.schedule import TURN, alternating, random_schedule
+from rvlook.protocol.symbols import Symbols
 
+Options = TypeVar("Options")
 MOVING = (["step"], ["run"], ["sched"], ["hart"])  # commands of a script that sets the order of the harts itself
-
-if TYPE_CHECKING:
-    from argparse import Namespace
-    from rvlook.protocol.inputs import Image, ScriptLine
-    from rvlook.protocol.run import Run
-    from rvlook.protocol.symbols import Symbols
 
 
 def setup_of(arguments: Namespace) -> Setup:
@@ -31,8 +28,8 @@ def setup_of(arguments: Namespace) -> Setup:
     monitor = has_monitor(arguments, image, script)
     if has_compressed(image):
         warn("%s is built for compressed instructions, which rvbench does not support; rebuild it with -march=rv32im" % image.name)
-    for it in lacking_texts(image):
-        warn(it)
+    for text in lacking_texts(image):
+        warn(text)
     symbols = symbols_from(arguments.symbols, image)
     lines = resolved_script(script, symbols)
     schedule = schedule_of(arguments, lines)
@@ -42,7 +39,8 @@ def setup_of(arguments: Namespace) -> Setup:
 def schedule_of(arguments: Namespace, lines: Iterable[ScriptLine]) -> str:
     """Returns the schedule of two harts after the script; empty for the selected hart alone. A note reports the default."""
     if arguments.needs_order and arguments.harts > 1 and not sets_order(lines):
-        raise UsageError("%s has no schedule for --harts 2; set the order of the harts in the script, or use races --harts 2" % arguments.subcommand)
+        raise UsageError("%s --harts 2 requires a script that chooses the harts, such as 'sched 01' or 'hart 1'; "
+                         "or use races --harts 2, which tries every order" % arguments.subcommand)
     if not arguments.has_schedule:
         return ""
     if arguments.schedule is None and arguments.seed is None:
@@ -78,18 +76,6 @@ def run_from(arguments: Namespace, setup: Setup) -> Run:
     return run
 
 
-def refuse_bare(arguments: Namespace, run: Run) -> None:
-    """Raises UsageError for a run without the monitor of rvbench, which reports the enclaves."""
-    if not run.setup.monitor:
-        raise UsageError("%s requires the monitor of rvbench, but %s runs bare; use --monitor" % (arguments.subcommand, run.setup.image.name))
-
-
-def refuse_monitored(arguments: Namespace, run: Run) -> None:
-    """Raises UsageError for a run under the monitor of rvbench, which has no step in M."""
-    if run.setup.monitor:
-        raise UsageError("--returns requires a bare image, but %s runs under the monitor; use --no-monitor" % run.setup.image.name)
-
-
 def refuse_empty_part(arguments: Namespace, least: int) -> None:
     """Raises UsageError if --from and --to select nothing. The numbers begin at `least`."""
     if arguments.last is not None and arguments.last < max(least, arguments.first):
@@ -102,23 +88,22 @@ def refuse_json(arguments: Namespace, option: str) -> None:
         raise UsageError("%s cannot be combined with --json" % option)
 
 
+def options_from(kind: Callable[..., Options], arguments: Namespace, **others: object) -> Options:
+    """Returns the options of a subcommand, a dataclass: each has the value of the argument of its name, its default if that is None, or the value in
+    `others`."""
+    given = {it.name: getattr(arguments, it.name) for it in fields(cast(Any, kind)) if it.name not in others}
+    return kind(**{name: value for name, value in given.items() if value is not None}, **others)
+
+
 def opened(arguments: Namespace) -> tuple[Run, Symbols, Printer]:
     """Returns the run, its symbols and the printer of a subcommand over an image."""
-    if arguments.opened:
-        run, symbols = arguments.opened
-        return run, symbols, Printer(arguments.json)
-    run = run_from(arguments, setup_of(arguments))
+    run = arguments.opened or run_from(arguments, setup_of(arguments))
     return run, run.setup.symbols, Printer(arguments.json)
 
 
-def opened_to_its_script(arguments: Namespace) -> tuple[Run, str, Printer]:
-    """Returns the run up to the end of its script, the schedule of the steps after it, and the printer."""
-    setup = setup_of(arguments)
-    return run_from(arguments, replace(setup, schedule="")), setup.schedule, Printer(arguments.json)
-
-
 def opened_monitored(arguments: Namespace) -> tuple[Run, Symbols, Printer]:
-    """Returns the same as `opened`, for a subcommand that needs the monitor of the bench."""
+    """Returns the same as `opened`, for a subcommand that needs the monitor of rvbench, which reports the enclaves."""
     run, symbols, printer = opened(arguments)
-    refuse_bare(arguments, run)
+    if not run.setup.monitor:
+        raise UsageError("%s requires the monitor of rvbench, but %s runs bare; use --monitor" % (arguments.subcommand, run.setup.image.name))
     return run, symbols, printer

@@ -1,18 +1,15 @@
 """The subcommands that need no run, and the server of the debugger."""
 from __future__ import annotations
 
-from typing import TYPE_CHECKING
+from argparse import Namespace
 
+from rvlook.cli.new import show_new
+from rvlook.cli.opening import setup_of
 from rvlook.gdb.monitor import CommandLine
 from rvlook.gdb.server import serve_gdb
 from rvlook.image.measure import show_measure
-from rvlook.prompt.explain import show_explain
-from rvlook.cli.new import show_new
-from rvlook.cli.opening import setup_of
 from rvlook.output.printer import Printer
-
-if TYPE_CHECKING:
-    from argparse import Namespace
+from rvlook.prompt.explain import show_explain
 
 
 def do_measure(arguments: Namespace) -> None:
@@ -32,6 +29,5 @@ def do_new(arguments: Namespace) -> None:
 
 
 def do_gdb(arguments: Namespace) -> None:
-    """Runs `gdb`."""
-    setup = setup_of(arguments)
-    serve_gdb(setup, lambda: setup.symbols, arguments.port, arguments.allow_files, CommandLine(*arguments.command_line))
+    """Runs `gdb`, which serves a debugger."""
+    serve_gdb(setup_of(arguments), arguments.port, arguments.allow_files, CommandLine(*arguments.command_line))

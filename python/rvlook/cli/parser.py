@@ -3,36 +3,35 @@ from __future__ import annotations
 
 import argparse
 import os
+import subprocess
 import sys
+from argparse import ArgumentParser, Namespace
+from functools import partial
 from importlib import import_module
-from typing import Any, Callable, Sequence, TYPE_CHECKING
+from typing import Any, Callable, Sequence
 
-from rvlook.cli.options import (Parser, conform_options, expect_option, findings_options, gdb_options, guard_options, image_options,
-                                inputs_options, leak_options, map_options, page_options, races_options, schedule_options, slot_option,
-                                timer_options, touch_options, trace_options, verify_options, window_options)
-from rvlook.cli.version import version
+from rvlook.cli.options import (Parser, conform_options, expect_option, explain_options, findings_options, gdb_options, guard_options, image_options,
+                                inputs_options, lcov_option, leak_options, map_options, measure_options, new_options, page_options, races_options,
+                                schedule_options, slot_option, timer_options, trace_options, verify_options, window_options)
 from rvlook.errors import RvlookError, UsageError, reason_of
 from rvlook.output.findings import ReportedCases, check_junit, write_junit
-from rvlook.protocol.nearest import nearest
-
-if TYPE_CHECKING:
-    from argparse import ArgumentParser, Namespace
+from rvlook.protocol.nearest import meant
 
 USAGE = "rvlook [SUBCOMMAND] IMAGE [OPTIONS]"
 SUBCOMMANDS = """subcommands:
-  run          run a program to its end, and print what it writes to its console
+  run          run a program to its end, and print its console output
   map          show who can access each byte, and each change of these rights
   trace        show each step: instruction, registers, memory access, trap
-  touch        show what each world read, wrote and executed
-  window       show what each enclave activation did with its window
-  inputs       vary what the host gives an enclave, and show what the host can make it do
+  touch        show the bytes that each world read, wrote and executed
+  window       show what an enclave did with its window in each activation
+  inputs       vary the inputs of an enclave, and show the errors and leaks that the host can cause
   verify       answer questions about all paths of an enclave, for all inputs and secrets
   leak         compare runs that differ only in a secret of an enclave
   timer        interrupt an enclave before each step, and compare the results
   races        search all schedules of two harts and of timer interrupts
   conform      compare an M-mode monitor with the monitor of rvbench
   guard        check that an M-mode monitor with calls of any kind isolates worlds
-  measure      compute the measurement that create records
+  measure      compute the measurement of an enclave, as create records it
   explain      explain the errors of an rvbench input
   page         write the run as an HTML page
   gdb          serve the run to gdb: target remote | ./rvlook gdb IMAGE
@@ -47,6 +46,10 @@ MODULES = {  # of each subcommand, in this package
     "explain": "others", "page": "views", "gdb": "others", "new": "others"}
 NAMES = tuple(MODULES)
 MOST_STEPS, MOST_STEPS_OF_RUN = 1000000, 1000000000  # the defaults of --steps
+ABOUT_STEPS, ABOUT_STEPS_OF_RACES = "run at most N steps after the script", "give up a hart if one transition has more than N steps"  # its help
+PACKAGE = os.path.dirname(os.path.dirname(os.path.realpath(__file__)))
+INSTALLED = os.path.join(PACKAGE, "../../version")  # what ./install wrote
+PRINTER = os.path.join(PACKAGE, "../../tools/version")  # of a clone
 
 
 def later(name: str, module: str = "") -> Callable[[Namespace], None]:
@@ -56,46 +59,19 @@ def later(name: str, module: str = "") -> Callable[[Namespace], None]:
     return do
 
 
-def add_subcommand(subparsers: Any, name: str, about: str, *more: Callable[[ArgumentParser], None]) -> Parser:
-    """Adds a subcommand over an image; each function of `more` adds options."""
-    parser = subparsers.add_parser(name, help=about, description=about + ".")
-    image_options(parser, name not in ("page", "gdb"), MOST_STEPS_OF_RUN if name == "run" else MOST_STEPS)
+def add_subcommand(subparsers: Any, name: str, about: str, *more: Callable[[ArgumentParser], object]) -> Parser:
+    """Adds a subcommand; each function of `more` adds options."""
+    parser: Parser = subparsers.add_parser(name, help=about, description=about + ".")
     for options in more:
         options(parser)
     parser.set_defaults(do=later(name), subcommand=name)
     return parser
 
 
-def add_measure(subparsers: Any) -> None:
-    """Adds the subcommand `measure`."""
-    about = "Compute the measurement that create records"
-    parser = subparsers.add_parser("measure", help=about, description=about + ".")
-    parser.add_argument("file", metavar="FILE", help="an ELF file, or the raw bytes of the region")
-    for name in ("BASE", "SIZE", "WINDOW", "WINDOW_SIZE", "ENTRY"):
-        parser.add_argument(name.lower(), metavar=name, help="a hexadecimal number or a symbol")
-    parser.add_argument("--symbols", metavar="FILE", help="read symbols from an ELF file or from the output of nm (default: from FILE)")
-    parser.add_argument("--json", action="store_true", help="print one JSON object (see docs/LOOK.md)")
-    parser.set_defaults(do=later("measure"))
-
-
-def add_monitor_check(subparsers: Any, name: str, about: str, options: Callable[[ArgumentParser], None]) -> None:
-    """Adds a subcommand whose image is a monitor in M."""
-    parser = subparsers.add_parser(name, help=about, description=about + ".")
-    options(parser)
-    findings_options(parser)
-    parser.set_defaults(do=later(name), subcommand=name)
-
-
-def add_explain(subparsers: Any) -> None:
-    """Adds the subcommand `explain`."""
-    about = "Explain the errors of an rvbench input"
-    parser = subparsers.add_parser("explain", help=about, description=about + ": the line, its meaning, and what to write instead.",
-                                   usage="rvlook explain [--json] INPUT [-- ARGUMENT...]")
-    parser.add_argument("--json", action="store_true", help="print one JSON object per line (see docs/LOOK.md)")
-    findings_options(parser)
-    parser.add_argument("input", metavar="INPUT", help="a file with an image, a line -- and a script; - for standard input")
-    parser.add_argument("arguments", metavar="ARGUMENT", nargs="*", help="arguments for ./rvbench, after -- (default: run)")
-    parser.set_defaults(do=later("explain"), subcommand="explain")
+def options_of_image(name: str) -> Callable[[ArgumentParser], None]:
+    """Returns the function that adds the options of the image of a subcommand."""
+    return partial(image_options, has_json=name not in ("page", "gdb"), steps=MOST_STEPS_OF_RUN if name == "run" else MOST_STEPS,
+                   about_steps=ABOUT_STEPS_OF_RACES if name == "races" else ABOUT_STEPS)
 
 
 class Version(argparse.Action):
@@ -106,24 +82,16 @@ class Version(argparse.Action):
         sys.exit(0)
 
 
-def add_new(subparsers: Any) -> None:
-    """Adds the subcommand `new`."""
-    about = "Make a folder for an enclave of your own"
-    parser = subparsers.add_parser("new", help=about, description=about + ": sources, tests, a Makefile, tasks for an editor, and a script for CI.")
-    parser.add_argument("folder", metavar="DIR", help="the folder, which must be new or empty")
-    parser.set_defaults(do=later("new"), subcommand="new")
-
-
 OVER_AN_IMAGE: Sequence[Any] = (  # a name, its help, and its options
-    ("run", "Run a program to its end, print what it writes to its console, and exit with its status", expect_option,
+    ("run", "Run a program to its end, print its console output, and exit with its status", expect_option,
      schedule_options, findings_options),
     ("map", "Show who can access each byte of memory, and each change of these rights", map_options, schedule_options, findings_options),
     ("trace", "Show each step of a run", trace_options, schedule_options, findings_options),
-    ("touch", "Show what each world read, wrote and executed, and what it could access", touch_options, schedule_options,
+    ("touch", "Show the bytes that each world read, wrote and executed, and the bytes that it could access", lcov_option, schedule_options,
      findings_options),
-    ("window", "Show what each enclave activation read, wrote and left in its window", window_options, schedule_options,
+    ("window", "Show what an enclave read, wrote and left in its window in each activation", window_options, schedule_options,
      findings_options),
-    ("inputs", "Vary what the host gives an enclave, and show what the host can make it do", slot_option, inputs_options,
+    ("inputs", "Vary the inputs of an enclave, and show the errors and leaks that the host can cause", slot_option, inputs_options,
      expect_option, findings_options),
     ("verify", "Explore all paths of an enclave, for all inputs of the host and all values of its secrets", slot_option, verify_options,
      schedule_options, findings_options),
@@ -133,6 +101,12 @@ OVER_AN_IMAGE: Sequence[Any] = (  # a name, its help, and its options
      findings_options),
     ("races", "Search all schedules of two harts and of timer interrupts, and show the final states", races_options, findings_options),
     ("page", "Write the run as an HTML page", page_options, schedule_options))
+OTHERS: Sequence[Any] = (  # the same without an image that is run
+    ("conform", "Compare an M-mode monitor with the monitor of rvbench, call by call", conform_options, findings_options),
+    ("guard", "Check that an M-mode monitor with calls of any kind isolates the worlds in S and U", guard_options, findings_options),
+    ("measure", "Compute the measurement of an enclave, as the monitor's create records it", measure_options),
+    ("explain", "Explain the errors of an rvbench input", explain_options, findings_options),
+    ("new", "Make a folder for an enclave of your own", new_options))
 
 
 def parser_of() -> Parser:
@@ -143,14 +117,11 @@ def parser_of() -> Parser:
     parser.add_argument("--version", action=Version, nargs=0, help="print the version, the commit and the Rattle kit")
     subparsers = parser.add_subparsers(prog="rvlook", metavar="SUBCOMMAND", help=argparse.SUPPRESS)
     for name, about, *options in OVER_AN_IMAGE:
+        add_subcommand(subparsers, name, about, options_of_image(name), *options)
+    for name, about, *options in OTHERS:
         add_subcommand(subparsers, name, about, *options)
-    add_monitor_check(subparsers, "conform", "Compare an M-mode monitor with the monitor of rvbench, call by call", conform_options)
-    add_monitor_check(subparsers, "guard", "Check that an M-mode monitor with calls of any kind isolates the worlds in S and U",
-                      guard_options)
-    add_measure(subparsers)
-    add_explain(subparsers)
-    add_new(subparsers)
-    gdb = add_subcommand(subparsers, "gdb", "Serve the run to a debugger by the GDB remote serial protocol", gdb_options, schedule_options)
+    gdb = add_subcommand(subparsers, "gdb", "Serve the run to a debugger by the GDB remote serial protocol", options_of_image("gdb"), gdb_options,
+                         schedule_options)
     gdb.set_defaults(command_line=(NAMES, read))
     return parser
 
@@ -160,12 +131,6 @@ def complete() -> None:
     if "_ARGCOMPLETE" in os.environ:
         import argcomplete
         argcomplete.autocomplete(parser_of(), print_suppressed=True)
-
-
-def unknown_subcommand(name: str) -> str:
-    """Returns the message for a first argument that is neither a subcommand nor a file."""
-    near = nearest(name, NAMES)
-    return "no subcommand or file '%s'; %s" % (name, "did you mean '%s'?" % near if near else "see 'rvlook --help'")
 
 
 def with_secrets(parser: Parser, arguments: Sequence[str]) -> Namespace:
@@ -189,7 +154,7 @@ def read(arguments: Sequence[str]) -> Namespace:
     if arguments[0] in NAMES or arguments[0] in ("-h", "--help", "--version"):
         return parser.parse_args(arguments)
     if not arguments[0].startswith("-") and not os.path.exists(arguments[0]):
-        raise UsageError(unknown_subcommand(arguments[0]))
+        raise UsageError("no subcommand or file '%s'%s" % (arguments[0], meant(arguments[0], NAMES, "see 'rvlook --help'")))
     alone = Parser(prog="rvlook", usage=USAGE)
     image_options(alone)
     alone.set_defaults(do=later("prompt", "views"), findings=ReportedCases(), is_report=False, junit=None)
@@ -209,3 +174,13 @@ def perform(arguments: Namespace) -> int:
     finally:
         if arguments.junit:
             write_junit(arguments.junit, arguments.subcommand, arguments.findings, error)
+
+
+def version() -> str:
+    """Returns the version as `rvlook 0.1 (commit COMMIT, KIT)`; only the name if neither a clone nor an installation is around the package."""
+    if os.path.exists(INSTALLED):
+        with open(INSTALLED, encoding="utf-8") as file:
+            return file.read().strip().replace("rvbench", "rvlook", 1)
+    if os.path.exists(PRINTER):
+        return subprocess.run([PRINTER, "rvlook"], stdout=subprocess.PIPE, text=True, check=False).stdout.strip()
+    return "rvlook"

@@ -1,21 +1,16 @@
 """The subcommands that search many runs."""
 from __future__ import annotations
 
-from dataclasses import fields
-from typing import TYPE_CHECKING
+from argparse import Namespace
 
-from rvlook.finders.inputs.report import show_inputs
-from rvlook.finders.inputs.session import InputsOptions
+from rvlook.cli.opening import opened, opened_monitored, options_from, refuse_empty_part
+from rvlook.errors import UsageError
+from rvlook.finders.inputs.report import InputsOptions, show_inputs
 from rvlook.finders.races.text import RacesOptions, show_races
 from rvlook.image.variables import variables_of
 from rvlook.symbolic.branch_models import BranchModels
 from rvlook.symbolic.options import VerifyOptions
 from rvlook.symbolic.verify import show_verify
-from rvlook.cli.opening import opened, opened_monitored, refuse_empty_part
-from rvlook.errors import UsageError
-
-if TYPE_CHECKING:
-    from argparse import Namespace
 
 
 def do_inputs(arguments: Namespace) -> None:
@@ -25,8 +20,7 @@ def do_inputs(arguments: Namespace) -> None:
     if arguments.harts > 1:
         raise UsageError("inputs runs one hart; give the file finding_N.input of --scripts to races --harts 2")
     run, _, printer = opened_monitored(arguments)
-    options = InputsOptions(arguments.slot, arguments.at, arguments.public or (), arguments.entry, arguments.runs, arguments.seed, arguments.seconds,
-                            arguments.expect or (), arguments.scripts)
+    options = options_from(InputsOptions, arguments, expected=arguments.expect or ())
     show_inputs(run, variables_of(arguments.symbols, run.setup.image), printer, options, arguments.findings, BranchModels())
 
 
@@ -35,7 +29,7 @@ def do_verify(arguments: Namespace) -> None:
     if (arguments.public or arguments.wiped or arguments.must_know) and not arguments.at:
         raise UsageError("--public, --wiped and --must-know require --at PLACE")
     run, symbols, printer = opened_monitored(arguments)
-    options = VerifyOptions(**{it.name: getattr(arguments, it.name) for it in fields(VerifyOptions)})
+    options = options_from(VerifyOptions, arguments)
     show_verify(run, symbols, variables_of(arguments.symbols, run.setup.image), printer, options, arguments.findings)
 
 
@@ -43,7 +37,4 @@ def do_races(arguments: Namespace) -> None:
     """Runs `races`."""
     refuse_empty_part(arguments, 0)
     run, _, printer = opened(arguments)
-    options = RacesOptions(arguments.forbid or (), arguments.outcome or (), arguments.end or (), arguments.preemptions, arguments.timers,
-                           arguments.first, arguments.last, arguments.limit, arguments.plain, arguments.seconds, arguments.symbols,
-                           arguments.scripts)
-    show_races(run, printer, options, arguments.findings)
+    show_races(run, printer, options_from(RacesOptions, arguments), arguments.findings)

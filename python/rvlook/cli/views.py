@@ -1,38 +1,36 @@
 """The subcommands that show a run."""
 from __future__ import annotations
 
-from typing import TYPE_CHECKING
+from argparse import Namespace
+from dataclasses import replace
 
-from rvlook.access.lcov import show_lcov
 from rvlook.access.map_text import show_map
 from rvlook.access.returns import show_returns
 from rvlook.access.stack import overflow_text, overflows
-from rvlook.access.touch import show_touch
+from rvlook.access.touch import show_lcov, show_touch
+from rvlook.cli.opening import opened, refuse_empty_part, refuse_json, run_from, setup_of
+from rvlook.errors import RvlookError, UsageError, warn
+from rvlook.output.printer import Printer
 from rvlook.page.page import page_template, show_page
 from rvlook.prompt.prompt import show_prompt
+from rvlook.protocol.commands import no_symbol
+from rvlook.protocol.run import Run
+from rvlook.protocol.symbols import Symbols
 from rvlook.trace.emulator import show_run
-from rvlook.trace.spike import show_spike
-from rvlook.trace.text import Filter, show_trace
-from rvlook.cli.opening import opened, opened_to_its_script, refuse_empty_part, refuse_json, refuse_monitored
-from rvlook.errors import RvlookError, warn
-from rvlook.protocol.lines import no_symbol
-
-if TYPE_CHECKING:
-    from argparse import Namespace
-    from rvlook.protocol.run import Run
-    from rvlook.protocol.symbols import Symbols
+from rvlook.trace.text import Filter, show_spike, show_trace
 
 
 def report_overflows(arguments: Namespace, run: Run, symbols: Symbols) -> None:
     """Reports each stack overflow of the run as a finding."""
-    for it in overflows(run, symbols):
-        warn(overflow_text(it, symbols))
-        arguments.findings.add("stack", overflow_text(it, symbols))
+    for overflow in overflows(run, symbols):
+        warn(overflow_text(overflow, symbols))
+        arguments.findings.add("stack", overflow_text(overflow, symbols))
 
 
 def do_run(arguments: Namespace) -> None:
     """Runs `run`."""
-    show_run(*opened_to_its_script(arguments), arguments)
+    setup = setup_of(arguments)
+    show_run(run_from(arguments, replace(setup, schedule="")), setup.schedule, Printer(arguments.json), arguments)
 
 
 def do_map(arguments: Namespace) -> None:
@@ -40,8 +38,9 @@ def do_map(arguments: Namespace) -> None:
     if arguments.brief:
         refuse_json(arguments, "--brief")
     run, symbols, printer = opened(arguments)
+    if arguments.returns and run.setup.monitor:
+        raise UsageError("--returns requires a bare image, but %s runs under the monitor; use --no-monitor" % run.setup.image.name)
     if arguments.returns:
-        refuse_monitored(arguments, run)
         show_returns(run, symbols, printer, arguments.findings)
     else:
         show_map(run, symbols, printer, arguments.brief)

@@ -9,18 +9,14 @@ from bisect import bisect_left
 from collections import defaultdict
 from contextlib import closing
 from dataclasses import dataclass
-from typing import Any, Iterator, Mapping, Optional, Sequence, TYPE_CHECKING
+from typing import Any, Iterator, Mapping, Optional, Sequence
 
-from rvlook.errors import RvlookError, Unfinished
-from rvlook.finders.secrets import place_and_size
-from rvlook.access.activations import Activations
-
-if TYPE_CHECKING:
-    from rvlook.access.activations import Operation, Activation
-    from rvlook.finders.secrets import Secret
-    from rvlook.protocol.replies import Enclave
-    from rvlook.protocol.run import Run
-    from rvlook.protocol.symbols import Symbols
+from rvlook.access.activations import Activation, Activations, Operation
+from rvlook.errors import Unfinished
+from rvlook.finders.secrets import Secret, place_and_size
+from rvlook.protocol.replies import Enclave
+from rvlook.protocol.run import Run
+from rvlook.protocol.symbols import Symbols
 
 CHANNELS = ("pc", "steps", "address", "operand", "answer", "window")
 SAME, FAR = 4, 4096  # equal steps after which two runs have converged; the most steps in which this is searched
@@ -148,10 +144,10 @@ class Comparison:
         elif mine.kind == "w" and mine.values != theirs.values and self.is_shown(mine, enclave):
             self.add("window", steps, tuple((it.address, bytes(it.values)) for it in (mine, theirs)), mine.pc)
 
-    def is_shown(self, it: Operation, enclave: Enclave) -> bool:
+    def is_shown(self, operation: Operation, enclave: Enclave) -> bool:
         """Returns whether a store is to a byte of the window that may not differ."""
-        addresses = range(it.address, it.address + it.width)
-        return any(enclave.window <= at < enclave.window + enclave.window_size and not self.public.has(at) for at in addresses)
+        addresses = range(operation.address, operation.address + operation.width)
+        return any(enclave.shares(at) and not self.public.has(at) for at in addresses)
 
     def compare_ends(self, one: Activation, two: Activation) -> None:
         """Compares the results and the windows at the end of two activations."""
@@ -176,8 +172,8 @@ def writers_of(one: Activation, two: Activation) -> dict[int, int]:
     """Returns the instruction that stored each byte of the window last, in either run, by address."""
     found: dict[int, int] = {}
     for activation in (two, one):
-        for it in stores_to_window(activation):
-            found.update((it.address + n, it.pc) for n in range(it.width))
+        for store in stores_to_window(activation):
+            found.update((store.address + n, store.pc) for n in range(store.width))
     return found
 
 
@@ -185,24 +181,27 @@ def stores_to_window(activation: Activation) -> Iterator[Operation]:
     """Yields the stores of an activation to bytes of its window."""
     first, end = activation.enclave.window, activation.enclave.window + activation.enclave.window_size
     for it in activation.operations:
-        _, _, kind, address, width, _, done = it
-        if kind == "w" and done and address < end and first < address + width:
+        if it.kind == "w" and it.done and it.address < end and first < it.address + it.width:
             yield it
+
+
+def equal_length(one: array[int], x: int, two: array[int], y: int) -> int:
+    """Returns how many numbers from x and y on are equal."""
+    count, most, part = 0, min(len(one) - x, len(two) - y), 1
+    if one[x:x + most] == two[y:y + most]:
+        return most
+    while one[x + count:x + count + part] == two[y + count:y + count + part]:
+        count, part = count + part, 2 * part
+    while part:
+        if count + part <= most and one[x + count:x + count + part] == two[y + count:y + count + part]:
+            count += part
+        part //= 2
+    return count
 
 
 def common_length(one: Activation, x: int, two: Activation, y: int) -> int:
     """Returns how many steps from x and y on have the same pcs, modes and traps."""
-    count, most = 0, min(len(one.pcs) - x, len(two.pcs) - y)
-    if one.pcs[x:x + most] == two.pcs[y:y + most]:
-        count = most
-    else:
-        part = 1
-        while one.pcs[x + count:x + count + part] == two.pcs[y + count:y + count + part]:
-            count, part = count + part, 2 * part
-        while part:
-            if count + part <= most and one.pcs[x + count:x + count + part] == two.pcs[y + count:y + count + part]:
-                count += part
-            part //= 2
+    count = equal_length(one.pcs, x, two.pcs, y)
     trapped = {n - x for n in one.traps if x <= n < x + count} | {n - y for n in two.traps if y <= n < y + count}
     return min((n for n in trapped if one.traps.get(x + n) != two.traps.get(y + n)), default=count)
 
@@ -210,21 +209,15 @@ def common_length(one: Activation, x: int, two: Activation, y: int) -> int:
 def convergence(one: Activation, x: int, two: Activation, y: int) -> tuple[int, int]:
     """Returns where two activations converge: after the fewest steps from x and y; the ends if they do not."""
     indices = defaultdict(list)
-    for n in range(y, min(y + FAR, len(two.pcs))):
-        indices[two.pcs[n]].append(n)
+    for second in range(y, min(y + FAR, len(two.pcs))):
+        indices[two.pcs[second]].append(second)
     best = None
-    for m in range(x, min(x + FAR, len(one.pcs))):
-        if best and m - x > best[0]:
+    for first in range(x, min(x + FAR, len(one.pcs))):
+        if best and first - x > best[0]:
             break
-        for n in indices.get(one.pcs[m], ()):
-            cost = m - x + n - y
-            if cost and (best is None or cost < best[0]) and one.pcs[m:m + SAME] == two.pcs[n:n + SAME]:
-                best = cost, m, n
+        for second in indices.get(one.pcs[first], ()):
+            cost = first - x + second - y
+            if cost and (best is None or cost < best[0]) and one.pcs[first:first + SAME] == two.pcs[second:second + SAME]:
+                best = cost, first, second
                 break
     return best[1:] if best else (len(one.pcs), len(two.pcs))
-
-
-def check_values(values: Sequence[bytes]) -> None:
-    """Raises RvlookError if two secrets have different lengths."""
-    if len(values[0]) != len(values[1]):
-        raise RvlookError("the two secrets differ in length")

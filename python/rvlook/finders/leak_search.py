@@ -4,18 +4,15 @@ from __future__ import annotations
 import time
 from dataclasses import dataclass, field, replace
 from functools import partial
-from typing import Callable, List, Optional, Sequence, TYPE_CHECKING
+from typing import Callable, List, Optional, Sequence
 
 from rvlook.errors import RvlookError
-from rvlook.finders.leak import CHANNELS, Comparison, check_values, observe, public_of
-from rvlook.finders.secrets import WORD, drawn_pairs, secret_of
+from rvlook.finders.leak import CHANNELS, Comparison, Observation, observe, public_of
+from rvlook.finders.secrets import WORD, Pair, Secret, drawn_pairs, secret_of
+from rvlook.output.printer import counted
 from rvlook.output.progress import Progress
-from rvlook.protocol.jobs import results_of
-
-if TYPE_CHECKING:
-    from rvlook.finders.leak import Observation
-    from rvlook.finders.secrets import Pair, Secret
-    from rvlook.protocol.run import Run
+from rvlook.protocol.jobs import results_of, uninterrupted
+from rvlook.protocol.run import Run
 
 MOST_GUESSES = 8  # values of the host near which secrets are drawn
 
@@ -38,16 +35,11 @@ class LeakOptions:
     jobs: int = 1
 
 
-def not_known(_: Leak) -> bool:
-    """Returns that nothing is known about other secrets."""
-    return False
-
-
 class Leak:
     """A run, its secret, and how it is compared. `cut` says why an observation ended too early, if one did. `is_hidden` decides whether no secret
     changes what the host observes."""
 
-    def __init__(self, run: Run, options: LeakOptions, is_hidden: Callable[[Leak], bool] = not_known) -> None:
+    def __init__(self, run: Run, options: LeakOptions, is_hidden: Callable[[Leak], bool] = lambda _: False) -> None:
         self.run, self.symbols, self.options, self.cut, self.is_hidden = run, run.setup.symbols, options, "", is_hidden
         self.public, self.is_strict = public_of(options.public, self.symbols), options.is_strict
         left_out = {"operand"} - ({"operand"} if self.is_strict else set()) | (set() if run.setup.monitor else {"answer", "window"})
@@ -82,6 +74,12 @@ class Compared:
     found: Optional[Comparison]
     both: Sequence[Observation]
 
+    @property
+    def comparison(self) -> Comparison:
+        """Returns the comparison of a pair that has one."""
+        assert self.found is not None
+        return self.found
+
 
 @dataclass
 class Tried:
@@ -93,8 +91,13 @@ class Tried:
 
     @property
     def verdicts(self) -> set[int]:
-        """Returns the numbers of the pairs that differ with a verdict."""
-        return verdicts_of(self.pairs)
+        """Returns the numbers of the pairs that differ with a verdict: the program answers its own secret one way, and each other secret another.
+        Other differences of such a pair may follow from the answer. If the answer has a part of the secret, other secrets have several answers."""
+        own = {it.answers[0] for it in self.pairs if it.is_own}
+        others = {answer for it in self.pairs for answer in it.answers[it.is_own:]}
+        secrets = {secret.bytes for it in self.pairs for secret in it.secrets[it.is_own:]}
+        is_verdict = len(own) == len(others) == 1 and own != others and len(secrets) > 1
+        return {it.number for it in self.pairs if it.is_own} if is_verdict else set()
 
     @property
     def differing(self) -> dict[int, Compared]:
@@ -106,14 +109,15 @@ class Tried:
 def compare_given(leak: Leak) -> Compared:
     """Compares the runs with the two secrets that the options give. Raises RvlookError."""
     values = leak.options.values
-    check_values(values)
+    if len(values[0]) != len(values[1]):
+        raise RvlookError("the two secrets differ in length")
     secret = leak.secret(len(values[0]))
     secrets = [secret.with_bytes(it) for it in values]
     with Progress() as progress:
         progress.show("running with %s", values[0].hex())
         one, two = (leak.observe(it) for it in secrets)
     found = leak.compared(one, two, secret)
-    return Compared(1, secrets, False, (), found.channels(), found, (one, two))
+    return Compared(1, secrets, is_own=False, answers=(), channels=found.channels(), found=found, both=(one, two))
 
 
 def compare_drawn(leak: Leak, heard: Callable[[Compared], None] = lambda it: None) -> Tried:
@@ -128,13 +132,14 @@ def compare_drawn(leak: Leak, heard: Callable[[Compared], None] = lambda it: Non
             count = options.tries or 0
             pairs = drawn_pairs(own.bytes, guesses_of(base, len(own.bytes)), options.seed, options.first, min(count, options.last or count))
             tried.again = lambda it: it if it.found else try_pair(leak, own, base, pairs[it.number - pairs[0].number])
-            for it, cut in results_of(partial(task, leak, own, base, pairs), len(pairs), options.jobs):
+            for pair, cut in results_of(partial(task, leak, own, base, pairs), len(pairs), options.jobs):
                 leak.cut = leak.cut or cut
-                tried.pairs.append(it)
-                heard(it)
+                with uninterrupted():
+                    tried.pairs.append(pair)
+                    heard(pair)
                 progress.bar(len(tried.pairs), len(pairs), "%d differ" % sum(bool(it.channels) for it in tried.pairs))
                 if until is not None and time.monotonic() > until and len(tried.pairs) < len(pairs):
-                    tried.cut = "--seconds ended leak after %d of %s" % (len(tried.pairs), pairs_text(len(pairs)))
+                    tried.cut = "--seconds ended leak after %d of %s" % (len(tried.pairs), counted(len(pairs), "pair"))
                     break
     except KeyboardInterrupt:
         tried.is_interrupted = True
@@ -143,28 +148,18 @@ def compare_drawn(leak: Leak, heard: Callable[[Compared], None] = lambda it: Non
 
 def task(leak: Leak, own: Secret, base: Observation, pairs: Sequence[Pair], number: int) -> tuple[Compared, str]:
     """Compares a pair, by its index; returns it, and why an observation ended too early. With several jobs leaves out the runs, which are large."""
-    it = try_pair(leak, own, base, pairs[number])
-    return (it if leak.options.jobs == 1 else replace(it, found=None, both=())), leak.cut
-
-
-def verdicts_of(tried: Sequence[Compared]) -> set[int]:
-    """Returns the numbers of the pairs that differ with a verdict: the program answers its own secret in one way, and each other secret in another.
-    Other differences of such a pair may follow from the answer. If the answer has a part of the secret, other secrets have several answers."""
-    own = {it.answers[0] for it in tried if it.is_own}
-    others = {answer for it in tried for answer in it.answers[it.is_own:]}
-    secrets = {secret.bytes for it in tried for secret in it.secrets[it.is_own:]}
-    is_verdict = len(own) == len(others) == 1 and own != others and len(secrets) > 1
-    return {it.number for it in tried if it.is_own} if is_verdict else set()
+    pair = try_pair(leak, own, base, pairs[number])
+    return (pair if leak.options.jobs == 1 else replace(pair, found=None, both=())), leak.cut
 
 
 def guesses_of(base: Observation, size: int) -> list[bytes]:
     """Returns values that the host may give for the secret: aligned bytes of the window that the enclave loads."""
     found: dict[bytes, None] = {}
-    for it in base.activations:
-        loaded = {at for op in it.operations if op.kind == "r" for at in range(op.address, op.address + op.width)}
-        for offset in range(0, len(it.before) - size + 1, min(size, WORD)):
-            if loaded.issuperset(range(it.enclave.window + offset, it.enclave.window + offset + size)):
-                found[it.before[offset:offset + size]] = None
+    for activation in base.activations:
+        loaded = {at for op in activation.operations if op.kind == "r" for at in range(op.address, op.address + op.width)}
+        for offset in range(0, len(activation.before) - size + 1, min(size, WORD)):
+            if loaded.issuperset(range(activation.enclave.window + offset, activation.enclave.window + offset + size)):
+                found[activation.before[offset:offset + size]] = None
     return list(found)[:MOST_GUESSES]
 
 
@@ -178,11 +173,6 @@ def try_pair(leak: Leak, own: Secret, base: Observation, pair: Pair) -> Compared
     answers = [tuple((it.ended_by, it.answer) for it in observation.activations) for observation in both]
     kept = (found, both) if channels else (None, ())
     return Compared(pair.number, (one, two), pair.one is None, answers, channels, *kept)
-
-
-def pairs_text(count: int) -> str:
-    """Returns a number of pairs in words."""
-    return "1 pair" if count == 1 else "%d pairs" % count
 
 
 def values_in(texts: Sequence[str]) -> list[bytes]:

@@ -1,18 +1,14 @@
 """The report of `leak`, for a pair of secrets or for each of many: the channels in which the runs differ, and where."""
 from __future__ import annotations
 
-from typing import Mapping, Sequence, TYPE_CHECKING
+from typing import Mapping, Sequence
 
-from rvlook.finders.leak import CHANNELS
-from rvlook.finders.leak_search import Compared, Leak, Tried, compare_drawn, compare_given, pairs_text
-from rvlook.output.printer import Style, hex8, run_object
-
-if TYPE_CHECKING:
-    from rvlook.finders.leak import Comparison, Difference, Observation
-    from rvlook.finders.secrets import Secret
-    from rvlook.output.findings import ReportedCases
-    from rvlook.output.printer import Printer
-    from rvlook.protocol.symbols import Symbols
+from rvlook.finders.leak import CHANNELS, Difference, Observation
+from rvlook.finders.leak_search import Compared, Leak, Tried, compare_drawn, compare_given
+from rvlook.finders.secrets import Secret
+from rvlook.output.findings import ReportedCases
+from rvlook.output.printer import Printer, Style, counted, hex8, run_object
+from rvlook.protocol.symbols import Symbols
 
 EQUAL = {"pc": "every step continues at the same pc", "address": "every load and store has the same address",
          "operand": "every division has the same operands"}
@@ -28,7 +24,6 @@ def show_leak(leak: Leak, printer: Printer, findings: ReportedCases) -> None:
         show_tries(leak, printer, findings)
         return
     pair = compare_given(leak)
-    assert pair.found is not None
     if leak.cut:
         findings.cut_short(leak.cut)
     (pair_objects if printer.as_json else pair_text)(leak, printer, pair)
@@ -38,8 +33,7 @@ def show_leak(leak: Leak, printer: Printer, findings: ReportedCases) -> None:
 
 def text_of_channel(leak: Leak, pair: Compared, what: str) -> str:
     """Returns where the runs of a pair differ in a channel; empty if they do not."""
-    assert pair.found is not None
-    return "\n".join(heading_of(leak, it, pair.secrets[0]) for it in pair.found.all() if it.what == what)
+    return "\n".join(heading_of(leak, it, pair.secrets[0]) for it in pair.comparison.all() if it.what == what)
 
 
 def show_tries(leak: Leak, printer: Printer, findings: ReportedCases) -> None:
@@ -64,8 +58,8 @@ def show_tries(leak: Leak, printer: Printer, findings: ReportedCases) -> None:
 def finish(leak: Leak, printer: Printer, tried: Tried, findings: ReportedCases) -> None:
     """Prints the result of all pairs, and the first pair that differs. Notes what was found."""
     verdicts, differing = tried.verdicts, tried.differing
-    for it in tried.pairs:
-        findings.add("pair %d" % it.number, text_of_pair(it) if it.number in differing else "")
+    for pair in tried.pairs:
+        findings.add("pair %d" % pair.number, text_of_pair(pair) if pair.number in differing else "")
     channels = sorted({channel for it in differing.values() for channel in it.channels}, key=CHANNELS.index)
     is_equal = bool(tried.pairs) and not (differing or verdicts or tried.cut or tried.is_interrupted)
     for_all = is_equal and is_for_all(leak)
@@ -90,39 +84,37 @@ def print_for_all(leak: Leak, printer: Printer, for_all: bool) -> None:
         printer.line(FOR_ALL + (", except what --public names" if leak.options.public else ""))
 
 
-def text_of_pair(it: Compared) -> str:
+def text_of_pair(pair: Compared) -> str:
     """Returns the secrets of a pair and the channels in which they differ."""
-    return "%s and %s differ in %s" % (*(secret.bytes.hex() for secret in it.secrets), ", ".join(it.channels))
+    return "%s and %s differ in %s" % (*(secret.bytes.hex() for secret in pair.secrets), ", ".join(pair.channels))
 
 
 def print_result(leak: Leak, printer: Printer, tried: Tried, differing: Mapping[int, Compared], verdicts: set[int]) -> None:
     """Prints the result of all pairs in words."""
     line = printer.line
-    verdict = "%s differ with the answer: the program answers its own secret in one way, and each other secret in another" % pairs_text(len(verdicts))
+    verdict = "%s differ with the answer: the program answers its own secret in one way, and each other secret in another" % \
+        counted(len(verdicts), "pair")
     if not differing:
         others = len(tried.pairs) - len(verdicts)
         lines = [verdict] if verdicts else []
-        lines += ["no difference in %s%s: %s" % ("the other " if verdicts else "", pairs_text(others), ", ".join(leak.channels))] if others else []
+        if others:
+            which = ("the other " if verdicts else "") + counted(others, "pair")
+            lines.append("no difference in %s: %s" % (which, ", ".join(leak.channels)))
         line("\n".join(lines))
         return
     same = [number for number, it in differing.items() if "answer" not in it.channels]
     number = min(same or differing)
-    it = differing[number]
+    pair = differing[number]
     is_picked = bool(same) and (min(differing) != number or bool(verdicts))
     line("pair %d of %d, the first that differs%s" % (number, len(tried.pairs), " with the same answer" if is_picked else ""))
-    pair_text(leak, printer, tried.again(it))
+    pair_text(leak, printer, tried.again(pair))
     numbers = ", ".join(map(str, sorted(differing)[:MOST_NUMBERS])) + (", ..." if len(differing) > MOST_NUMBERS else "")
     channels = sorted({channel for it in differing.values() for channel in it.channels}, key=CHANNELS.index)
-    line("%d of %s differ, in %s: %s" % (len(differing), pairs_text(len(tried.pairs)), ", ".join(channels), numbers))
+    line("%d of %s differ, in %s: %s" % (len(differing), counted(len(tried.pairs), "pair"), ", ".join(channels), numbers))
     if same and len(same) < len(differing):
         line("%d of them differ in the answer too, and may show no more than that" % (len(differing) - len(same)))
     if verdicts:
         line(verdict)
-
-
-def exits_text(count: int) -> str:
-    """Returns a number of exits in words."""
-    return "1 exit" if count == 1 else "%d exits" % count
 
 
 def place_text(pc: int, symbols: Symbols) -> str:
@@ -130,68 +122,57 @@ def place_text(pc: int, symbols: Symbols) -> str:
     return "  ".join(part for part in ("%08x" % pc, symbols.name(pc), symbols.line(pc)) if part)
 
 
-def values_of(leak: Leak, it: Difference, both: Sequence[Observation]) -> list[str]:
+def values_of(leak: Leak, difference: Difference, both: Sequence[Observation]) -> list[str]:
     """Returns the two values of a difference in words."""
-    if it.what == "pc":
-        return [one.run.reply(step)[len("ran 1 "):] for one, step in zip(both, it.steps)]
-    if it.what == "address":
-        return ["%s %08x  %s" % (kind, at, leak.symbols.name(at) or "") for kind, at in it.values]
-    if it.what == "window":
-        return ["%08x is %s  %s" % (at, value.hex(), leak.symbols.name(at) or "") for at, value in it.values]
-    if it.what == "answer" and isinstance(it.values[0], tuple):
-        return [answer_text(*value) for value in it.values]
-    return list(it.values)
-
-
-def answer_text(ended_by: str, *registers: int) -> str:
-    """Returns how an activation ended, with a0 and a1, which one that the end of the run cut off does not have."""
-    return " ".join([ended_by, *("a%d=%08x" % it for it in enumerate(registers))])
+    if difference.what == "pc":
+        return [one.run.reply(step)[len("ran 1 "):] for one, step in zip(both, difference.steps)]
+    if difference.what == "address":
+        return ["%s %08x  %s" % (kind, at, leak.symbols.name(at) or "") for kind, at in difference.values]
+    if difference.what == "window":
+        return ["%08x is %s  %s" % (at, value.hex(), leak.symbols.name(at) or "") for at, value in difference.values]
+    if difference.what == "answer" and isinstance(difference.values[0], tuple):
+        return [" ".join([how, *("a%d=%08x" % it for it in enumerate(registers))]) for how, *registers in difference.values]
+    return list(difference.values)
 
 
 def pair_text(leak: Leak, printer: Printer, pair: Compared) -> None:
     """Prints the comparison of one pair, channel by channel."""
-    secrets, both, comparison, first = pair.secrets, pair.both, comparison_of(pair), pair.secrets[0]
+    secrets, both, comparison, first = pair.secrets, pair.both, pair.comparison, pair.secrets[0]
     printer.line("%s, from step %d, with %s and with %s at %s  %s" % (
         both[0].activations[0].world, first.step, secrets[0].bytes.hex(), secrets[1].bytes.hex(), first.text(), leak.symbols.name(first.at) or ""))
     found = comparison.all()
-    equal = {**EQUAL, "steps": "%d" % (both[0].last - first.step), "answer": "the same at " + exits_text(len(both[0].activations)),
+    equal = {**EQUAL, "steps": "%d" % (both[0].last - first.step), "answer": "the same at " + counted(len(both[0].activations), "exit"),
              "window": "the same at every exit"}
     for what in leak.channels:
         entries = [it for it in found if it.what == what]
         if not entries:
             printer.line("  %-7s equal: %s" % (what, equal[what]))
-        for it in entries:
-            printer.line("  %-7s %s" % (what, printer.styled(difference_text(leak, it, first, both), Style.bad)))
+        for entry in entries:
+            printer.line("  %-7s %s" % (what, printer.styled(difference_text(leak, entry, first, both), Style.bad)))
     channels = comparison.channels()
     printer.line("the runs differ in " + ", ".join(channels) if channels else "no difference in 1 pair: " + ", ".join(leak.channels))
     print_for_all(leak, printer, not channels and is_for_all(leak))
 
 
-def heading_of(leak: Leak, it: Difference, secret: Secret) -> str:
+def heading_of(leak: Leak, difference: Difference, secret: Secret) -> str:
     """Returns where two runs differ."""
-    if it.what == "steps":
-        return "differ: %d and %d" % tuple(step - secret.step for step in it.steps)
-    step = "step %d" % it.steps[0] if it.steps[0] == it.steps[1] else "steps %d and %d" % it.steps
-    times = ", %d times" % it.count if it.count > 1 else ""
-    where = ", " + place_text(it.pc, leak.symbols) if it.pc is not None else ""
+    if difference.what == "steps":
+        return "differ: %d and %d" % tuple(step - secret.step for step in difference.steps)
+    step = "step %d" % difference.steps[0] if difference.steps[0] == difference.steps[1] else "steps %d and %d" % difference.steps
+    times = ", %d times" % difference.count if difference.count > 1 else ""
+    where = ", " + place_text(difference.pc, leak.symbols) if difference.pc is not None else ""
     return "differs at %s%s%s" % (step, where, times)
 
 
-def difference_text(leak: Leak, it: Difference, secret: Secret, both: Sequence[Observation]) -> str:
+def difference_text(leak: Leak, difference: Difference, secret: Secret, both: Sequence[Observation]) -> str:
     """Returns where two runs differ, with both values."""
-    values = () if it.what == "steps" else values_of(leak, it, both)
-    return heading_of(leak, it, secret) + "".join("\n          " + value.rstrip() for value in values)
-
-
-def comparison_of(pair: Compared) -> Comparison:
-    """Returns the comparison of a pair that has one."""
-    assert pair.found is not None
-    return pair.found
+    values = () if difference.what == "steps" else values_of(leak, difference, both)
+    return heading_of(leak, difference, secret) + "".join("\n          " + value.rstrip() for value in values)
 
 
 def pair_objects(leak: Leak, printer: Printer, pair: Compared) -> None:
     """Writes the comparison of one pair as objects."""
-    secrets, both, comparison, first, symbols = pair.secrets, pair.both, comparison_of(pair), pair.secrets[0], leak.symbols
+    secrets, both, comparison, first, symbols = pair.secrets, pair.both, pair.comparison, pair.secrets[0], leak.symbols
     run_object(printer, leak.run, symbols)
     printer.object("secret", slot=first.slot, at=first.text(), step=first.step, bytes=[it.bytes.hex() for it in secrets])
     for it in comparison.all():

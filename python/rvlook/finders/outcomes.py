@@ -5,21 +5,18 @@ import operator
 import re
 from typing import Any, Iterable, NamedTuple, Sequence, TYPE_CHECKING, Tuple, Union
 
-from rvlook.protocol import names
 from rvlook.errors import RvlookError
-from rvlook.image.variables import variables_of
-from rvlook.protocol.lines import no_symbol
+from rvlook.finders.races.machine import CachedState, Look, RaceMachine, operands
+from rvlook.image.variables import Member, variables_of
+from rvlook.protocol import names
+from rvlook.protocol.commands import no_symbol
 from rvlook.protocol.nearest import nearest
-from rvlook.finders.races.machine import operands
 from rvlook.protocol.replies import enclave_of
-from rvlook.output.printer import hex8
+from rvlook.protocol.run import Run
+from rvlook.protocol.symbols import Symbols
 
 if TYPE_CHECKING:
     from rvlook.finders.races.final_states import FinalState
-    from rvlook.finders.races.machine import Look, RaceMachine, Memory, CachedState
-    from rvlook.image.variables import Member
-    from rvlook.protocol.run import Run
-    from rvlook.protocol.symbols import Symbols
 
 OPERATORS = {"==": operator.eq, "!=": operator.ne, "<=": operator.le, ">=": operator.ge, "<": operator.lt, ">": operator.gt}
 CONDITION = re.compile(r"\s*([^\s=!<>]+)\s*(==|!=|<=|>=|<|>)\s*([^\s=!<>]+)\s*\Z")
@@ -34,10 +31,6 @@ class Bytes(NamedTuple):
     at: int
     count: int  # type: ignore[assignment]  # a tuple has a method of that name
 
-    def value_in(self, machine: RaceMachine, _state: CachedState, memory: Memory) -> bytes:
-        """Returns the bytes in a state."""
-        return bytes(machine.bytes_at(memory, self.at, self.count) or ())
-
 
 class Register(NamedTuple):
     """A register of a hart."""
@@ -45,28 +38,16 @@ class Register(NamedTuple):
     hart: int
     number: int
 
-    def value_in(self, machine: RaceMachine, state: CachedState, _memory: Memory) -> int:
-        """Returns the value of the register in a state."""
-        return machine.harts[state.harts[self.hart]][2][self.number]
-
 
 class Slot(NamedTuple):
     """The state of a slot's enclave."""
     name: str
     slot: int
 
-    def value_in(self, machine: RaceMachine, state: CachedState, _memory: Memory) -> str:
-        """Returns the state of the enclave in a state of the machine; `none` if there is none."""
-        return states_of(machine, state).get(self.slot, "none")
-
 
 class EnclaveStates(NamedTuple):
     """The states of all enclaves."""
     name: str = "enclaves"
-
-    def value_in(self, machine: RaceMachine, state: CachedState, _memory: Memory) -> tuple[tuple[int, str], ...]:
-        """Returns the slots and the states of all enclaves in a state of the machine."""
-        return tuple(sorted(states_of(machine, state).items()))
 
 
 Observed = Union[Bytes, Register, Slot, EnclaveStates]
@@ -85,7 +66,7 @@ class Watched(NamedTuple):
         if look.kind == "w":
             return not self.addresses.isdisjoint(range(look.at, look.at + look.width))
         word = look.key[2]
-        return word is not None and (hart, operands(word)[0]) in self.registers
+        return word is not None and (hart, operands(word).writes) in self.registers
 
 
 def watched_of(outcome: Iterable[Observed]) -> Watched:
@@ -108,9 +89,14 @@ class Forbidden(NamedTuple):
         return bool(values) and all(OPERATORS[compared](number_of(values[name]), value) for name, compared, value in self.parts)
 
 
-def states_of(machine: RaceMachine, state: CachedState) -> dict[int, str]:
-    """Returns the state of each enclave, by slot."""
-    return {it.slot: it.state for it in map(enclave_of, machine.tables[state.table][0])}
+def value_in(observed: Observed, machine: RaceMachine, state: CachedState) -> Value:
+    """Returns bytes, the value of a register, the state of a slot's enclave (or `none`), or the slots and the states of all enclaves."""
+    if isinstance(observed, Bytes):
+        return bytes(machine.bytes_at(machine.memories[state.memory], observed.at, observed.count) or ())
+    if isinstance(observed, Register):
+        return machine.harts[state.harts[observed.hart]][2][observed.number]
+    states = {it.slot: it.state for it in map(enclave_of, machine.tables[state.table][0])}
+    return states.get(observed.slot, "none") if isinstance(observed, Slot) else tuple(sorted(states.items()))
 
 
 def number_of(value: Value) -> Any:
@@ -194,5 +180,5 @@ def ranges_of(addresses: Iterable[int], symbols: Symbols) -> list[Bytes]:
         if found and found[-1].at + found[-1].count == at and symbols.function(at) == symbols.function(found[-1].at):
             found[-1] = found[-1]._replace(count=found[-1].count + 1)
         else:
-            found.append(Bytes(symbols.name(at) or hex8(at), at, 1))
+            found.append(Bytes(symbols.name(at) or "%08x" % at, at, 1))
     return found

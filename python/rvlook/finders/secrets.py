@@ -1,24 +1,21 @@
-"""The location and the values of a secret. It is in the region of an enclave, written right after `create`; in the image, written at reset; or in a
-register when an enclave first reaches an address."""
+"""The location, the values and the copies of a secret. It is in the region of an enclave, written right after `create`; in the image, written at
+reset; or in a register when an enclave first reaches an address. Its copies are maximal runs of bytes that the secret has in the same order."""
 from __future__ import annotations
 
 import random
 import re
 from contextlib import closing
 from dataclasses import dataclass, replace
-from typing import Optional, Sequence, TYPE_CHECKING
+from typing import Iterable, NamedTuple, Optional, Sequence
 
-from rvlook.protocol import names
-from rvlook.errors import RvlookError, Unfinished
-from rvlook.access.map import events
-from rvlook.protocol.memory_map import RAM_BASE
-from rvlook.protocol.run import End
 from rvlook.access.activations import Activations
-
-if TYPE_CHECKING:
-    from rvlook.access.map import Event
-    from rvlook.protocol.run import Run
-    from rvlook.protocol.symbols import Symbols
+from rvlook.access.map import Event, events
+from rvlook.errors import RvlookError, Unfinished
+from rvlook.protocol import names
+from rvlook.protocol.memory_map import RAM_BASE
+from rvlook.protocol.replies import poke_commands
+from rvlook.protocol.run import End, Run
+from rvlook.protocol.symbols import Symbols
 
 REGISTER_AT = re.compile(r"(\w+)@(.+)\Z")
 COUNT = re.compile(r"[0-9]{1,8}\Z")  # a number of bytes
@@ -27,6 +24,7 @@ WORD = 4
 IN_IMAGE = "image:"  # begins the place of a secret that is written at reset
 NEAR = 3  # every so many pairs one has values that agree in a prefix
 Bytes = bytes  # a member of Secret has that name
+LEAST = 4  # bytes of a reported copy; the whole secret if that is shorter
 
 
 @dataclass(frozen=True)
@@ -43,7 +41,7 @@ class Secret:
         """Returns the commands that set the secret."""
         if self.register:
             return ["hart %d" % self.hart] * bool(self.hart) + ["setreg %d %x" % (self.register, int.from_bytes(self.bytes, "little"))]
-        return ["poke %x %02x" % (self.at + offset, value) for offset, value in enumerate(self.bytes)]
+        return poke_commands(self.at, self.bytes)
 
     def with_bytes(self, value: Bytes) -> Secret:
         """Returns the secret with another value."""
@@ -64,10 +62,10 @@ class Secret:
 
 def created(run: Run, slot: int) -> Event:
     """Returns the event at which the enclave of a slot is created; raises Unfinished if it is not."""
-    for event in events(run):
-        if not isinstance(event, End) and event.cause == "create" and event.slot == slot:
-            return event
-    raise Unfinished("no enclave is created in slot %d" % slot)
+    found = next((it for it in events(run) if not isinstance(it, End) and it.cause == "create" and it.slot == slot), None)
+    if found is None:
+        raise Unfinished("no enclave is created in slot %d" % slot)
+    return found
 
 
 def place_and_size(text: str, symbols: Symbols) -> tuple[int, int | None]:
@@ -77,7 +75,8 @@ def place_and_size(text: str, symbols: Symbols) -> tuple[int, int | None]:
     if at is None or count and not COUNT.match(count):
         raise RvlookError("'%s' is neither a hexadecimal address nor a symbol" % text)
     symbol = symbols.by_name.get(name)
-    return at, int(count) if count else symbol.size if symbol and symbol.size else None
+    size = symbol.size or None if symbol else None
+    return at, int(count) if count else size
 
 
 def secret_of(text: str, symbols: Symbols, run: Run, slot: int, size: int | None = None) -> Secret:
@@ -92,20 +91,15 @@ def secret_of(text: str, symbols: Symbols, run: Run, slot: int, size: int | None
         raise RvlookError("the size of '%s' is unknown; use --at PLACE:BYTES" % text)
     if is_image:
         return Secret(slot, at, 0, bytes(count))
-    if not run.setup.monitor:
-        return bare_secret(run, at, count)
+    if not run.setup.monitor:  # any bytes of RAM, which are set after the script
+        if not RAM_BASE <= at <= at + count <= RAM_BASE + run.setup.ram:
+            raise RvlookError("the bytes at %08x are outside the RAM" % at)
+        return Secret(0, at, run.length, bytes(count))
     event = created(run, slot)
     enclave = next(it for it in event.enclaves if it.slot == slot)
     if not enclave.base <= at <= at + count <= enclave.base + enclave.size:
         raise RvlookError("the bytes at %08x are outside the region of e%d" % (at, slot))
     return Secret(slot, at, event.step, bytes(count))
-
-
-def bare_secret(run: Run, at: int, count: int) -> Secret:
-    """Returns the secret in any bytes of RAM of a bare run, which is set after the script. Raises RvlookError."""
-    if not RAM_BASE <= at <= at + count <= RAM_BASE + run.setup.ram:
-        raise RvlookError("the bytes at %08x are outside the RAM" % at)
-    return Secret(0, at, run.length, bytes(count))
 
 
 def register_secret(match: re.Match[str], symbols: Symbols, run: Run, slot: int) -> Secret:
@@ -130,7 +124,7 @@ class Pair:
 def drawn_pairs(own: bytes, guesses: Sequence[bytes], seed: int, first: int, last: int) -> list[Pair]:
     """Returns the pairs with numbers `first` to `last` of an endless list. Every third pair has two values that agree in prefixes of different length
     with the secret itself or with a guess of the host, and equal neither. The other pairs compare the secret with the values of `drawn`."""
-    values, rng = iter(drawn(len(own), seed, 1, last)), random.Random(seed)
+    values, rng = iter(drawn(len(own), seed, last)), random.Random(seed)
     found = []
     for number in range(1, last + 1):
         turn = number // NEAR - 1
@@ -138,7 +132,7 @@ def drawn_pairs(own: bytes, guesses: Sequence[bytes], seed: int, first: int, las
             near = guesses[turn // 2 % len(guesses)] if turn % 2 and guesses else own
             found.append(Pair(number, *near_pair(near, turn, rng)))
         else:
-            value = next(values)[1]
+            value = next(values)
             found.append(Pair(number, None, value if value != own else bytes(it ^ 0xA5 for it in own)))
     return found[max(0, first - 1):]
 
@@ -153,15 +147,72 @@ def near_pair(value: bytes, turn: int, rng: random.Random) -> tuple[bytes, bytes
     return changed[0], changed[-1]
 
 
-def drawn(size: int, seed: int, first: int, last: int) -> list[tuple[int, bytes]]:
-    """Returns the values with numbers `first` to `last` of an endless list: corner values, then single bits and random values in turn."""
+def drawn(size: int, seed: int, count: int) -> list[bytes]:
+    """Returns the first values of an endless list: corner values, then single bits and random values in turn."""
     rng = random.Random(seed)
     values = [it * size for it in CORNERS] + [bytes([1]) + bytes(size - 1), bytes(size - 1) + b"\x80"]
     bits = [1 << n for n in range(8 * size)]
     rng.shuffle(bits)
-    number = 0
-    while len(values) < last:
+    for number in range(count - len(values)):
         value = rng.getrandbits(8 * size) if number % 2 else bits[number // 2 % len(bits)]
         values.append(value.to_bytes(size, "little"))
-        number += 1
-    return list(enumerate(values[:last], 1))[max(0, first - 1):]
+    return values[:count]
+
+
+class Copy(NamedTuple):
+    """`size` bytes at an index that equal those of the secret from an offset."""
+    at: int
+    size: int
+    offset: int
+
+
+def copies_in(data: bytes, secret: bytes) -> list[Copy]:
+    """Returns the copies, by index. Bytes that are all equal, such as zeros, are none, and neither is what a longer copy covers."""
+    least = min(LEAST, len(secret))
+    found: list[Copy] = []
+    ends: dict[int, int] = {}  # of the last copy at each distance between the bytes and the secret
+    for offset in range(len(secret) - least + 1):
+        part = secret[offset:offset + least]
+        at = data.find(part) if len(set(part)) > 1 else -1
+        while at >= 0:
+            if ends.get(at - offset, -1) < at + least:  # not in the last copy with this distance
+                copy = extended(data, secret, at, offset, least)
+                ends[at - offset] = copy.at + copy.size
+                found.append(copy)
+            at = data.find(part, at + 1)
+    return not_covered(found)
+
+
+def short_copies_in(data: bytes, other: bytes, secret: bytes) -> list[Copy]:
+    """Returns the copies that `copies_in` leaves out, because they are short or have equal bytes. Their complements are in `other`, the same bytes
+    of a run with the complement of the secret."""
+    least = min(LEAST, len(secret))
+    found = []
+    for at, (value, theirs) in enumerate(zip(data, other)):
+        offset = secret.find(bytes([value])) if value ^ theirs == 0xFF else -1
+        while offset >= 0:
+            size = 1
+            while data[at + size:at + size + 1] == secret[offset + size:offset + size + 1] != b"" and data[at + size] ^ other[at + size] == 0xFF:
+                size += 1
+            found.append(Copy(at, size, offset))
+            offset = secret.find(bytes([value]), offset + 1)
+    return [it for it in not_covered(found) if it.size < least or len(set(data[it.at:it.at + it.size])) == 1]
+
+
+def extended(data: bytes, secret: bytes, at: int, offset: int, size: int) -> Copy:
+    """Returns the maximal copy that contains the bytes at an index."""
+    while at and offset and data[at - 1] == secret[offset - 1]:
+        at, offset, size = at - 1, offset - 1, size + 1
+    while at + size < len(data) and offset + size < len(secret) and data[at + size] == secret[offset + size]:
+        size += 1
+    return Copy(at, size, offset)
+
+
+def not_covered(copies: Iterable[Copy]) -> list[Copy]:
+    """Returns those that no longer copy covers; of copies at the same bytes the one with the lowest offset."""
+    kept, end = [], -1
+    for copy in sorted(copies, key=lambda it: (it.at, -it.size, it.offset)):
+        if copy.at + copy.size > end:
+            kept.append(copy)
+            end = copy.at + copy.size
+    return kept

@@ -5,30 +5,34 @@ from __future__ import annotations
 import itertools
 from dataclasses import dataclass
 from functools import lru_cache
-from typing import Iterable, Iterator, NamedTuple, Optional, Sequence, TYPE_CHECKING
+from typing import Iterator, NamedTuple, Optional, Sequence
 
-from rvlook.protocol import names
-from rvlook.errors import Unfinished
 from rvlook.access.map import events
+from rvlook.errors import Unfinished
+from rvlook.output.findings import ReportedCases
+from rvlook.output.printer import Printer, Style, counted, place_text, run_object
 from rvlook.output.progress import Progress
-from rvlook.protocol.replies import memory_commands, register_values, step_of
-from rvlook.protocol.run import End
+from rvlook.protocol import names
+from rvlook.protocol.bench import Bench
+from rvlook.protocol.jobs import results_of
+from rvlook.protocol.replies import Enclave, memory_commands, register_values, step_of
+from rvlook.protocol.run import End, Run
 from rvlook.protocol.stretch import Stretch
-from rvlook.output.printer import Style, place_text, run_object
-
-if TYPE_CHECKING:
-    from rvlook.output.findings import ReportedCases
-    from rvlook.output.printer import Printer
-    from rvlook.protocol.bench import Bench
-    from rvlook.protocol.replies import Enclave
-    from rvlook.protocol.run import Replay, Run
-    from rvlook.protocol.symbols import Symbols
+from rvlook.protocol.timeline import Timeline
 
 MOST_STEPS = 200  # of the enclave in one exchange
 PATIENCE = 1000000  # steps in which the host must enter the enclave
 TIMER = names.TIMER.encode()
 ANSWER = ["reg 10", "reg 11"]
 ENDED = ("Exited", "Stopped")  # states after which steps of the host are not compared
+
+
+@dataclass(frozen=True)
+class TimerOptions:
+    """The options of a run with timer interrupts: the slot of the enclave, before every how many steps one comes, and the number of processes."""
+    slot: int = 0
+    every: int = 1
+    jobs: int = 1
 
 
 class Inside(NamedTuple):
@@ -59,11 +63,17 @@ class TimerDifference:
 
 @dataclass
 class InterruptedRun:
-    """The result of the interrupted run."""
+    """The result of the interrupted run, or of a part of it. `finish` is the final state, which only the last part has."""
     steps: int = 0
     interrupts: int = 0
     difference: Optional[TimerDifference] = None
     not_resumed: Optional[TimerDifference] = None  # the step before which the host did not enter the enclave
+    finish: Sequence[str] = ()
+
+    @property
+    def is_other(self) -> bool:
+        """Returns whether the run differs from the one without interrupts."""
+        return bool(self.difference or self.not_resumed)
 
 
 def last_of(run: Run, slot: int) -> Last:
@@ -81,7 +91,7 @@ def last_of(run: Run, slot: int) -> Last:
     return found if found.enclave.state in ENDED else Last(end.steps, found.enclave, end.why == "limit")
 
 
-def inside_steps(run: Run, slot: int, last: Last, reader: Replay) -> Iterator[Inside]:
+def inside_steps(run: Run, slot: int, last: Last, reader: Timeline) -> Iterator[Inside]:
     """Yields the steps of the enclave after the script, without a timer. `reader` is a replay that reads the results of the host."""
     own, entered = b"e%d" % slot, True
     for item in run.stretches():
@@ -91,14 +101,9 @@ def inside_steps(run: Run, slot: int, last: Last, reader: Replay) -> Iterator[In
                 if was != own:
                     entered = True
                 elif run.length < step <= last.step:
-                    yield Inside(pc, line, entered, () if now == own else answer_after(reader, step))
+                    answer = reader.bench.replies_to([*reader.lines_to(step), *ANSWER])[-len(ANSWER):] if now != own else ()
+                    yield Inside(pc, line, entered, tuple(answer))
                     entered = False
-
-
-def answer_after(reader: Replay, step: int) -> tuple[bytes, ...]:
-    """Returns a0 and a1 of the host after a step, as replies."""
-    lines = [*reader.lines_to(step), *ANSWER]
-    return tuple(reader.bench.block("\n".join([*lines, ""]).encode(), len(lines)).splitlines()[-len(ANSWER):])
 
 
 @lru_cache(maxsize=65536)
@@ -111,16 +116,60 @@ def commands_for(pc: bytes, is_entered: bool, is_stopped: bool, is_left: bool) -
     return b"".join(commands), len(commands)
 
 
-def interrupted(replay: Replay, steps: Iterable[Inside], every: int) -> InterruptedRun:
-    """Runs the steps with a timer interrupt before every one that is due. After the first difference the steps are only counted."""
+def interrupted(replay: Timeline, steps: Iterator[tuple[int, Inside]], every: int, progress: Progress | None) -> InterruptedRun:
+    """Runs numbered steps with a timer interrupt before every one that is due. After the first difference the steps are only counted."""
     outcome = InterruptedRun()
-    with Progress() as progress:
-        for batch in batches_of(enumerate(steps)):
-            outcome.steps += len(batch)
+    for batch in batches_of(steps):
+        outcome.steps += len(batch)
+        if progress:
             progress.show("%d steps, %d interrupts", outcome.steps, outcome.interrupts)
-            if not (outcome.difference or outcome.not_resumed):
-                compare(replay, batch, every, outcome)
+        if not outcome.is_other:
+            compare(replay, batch, every, outcome)
     return outcome
+
+
+@dataclass(frozen=True)
+class TimerParts:
+    """The interrupted run in `jobs` parts of as many steps, each done by a process of its own. A process first repeats the parts before its own,
+    without a comparison."""
+    run: Run
+    options: TimerOptions
+    last: Last
+    progress: Progress
+
+    @property
+    def steps(self) -> int:
+        """Returns the number of steps of the enclave after the script."""
+        return sum(item.columns.worlds[max(0, self.run.length + 1 - item.first):self.last.step + 1 - item.first].count(b"e%d" % self.options.slot)
+                   for item in self.run.stretches() if isinstance(item, Stretch) and item.first <= self.last.step)
+
+    def part(self, number: int) -> InterruptedRun:
+        """Does the part with a number, from 0 on."""
+        jobs, every, is_whole = self.options.jobs, self.options.every, self.options.jobs == 1
+        size = 0 if is_whole else -(-self.steps // jobs)
+        with self.run.replay() as reader, self.run.replay() as replay:
+            replay.go_before(self.run.length + 1)
+            steps = enumerate(inside_steps(self.run, self.options.slot, self.last, reader))
+            for batch in batches_of(itertools.islice(steps, number * size)):
+                replies_to(replay, commands_of(batch, every))
+            own = steps if is_whole else itertools.islice(steps, size)
+            outcome = interrupted(replay, own, every, self.progress if is_whole else None)
+            if number == jobs - 1 and not outcome.is_other:
+                outcome.finish = finish_of(replay.bench, self.last.enclave)
+        return outcome
+
+    def whole(self) -> InterruptedRun:
+        """Does all parts, or those up to the first difference."""
+        whole = InterruptedRun()
+        jobs = self.options.jobs
+        for number, outcome in enumerate(results_of(self.part, jobs, jobs), 1):
+            self.progress.bar(number, jobs, "parts")
+            outcome.steps, outcome.interrupts = whole.steps + outcome.steps, whole.interrupts + outcome.interrupts
+            whole = outcome
+            if outcome.is_other:
+                outcome.steps = self.steps
+                break
+        return whole
 
 
 def batches_of(steps: Iterator[tuple[int, Inside]]) -> Iterator[list[tuple[int, Inside]]]:
@@ -131,18 +180,28 @@ def batches_of(steps: Iterator[tuple[int, Inside]]) -> Iterator[list[tuple[int, 
         count = min(2 * count, MOST_STEPS)
 
 
-def compare(replay: Replay, batch: Sequence[tuple[int, Inside]], every: int, outcome: InterruptedRun) -> None:
+def commands_of(batch: Sequence[tuple[int, Inside]], every: int) -> list[tuple[bytes, int]]:
+    """Returns the commands for each of some steps, and their number."""
+    return [commands_for(it.pc, it.is_entered, number % every == 0, bool(it.answer)) for number, it in batch]
+
+
+def replies_to(replay: Timeline, commands: Sequence[tuple[bytes, int]]) -> list[bytes]:
+    """Runs commands; returns the lines of their replies."""
+    return replay.bench.block(b"".join([text for text, _ in commands]), sum(count for _, count in commands)).splitlines()
+
+
+def compare(replay: Timeline, batch: Sequence[tuple[int, Inside]], every: int, outcome: InterruptedRun) -> None:
     """Compares some steps of the enclave, up to the first difference."""
-    texts = [commands_for(it.pc, it.is_entered, number % every == 0, bool(it.answer)) for number, it in batch]
-    replies, end = replay.bench.block(b"".join([text for text, _ in texts]), sum(count for _, count in texts)).splitlines(), 0
-    for (number, step), (_, count) in zip(batch, texts):
+    commands = commands_of(batch, every)
+    replies, end = replies_to(replay, commands), 0
+    for (number, step), (_, count) in zip(batch, commands):
         begin, end = end, end + count
         lines, answer = replies[begin:end - len(step.answer)], tuple(replies[end - len(step.answer):end])
         outcome.interrupts += sum([TIMER in line for line in lines])
         outcome.not_resumed = not_entered(number + 1, step, lines)
         if not outcome.not_resumed:
             outcome.difference = compare_step(number + 1, step, number % every == 0, lines, answer)
-        if outcome.difference or outcome.not_resumed:
+        if outcome.is_other:
             return
 
 
@@ -183,63 +242,55 @@ def finish_of(bench: Bench, enclave: Enclave) -> list[str]:
     return ["a0=%08x" % values[10], "a1=%08x" % values[11]] + [reply[0] for reply in bench.ask(*reads)]
 
 
-def after_script(run: Run) -> Replay:
-    """Returns a replay after the script, without the script's breaks and watches."""
-    replay = run.replay()
-    commands = replay.lines_to(run.length) + replay.lines_up_to_next()
-    if commands:
-        replay.bench.ask(*commands)
-    return replay
-
-
-def find_timer(run: Run, slot: int = 0, every: int = 1) -> tuple[InterruptedRun, Last]:
+def find_timer(run: Run, options: TimerOptions) -> tuple[InterruptedRun, Last]:
     """Runs an enclave with and without timer interrupts; returns the result, and its last step. Raises Unfinished if it executes no step."""
-    last = last_of(run, slot)
-    with run.replay() as quiet, run.replay() as reader, after_script(run) as replay:
-        quiet.bench.ask(*(quiet.lines_to(last.step) or ["reg 0"]))
-        outcome = interrupted(replay, inside_steps(run, slot, last, reader), every)
+    last = last_of(run, options.slot)
+    with run.replay() as quiet, Progress() as progress:
+        quiet.go(last.step)
+        outcome = TimerParts(run, options, last, progress).whole()
         if not outcome.steps:
-            raise Unfinished("the enclave in slot %d executes no step after the script" % slot)
-        if not (outcome.difference or outcome.not_resumed):
-            pairs = zip(finish_of(quiet.bench, last.enclave), finish_of(replay.bench, last.enclave))
+            raise Unfinished("the enclave in slot %d executes no step after the script" % options.slot)
+        if not outcome.is_other:
+            pairs = zip(finish_of(quiet.bench, last.enclave), outcome.finish)
             outcome.difference = next((TimerDifference(outcome.steps, None, a, b) for a, b in pairs if a != b), None)
     return outcome, last
 
 
-def show_timer(run: Run, printer: Printer, slot: int, every: int, findings: ReportedCases) -> None:
+def show_timer(run: Run, printer: Printer, options: TimerOptions, findings: ReportedCases) -> None:
     """Runs an enclave with and without timer interrupts, and reports whether the results are equal. Raises Unfinished if the host does not
     resume the enclave."""
-    outcome, last = find_timer(run, slot, every)
-    (timer_object if printer.as_json else timer_text)(run, run.setup.symbols, printer, slot, every, outcome)
+    slot, (outcome, last) = options.slot, find_timer(run, options)
+    (timer_object if printer.as_json else timer_text)(run, printer, options, outcome)
     if outcome.not_resumed:
         raise Unfinished("the host does not resume the enclave in slot %d after the timer interrupt at its step %d; timer requires a "
                          "host that always resumes it" % (slot, outcome.not_resumed.number))
-    it = outcome.difference
-    findings.add("e%d: same result with timer interrupts" % slot, "step %d: %s instead of %s" % (it.number, it.actual, it.expected) if it else "")
+    difference = outcome.difference
+    text = "step %d: %s instead of %s" % (difference.number, difference.actual, difference.expected) if difference else ""
+    findings.add("e%d: same result with timer interrupts" % slot, text)
     if last.is_cut:
         findings.cut_short("--steps %d ended the run while the enclave in slot %d was running" % (run.setup.limit, slot))
 
 
-def timer_object(run: Run, symbols: Symbols, printer: Printer, slot: int, every: int, outcome: InterruptedRun) -> None:
+def timer_object(run: Run, printer: Printer, options: TimerOptions, outcome: InterruptedRun) -> None:
     """Writes the result as objects."""
-    it = outcome.difference or outcome.not_resumed
+    it, symbols = outcome.difference or outcome.not_resumed, run.setup.symbols
     run_object(printer, run, symbols)
     difference = None if it is None else {"step": it.number, "pc": it.pc, "expected": it.expected, "actual": it.actual,
                                           "source": symbols.source(int(it.pc, 16)) if it.pc else None}
-    printer.object("timer", slot=slot, every=every, interrupts=outcome.interrupts, steps=outcome.steps,
+    printer.object("timer", slot=options.slot, every=options.every, interrupts=outcome.interrupts, steps=outcome.steps,
                    same=None if outcome.not_resumed else it is None, difference=difference)
 
 
-def timer_text(_run: Run, symbols: Symbols, printer: Printer, slot: int, every: int, outcome: InterruptedRun) -> None:
+def timer_text(run: Run, printer: Printer, options: TimerOptions, outcome: InterruptedRun) -> None:
     """Prints the result."""
-    it = outcome.difference or outcome.not_resumed
+    difference, slot, every = outcome.difference or outcome.not_resumed, options.slot, options.every
     which = "each step" if every == 1 else "every %d steps" % every
-    count = "1 interrupt" if outcome.interrupts == 1 else "%d interrupts" % outcome.interrupts
-    printer.line("e%d: %d steps, timer interrupt before %s: %s" % (slot, outcome.steps, which, count))
-    if it is None:
+    printer.line("e%d: %d steps, timer interrupt before %s: %s" % (slot, outcome.steps, which, counted(outcome.interrupts, "interrupt")))
+    if difference is None:
         printer.line(printer.styled("same result: every step, a0 and a1, region and window", Style.good))
         return
     printer.line(printer.styled("not resumed by the host" if outcome.not_resumed else "different result", Style.bad))
-    printer.line("  step %d of e%d%s" % (it.number, slot, "" if it.pc is None else ", at " + place_text(it.pc, symbols)))
-    printer.line("  expected  " + it.expected)
-    printer.line("  actual    " + it.actual)
+    place = "" if difference.pc is None else ", at " + place_text(difference.pc, run.setup.symbols)
+    printer.line("  step %d of e%d%s" % (difference.number, slot, place))
+    printer.line("  expected  " + difference.expected)
+    printer.line("  actual    " + difference.actual)

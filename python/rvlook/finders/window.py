@@ -6,25 +6,18 @@ from __future__ import annotations
 
 from collections import defaultdict
 from dataclasses import dataclass, field
-from typing import Callable, Iterator, Mapping, NamedTuple, Optional, Sequence, TYPE_CHECKING, Tuple
+from typing import Callable, Iterator, Mapping, NamedTuple, Optional, Sequence, Tuple
 
-from rvlook.errors import Unfinished
-from rvlook.access.fields import FieldReader, Fields
-from rvlook.finders.leak import public_of
-from rvlook.finders.secrets import secret_of
-from rvlook.finders.secret_copies import copies_in, short_copies_in
 from rvlook.access.activations import Activation, Activations
-
-if TYPE_CHECKING:
-    from rvlook.finders.leak import Public
-    from rvlook.finders.secret_copies import Copy
-    from rvlook.finders.secrets import Secret
-    from rvlook.image.variables import Variables
-    from rvlook.protocol.run import Run
-    from rvlook.protocol.symbols import Symbols
+from rvlook.access.fields import FieldReader, WindowFields
+from rvlook.errors import Unfinished
+from rvlook.finders.leak import Public, public_of
+from rvlook.finders.secrets import Copy, Secret, copies_in, secret_of, short_copies_in
+from rvlook.image.variables import Variables
+from rvlook.protocol.run import Run
+from rvlook.protocol.symbols import Symbols
 
 Marks = Tuple[Tuple[int, ...], Optional[bool], bool]  # instructions, whether it is secret, and whether it is public
-Kept = Tuple[int, int, int]  # a value, the instruction that stored it, and the number of the activation
 
 
 class MarkedBytes(NamedTuple):
@@ -67,7 +60,7 @@ class ActivationView:
 class WindowContext:
     """The names of instructions and of fields of the window, and what may differ."""
     symbols: Symbols
-    fields: Fields
+    fields: WindowFields
     public: Public
 
 
@@ -95,7 +88,8 @@ def bytes_of(activation: Activation) -> dict[int, Byte]:
         several = [found[at - base] for at in range(address, address + width)]
         if kind == "w":
             for byte, value in zip(several, values):
-                stored(byte, pc, value)
+                byte.stored_at = pc
+                byte.values.append(value)
         if kind == "w" or any([read(byte, pc) for byte in several]):
             known.clear()
         else:
@@ -115,12 +109,6 @@ def read(byte: Byte, pc: int) -> bool:
     return True
 
 
-def stored(byte: Byte, pc: int, value: int) -> None:
-    """Records a store."""
-    byte.stored_at = pc
-    byte.values.append(value)
-
-
 def ranges(what: str, marks: Mapping[int, Marks]) -> list[MarkedBytes]:
     """Joins adjacent bytes with the same marks. `marks` has them by offset."""
     found: list[MarkedBytes] = []
@@ -131,6 +119,13 @@ def ranges(what: str, marks: Mapping[int, Marks]) -> list[MarkedBytes]:
         else:
             found.append(MarkedBytes(what, at, 1, *marks[at]))
     return found
+
+
+class Kept(NamedTuple):
+    """A byte that an activation left: its value, the instruction that stored it, and the number of the activation."""
+    value: int
+    pc: int
+    activation: int
 
 
 class Leftovers:
@@ -153,21 +148,15 @@ class Leftovers:
                 self.stored[base + at] = byte.values[-1], byte.stored_at, activation.world
         return marks
 
-    def of(self, activation: Activation) -> dict[int, Kept]:
-        """Returns the bytes that an earlier activation stored and that did not change in this one."""
-        before, after = activation.before, activation.after
-        return {at: it for at, it in self.kept[activation.world].items() if at < len(after) and after[at] == it[0] == before[at]
-                and it[2] != activation.number}
-
     def take(self, activation: Activation, found: Mapping[int, Byte]) -> dict[int, Kept]:
         """Updates the data after an activation; returns the bytes that remain from an earlier activation."""
-        kept = self.kept[activation.world]
-        for at in [it for it in kept if it >= len(activation.before) or activation.before[it] != kept[it][0]]:
+        kept, after = self.kept[activation.world], activation.after
+        for at in [it for it in kept if it >= len(activation.before) or activation.before[it] != kept[it].value]:
             del kept[at]  # the host has written there
-        remaining = self.of(activation)
+        remaining = {at: it for at, it in kept.items() if at < len(after) and after[at] == it.value and it.activation != activation.number}
         for at, byte in found.items():
             if byte.stored_at is not None:
-                kept[at] = byte.values[-1], byte.stored_at, activation.number
+                kept[at] = Kept(byte.values[-1], byte.stored_at, activation.number)
                 remaining.pop(at, None)
         return remaining
 
@@ -203,8 +192,8 @@ def view_of(activation: Activation, leftovers: Leftovers, other: Activation | No
                     *(it._replace(world=world) for world in sorted({it[1] for it in received.values()})
                       for it in ranges("receives", {at: ((pc,), None, False) for at, (pc, other_world) in received.items() if other_world == world})),
                     *ranges("writes", writes),
-                    *ranges("remains", {at: ((pc, number), None, False) for at, (_, pc, number) in kept.items()})]
-    writers = {at: pc for at, (_, pc, _) in leftovers.kept[activation.world].items()}
+                    *ranges("remains", {at: ((it.pc, it.activation), None, False) for at, it in kept.items()})]
+    writers = {at: it.pc for at, it in leftovers.kept[activation.world].items()}
     return ActivationView(found_ranges, list(copies_of(activation, other, secret, writers, public)) if secret else [])
 
 
@@ -232,7 +221,7 @@ class WindowSearch:
 
     def __init__(self, run: Run, variables: Variables, options: WindowOptions) -> None:
         self.run, self.options, symbols = run, options, run.setup.symbols
-        self.context = WindowContext(symbols, Fields(symbols), public_of(options.public, symbols))
+        self.context = WindowContext(symbols, WindowFields(symbols), public_of(options.public, symbols))
         self.secret: Secret | None = None
         if options.at:
             secret = secret_of(options.at, symbols, run, 0 if options.slot is None else options.slot)
@@ -241,28 +230,22 @@ class WindowSearch:
 
     def views(self, heard: Callable[[int], None] = lambda step: None) -> Iterator[tuple[Activation, ActivationView]]:
         """Yields each activation with its findings. Calls `heard` with the last step of each activation. Raises Unfinished if there is none."""
-        others = WithComplement(self.run, self.secret) if self.secret else None
+        others = with_complement(self.run, self.secret) if self.secret else iter(())
         leftovers, slot, number = Leftovers(), self.options.slot, 0
         for activation in Activations(self.run).all():
             if slot is None or activation.slot == slot:
                 number += 1
                 self.reader.read(activation)
-                other = others.next(activation) if others and self.secret and activation.slot == self.secret.slot else None
+                without_stores = Activation(activation.world, activation.hart, first=0, number=0, enclave=activation.enclave)
+                other = next(others, without_stores) if self.secret and activation.slot == self.secret.slot else None
                 yield activation, view_of(activation, leftovers, other, self.secret, self.context)
             heard(activation.last or 0)
         if not number:
             raise Unfinished("no enclave runs" if slot is None else "no enclave in slot %d" % slot)
 
 
-class WithComplement:
-    """The activations of the run with the complement of the secret."""
-
-    def __init__(self, run: Run, secret: Secret) -> None:
-        other = secret.with_bytes(bytes(it ^ 0xFF for it in secret.bytes))
-        every = Activations(run.with_lines(other.step, other.lines()), secret.step).all()
-        self.activations: Iterator[Activation] = (it for it in every if it.slot == secret.slot)
-
-    def next(self, activation: Activation) -> Activation:
-        """Returns the next activation; one without stores if there is none."""
-        found: Activation | None = next(self.activations, None)
-        return found or Activation(activation.world, activation.hart, 0, 0, activation.enclave)
+def with_complement(run: Run, secret: Secret) -> Iterator[Activation]:
+    """Yields the activations of the run with the complement of the secret."""
+    other = secret.with_bytes(bytes(it ^ 0xFF for it in secret.bytes))
+    every = Activations(run.with_lines(other.step, other.lines()), secret.step).all()
+    return (it for it in every if it.slot == secret.slot)

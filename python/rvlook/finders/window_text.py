@@ -1,22 +1,18 @@
 """The subcommand `window`: prints what each activation of an enclave did with the bytes of its window."""
 from __future__ import annotations
 
-from typing import Iterable, Iterator, TYPE_CHECKING
+from typing import Iterable, Iterator
 
+from rvlook.access.activations import Activation
 from rvlook.access.ranges import derived_rights
-from rvlook.finders.window import WindowSearch
-from rvlook.output.printer import Style, hex8, run_object
+from rvlook.finders.secrets import Secret
+from rvlook.finders.window import ActivationView, MarkedBytes, SecretCopy, WindowContext, WindowOptions, WindowSearch
+from rvlook.image.variables import Variables
+from rvlook.output.findings import ReportedCases
+from rvlook.output.printer import Printer, Style, hex8, run_object
 from rvlook.output.progress import Progress
-
-if TYPE_CHECKING:
-    from rvlook.access.activations import Activation
-    from rvlook.finders.secrets import Secret
-    from rvlook.finders.window import WindowContext, MarkedBytes, SecretCopy, ActivationView, WindowOptions
-    from rvlook.image.variables import Variables
-    from rvlook.output.findings import ReportedCases
-    from rvlook.output.printer import Printer
-    from rvlook.protocol.run import Run
-    from rvlook.protocol.symbols import Symbols
+from rvlook.protocol.run import Run
+from rvlook.protocol.symbols import Symbols
 
 WIDTH = 16  # bytes of a row of the dump
 END_TEXT = {"none": "still running"}  # of an activation that has not ended
@@ -33,7 +29,8 @@ def show_window(run: Run, variables: Variables, printer: Printer, options: Windo
             number += 1
             progress.clear()
             write(printer, search.context, activation, view, search.secret)
-            findings.add("%s, activation %d" % (activation.world, activation.number), finding_of(activation, view, search.context, search.secret))
+            rows = rows_that_are_findings(activation, view, search.context, search.secret)
+            findings.add("%s, activation %d" % (activation.world, activation.number), "\n".join(text for text, _ in rows))
 
 
 def rows_that_are_findings(activation: Activation, view: ActivationView, context: WindowContext,
@@ -42,11 +39,6 @@ def rows_that_are_findings(activation: Activation, view: ActivationView, context
     rows: list[tuple[str, int | None]] = [(found_text(activation, it, context).strip(), next(iter(it.pcs), None))
                                           for it in view.found if it.is_finding]
     return rows + [(copy_text(activation, it, context, secret).strip(), None) for it in view.copies if it.is_finding]
-
-
-def finding_of(activation: Activation, view: ActivationView, context: WindowContext, secret: Secret | None) -> str:
-    """Returns the rows that are findings, as a text; empty if there is none."""
-    return "\n".join(text for text, _ in rows_that_are_findings(activation, view, context, secret))
 
 
 def between_text(activation: Activation, at: int) -> str:
@@ -59,32 +51,33 @@ def between_text(activation: Activation, at: int) -> str:
 
 def places_text(pcs: Iterable[int], symbols: Symbols) -> str:
     """Returns instructions by source line, symbol or address."""
-    return " and ".join(dict.fromkeys(symbols.source(pc) or symbols.name(pc) or hex8(pc) for pc in pcs))
+    return " and ".join(dict.fromkeys(map(symbols.place, pcs)))
 
 
-def found_text(activation: Activation, it: MarkedBytes, context: WindowContext) -> str:
+def found_text(activation: Activation, found: MarkedBytes, context: WindowContext) -> str:
     """Returns a range as a line."""
     symbols = context.symbols
-    base = activation.enclave.window + it.first
-    parts = ["  %-11s %08x-%08x %6d" % (it.what, base, base + it.size - 1, it.size), context.fields.name(base) or ""]
-    if it.what == "remains":
-        pc, number = it.pcs
+    base = activation.enclave.window + found.first
+    parts = ["  %-11s %08x-%08x %6d" % (found.what, base, base + found.size - 1, found.size), context.fields.name(base) or ""]
+    if found.what == "remains":
+        pc, number = found.pcs
         parts.append("%s, in activation %d" % (places_text([pc], symbols), number))
-    elif it.what == "receives":
-        parts.append("%s of %s" % (places_text(it.pcs, symbols), it.world))
-    elif it.what == "rereads":
-        first, second = (symbols.source(pc) or symbols.name(pc) or hex8(pc) for pc in it.pcs)
-        parts.append("%s and %s; %s" % (first, second, between_text(activation, base)))
+    elif found.what == "receives":
+        parts.append("%s of %s" % (places_text(found.pcs, symbols), found.world))
+    elif found.what == "rereads":
+        parts.append("%s and %s; %s" % (*map(symbols.place, found.pcs), between_text(activation, base)))
     else:
-        parts.append(places_text(it.pcs, symbols))
-    if it.is_secret is not None:
-        parts.append(secret_text(it))
+        parts.append(places_text(found.pcs, symbols))
+    if found.is_secret is not None:
+        parts.append(secret_text(found))
     return "  ".join(part for part in parts if part)
 
 
-def secret_text(it: MarkedBytes | SecretCopy) -> str:
+def secret_text(found: MarkedBytes | SecretCopy) -> str:
     """Returns whether bytes of the window depend on the secret."""
-    return ("depends on the secret" + (", public" if it.is_public else "")) if it.is_secret else "the same with another secret"
+    if not found.is_secret:
+        return "the same with another secret"
+    return "depends on the secret, public" if found.is_public else "depends on the secret"
 
 
 def copy_text(activation: Activation, it: SecretCopy, context: WindowContext, secret: Secret | None) -> str:
@@ -122,9 +115,9 @@ def heading_of(activation: Activation) -> str:
 def activation_text(printer: Printer, context: WindowContext, activation: Activation, view: ActivationView, secret: Secret | None) -> None:
     """Prints an activation."""
     printer.line(printer.styled(heading_of(activation), Style.heading))
-    for it in view.found:
-        text = found_text(activation, it, context)
-        printer.line(printer.styled(text, Style.bad) if it.is_finding else text)
+    for marked in view.found:
+        text = found_text(activation, marked, context)
+        printer.line(printer.styled(text, Style.bad) if marked.is_finding else text)
     if not view.found:
         printer.line("  does not access its window" if activation.enclave.window_size else "  no window")
     for at, row in rows_of(activation):
@@ -141,13 +134,13 @@ def activation_objects(printer: Printer, context: WindowContext, activation: Act
     printer.object("activation", world=activation.world, hart=activation.hart, activation=activation.number, first=activation.first,
                    last=activation.last, ended_by=activation.ended_by,
                    answer=[hex8(it) for it in activation.answer], window=hex8(activation.enclave.window), size=activation.enclave.window_size)
-    for it in view.found:
-        base, pcs = activation.enclave.window + it.first, it.pcs[:1] if it.what == "remains" else it.pcs
-        printer.object("window", world=activation.world, activation=activation.number, what=it.what, first=hex8(base), last=hex8(base + it.size - 1),
-                       symbol=symbols.name(base), field=context.fields.known(base), stored_by=it.world or None,
+    for marked in view.found:
+        base, pcs = activation.enclave.window + marked.first, marked.pcs[:1] if marked.what == "remains" else marked.pcs
+        printer.object("window", world=activation.world, activation=activation.number, what=marked.what, first=hex8(base),
+                       last=hex8(base + marked.size - 1), symbol=symbols.name(base), field=context.fields.known(base), stored_by=marked.world or None,
                        pcs=[hex8(pc) for pc in pcs], sources=[symbols.source(pc) for pc in pcs],
-                       secret=it.is_secret, public=it.is_public, of=it.pcs[1] if it.what == "remains" else None,
-                       between=between_text(activation, base) if it.what == "rereads" else None)
+                       secret=marked.is_secret, public=marked.is_public, of=marked.pcs[1] if marked.what == "remains" else None,
+                       between=between_text(activation, base) if marked.what == "rereads" else None)
     for at, row in rows_of(activation):
         printer.object("dump", world=activation.world, activation=activation.number, at=hex8(at), bytes=row.hex())
     for found in view.copies:

@@ -21,7 +21,7 @@ def signed(value: int) -> int:
 
 
 def divided(one: int, other: int) -> int:
-    """Returns the quotient, rounded towards zero; raises Refused for a division by zero."""
+    """Returns the quotient, rounded towards zero; raises ExpressionError for a division by zero."""
     if other == 0:
         raise ExpressionError("a division by zero")
     return abs(one) // abs(other) * (1 if (one < 0) == (other < 0) else -1)
@@ -41,7 +41,7 @@ TWO = {
 
 
 def extended(value: int, bits: int) -> int:
-    """Sign-extends the low bits of a value; raises Refused for 0 bits."""
+    """Sign-extends the low bits of a value; raises ExpressionError for 0 bits."""
     if bits == 0:
         raise ExpressionError("a value of no bits")
     value &= (1 << bits) - 1
@@ -72,7 +72,7 @@ class ExpressionStack:
         self.push(int.from_bytes(found, "little"))
 
     def run(self) -> int:
-        """Runs the expression; returns the top of the stack. Raises Refused if it does not end."""
+        """Runs the expression; returns the top of the stack. Raises ExpressionError if it does not end."""
         for _ in range(MOST):
             code = self.number(1)
             if code == 0x27:

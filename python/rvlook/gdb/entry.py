@@ -2,17 +2,12 @@
 step back, and cached for as long as the hart cannot have left the enclave."""
 from __future__ import annotations
 
-import contextlib
 from dataclasses import dataclass
-from typing import Iterator, TYPE_CHECKING
 
-from rvlook.gdb.lookahead import BLOCK, query_steps
+from rvlook.gdb.lookahead import blocks_of, query_steps
 from rvlook.gdb.target import SAVED
 from rvlook.protocol.names import NUMBER_OF
-from rvlook.protocol.timeline import StateChange, actions_between, steps_within
-
-if TYPE_CHECKING:
-    from rvlook.protocol.timeline import ScheduledSteps, Timeline
+from rvlook.protocol.timeline import ScheduledSteps, Timeline, actions_between
 
 FIRST_PART, MORE = 4096, 8  # steps of the first part that is looked through, and times as many in the next
 PC, CALL = 32, 4  # the register pc, and the bytes of an ecall
@@ -42,11 +37,6 @@ class LastEntries:
         """Limits what is known to the steps up to this one, as what follows may change."""
         self.known = {hart: (entry, min(sure, position), witness) for hart, (entry, sure, witness) in self.known.items()}
 
-    def registers(self, timeline: Timeline, hart: int) -> dict[str, str] | None:
-        """Returns the registers of the host that entered the enclave on a hart; None if the hart is in no enclave."""
-        found = self.find(timeline, hart)
-        return found.registers if found else None
-
     def find(self, timeline: Timeline, hart: int) -> Entered | None:
         """Finds the step that entered the enclave on a hart; None if the hart is in no enclave."""
         timeline.settle()
@@ -65,8 +55,7 @@ class LastEntries:
     @staticmethod
     def at(timeline: Timeline, hart: int, step: int) -> Entered:
         """Returns the entry that a step made."""
-        with contextlib.closing(timeline.again(step - 1)) as before:
-            before.settle()
+        with timeline.again(step - 1) as before:
             before.choose(hart)
             values = [line[-8:] for line in before.ask("regs")[0]]
         return Entered(step, values[PC], tuple(values[:PC]))
@@ -85,24 +74,13 @@ def last_switch(timeline: Timeline, hart: int, lowest: int) -> int | None:
     return None
 
 
-def blocks(timeline: Timeline, ahead: Timeline, first: int, end: int) -> Iterator[ScheduledSteps]:
-    """Yields the steps of a part of the past in blocks. Gives the commands between them to the other bench."""
-    for it in actions_between(timeline.past, first, end):
-        if isinstance(it, StateChange):
-            ahead.choose(it.hart)
-            ahead.do(it.line)
-            continue
-        for at in range(0, it.count, BLOCK):
-            yield steps_within(it, at, at + BLOCK)
-
-
 def blocks_with_traps(timeline: Timeline, hart: int, first: int, end: int) -> list[tuple[int, ScheduledSteps]]:
     """Returns the blocks in which a hart trapped, as it does at each switch of world, each with the step before it."""
     found = []
-    with contextlib.closing(timeline.again(first)) as ahead:
-        for steps in blocks(timeline, ahead, first, end):
+    with timeline.again(first) as ahead:
+        for steps in blocks_of(ahead, actions_between(timeline.past, first, end)):
             start = ahead.position
-            if any(ran.trap for other, _, ran in query_steps(ahead, steps.turns, steps.count, False) if other == hart):
+            if any(ran.trap for other, _, ran in query_steps(ahead, steps.turns, steps.count, is_single=False) if other == hart):
                 found.append((start, steps))
     return found
 
@@ -110,10 +88,10 @@ def blocks_with_traps(timeline: Timeline, hart: int, first: int, end: int) -> li
 def switch_in(timeline: Timeline, hart: int, start: int, steps: ScheduledSteps) -> int | None:
     """Returns the last step of a block that brought a hart to another world, or None."""
     found = None
-    with contextlib.closing(timeline.again(start)) as ahead:
+    with timeline.again(start) as ahead:
         ahead.settle()
         world = ahead.worlds[hart]
-        for step, (other, _, ran) in enumerate(query_steps(ahead, steps.turns, steps.count, True), start + 1):
+        for step, (other, _, ran) in enumerate(query_steps(ahead, steps.turns, steps.count, is_single=True), start + 1):
             if other == hart and ran.world != world:
                 found, world = step, ran.world
     return found

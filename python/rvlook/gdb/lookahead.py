@@ -1,26 +1,20 @@
 """Does many steps of a timeline in one exchange, and finds where its harts do nothing any more."""
 from __future__ import annotations
 
-import contextlib
 import functools
 import re
-from typing import Callable, Iterable, Iterator, Mapping, Optional, TYPE_CHECKING, Tuple
+from typing import Callable, Iterable, Iterator, Mapping, Optional, Tuple
 
-from rvlook.protocol.replies import RAN, Ran, Trap, step_of, trap_of
-from rvlook.protocol.run import EQUAL, MOST_STEPS
-from rvlook.protocol.timeline import ScheduledSteps, actions_between, rotated
+from rvlook.gdb.stops import Halt, Stops
+from rvlook.protocol.replies import Ran, RanTrap, step_of
+from rvlook.protocol.run import EQUAL
+from rvlook.protocol.timeline import MOST_STEPS, Action, Line, ScheduledSteps, Timeline, actions_between, rotated, steps_within
 
-if TYPE_CHECKING:
-    from rvlook.gdb.stops import Halt, Stops
-    from rvlook.protocol.timeline import Timeline
-
-RANS = re.compile(RAN.pattern)
 BLOCK = 4096  # steps of an exchange
 LONGEST, NO_TRAP = 100, b"trap=-"  # the most bytes of a reply to `run`; the end of a reply without a trap
 RUNS, MOST_QUESTIONS = 256, 16  # runs in one exchange, and queries after each
 
-
-RanState = Tuple[str, str, str, Optional[Trap]]  # pc, mode, world and trap
+RanState = Tuple[str, str, str, Optional[RanTrap]]  # pc, mode, world and trap
 
 
 def runs_of(turns: str, count: int, is_single: bool) -> list[tuple[int, int]]:
@@ -64,10 +58,25 @@ def query_steps(timeline: Timeline, turns: str, count: int, is_single: bool,
             timeline.moved[hart] += 1
         runs = runs[-len(turns):]
         block = block[-LONGEST * 2 * len(runs):]
-    rans = [ran_of_match(it) for it in RANS.finditer(block.decode())][-len(runs):]
+    rans = [step_of(it) for it in block.decode().splitlines() if it.startswith("ran ")][-len(runs):]
     for (hart, _), ran in zip(runs, rans):
         timeline.reach(hart, ran.mode, ran.world, ran.trap and ran.steps > 1)
     return [(hart, length, ran) for (hart, length), ran in zip(runs, rans)]
+
+
+def steps_of(ahead: Timeline, actions: Iterable[Action]) -> Iterator[ScheduledSteps]:
+    """Yields the steps among actions of the past, which the caller repeats on another bench. Does the commands between them there."""
+    for action in actions:
+        if isinstance(action, Line):
+            ahead.choose(action.hart)
+            ahead.do(action.text)
+        else:
+            yield action
+
+
+def blocks_of(ahead: Timeline, actions: Iterable[Action]) -> Iterator[ScheduledSteps]:
+    """Yields the same in blocks, each of the steps of one exchange."""
+    return (steps_within(it, at, at + BLOCK) for it in steps_of(ahead, actions) for at in range(0, it.count, BLOCK))
 
 
 def by_turns(timeline: Timeline, stops: Stops, turns: str, count: int) -> Iterator[Halt | None]:
@@ -103,11 +112,6 @@ def judged(timeline: Timeline, stops: Stops, hart: int, count: int) -> list[tupl
     return found
 
 
-def ran_of_match(match: re.Match[str]) -> Ran:
-    """Returns a reply from its match with RAN."""
-    return Ran(int(match[1]), match[2], match[3], match[4], match[5], trap_of(match[6]))
-
-
 def state_of(ran: Ran) -> RanState:
     """Returns the state by which a halted hart is detected."""
     return ran.pc, ran.mode, ran.world, ran.trap
@@ -126,21 +130,18 @@ def ends_of(found: Iterable[tuple[int, int, Ran]]) -> dict[int, RanState] | None
 def first_equal(timeline: Timeline, first: int, ends: Mapping[int, RanState]) -> int:
     """Returns the first step after `first` from which all harts are halted. `ends` has the present state of each hart."""
     end = timeline.position
-    with contextlib.closing(timeline.again(block_before(timeline, first, ends))) as ahead:
+    with timeline.again(block_before(timeline, first, ends)) as ahead:
         since: dict[int, int] = {}
-        for it in actions_between(timeline.past, ahead.position, end):
-            while isinstance(it, ScheduledSteps) and it.count:
-                count = min(it.count, BLOCK)
-                position = ahead.position
-                for hart, _, ran in query_steps(ahead, it.turns, count, True):
-                    position += 1
-                    if state_of(ran) != ends[hart]:
-                        since.pop(hart, None)
-                    else:
-                        since.setdefault(hart, position)
-                if len(since) == len(ends) and position >= max(since.values()) + EQUAL * len(it.turns):
-                    return max(since.values())
-                it = next(actions_between([it], count, it.count), ScheduledSteps(it.turns, 0))
+        for block in blocks_of(ahead, actions_between(timeline.past, ahead.position, end)):
+            position = ahead.position
+            for hart, _, ran in query_steps(ahead, block.turns, block.count, is_single=True):
+                position += 1
+                if state_of(ran) != ends[hart]:
+                    since.pop(hart, None)
+                else:
+                    since.setdefault(hart, position)
+            if len(since) == len(ends) and position >= max(since.values()) + EQUAL * len(block.turns):
+                return max(since.values())
         return max(since.values(), default=end)
 
 
@@ -149,8 +150,7 @@ def block_before(timeline: Timeline, first: int, ends: Mapping[int, RanState]) -
     if len(ends) > 1:
         return first
     (hart, state), = ends.items()
-    with contextlib.closing(timeline.again(first)) as ahead:
-        ahead.settle()
+    with timeline.again(first) as ahead:
         ahead.choose(hart)
         replies = ahead.do_all(["run %d" % BLOCK] * ((timeline.position - first) // BLOCK))
         states = [state_of(step_of(reply)) for reply, in replies]

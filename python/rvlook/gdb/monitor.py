@@ -3,27 +3,22 @@ server itself."""
 from __future__ import annotations
 
 import contextlib
-import inspect
 import io
 import os
-from typing import Callable, NamedTuple, Sequence, TYPE_CHECKING, TextIO
+from argparse import Namespace
+from typing import Callable, NamedTuple, Sequence, TextIO
 
+from rvlook.errors import RvlookError
+from rvlook.escapes import visible
+from rvlook.gdb.entry import LastEntries
+from rvlook.gdb.moves import DISCARDED, Moves
+from rvlook.output.printer import Printer, place_text
+from rvlook.prompt.prompt import PromptSession, run_own
 from rvlook.protocol.bench_line import tokens_of
 from rvlook.protocol.commands import COMMANDS, Form, is_form, written
-from rvlook.escapes import visible
-from rvlook.errors import RvlookError
-from rvlook.gdb.entry import LastEntries
-from rvlook.gdb.moves import DISCARDED
 from rvlook.protocol.names import Call
 from rvlook.protocol.run import run_of
-from rvlook.prompt.session import Session
-from rvlook.output.printer import Printer, place_text
 from rvlook.protocol.timeline import commands_of
-
-if TYPE_CHECKING:
-    from argparse import Namespace
-    from rvlook.gdb.moves import Moves
-    from rvlook.protocol.symbols import Symbols
 
 OTHERS = ("measure", "explain")  # subcommands over a file of their own
 NOT_OFFERED = ("gdb", "conform", "guard", "new")  # subcommands that run benches of their own or this server, or make a folder
@@ -45,11 +40,11 @@ class CommandLine(NamedTuple):
 
 
 class Monitor:
-    """Runs lines of `monitor`. `symbols` reads the symbols; only with `has_files` may a line name files."""
+    """Runs lines of `monitor`. Only with `has_files` may a line name files."""
 
-    def __init__(self, moves: Moves, symbols: Callable[[], Symbols], command_line: CommandLine, has_files: bool = True) -> None:
-        self.moves, self.symbols, self.entry, self.refreshes = moves, symbols, LastEntries(), False
-        self.session: Session | None = None
+    def __init__(self, moves: Moves, command_line: CommandLine, has_files: bool = True) -> None:
+        self.moves, self.entry, self.refreshes = moves, LastEntries(), False
+        self.session: PromptSession | None = None
         self.has_files, self.read = has_files, command_line.read
         self.subcommands = tuple(it for it in command_line.names if it not in (*OTHERS, *NOT_OFFERED))  # over an image
 
@@ -80,31 +75,23 @@ class Monitor:
         elif not tokens or tokens == ["help"]:
             self.help()
         elif tokens[0] in OWN:
-            self.own(*tokens)
+            if not run_own(self, *tokens):
+                print(OWN[tokens[0]])
         elif tokens[0] == "rvlook" or tokens[0] in OTHERS or tokens[0] in self.subcommands and not self.is_command(tokens):
             self.subcommand(tokens[1:] if tokens[0] == "rvlook" else tokens)
         else:
             self.opened(out).line(text)
-
-    def own(self, name: str, *operands: str) -> None:
-        """Runs a command of the server."""
-        act = getattr(self, name)
-        try:
-            inspect.signature(act).bind(*operands)
-        except TypeError:
-            print(OWN[name])
-            return
-        act(*operands)
 
     @staticmethod
     def is_command(tokens: Sequence[str]) -> bool:
         """Returns whether a line is a command of the bench: `timer on` is, `timer --every 2` is a subcommand."""
         return tokens[0] in COMMANDS and written(tokens[0], tokens[1:]) is not None
 
-    def opened(self, out: TextIO | None = None) -> Session:
+    def opened(self, out: TextIO | None = None) -> PromptSession:
         """Returns the session of the prompt over the debugger's bench."""
         if not self.session:
-            self.session = Session(self.moves, run_of(self.moves.timeline.setup.with_script((), 0)), self.symbols(), Printer())
+            setup = self.moves.timeline.setup
+            self.session = PromptSession(self.moves, run_of(setup.with_script((), 0)), setup.symbols, Printer())
         self.session.printer = Printer(stream=out)
         return self.session
 
@@ -132,7 +119,7 @@ class Monitor:
             arguments.has_sources = self.has_files
             limit = arguments.steps if tokens[0] in FROM_HERE or "--steps" in tokens else 0
             setup = timeline.setup.with_script(commands_of(timeline.past, 0, timeline.hart), limit)
-            arguments.opened = run_of(setup), self.opened().symbols
+            arguments.opened = run_of(setup)
         arguments.do(arguments)
 
     def check_files(self, arguments: Namespace) -> None:
@@ -176,7 +163,7 @@ class Monitor:
 
     def entered(self) -> None:
         """Prints where the host entered the enclave on the hart."""
-        timeline, symbols = self.moves.timeline, self.opened().symbols
+        timeline, symbols = self.moves.timeline, self.moves.timeline.setup.symbols
         found = self.entry.find(timeline, timeline.hart)
         if not found:
             print("the hart is not in an enclave, but in %s" % timeline.worlds[timeline.hart])

@@ -1,34 +1,41 @@
 """Runs harts forward under a debugger. Steps are done in few exchanges; if the bench passes a stop, another bench is brought to the stop by
-the timeline."""
+the timeline.
+
+Also sets pc for a debugger. rvbench has no command for it, so a jump instruction is written at pc and executed by one step. Then the bytes that
+were there are restored."""
 from __future__ import annotations
 
+import struct
 import time
-from typing import Container, NamedTuple, Sequence, TYPE_CHECKING
+from collections import deque
+from typing import Container, Deque, NamedTuple, Sequence
 
-from rvlook.protocol import names
-from rvlook.gdb.lookahead import query_steps, by_turns, ends_of, first_equal, judged
+from rvlook.errors import RvlookError
+from rvlook.gdb.link import Link
+from rvlook.gdb.lookahead import by_turns, ends_of, first_equal, judged, query_steps
 from rvlook.gdb.stops import INTERRUPTED, Halt, Stops, signal_of
 from rvlook.gdb.view import CachedView
-from rvlook.protocol.run import EQUAL, MOST_STEPS
+from rvlook.protocol import names
+from rvlook.protocol.replies import Ran, bytes_of, poke_commands
+from rvlook.protocol.run import EQUAL
 from rvlook.protocol.schedule import TURN, alternating
-from rvlook.protocol.timeline import ScheduledSteps, actions_between
-
-if TYPE_CHECKING:
-    from rvlook.gdb.link import Link
-    from rvlook.protocol.replies import Ran
-    from rvlook.protocol.timeline import Action, Timeline
+from rvlook.protocol.timeline import MOST_STEPS, Action, ScheduledSteps, Timeline, actions_between
 
 FIRST_RUN, MORE = 1024, 4  # steps of the first part of a continue, and the factor for the next
 SHORT, LONG = 0.005, 0.02  # seconds: a part that took less is followed by a longer one, one that took more by a shorter one
 MOST_BY_TURNS = 1 << 17  # the most steps of a part with a reply per step, or with a schedule
 DISCARDED = "[the history after step %d is discarded]"
 CAREFUL = 4096  # steps with one exchange per run, after a stop that turned out to be none
+REACH = 1 << 20  # bytes that a jump spans in each direction
+JAL = 0x6F  # jal zero
+SET = "[pc is set to %08x by a jump that was executed as step %d]"
 
 
 class Start(NamedTuple):
-    """The start of some steps: the position, and the future there."""
+    """The start of some steps: the position, the future there, and the world of each hart, which the caller updates after each step."""
     position: int
-    future: list[Action]
+    future: Deque[Action]
+    worlds: list[str]
 
 
 class Moves:
@@ -51,8 +58,8 @@ class Moves:
 
     def discard(self, position: int) -> None:
         """Ends the other benches at or after a step, since their history may no longer be valid."""
-        for it in [it for it in self.ready if it >= position]:
-            self.ready.pop(it).close()
+        for ready in [it for it in self.ready if it >= position]:
+            self.ready.pop(ready).close()
         if self.follower and self.follower.position >= position:
             self.follower.close()
             self.follower = None
@@ -175,27 +182,31 @@ class Moves:
         if len(set(turns)) == 1 and not self.stops.is_single and not self.stops.has_conditions or self.careful > 0:
             self.careful -= count
             return self.exactly(turns, count, LONG)
-        start, worlds, done = Start(self.timeline.position, list(self.timeline.future)), list(self.timeline.worlds), 0
+        start, done = self.start(), 0
         if len(set(turns)) == 1 and not self.stops.is_single:
             for done, ran, verdict in judged(self.timeline, self.stops, int(turns[0]), count):
                 if verdict is not False:
-                    return self.met_at(start, ScheduledSteps(turns, done), int(turns[0]), ran, worlds[int(turns[0])])
+                    return self.met_at(start, ScheduledSteps(turns, done), int(turns[0]), ran)
             return None
         for hart, wanted, ran in query_steps(self.timeline, turns, count, self.stops.is_single, self.stops.is_quiet(self.timeline)):
             done += ran.steps
-            if ran.steps < wanted or self.stops.may_meet(self.timeline, ran, worlds[hart]):
-                return self.met_at(start, ScheduledSteps(turns, done), hart, ran, worlds[hart])
-            worlds[hart] = ran.world
+            if ran.steps < wanted or self.stops.may_meet(self.timeline, ran, start.worlds[hart]):
+                return self.met_at(start, ScheduledSteps(turns, done), hart, ran)
+            start.worlds[hart] = ran.world
         return None
 
-    def met_at(self, start: Start, steps: ScheduledSteps, hart: int, ran: Ran, before: str) -> Halt | None:
+    def start(self) -> Start:
+        """Returns the present step as the start of further steps."""
+        return Start(self.timeline.position, deque(self.timeline.future), list(self.timeline.worlds))
+
+    def met_at(self, start: Start, steps: ScheduledSteps, hart: int, ran: Ran) -> Halt | None:
         """Returns the halt after these steps, or None. The bench has gone further, and perhaps not by the turns; it is brought back."""
         if self.timeline.position != start.position + steps.count:
             self.go(start.position + steps.count)
             self.timeline.future = start.future
             self.timeline.spend(steps)
         self.careful = CAREFUL
-        return self.stops.met(self.timeline, hart, ran, before)
+        return self.stops.met(self.timeline, hart, ran, start.worlds[hart])
 
     def exactly(self, turns: str, count: int, seconds: float | None = None) -> Halt | None:
         """Does steps with an exchange for each run, for at most some seconds; returns the halt, or None."""
@@ -215,15 +226,14 @@ class Moves:
 
     def end_of(self, harts: Sequence[int], first: int) -> Halt | None:
         """Returns the halt at the first step after `first` from which these harts are halted, or None."""
-        turns = self.turns_of(harts)
-        start, worlds = Start(self.timeline.position, list(self.timeline.future)), list(self.timeline.worlds)
-        found = query_steps(self.timeline, turns, EQUAL * len(turns), True)
+        turns, start = self.turns_of(harts), self.start()
+        found = query_steps(self.timeline, turns, EQUAL * len(turns), is_single=True)
         for done, (hart, _, ran) in enumerate(found, 1):
-            if self.stops.may_meet(self.timeline, ran, worlds[hart]):
-                halt = self.met_at(start, ScheduledSteps(turns, done), hart, ran, worlds[hart])
+            if self.stops.may_meet(self.timeline, ran, start.worlds[hart]):
+                halt = self.met_at(start, ScheduledSteps(turns, done), hart, ran)
                 if halt or done < len(found):
                     return halt
-            worlds[hart] = ran.world
+            start.worlds[hart] = ran.world
         ends = ends_of(found)
         if ends is None:
             return None
@@ -238,3 +248,28 @@ class Moves:
         if ran.world == "bare" and int(self.view.registers(hart)[17], 16) == names.KEY:
             text += "\n[a7 holds the key of monitor calls, but there is no monitor; start with ./rvlook gdb --monitor]"
         return Halt(hart, "", signal_of(ran.trap), text)
+
+
+def jump_word(distance: int) -> int:
+    """Encodes `jal zero, distance` (Unprivileged 2.5); the distance is even and within REACH."""
+    bits = distance & 0x1FFFFF
+    return (bits >> 20 & 1) << 31 | (bits >> 1 & 0x3FF) << 21 | (bits >> 11 & 1) << 20 | (bits >> 12 & 0xFF) << 12 | JAL
+
+
+def set_pc(moves: Moves, target: int) -> None:
+    """Sets pc of the selected hart by a step of its own, which becomes part of the history. Raises RvlookError if no jump leads there."""
+    timeline = moves.timeline
+    at = int(timeline.ask("regs")[0][32][3:], 16)
+    if target == at:
+        return
+    if target % 4 or not -REACH <= target - at < REACH:
+        raise RvlookError("cannot set pc to %08x: a jump reaches multiples of 4 within 1 MiB of %08x" % (target, at))
+    allowed = timeline.ask("access %s x %x 4" % (timeline.modes[timeline.hart], at))[0][0]
+    if not allowed.startswith("allowed"):
+        raise RvlookError("cannot set pc: %08x, where a jump would be written, cannot be executed (%s)" % (at, allowed))
+    old = bytes_of(timeline.ask("mem %x 4" % at)[0][0])
+    new = struct.pack("<I", jump_word(target - at))
+    moves.apply([*poke_commands(at, new), "step 1", *poke_commands(at, old)])
+    if int(timeline.ask("regs")[0][32][3:], 16) != target:
+        raise RvlookError("cannot set pc to %08x: the hart took an interrupt first" % target)
+    moves.notes.append(SET % (target, timeline.position))

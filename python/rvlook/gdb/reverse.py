@@ -2,18 +2,13 @@
 the past."""
 from __future__ import annotations
 
-import contextlib
-from typing import Any, Iterable, Iterator, Sequence, TYPE_CHECKING
+from typing import Any, Iterable, Iterator, Sequence
 
-from rvlook.gdb.lookahead import BLOCK, query_steps, by_turns, judged
+from rvlook.gdb.lookahead import blocks_of, by_turns, judged, query_steps, steps_of
+from rvlook.gdb.moves import Moves
 from rvlook.gdb.stops import INTERRUPTED, Halt
-from rvlook.protocol.run import MOST_STEPS
-from rvlook.protocol.timeline import StateChange, actions_between, steps_within
-
-if TYPE_CHECKING:
-    from rvlook.gdb.moves import Moves
-    from rvlook.protocol.replies import Ran
-    from rvlook.protocol.timeline import Action, ScheduledSteps, Timeline
+from rvlook.protocol.replies import Ran
+from rvlook.protocol.timeline import MOST_STEPS, Action, ScheduledSteps, Timeline, actions_between
 
 FIRST_PART, MORE_BACK = 4096, 8  # steps of the first part that is searched, and the factor for the next
 MOST_BY_TURNS = 1 << 18  # the most steps of a part with two harts, or of single steps
@@ -106,34 +101,26 @@ class Back:
         pieces = list(actions_between(moves.timeline.past, first, end))
         if not moves.stops.is_single and not self.may_stop(first, pieces):
             return []
-        with contextlib.closing(moves.timeline.again(first)) as ahead:
+        with moves.timeline.again(first) as ahead:
             ahead.set_stops(moves.timeline.stops)
-            for it in pieces:
-                if isinstance(it, StateChange):
-                    ahead.choose(it.hart)
-                    ahead.do(it.line)
-                elif moves.stops.is_single:
-                    found.update(self.single_stops(ahead, it))
-                elif moves.stops.has_conditions and it.chosen:
-                    found.update(self.judged_stops(ahead, it))
+            for step in steps_of(ahead, pieces):
+                if moves.stops.is_single:
+                    found.update(self.single_stops(ahead, step))
+                elif moves.stops.has_conditions and step.chosen:
+                    found.update(self.judged_stops(ahead, step))
                 else:
-                    found.update(self.stops_by_turns(ahead, it))
+                    found.update(self.stops_by_turns(ahead, step))
         return sorted(((position, halt) for position, halt in found.items() if halt.hart in harts), key=lambda it: it[0])
 
     def may_stop(self, first: int, pieces: Sequence[Action]) -> bool:
         """Returns whether there may be a stop in steps of two harts. Steps of one hart are searched at once."""
-        if all(isinstance(it, StateChange) or it.chosen for it in pieces):
+        if all(it.chosen for it in pieces):
             return True
-        with contextlib.closing(self.moves.timeline.again(first)) as ahead:
+        with self.moves.timeline.again(first) as ahead:
             ahead.set_stops(self.moves.timeline.stops)
-            for it in pieces:
-                if isinstance(it, StateChange):
-                    ahead.choose(it.hart)
-                    ahead.do(it.line)
-                elif any(ran.steps < count or self.moves.stops.may_meet(ahead, ran, "")
-                         for _, count, ran in query_steps(ahead, it.turns, it.count, False, self.moves.stops.is_quiet(ahead))):
-                    return True
-        return False
+            is_quiet = self.moves.stops.is_quiet(ahead)
+            return any(ran.steps < count or self.moves.stops.may_meet(ahead, ran, "") for it in steps_of(ahead, pieces)
+                       for _, count, ran in query_steps(ahead, it.turns, it.count, is_single=False, is_quiet=is_quiet))
 
     def stops_by_turns(self, ahead: Timeline, steps: ScheduledSteps) -> Iterator[tuple[int, Halt]]:
         """Yields the stops in steps of the past, with an exchange for each run."""
@@ -156,11 +143,10 @@ class Back:
     def single_stops(self, ahead: Timeline, steps: ScheduledSteps) -> Iterator[tuple[int, Halt]]:
         """Yields the stops in steps of the past that are checked one by one, with many steps in one exchange."""
         stops = self.moves.stops
-        for at in range(0, steps.count, BLOCK):
+        for now in blocks_of(ahead, [steps]):
             self.check_interrupt()
-            now = steps_within(steps, at, at + BLOCK)
             position, worlds = ahead.position, list(ahead.worlds)
-            for hart, _, ran in query_steps(ahead, now.turns, now.count, True):
+            for hart, _, ran in query_steps(ahead, now.turns, now.count, is_single=True):
                 position += 1
                 if stops.may_meet(ahead, ran, worlds[hart]):
                     halt = self.halt_there(ahead, position, hart, ran, worlds[hart])
@@ -173,6 +159,6 @@ class Back:
         stops = self.moves.stops
         if not stops.needs_query(ran):
             return stops.met(ahead, hart, ran, before)
-        with contextlib.closing(ahead.again(position)) as there:
+        with ahead.again(position) as there:
             there.set_stops(self.moves.timeline.stops)
             return stops.met(there, hart, ran, before)

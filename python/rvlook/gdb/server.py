@@ -6,26 +6,23 @@ import signal
 import socket
 import sys
 import threading
-from typing import Callable, Dict, Optional, TYPE_CHECKING
+from typing import Callable, Dict, Optional
 
-from rvlook.protocol import names
-from rvlook.escapes import visible
 from rvlook.errors import BenchEnded, RvlookError, error as report_error, note, warn
-from rvlook.gdb.reverse import Back
-from rvlook.gdb.jumps import set_pc
+from rvlook.escapes import visible
+from rvlook.gdb.moves import Moves, set_pc
 from rvlook.gdb.link import Gone, Link, escaped, hex_of, little, number_of, unescaped
-from rvlook.gdb.monitor import Monitor
-from rvlook.gdb.moves import Moves
+from rvlook.gdb.monitor import CommandLine, Monitor
+from rvlook.gdb.reverse import Back
 from rvlook.gdb.stops import Halt, Watch
-from rvlook.gdb.target import CORE, ENTERED, MODES, PC, PRIV, REGISTERS, TRIPLE, WORLD, WORLDS, memory_text, target_text, threads_text
+from rvlook.gdb.target import CORE, ENTERED, MEMORY, MODES, PC, PRIV, REGISTERS, TRIPLE, WORLD, WORLDS, target_text, threads_text
+from rvlook.protocol import names
+from rvlook.protocol.bench import Closing
 from rvlook.protocol.console import consoles_of
-from rvlook.protocol.run import error_of
+from rvlook.protocol.memory_map import RAM_BASE
+from rvlook.protocol.replies import poke_commands
+from rvlook.protocol.run import Setup, error_of
 from rvlook.protocol.timeline import Timeline
-
-if TYPE_CHECKING:
-    from rvlook.gdb.monitor import CommandLine
-    from rvlook.protocol.run import Setup
-    from rvlook.protocol.symbols import Symbols
 
 NAME = re.compile(r"[Qqv][A-Za-z]+\??|b[cs]|.", re.S)
 CONDITION = re.compile(r"X([0-9a-f]{1,4}),([0-9a-f]+)")
@@ -44,11 +41,11 @@ class Refused(Exception):
     """A request that the bench cannot fulfil; the text is for the debugger."""
 
 
-class Server:
+class Server(Closing):
     """Replies to packets. `shown` is the hart that is shown, `moved` the one that moves (None for any), `last` the one that halted."""
 
-    def __init__(self, link: Link, setup: Setup, symbols: Callable[[], Symbols], command_line: CommandLine, has_files: bool = True) -> None:
-        self.link, self.setup, self.symbols, self.has_files, self.command_line = link, setup, symbols, has_files, command_line
+    def __init__(self, link: Link, setup: Setup, command_line: CommandLine, has_files: bool = True) -> None:
+        self.link, self.setup, self.has_files, self.command_line = link, setup, has_files, command_line
         self.extended = self.over = False
         self.running: Moves | None = None
         self.moved: int | None = None
@@ -58,7 +55,7 @@ class Server:
         """Starts a bench, and runs the script."""
         self.close()
         moves = self.running = Moves(Timeline.of_script(self.setup), self.link)
-        self.back, self.commands = Back(moves), Monitor(moves, self.symbols, self.command_line, self.has_files)
+        self.back, self.commands = Back(moves), Monitor(moves, self.command_line, self.has_files)
         self.shown = self.last = moves.timeline.hart
         self.moved = None
         self.consoles = consoles_of(self.setup.symbols)
@@ -111,7 +108,7 @@ class Server:
     def transfer(self, rest: str) -> str:
         """Replies to qXfer with a part of a document."""
         kind, _, name, location = rest[1:].split(":")
-        made = {("features", "target.xml"): target_text, ("memory-map", ""): lambda: memory_text(self.setup.ram),
+        made = {("features", "target.xml"): target_text, ("memory-map", ""): lambda: MEMORY % (RAM_BASE, self.setup.ram),
                 ("threads", ""): lambda: threads_text(map(self.hart_text, range(self.setup.harts if self.running else 0)))}
         text = made[kind, name]()
         first, count = map(number_of, location.split(","))
@@ -156,8 +153,8 @@ class Server:
         if number in (PRIV, WORLD):
             return self.state()[number]
         if REGISTERS[number] in ENTERED:
-            values = self.commands.entry.registers(self.timeline, self.shown)
-            return little(values[REGISTERS[number]]) if values else "x" * 8
+            entered = self.commands.entry.find(self.timeline, self.shown)
+            return little(entered.registers[REGISTERS[number]]) if entered else "x" * 8
         value = self.moves.view.csr(self.shown, names.CSRS[REGISTERS[number]])
         if value is None:
             raise ValueError(rest)
@@ -216,7 +213,7 @@ class Server:
         if count and len(self.moves.view.bytes(first, count)) < count:
             raise Refused("the range is not entirely in RAM")
         self.changing()
-        self.moves.apply(["poke %x %02x" % (first + n, byte) for n, byte in enumerate(data)])
+        self.moves.apply(poke_commands(first, data))
         return "OK"
 
     # breakpoints and watchpoints
@@ -343,10 +340,6 @@ class Server:
         self.start()
         return self.where("")
 
-    def restart(self, _: str) -> None:
-        """Restarts the bench for R, which has no reply."""
-        self.start()
-
     def host(self, _: str) -> str:
         """Replies to qHostInfo, which only lldb sends."""
         self.moves.stops_after_watch = True
@@ -366,7 +359,8 @@ def answers(text: str) -> Callable[[Server, str], str]:
 MOVING = ("vCont", "c", "s", "bc", "bs")
 ACTS: Dict[str, Callable[[Server, str], Optional[str]]] = {
     "!": Server.extend, "?": Server.where, "D": Server.detach, "H": Server.choose, "M": Server.write_memory, "P": Server.write_register,
-    "R": Server.restart, "T": lambda server, rest: "OK" if server.hart_of(rest) >= 0 else "", "X": Server.write_binary, "Z": Server.set_stop,
+    "R": lambda server, rest: server.start(),  # without a reply
+    "T": lambda server, rest: "OK" if server.hart_of(rest) >= 0 else "", "X": Server.write_binary, "Z": Server.set_stop,
     "k": Server.end, "m": Server.read_memory, "p": Server.read_register, "z": Server.clear_stop, "g": Server.registers,
     "c": lambda server, rest: server.go_on("c", rest), "s": lambda server, rest: server.go_on("s", rest),
     "bc": Server.go_back, "bs": Server.step_back, "QRvlookFresh": Server.set_refresh,
@@ -406,19 +400,14 @@ def turn_away(listening: socket.socket) -> None:
         warn("rejected a second connection to the port")
 
 
-def serve_gdb(setup: Setup, symbols: Callable[[], Symbols], port: int | None, allow_files: bool, command_line: CommandLine) -> None:
-    """Serves a debugger. `symbols` reads the symbols, which only `monitor` needs, since gdb waits two seconds for the first reply. A debugger on
-    a port may name files only if `allow_files`, as any program of this machine may connect."""
+def serve_gdb(setup: Setup, port: int | None, allow_files: bool, command_line: CommandLine) -> None:
+    """Serves a debugger. A debugger on a port may name files only if `allow_files`, as any program of this machine may connect."""
     if port is None:
         signal.signal(signal.SIGINT, signal.SIG_IGN)  # of the terminal that the debugger shares; its own Ctrl-C comes as a byte
-    server = None
     try:
-        server = Server(link_of(setup, port), setup, symbols, command_line, port is None or allow_files)
-        server.serve()
+        with Server(link_of(setup, port), setup, command_line, port is None or allow_files) as server:
+            server.serve()
     except Gone:
         note("the debugger disconnected")
     except BenchEnded as ended:
         raise error_of(setup, ended) from None
-    finally:
-        if server:
-            server.close()

@@ -2,18 +2,14 @@
 watchpoints; this module decides whether they are halts."""
 from __future__ import annotations
 
-import contextlib
 from dataclasses import dataclass
-from typing import Any, Callable, Mapping, TYPE_CHECKING
+from typing import Any, Callable, Mapping
 
-from rvlook.protocol import names
 from rvlook.gdb.conditions import holds
+from rvlook.protocol import names
 from rvlook.protocol.instructions import instruction_of
-from rvlook.protocol.replies import value_of
-
-if TYPE_CHECKING:
-    from rvlook.protocol.replies import Ran, Trap
-    from rvlook.protocol.timeline import Timeline
+from rvlook.protocol.replies import Ran, RanTrap, value_of
+from rvlook.protocol.timeline import Timeline
 
 STEPPED, INTERRUPTED, STOPPED = 5, 2, 0  # signals, as the protocol numbers them
 SIGNALS = {"00000000": 10, "00000001": 11, "00000002": 4, "00000003": 5, "00000005": 11, "00000007": 11}  # of traps, by their cause
@@ -47,7 +43,7 @@ class Halt:
     message: str = ""
 
 
-def signal_of(trap: Trap | None) -> int:
+def signal_of(trap: RanTrap | None) -> int:
     """Returns the signal number for a trap. An interrupt or a call only stops."""
     return SIGNALS.get(trap.cause, STOPPED) if trap else STOPPED
 
@@ -213,8 +209,7 @@ def access_before(timeline: Timeline, hart: int, ran: Ran) -> tuple[str, int, in
     if not memory:  # a store over itself
         return "w", int(ran.why[6:], 16), 1
     if memory.kind == "r" and memory.register == memory.base:
-        with contextlib.closing(timeline.again(timeline.position - 1)) as earlier:
-            earlier.settle()
+        with timeline.again(timeline.position - 1) as earlier:
             earlier.choose(hart)
             registers = earlier.ask("regs")[0]
     first = (value_of(registers[memory.base]) + memory.offset) & 0xFFFFFFFF

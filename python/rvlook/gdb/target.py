@@ -5,7 +5,6 @@ from xml.sax.saxutils import quoteattr
 from typing import Iterable
 
 from rvlook.protocol import names
-from rvlook.protocol.memory_map import RAM_BASE
 
 ABI_KINDS = {"ra": "code_ptr", "sp": "data_ptr", "gp": "data_ptr", "tp": "data_ptr", "s0": "data_ptr"}
 ROLES = {"sp": "sp", "s0": "fp", "ra": "ra", "pc": "pc"}  # as lldb has them
@@ -47,11 +46,6 @@ def target_text() -> str:
     own = register("world", "world", ' group="general" save-restore="no"')
     own += "".join(register(it, "code_ptr" if it == "host_pc" else "int", ' group="host" save-restore="no"') for it in ENTERED)
     return TARGET % (ARCHITECTURE, core, csrs, register("priv"), values, own)
-
-
-def memory_text(ram: int) -> str:
-    """Returns the memory map: only RAM. `ram` is its size in bytes."""
-    return MEMORY % (RAM_BASE, ram)
 
 
 def threads_text(lines: Iterable[str]) -> str:

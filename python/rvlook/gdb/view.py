@@ -2,13 +2,10 @@
 those around pc and above sp after each step; the step brings them in the same exchange."""
 from __future__ import annotations
 
-from typing import Any, TYPE_CHECKING
+from typing import Any
 
-from rvlook.protocol.replies import step_of
-
-if TYPE_CHECKING:
-    from rvlook.protocol.replies import Ran
-    from rvlook.protocol.timeline import Timeline
+from rvlook.protocol.replies import Ran, step_of
+from rvlook.protocol.timeline import Timeline
 
 LINE = 64
 SP, PC, REGISTERS = 2, 32, 33

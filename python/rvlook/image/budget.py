@@ -50,7 +50,9 @@ class Budget:
         try:
             with limited_time(self.seconds), limited_memory():
                 yield
-        except MemoryError:
+        except Exception as error:  # pyelftools hides what its parser meets behind an exception of its own
+            if not any(isinstance(it, (BudgetExceeded, MemoryError)) for it in causes(error)):
+                raise
             self.entries = -1
             raise BudgetExceeded from None
         finally:
@@ -69,9 +71,16 @@ def spend(count: int = 1) -> None:
         ACTIVE[-1].spend(count)
 
 
+def causes(error: BaseException | None) -> Iterator[BaseException]:
+    """Yields an exception, the one that was handled when it was raised, and so on."""
+    while error is not None:
+        yield error
+        error = error.__context__
+
+
 @lru_cache(maxsize=4)
 def budget_of(data: bytes) -> Budget:
-    """Returns the budget of an ELF file with these bytes, which all readers of the file share."""
+    """Returns the budget of an ELF file with these bytes, which all readers of the file share. `budget_of.cache_clear` gives each file a new one."""
     return Budget()
 
 

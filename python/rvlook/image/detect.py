@@ -1,16 +1,17 @@
-"""Detects whether an image is made for the monitor, and whether it has instructions that the bench lacks."""
+"""Detects whether an image is made for the monitor, and which instructions it has of extensions that the machine does not have."""
 from __future__ import annotations
 
 import re
 import struct
 import sys
 from array import array
-from typing import Iterable, TYPE_CHECKING
+from bisect import bisect_right
+from typing import Iterable, Iterator, Mapping, NamedTuple
 
+from rvlook.escapes import name_of
+from rvlook.protocol.inputs import Image, ScriptLine, segments_of
 from rvlook.protocol.memory_map import MONITOR_END
-
-if TYPE_CHECKING:
-    from rvlook.protocol.inputs import Image, ScriptLine
+from rvlook.protocol.symbols import Symbol
 
 AT_FLAGS = 36  # in the header of an ELF file
 COMPRESSED = 1  # EF_RISCV_RVC
@@ -18,6 +19,15 @@ KEY_HIGH, KEY_HIGH_MASK = 0x0A455037, 0xFFFFF07F  # lui of any register, 0xa455
 KEY_LOW, KEY_LOW_MASK = 0xE4300893, 0xFFF07FFF  # addi a7 of any register, -445
 ECALL = 0x00000073
 KEY_SET = re.compile(r"\s*setreg\s+(17|x17|a7)\s+(0x)?0?a454e43\s*\Z", re.I)
+SECTIONS_AT, SECTIONS, SECTION = 32, 46, struct.Struct("<10I")  # where an ELF32 header has the place and the size and number of section headers
+SYMBOL_TABLE, SYMBOL, FUNCTION = 2, struct.Struct("<IIIBBH"), 2  # types of a section and of a symbol (ELF, Symbol Table)
+WORD = 4  # bytes of an instruction
+OPCODE, ATOMIC, FENCE = 0x7F, 0x2F, 0x0F
+FENCE_I, FENCE_I_MASK = 0x100F, 0x707F
+FLOATING = (0x07, 0x27, 0x43, 0x47, 0x4B, 0x4F, 0x53)
+IS_CANDIDATE = bytes(it & OPCODE in (ATOMIC, FENCE, *FLOATING) for it in range(256))  # by the lowest byte of a word
+MOST_SHOWN = 3  # functions in a message
+PAGE = "docs/FIRMWARE.md"
 
 
 def has_compressed(image: Image) -> bool:
@@ -42,3 +52,73 @@ def has_key(data: bytes) -> bool:
         words.byteswap()
     has_high = any(it & KEY_HIGH_MASK == KEY_HIGH for it in words)
     return has_high and any(it & KEY_LOW_MASK == KEY_LOW for it in words) and ECALL in words
+
+
+class Section(NamedTuple):
+    """A section of an ELF file: its type, its offset and size in bytes, and the section that it refers to (ELF, Section Headers)."""
+    kind: int
+    offset: int
+    size: int
+    link: int
+
+
+def extension_of(word: int) -> str | None:
+    """Returns the kind of an instruction that belongs to an extension which the machine does not have, else None."""
+    if word & OPCODE == ATOMIC:
+        return "atomic instruction"
+    if word & FENCE_I_MASK == FENCE_I:
+        return "fence.i instruction"
+    return "floating-point instruction" if word & OPCODE in FLOATING else None
+
+
+def lacking_in(image: Image) -> Mapping[str, list[str]]:
+    """Returns the functions that have such instructions, by their kind. Looks only at symbols of functions with a size."""
+    found: dict[str, dict[str, None]] = {}
+    data = image.data if image.is_elf_32 and image.data else b""
+    words = [word for it in segments_of(data) for word in candidates_in(it.address, data[it.offset:it.offset + it.in_file])] if data else []
+    functions = sorted(functions_of(data), key=lambda it: it.address) if words else []
+    starts = [it.address for it in functions]
+    for address, word in words:
+        kind, index = extension_of(word), bisect_right(starts, address) - 1
+        if kind and index >= 0 and address < functions[index].address + functions[index].size:
+            found.setdefault(kind, {})[functions[index].name] = None
+    return {kind: list(names) for kind, names in found.items()}
+
+
+def candidates_in(first: int, code: bytes) -> Iterator[tuple[int, int]]:
+    """Yields the address and the value of each word of a segment whose opcode is that of such an extension, or of fence.i."""
+    marks = code[:len(code) // WORD * WORD:WORD].translate(IS_CANDIDATE)
+    at = marks.find(1)
+    while at >= 0:
+        yield first + WORD * at, int.from_bytes(code[WORD * at:WORD * at + WORD], "little")
+        at = marks.find(1, at + 1)
+
+
+def sections_of(data: bytes) -> list[Section]:
+    """Returns the sections of an ELF32 file whose headers are in the file."""
+    start = struct.unpack_from("<I", data, SECTIONS_AT)[0]
+    size, count = struct.unpack_from("<HH", data, SECTIONS)
+    headers = [SECTION.unpack_from(data, start + size * it) for it in range(count) if start + size * it + SECTION.size <= len(data)]
+    return [Section(kind, offset, size, link) for _, kind, _, _, offset, size, link, *_ in headers]
+
+
+def functions_of(data: bytes) -> Iterator[Symbol]:
+    """Yields the functions of the symbol table of an ELF32 file that have a size."""
+    sections = sections_of(data)
+    table = next((it for it in sections if it.kind == SYMBOL_TABLE and it.link < len(sections)), None)
+    if table is None:
+        return
+    symbols, names = (data[it.offset:it.offset + it.size] for it in (table, sections[table.link]))
+    for name, address, length, info, _, _ in SYMBOL.iter_unpack(symbols[:len(symbols) // SYMBOL.size * SYMBOL.size]):
+        if info & 15 == FUNCTION and length:
+            yield Symbol(address, length, name_of(names[name:max(name, names.find(b"\0", name))]), is_function=True)
+
+
+def lacking_texts(image: Image) -> list[str]:
+    """Returns a warning for each kind of instruction that the functions of an image have and the machine does not."""
+    texts = []
+    for kind, names in lacking_in(image).items():
+        more = len(names) - MOST_SHOWN
+        shown = ", ".join(names[:MOST_SHOWN]) + (" and %d more functions" % more if more > 0 else "")
+        texts.append("%s has %ss in %s; rvbench does not have them (%s)" % (image.name, kind, shown, PAGE))
+    return texts

@@ -6,6 +6,7 @@ from typing import BinaryIO
 
 from rvlook.protocol.bench_line import LONGEST_LINE, ended, is_separator, lines_of
 from rvlook.errors import RvlookError
+from rvlook.image.budget import budget_of
 from rvlook.protocol.inputs import Image, ScriptLine
 
 DIGITS_A_LINE = 120
@@ -69,9 +70,10 @@ def decoded(text: bytes) -> bytes | None:
 
 def image_of(path: str, kind: str = "auto") -> Image:
     """Reads an image. Hexadecimal digits, and any text before a line `--`, are passed on unchanged; rvbench reports their errors. The lines after
-    `--` are a script. All other bytes are the image itself. Raises RvlookError."""
+    `--` are a script. All other bytes are the image itself. The symbols of each opened file have a budget of their own. Raises RvlookError."""
     data = read_file(path)
-    cut = separator_in(data)
+    budget_of.cache_clear()
+    cut = next((it for it in SEPARATOR.finditer(data) if len(it[1]) <= LONGEST_LINE), None)
     head, rest = (data[:cut.start()], data[cut.end():]) if cut else (data, b"")
     printable = PRINTABLE.match(data) is not None
     if TEXT.match(head) or cut and PRINTABLE.match(head):
@@ -84,11 +86,6 @@ def image_of(path: str, kind: str = "auto") -> Image:
     if len(data) > MOST_BYTES:
         raise RvlookError("cannot load '%s': rvbench: too long: the image has more than %d bytes" % (path, MOST_BYTES))
     return Image(path, digits_of(data), data)
-
-
-def separator_in(data: bytes) -> re.Match[bytes] | None:
-    """Returns where the line `--` is that ends the text of an image, as a match, or None."""
-    return next((it for it in SEPARATOR.finditer(data) if len(it[1]) <= LONGEST_LINE), None)
 
 
 def is_marked_text(data: bytes) -> bool:

@@ -4,19 +4,16 @@ from __future__ import annotations
 import hashlib
 import io
 import struct
-from typing import Sequence, TYPE_CHECKING
+from typing import Sequence
 
-from rvlook.protocol import names
 from rvlook.errors import RvlookError, Unfinished, package_missing, reason_of
 from rvlook.image.budget import budget_of
 from rvlook.image.files import read_file
+from rvlook.image.symbols import symbols_of
+from rvlook.output.printer import Printer, hex8
+from rvlook.protocol import names
 from rvlook.protocol.inputs import ELF_MAGIC
 from rvlook.protocol.memory_map import MONITOR_END
-from rvlook.output.printer import hex8
-from rvlook.image.symbols import symbols_of
-
-if TYPE_CHECKING:
-    from rvlook.output.printer import Printer
 
 LEAST_SIZE = 4096
 

@@ -1,26 +1,22 @@
-"""Reads symbols and source lines from an ELF file with pyelftools, or from the output of nm."""
+"""Reads symbols, source lines and the paths of source files from an ELF file with pyelftools, or symbols from the output of nm."""
 from __future__ import annotations
 
 import io
+import os
 import re
 import zlib
-from collections import Counter
+from collections import Counter, defaultdict
 from functools import lru_cache, partial
 from struct import Struct
-from typing import Any, Callable, Iterable, Iterator, NamedTuple, TYPE_CHECKING, TypeVar
+from typing import Any, Callable, Iterable, Iterator, NamedTuple, TypeVar
 
-from rvlook.protocol.bench_line import lines_of
-from rvlook.escapes import name_of, visible
 from rvlook.errors import RvlookError, package_missing, reason_of, warn
+from rvlook.escapes import name_of, text_of, visible
 from rvlook.image.budget import UNIT, UNIT_RANGE, Budget, BudgetExceeded, budget_of, spend
 from rvlook.image.files import read_file
-from rvlook.protocol.inputs import ELF_MAGIC
-from rvlook.protocol.symbols import Symbol, Symbols
-from rvlook.protocol.units import ALL, Unit
-
-if TYPE_CHECKING:
-    from rvlook.protocol.inputs import Image
-    from rvlook.protocol.units import Inlined, Row
+from rvlook.protocol.bench_line import lines_of
+from rvlook.protocol.inputs import ELF_MAGIC, Image
+from rvlook.protocol.symbols import ALL, Inlined, Row, Symbol, Symbols, Unit
 
 NM_LINE = re.compile(r"([0-9a-fA-F]{8})\s+(?:[A-Za-z]\s+)?([A-Za-z_.$][\w.$]*)\s*\Z")
 LABEL, OBJECT, FUNCTION = 0, 1, 2  # types of a symbol (ELF, Symbol Table)
@@ -35,24 +31,14 @@ MOST_INFLATED = 1 << 24  # bytes of all compressed sections after decompression
 T = TypeVar("T")
 
 
-class Entry32(NamedTuple):
-    """An entry of the symbol table of an ELF32 file, as `IIIBBH`."""
+class SymbolEntry(NamedTuple):
+    """An entry of the symbol table of an ELF file (ELF, Symbol Table)."""
     name: int
     value: int
     size: int
     info: int
     other: int
     section: int
-
-
-class Entry64(NamedTuple):
-    """An entry of the symbol table of an ELF64 file, as `IBBHQQ`."""
-    name: int
-    info: int
-    other: int
-    section: int
-    value: int
-    size: int
 
 
 def symbols_of(path: str, data: bytes | None) -> Symbols:
@@ -61,16 +47,8 @@ def symbols_of(path: str, data: bytes | None) -> Symbols:
         return Symbols()
     if data.startswith(ELF_MAGIC):
         return elf_symbols(path, data)
-    matches = [NM_LINE.match(line) for line in lines_of(decoded(data))]
-    return Symbols([Symbol(int(it[1], 16), 0, visible(it[2]), False) for it in matches if it])
-
-
-def decoded(data: bytes) -> str:
-    """Returns the text of a listing: UTF-8 if it is that, else ISO 8859-1."""
-    try:
-        return data.decode("utf-8")
-    except UnicodeDecodeError:
-        return data.decode("latin-1")
+    matches = [NM_LINE.match(line) for line in lines_of(text_of(data))]
+    return Symbols([Symbol(int(it[1], 16), 0, visible(it[2]), is_function=False) for it in matches if it])
 
 
 def symbols_from(path: str | None, image: Image) -> Symbols:
@@ -86,17 +64,28 @@ def symbols_from(path: str | None, image: Image) -> Symbols:
 def elf_symbols(path: str, data: bytes) -> Symbols:
     """Returns the symbols and source lines of an ELF file. Reports what cannot be read."""
     try:
-        from elftools.elf.elffile import ELFFile
+        import elftools  # noqa: F401
     except ImportError:
         warn_once(package_missing("pyelftools", "python3-pyelftools", "symbols are not available"))
         return Symbols()
-    budget = budget_of(data)
-    file = readable(path, "no symbols", lambda: checked(ELFFile(io.BytesIO(data)), data), budget)
+    budget, file = budget_of(data), read_elf(path, data, "no symbols", lambda it: it)
     if file is None:
         return Symbols()
-    knows_all_forms()
     return Symbols(readable(path, "no symbols", lambda: list(named(file)), budget) or (),
                    readable(path, "no source lines", lambda: list(units_of(path, file, budget)), budget) or ())
+
+
+def read_elf(path: str, data: bytes, without: str, read: Callable[[Any], T]) -> T | None:
+    """Calls `read` with an ELF file, within the budget of the file. Returns None for other bytes, and without pyelftools. Also returns None, and
+    reports why, if the file is damaged or takes too much."""
+    if not data.startswith(ELF_MAGIC):
+        return None
+    try:
+        from elftools.elf.elffile import ELFFile
+    except ImportError:
+        return None
+    know_all_forms()
+    return readable(path, without, lambda: read(checked(ELFFile(io.BytesIO(data)), data)), budget_of(data))
 
 
 def readable(path: str, without: str, read: Callable[[], T], budget: Budget) -> T | None:
@@ -142,7 +131,8 @@ def warn_once(line: str) -> None:
     warn(line)
 
 
-def knows_all_forms() -> None:
+@lru_cache(maxsize=None)
+def know_all_forms() -> None:
     """Adds DW_FORM_data16 to pyelftools before 0.30: clang uses it for the MD5 of a source file."""
     from elftools.construct import Array
     from elftools.dwarf.structs import DWARFStructs
@@ -159,19 +149,20 @@ def named(file: Any) -> Iterator[Symbol]:
     """Yields the symbols of functions, objects and labels."""
     sections = {number for number, section in enumerate(file.iter_sections()) if section["sh_flags"] & 2}
     length = 0
-    for name, it in symbol_entries(file):
+    for name, entry in symbol_entries(file):
         spend()
         length += len(name)
         if length > MOST_NAMED:
             raise BudgetExceeded
-        kind, is_global = it.info % 16, it.info // 16 == GLOBAL
-        if not name.startswith(("$", ".L")) and it.section in sections and kind in (*PREFERRED, LABEL):
-            yield Symbol(it.value, it.size, visible(name), kind == FUNCTION, 0 if kind in PREFERRED else 1 if is_global else 2)
-        elif it.section == ABSOLUTE and kind == LABEL:
-            yield Symbol(it.value, 0, visible(name), False, 3)
+        kind, is_global = entry.info % 16, entry.info // 16 == GLOBAL
+        if not name.startswith(("$", ".L")) and entry.section in sections and kind in (*PREFERRED, LABEL):
+            rank = 0 if kind in PREFERRED else 1 if is_global else 2
+            yield Symbol(entry.value, entry.size, visible(name), kind == FUNCTION, rank)
+        elif entry.section == ABSOLUTE and kind == LABEL:
+            yield Symbol(entry.value, 0, visible(name), is_function=False, rank=3)
 
 
-def symbol_entries(file: Any) -> Iterator[tuple[str, Entry32 | Entry64]]:
+def symbol_entries(file: Any) -> Iterator[tuple[str, SymbolEntry]]:
     """Yields each entry of the symbol table that has a name. pyelftools takes 60 microseconds for an entry, and an assembler may leave thousands
     without a name."""
     table = file.get_section_by_name(".symtab")
@@ -183,37 +174,32 @@ def symbol_entries(file: Any) -> Iterator[tuple[str, Entry32 | Entry64]]:
         raise ValueError("an entry of the symbol table has %d bytes" % table["sh_entsize"])
     strings = table.stringtable.data()
     for fields in layout.iter_unpack(table.data()):
-        it: Entry32 | Entry64 = Entry32(*fields) if is_32 else Entry64(*fields)
-        name = strings[it.name:max(it.name, strings.find(b"\0", it.name))] if it.name else b""
+        entry = SymbolEntry(*(fields if is_32 else (fields[0], *fields[4:], *fields[1:4])))
+        name = strings[entry.name:max(entry.name, strings.find(b"\0", entry.name))] if entry.name else b""
         if name:
-            yield name.decode("utf-8", "replace"), it
+            yield name.decode("utf-8", "replace"), entry
 
 
 def units_of(path: str, file: Any, budget: Budget) -> Iterator[Unit]:
     """Yields the compilation units. A line table that several units share belongs to the first of them, whose ranges are then unknown."""
-    dwarf = file.get_dwarf_info() if file.has_dwarf_info() else None
-    entries = [(unit, unit.get_top_DIE()) for unit in compilation_units(dwarf)] if dwarf else []
-    tables = Counter(table_of(top) for _, top in entries)
+    entries = [(dwarf, unit, unit.get_top_DIE()) for dwarf, unit in compilation_units(file)]
+    tables = Counter(table_of(top) for _, _, top in entries)
     seen: set[int | None] = {None}
-    for unit, top in entries:
+    for dwarf, unit, top in entries:
         table = table_of(top)
         ranges = list(ranges_of(dwarf, unit, top)) if tables[table] == 1 else []
         spend(UNIT_RANGE * len(ranges))
-        yield Unit(ranges or ALL, reader(path, "no source lines", partial(source_lines, dwarf, unit), budget) if table not in seen else no_rows,
+        yield Unit(ranges or ALL, reader(path, "no source lines", partial(source_lines, dwarf, unit), budget) if table not in seen else lambda: (),
                    reader(path, "no inlined calls", partial(inlined_calls, dwarf, unit), budget))
         seen.add(table)
 
 
-def no_rows() -> Iterable[Row]:
-    """Returns the rows of a line table that belongs to another unit."""
-    return ()
-
-
-def compilation_units(dwarf: Any) -> Iterator[Any]:
-    """Yields the compilation units."""
-    for unit in dwarf.iter_CUs():
+def compilation_units(file: Any) -> Iterator[tuple[Any, Any]]:
+    """Yields the DWARF information of an ELF file with each of its compilation units; nothing without such information."""
+    dwarf = file.get_dwarf_info() if file.has_dwarf_info() else None
+    for unit in dwarf.iter_CUs() if dwarf else ():
         spend(UNIT)
-        yield unit
+        yield dwarf, unit
 
 
 def table_of(top: Any) -> int | None:
@@ -243,10 +229,10 @@ def line_states(program: Any) -> list[Any]:
     return states
 
 
-def line_programs(dwarf: Any) -> Iterator[tuple[Any, Any]]:
+def line_programs(file: Any) -> Iterator[tuple[Any, Any]]:
     """Yields each unit with its line table. A shared table comes once."""
     seen = set()
-    for unit in compilation_units(dwarf):
+    for dwarf, unit in compilation_units(file):
         program = dwarf.line_program_for_CU(unit)
         if program and program.program_start_offset not in seen:
             seen.add(program.program_start_offset)
@@ -315,10 +301,53 @@ def ranges_of(dwarf: Any, unit: Any, entry: Any) -> Iterator[tuple[int, int]]:
     elif "DW_AT_ranges" in attributes and dwarf.range_lists():
         base = unit.get_top_DIE().attributes.get("DW_AT_low_pc")
         base = base.value if base else 0
-        for it in dwarf.range_lists().get_range_list_at_offset(attributes["DW_AT_ranges"].value, unit):
+        for item in dwarf.range_lists().get_range_list_at_offset(attributes["DW_AT_ranges"].value, unit):
             spend()
-            if hasattr(it, "base_address"):
-                base = it.base_address
+            if hasattr(item, "base_address"):
+                base = item.base_address
             else:
-                at = 0 if getattr(it, "is_absolute", False) else base
-                yield at + it.begin_offset, at + it.end_offset
+                at = 0 if getattr(item, "is_absolute", False) else base
+                yield at + item.begin_offset, at + item.end_offset
+
+
+def files_of(path: str) -> dict[str, str]:
+    """Returns the path of each file that the line tables of an ELF file name, by its last part. If several files have the same last part, it is
+    the one with the most rows."""
+    return read_elf(path, read_file(path), "no source files", files_of_tables) or {}
+
+
+def files_of_tables(file: Any) -> dict[str, str]:
+    """Returns the same for an ELF file that was read. Decodes only the line tables that name one of several files with the same last part."""
+    tables = [(program, paths_in(program, folder_of(unit))) for unit, program in line_programs(file)]
+    found: dict[str, Counter[bytes]] = defaultdict(Counter)
+    for _, paths in tables:
+        for path in paths.values():
+            found[name_of(os.path.basename(path))][path] += 0
+    ambiguous = {it for paths in found.values() if len(paths) > 1 for it in paths}
+    for program, paths in tables:
+        for row_path in rows_of(program, paths) if not ambiguous.isdisjoint(paths.values()) else ():
+            found[name_of(os.path.basename(row_path))][row_path] += 1
+    return {name: os.fsdecode(max(paths, key=lambda it: paths[it])) for name, paths in found.items()}
+
+
+def folder_of(unit: Any) -> bytes:
+    """Returns the folder in which a unit was compiled; empty if it is not known."""
+    folder = unit.get_top_DIE().attributes.get("DW_AT_comp_dir")
+    return folder.value if folder and isinstance(folder.value, bytes) else b""
+
+
+def rows_of(program: Any, paths: dict[int, bytes]) -> Iterator[bytes]:
+    """Yields the path of the file of each row of a line table."""
+    yield from (paths[it.file] for it in line_states(program) if not it.end_sequence and it.file in paths)
+
+
+def paths_in(program: Any, built_in: bytes) -> dict[int, bytes]:
+    """Returns the path of each file by its number. Folders and files count from 1 up to DWARF 4, from 0 in DWARF 5."""
+    first = 0 if program["version"] >= 5 else 1
+    folders = [b""] * first + list(program["include_directory"])
+    found = {}
+    spend(len(program["file_entry"]))
+    for number, entry in enumerate(program["file_entry"], first):
+        folder = folders[entry.dir_index] if entry.dir_index < len(folders) else b""
+        found[number] = os.path.normpath(os.path.join(built_in, folder, entry.name))
+    return found

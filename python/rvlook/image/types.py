@@ -1,18 +1,14 @@
 """Reads from the DWARF entries of an ELF file what a C program names: structures, typed variables, enumeration constants and inlined functions."""
 from __future__ import annotations
 
-import io
 from dataclasses import dataclass, field
-from typing import Any, Iterator, Mapping, Optional, TYPE_CHECKING
+from typing import Any, Mapping, Optional
 
 from rvlook.errors import SymbolError
-from rvlook.image.budget import budget_of
-from rvlook.image.symbols import checked, compilation_units, knows_all_forms, ranges_of, readable
-from rvlook.image.variables import AGGREGATES, FIXED, UnitEntries
-from rvlook.protocol.nearest import nearest
-
-if TYPE_CHECKING:
-    from rvlook.protocol.inputs import Image
+from rvlook.image.symbols import compilation_units, ranges_of, read_elf
+from rvlook.image.variables import AGGREGATES, UnitEntries, is_aggregate
+from rvlook.protocol.inputs import Image
+from rvlook.protocol.nearest import meant
 
 SIGNED = (5, 6)  # DW_ATE_signed and DW_ATE_signed_char
 DEEPEST = 8  # nested types
@@ -44,8 +40,7 @@ class Type:
     def member(self, name: str) -> tuple[int, Type]:
         """Returns the offset in bytes and the type of a member. Raises SymbolError."""
         if name not in self.members:
-            near = nearest(name, self.members)
-            raise SymbolError("no member '%s' in '%s'%s" % (name, self.name, "; did you mean '%s'?" % near if near else ""))
+            raise SymbolError("no member '%s' in '%s'%s" % (name, self.name, meant(name, self.members)))
         return self.members[name]
 
 
@@ -67,23 +62,13 @@ class Types:
 
 def types_of(image: Image) -> Types:
     """Returns what the DWARF entries of an image name; nothing without DWARF. Warns if they cannot be read."""
-    data = image.data
-    if not image.is_elf or data is None:
-        return Types()
-    try:
-        from elftools.elf.elffile import ELFFile
-    except ImportError:
-        return Types()
-    knows_all_forms()
-    content = data
-    return readable(image.name, "no types", lambda: read_types(checked(ELFFile(io.BytesIO(content)), content)), budget_of(content)) or Types()
+    return read_elf(image.name, image.data or b"", "no types", read_types) or Types()
 
 
 def read_types(file: Any) -> Types:
     """Reads the types of an ELF file."""
     found = Types()
-    dwarf = file.get_dwarf_info() if file.has_dwarf_info() else None
-    for unit in compilation_units(dwarf) if dwarf else ():
+    for dwarf, unit in compilation_units(file):
         reader = TypeReader(dwarf, unit)
         for entry in reader.entries.values():
             reader.take(entry, found)
@@ -102,39 +87,27 @@ class TypeReader(UnitEntries):
             if begin is not None:
                 found.inlined.setdefault(self.name(entry), set()).add(begin)
         elif entry.tag == "DW_TAG_variable":
-            where = self.location(entry)
-            if len(where) == 5 and where[0] == FIXED:
-                found.add_variable(self.name(entry), int.from_bytes(where[1:], "little"), self.type(self.type_of(entry)))
+            address = self.fixed_address(entry)
+            if address is not None:
+                found.add_variable(self.name(entry), address, self.type(self.type_of(entry)))
         elif "DW_AT_name" not in entry.attributes:
             return
         elif entry.tag == "DW_TAG_enumerator" and isinstance(entry.attributes["DW_AT_const_value"].value, int):
             found.constants.setdefault(self.name(entry), entry.attributes["DW_AT_const_value"].value)
-        elif entry.tag in AGGREGATES or entry.tag == "DW_TAG_typedef" and self.is_aggregate(self.plain(entry)):
+        elif entry.tag in AGGREGATES or entry.tag == "DW_TAG_typedef" and is_aggregate(self.plain(entry)):
             found.structures.setdefault(self.name(entry), self.type(entry))
 
-    @staticmethod
-    def is_aggregate(kind: Any) -> bool:
-        """Returns whether a type is a structure or a union."""
-        return kind is not None and kind.tag in AGGREGATES
-
     def type(self, entry: Any, depth: int = 0) -> Type:
-        """Returns the type that an entry describes."""
+        """Returns the type that an entry describes. Leaves out bit fields of a structure."""
         kind = self.plain(entry)
         if kind is None or depth > DEEPEST:
             return Type("unknown", 0)
         name = self.name(kind) if "DW_AT_name" in kind.attributes else kind.tag[len("DW_TAG_"):].replace("_type", "")
         size = self.size(kind)
         if kind.tag in AGGREGATES:
-            return Type(name, size, members=dict(self.typed_members(kind, depth)))
+            named = [it for it in self.placed_members(kind) if "DW_AT_name" in it[0].attributes and "DW_AT_bit_size" not in it[0].attributes]
+            return Type(name, size, members={self.name(it): (offset, self.type(self.type_of(it), depth + 1)) for it, offset in named})
         if kind.tag == "DW_TAG_array_type":
             return Type(name, size, element=self.type(self.type_of(kind), depth + 1))
         encoding = kind.attributes.get("DW_AT_encoding")
         return Type(name, size, encoding is not None and encoding.value in SIGNED)
-
-    def typed_members(self, kind: Any, depth: int) -> Iterator[tuple[str, tuple[int, Type]]]:
-        """Yields the members of a structure, each with its offset in bytes and its type. Leaves out bit fields."""
-        for it in self.children.get(kind.offset, ()):
-            where = it.attributes.get("DW_AT_data_member_location")
-            is_plain = "DW_AT_name" in it.attributes and "DW_AT_bit_size" not in it.attributes
-            if it.tag == "DW_TAG_member" and is_plain and (where is None or isinstance(where.value, int)):
-                yield self.name(it), (where.value if where else 0, self.type(self.type_of(it), depth + 1))

@@ -1,22 +1,23 @@
 """Reads the variables of an ELF file from its DWARF entries, down to the members of structures.
 
-There are three kinds: variables at fixed addresses, variables in stack frames, and the memory to which parameters point."""
+There are three kinds: variables at fixed addresses, variables in stack frames, and the memory to which parameters point. For the page also reads
+where the variables of each function are: in a register, in the stack frame, or constant."""
 from __future__ import annotations
 
-import io
+import re
+from bisect import bisect_left
 from dataclasses import dataclass
-from typing import Any, Iterator, Sequence, Tuple, TYPE_CHECKING
+from typing import Any, Iterable, Iterator, Optional, Sequence, Tuple
 
-from rvlook.image.budget import budget_of, spend
-from rvlook.image.files import read_file
-from rvlook.image.symbols import checked, compilation_units, entries_of, knows_all_forms, ranges_of, readable
 from rvlook.escapes import visible
-from rvlook.protocol.inputs import ELF_MAGIC
+from rvlook.image.budget import spend
+from rvlook.image.files import read_file
+from rvlook.image.symbols import compilation_units, entries_of, ranges_of, read_elf
+from rvlook.protocol.inputs import Image
 
-if TYPE_CHECKING:
-    from rvlook.protocol.inputs import Image
-
-FIXED, RELATIVE = 0x03, 0x91  # DW_OP_addr and DW_OP_fbreg
+FIXED = 0x03  # DW_OP_addr
+WHOLE = re.compile(rb"\x91([\x80-\xff]*[\x00-\x7f])", re.S)  # DW_OP_fbreg
+PIECE = re.compile(rb"(?:\x91([\x80-\xff]*[\x00-\x7f])|[\x50-\x6f])?\x93([\x80-\xff]*[\x00-\x7f])", re.S)  # that or a register, and DW_OP_piece
 FRAME_SP = (0x52, 0x72)  # DW_OP_reg2 and DW_OP_breg2: sp
 QUALIFIERS = ("DW_TAG_typedef", "DW_TAG_volatile_type", "DW_TAG_const_type", "DW_TAG_restrict_type")
 AGGREGATES = ("DW_TAG_structure_type", "DW_TAG_union_type", "DW_TAG_class_type")
@@ -26,6 +27,10 @@ DEEPEST = 12  # nested types
 ADDRESSES = range(-1 << 31, 1 << 32)  # which an address or an offset may have; a damaged number has thousands of digits
 Ranges = Sequence[Tuple[int, int]]  # first addresses and ends
 MOST_ELEMENTS = 256  # of an array of structures
+FIRST_REGISTER, LAST_REGISTER = 0x50, 0x6F  # DW_OP_reg0 to DW_OP_reg31
+FIRST_NUMBER, LAST_NUMBER, SIGNED = 0x30, 0x4F, 0x11  # DW_OP_lit0 to DW_OP_lit31, and DW_OP_consts
+WORD = 4  # bytes of a register
+Where = Tuple[str, int]  # `register`, `sp`, `entry` (the sp at the function's entry) or `value`, with a number or an offset
 
 
 @dataclass(frozen=True)
@@ -68,16 +73,12 @@ class Variables:
 
 def variables_of(path: str | None, image: Image) -> Variables:
     """Returns the variables of the ELF file of the symbols, or else of the image; none without DWARF."""
-    name, data = (path, read_file(path)) if path else (image.name, image.data)
-    if data is None or not data.startswith(ELF_MAGIC):
-        return Variables()
-    try:
-        from elftools.elf.elffile import ELFFile
-    except ImportError:
-        return Variables()
-    knows_all_forms()
-    content = data
-    return readable(name, "no variables", lambda: read_variables(checked(ELFFile(io.BytesIO(content)), content)), budget_of(content)) or Variables()
+    return read_elf(*debugged(path, image), "no variables", read_variables) or Variables()
+
+
+def debugged(path: str | None, image: Image) -> tuple[str, bytes]:
+    """Returns the name and the bytes of the file of the symbols, or else of the image."""
+    return (path, read_file(path)) if path else (image.name, image.data or b"")
 
 
 def read_variables(file: Any) -> Variables:
@@ -85,13 +86,11 @@ def read_variables(file: Any) -> Variables:
     fixed: list[Member] = []
     frames: list[Local] = []
     parameters: list[Parameter] = []
-    if file.has_dwarf_info():
-        dwarf = file.get_dwarf_info()
-        for unit in compilation_units(dwarf):
-            reader = UnitEntries(dwarf, unit)
-            fixed += reader.fixed()
-            frames += reader.locals()
-            parameters += reader.parameters()
+    for dwarf, unit in compilation_units(file):
+        reader = UnitEntries(dwarf, unit)
+        fixed += reader.fixed()
+        frames += reader.locals()
+        parameters += reader.parameters()
     return Variables(sorted(set(fixed), key=lambda it: (it.at, -it.size)), frames, parameters)
 
 
@@ -115,30 +114,42 @@ class UnitEntries:
     def fixed(self) -> Iterator[Member]:
         """Yields the members of the variables at fixed addresses."""
         for entry in self.entries.values():
-            where = self.location(entry)
-            if entry.tag == "DW_TAG_variable" and len(where) == 5 and where[0] == FIXED:
-                yield from self.members(int.from_bytes(where[1:], "little"), self.name(entry), self.type_of(entry))
+            address = self.fixed_address(entry)
+            if entry.tag == "DW_TAG_variable" and address is not None:
+                yield from self.members(address, self.name(entry), self.type_of(entry))
 
     def locals(self) -> Iterator[Local]:
         """Yields the members of the variables in stack frames, each for the instructions of its scope."""
+        for entry, ranges, is_sp in self.of_functions():
+            for local in self.in_frame(entry):
+                yield from (Local(first, end, is_sp, local) for first, end in ranges)
+
+    def in_frame(self, entry: Any) -> Iterator[Member]:
+        """Yields the members of a variable in a stack frame. If the compiler has split the variable, yields its pieces."""
+        for offset, size in places_of(self.location(entry)):
+            if not size:
+                yield from self.members(offset, self.name(entry), self.type_of(entry))
+            elif offset in ADDRESSES and size < ADDRESSES.stop:
+                yield Member(offset, size, self.name(entry))
+
+    def of_functions(self) -> Iterator[tuple[Any, Ranges, bool]]:
+        """Yields the variables of each function, also of functions that are inlined in it. Each is an entry, the address ranges of its scope, and
+        whether its offset in the frame is from sp."""
         for function in self.entries.values():
             base = function.attributes.get("DW_AT_frame_base") if function.tag == "DW_TAG_subprogram" else None
             if base is not None and isinstance(base.value, list):
                 for entry, ranges in self.scoped(function, list(ranges_of(self.dwarf, self.unit, function))):
-                    where = self.location(entry)
-                    if where[:1] == bytes([RELATIVE]):
-                        for it in self.members(signed(where[1:]), self.name(entry), self.type_of(entry)):
-                            yield from (Local(first, end, base.value[0] in FRAME_SP, it) for first, end in ranges)
+                    yield entry, ranges, base.value[0] in FRAME_SP
 
     def scoped(self, scope: Any, ranges: Ranges, depth: int = 0) -> Iterator[tuple[Any, Ranges]]:
         """Yields the variables of a scope and of the scopes in it, each with the address ranges of its scope. Variables whose scopes are apart may
         share a stack slot."""
-        for it in self.children.get(scope.offset, ()) if depth < DEEPEST else ():
+        for child in self.children.get(scope.offset, ()) if depth < DEEPEST else ():
             spend()
-            if it.tag in VARIABLES:
-                yield it, ranges
-            elif it.tag in SCOPES:
-                yield from self.scoped(it, list(ranges_of(self.dwarf, self.unit, it)) or ranges, depth + 1)
+            if child.tag in VARIABLES:
+                yield child, ranges
+            elif child.tag in SCOPES:
+                yield from self.scoped(child, list(ranges_of(self.dwarf, self.unit, child)) or ranges, depth + 1)
 
     def parameters(self) -> Iterator[Parameter]:
         """Yields the parameters of functions that point to memory."""
@@ -153,11 +164,11 @@ class UnitEntries:
     def pointed(self, name: str, kind: Any) -> Iterator[Member]:
         """Yields the members of the memory that a pointer of this name points to."""
         kind = self.plain(kind)
-        if kind is not None and kind.tag in AGGREGATES:
-            for it in self.members(0, "", kind):
-                yield Member(it.at, it.size, "%s->%s" % (name, it.name.lstrip(".")), it.element)
+        if is_aggregate(kind):
+            for member in self.members(0, "", kind):
+                yield Member(member.at, member.size, "%s->%s" % (name, member.name.lstrip(".")), member.element)
         elif kind is not None and self.size(kind):
-            yield Member(0, 0, name, self.size(kind))
+            yield Member(at=0, size=0, name=name, element=self.size(kind))
 
     def members(self, at: int, name: str, kind: Any, depth: int = 0) -> Iterator[Member]:
         """Yields a variable of a type, or the members of a structure; elements of an array of structures have the same names."""
@@ -166,18 +177,23 @@ class UnitEntries:
         if kind is None or depth > DEEPEST or not ADDRESSES.start <= at < ADDRESSES.stop:
             return
         if kind.tag == "DW_TAG_structure_type" or kind.tag == "DW_TAG_class_type":
-            for it in self.children.get(kind.offset, ()):
-                where = it.attributes.get("DW_AT_data_member_location")
-                if it.tag == "DW_TAG_member" and (where is None or isinstance(where.value, int)):
-                    yield from self.members(at + (where.value if where else 0), "%s.%s" % (name, self.name(it)), self.type_of(it), depth + 1)
+            for member, offset in self.placed_members(kind):
+                yield from self.members(at + offset, "%s.%s" % (name, self.name(member)), self.type_of(member), depth + 1)
             return
         element = self.plain(self.type_of(kind)) if kind.tag == "DW_TAG_array_type" else None
         size, part = self.size(kind), self.size(element)
-        if element is not None and element.tag in AGGREGATES and part:
+        if is_aggregate(element) and part:
             for n in range(min(size // part, MOST_ELEMENTS)):
                 yield from self.members(at + n * part, name + "[]", element, depth + 1)
         elif 0 < size < ADDRESSES.stop:
             yield Member(at, size, name, part, self.row(kind, size), kind.tag == "DW_TAG_union_type")
+
+    def placed_members(self, kind: Any) -> Iterator[tuple[Any, int]]:
+        """Yields the members of a structure or union, each with its offset in bytes, which must be constant."""
+        for child in self.children.get(kind.offset, ()):
+            where = child.attributes.get("DW_AT_data_member_location")
+            if child.tag == "DW_TAG_member" and (where is None or isinstance(where.value, int)):
+                yield child, where.value if where else 0
 
     def size(self, kind: Any, depth: int = 0) -> int:
         """Returns the size of a type in bytes, 0 if it is not known."""
@@ -189,9 +205,8 @@ class UnitEntries:
         if kind.tag != "DW_TAG_array_type":
             return 4 if kind.tag == "DW_TAG_pointer_type" else 0
         count = 1
-        for it in self.children.get(kind.offset, ()):
-            known, most = it.attributes.get("DW_AT_count"), it.attributes.get("DW_AT_upper_bound")
-            count *= known.value if known and isinstance(known.value, int) else most.value + 1 if most and isinstance(most.value, int) else 0
+        for child in self.children.get(kind.offset, ()):
+            count *= elements_in(child)
         return count * self.size(self.type_of(kind), depth + 1)
 
     def row(self, kind: Any, size: int) -> int:
@@ -199,8 +214,7 @@ class UnitEntries:
         bounds = self.children.get(kind.offset, []) if kind.tag == "DW_TAG_array_type" else []
         if len(bounds) < 2:
             return 0
-        known, most = (bounds[0].attributes.get(it) for it in ("DW_AT_count", "DW_AT_upper_bound"))
-        count = known.value if known and isinstance(known.value, int) else most.value + 1 if most and isinstance(most.value, int) else 0
+        count = elements_in(bounds[0])
         return size // count if count > 0 else 0
 
     def plain(self, kind: Any) -> Any:
@@ -213,37 +227,140 @@ class UnitEntries:
 
     def type_of(self, entry: Any) -> Any:
         """Returns the type of an entry, or of the entry that it is an instance of; or None."""
-        own = self.referenced(entry, "DW_AT_type")
-        origin = self.referenced(entry, "DW_AT_abstract_origin") or self.referenced(entry, "DW_AT_specification")
+        own, origin = self.referenced(entry, "DW_AT_type"), self.origin(entry)
         return own if own is not None or origin is None else self.referenced(origin, "DW_AT_type")
 
     def name(self, entry: Any) -> str:
         """Returns the name of an entry."""
         if "DW_AT_name" in entry.attributes:
             return visible(entry.attributes["DW_AT_name"].value.decode("utf-8", "replace"))
-        origin = self.referenced(entry, "DW_AT_abstract_origin") or self.referenced(entry, "DW_AT_specification")
+        origin = self.origin(entry)
         return self.name(origin) if origin is not None and origin.offset != entry.offset and "DW_AT_name" in origin.attributes else "a constant"
+
+    def origin(self, entry: Any) -> Any:
+        """Returns the entry that an entry is an instance of, or None."""
+        return self.referenced(entry, "DW_AT_abstract_origin") or self.referenced(entry, "DW_AT_specification")
 
     def referenced(self, entry: Any, name: str) -> Any:
         """Returns the entry that an attribute refers to, or None."""
-        it = entry.attributes.get(name)
-        if it is None or not isinstance(it.value, int):
+        attribute = entry.attributes.get(name)
+        if attribute is None or not isinstance(attribute.value, int):
             return None
-        return self.entries.get(it.value + (0 if it.form == "DW_FORM_ref_addr" else self.unit.cu_offset))
+        return self.entries.get(attribute.value + (0 if attribute.form == "DW_FORM_ref_addr" else self.unit.cu_offset))
+
+    def variables(self) -> Iterator[Variable]:
+        """Yields the variables of each function, also of functions that are inlined in it."""
+        for entry, ranges, is_sp in self.of_functions():
+            yield from self.located(entry, ranges, is_sp)
+
+    def located(self, entry: Any, ranges: Sequence[tuple[int, int]], is_sp: bool) -> Iterator[Variable]:
+        """Yields a variable with each of its locations; none for a structure."""
+        kind = self.plain(self.type_of(entry))
+        size = self.size(kind)
+        if kind is None or is_aggregate(kind) or not 0 < size <= WORD:
+            return
+        constant, location = entry.attributes.get("DW_AT_const_value"), entry.attributes.get("DW_AT_location")
+        is_listed = location is not None and not isinstance(location.value, list)
+        places = self.listed(location.value, entry) if is_listed else [(*each, self.location(entry)) for each in ranges]
+        for first, end, expression in places:
+            spend()
+            where = ("value", int(constant.value)) if constant and isinstance(constant.value, int) else where_of(expression, is_sp)
+            if where and where[1] in ADDRESSES and first < end:
+                yield Variable(first, end, self.name(entry), where, size)
+
+    def listed(self, offset: int, entry: Any) -> Iterator[tuple[int, int, bytes]]:
+        """Yields the ranges of a location list, each with its expression."""
+        lists = self.dwarf.location_lists()
+        base = self.unit.get_top_DIE().attributes.get("DW_AT_low_pc")
+        at = base.value if base else 0
+        for item in lists.get_location_list_at_offset(offset, entry) if lists else ():
+            spend()
+            if hasattr(item, "base_address"):
+                at = item.base_address
+            elif hasattr(item, "begin_offset"):
+                start = 0 if getattr(item, "is_absolute", False) else at
+                yield start + item.begin_offset, start + item.end_offset, bytes(item.loc_expr)
 
     @staticmethod
     def location(entry: Any) -> bytes:
         """Returns the location of a variable as an expression; empty if there is none."""
-        it = entry.attributes.get("DW_AT_location")
-        return bytes(it.value) if it is not None and isinstance(it.value, list) else b""
+        attribute = entry.attributes.get("DW_AT_location")
+        return bytes(attribute.value) if attribute is not None and isinstance(attribute.value, list) else b""
+
+    def fixed_address(self, entry: Any) -> int | None:
+        """Returns the address of a variable at a fixed address, or None."""
+        where = self.location(entry)
+        return int.from_bytes(where[1:], "little") if len(where) == 5 and where[0] == FIXED else None
+
+
+def is_aggregate(kind: Any) -> bool:
+    """Returns whether a type, or None, is a structure or a union."""
+    return kind is not None and kind.tag in AGGREGATES
+
+
+def elements_in(dimension: Any) -> int:
+    """Returns the number of elements in a dimension of an array, 0 if it is not known."""
+    known, most = (dimension.attributes.get(it) for it in ("DW_AT_count", "DW_AT_upper_bound"))
+    if known and isinstance(known.value, int):
+        return known.value
+    return most.value + 1 if most and isinstance(most.value, int) else 0
+
+
+def places_of(location: bytes) -> list[tuple[int, int]]:
+    """Returns the offset and the size in bytes of each piece of a variable in a stack frame. The size of a variable in one piece is 0. Leaves out
+    pieces in registers. Returns no place for any other expression."""
+    whole, pieces = WHOLE.fullmatch(location), list(PIECE.finditer(location))
+    if whole:
+        return [(signed(whole[1]), 0)]
+    if b"".join(it[0] for it in pieces) != location:
+        return []
+    return [(signed(it[1]), sum((byte & 0x7F) << 7 * n for n, byte in enumerate(it[2]))) for it in pieces if it[1]]
 
 
 def signed(data: bytes) -> int:
     """Decodes a signed LEB128 number."""
     value, shift = 0, 0
-    for it in data:
-        value |= (it & 0x7F) << shift
+    for byte in data:
+        value |= (byte & 0x7F) << shift
         shift += 7
-        if not it & 0x80:
-            return value - (1 << shift) if it & 0x40 else value
+        if not byte & 0x80:
+            return value - (1 << shift) if byte & 0x40 else value
     return value
+
+
+@dataclass(frozen=True)
+class Variable:
+    """A variable for the instructions from `first` up to before `end`, of the functions of these instructions."""
+    first: int
+    end: int
+    name: str
+    where: Where
+    size: int
+
+
+def frames_of(path: str | None, image: Image, executed: Sequence[int]) -> Sequence[Variable]:
+    """Returns the variables of the ELF file of the symbols, or else of the image; none without DWARF. Leaves out each compilation unit
+    without an executed instruction. `executed` has the addresses of the executed instructions, in ascending order."""
+    return read_elf(*debugged(path, image), "no variables", lambda file: [
+        it for dwarf, unit in compilation_units(file) if has_any(ranges_of(dwarf, unit, unit.get_top_DIE()), executed)
+        for it in UnitEntries(dwarf, unit).variables()]) or ()
+
+
+def has_any(ranges: Iterable[tuple[int, int]], executed: Sequence[int]) -> bool:
+    """Returns whether an address is in one of the ranges, or there are no ranges."""
+    each = list(ranges)
+    return not each or any(bisect_left(executed, first) < bisect_left(executed, end) for first, end in each)
+
+
+def where_of(expression: bytes, is_sp: bool) -> Optional[Where]:
+    """Decodes a location expression of one operation; returns None for any other."""
+    if len(expression) == 1 and FIRST_REGISTER <= expression[0] <= LAST_REGISTER:
+        return "register", expression[0] - FIRST_REGISTER
+    places = places_of(expression)
+    if [size for _, size in places] == [0]:
+        return "sp" if is_sp else "entry", places[0][0]
+    if expression[:1] == bytes([SIGNED]):
+        return "value", signed(expression[1:])
+    if expression and FIRST_NUMBER <= expression[0] <= LAST_NUMBER:
+        return "value", expression[0] - FIRST_NUMBER
+    return None

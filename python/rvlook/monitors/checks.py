@@ -42,14 +42,15 @@ def may_at(rights: tuple[Right, ...], at: int) -> str:
 
 def forbidden_access(ownership: Ownership, world: str, pc: int, rights: tuple[Right, ...], live: set[OwnedRange]) -> str:
     """Access only to what is the world's own or shared with it; the host also has the ranges of enclaves that are not live."""
-    for it in rights:
-        for part in ownership.ranges if it.may != "---" else ():
+    for right in rights:
+        for part in ownership.ranges if right.may != "---" else ():
             is_foreign = part.owner == MONITOR or part in live and part.owner != world and world not in part.sharers
-            if is_foreign and part.overlaps(it):
+            if is_foreign and part.overlaps(right):
                 return "%s at %08x may access %s %08x-%08x, which belongs to %s" % (
-                    world, pc, it.may, max(it.first, part.first), min(it.end, part.end) - 1, part.owner)
-        if world != HOST and it.may != "---" and not is_permitted(ownership, world, it):
-            return "%s at %08x may access %s %08x-%08x, which is neither its own nor shared with it" % (world, pc, it.may, it.first, it.end - 1)
+                    world, pc, right.may, max(right.first, part.first), min(right.end, part.end) - 1, part.owner)
+        if world != HOST and right.may != "---" and not is_permitted(ownership, world, right):
+            return "%s at %08x may access %s %08x-%08x, which is neither its own nor shared with it" % (
+                world, pc, right.may, right.first, right.end - 1)
     return ""
 
 
@@ -67,11 +68,11 @@ def is_permitted(ownership: Ownership, world: str, right: Right) -> bool:
 def missing_access(ownership: Ownership, world: str, pc: int, rights: tuple[Right, ...], live: set[OwnedRange]) -> str:
     """Access to all that is the world's own or shared with it, except for live ranges of enclaves inside."""
     for part in ownership.open_to(world):
-        for it in rights:
-            lacking = set(part.may) - set(it.may) - {"-"}
-            first, end = max(part.first, it.first), min(part.end, it.end)
+        for right in rights:
+            lacking = set(part.may) - set(right.may) - {"-"}
+            first, end = max(part.first, right.first), min(part.end, right.end)
             if lacking and first < end and not is_covered(first, end, [one for one in live if one.owner != world]):
-                return "%s at %08x may access only %s %08x-%08x, of which it has %s" % (world, pc, it.may, first, end - 1, part.may)
+                return "%s at %08x may access only %s %08x-%08x, of which it has %s" % (world, pc, right.may, first, end - 1, part.may)
     return ""
 
 
@@ -131,14 +132,18 @@ def is_redirect(stay: StayInM) -> bool:
     return stay.exit.pc == stay.exit.csrs["stvec"] & ~3
 
 
+def redirected_status(status: int, mode: str) -> int:
+    """Returns the bits of sstatus after a redirected exception in a mode."""
+    return status & MXR | (SPIE if status & SIE else 0) | (SPP if mode == "S" else 0)
+
+
 def wrong_redirect(world: str, left: Left, stay: StayInM, tval: int) -> str:
     """A redirected exception changes what the privileged specification says (Privileged 20211203, section 4.1.1), and nothing else."""
     before, after = left.state, stay.exit
     if after.mode != "S":
         return "an exception of %s at %08x is redirected to %s, not to S" % (world, before.pc, after.mode)
-    status = left.csrs["sstatus"]
     wanted = {"sepc": before.pc, "scause": int(stay.cause, 16), "stval": tval, "sscratch": left.csrs["sscratch"], "stvec": before.csrs["stvec"],
-              "sstatus": status & MXR | (SPIE if status & SIE else 0) | (SPP if before.mode == "S" else 0)}
+              "sstatus": redirected_status(left.csrs["sstatus"], before.mode)}
     for name, value in wanted.items():
         if after.csrs[name] != value:
             return "an exception of %s at %08x is redirected with %s %08x, not %08x" % (world, before.pc, name, after.csrs[name], value)
@@ -177,7 +182,8 @@ def changed_row(ownership: Ownership, world: str, memory: MemoryAndRights, offse
         address, value = MONITOR_END + at, memory.after[at]
         owner = ownership.owner_of(address)
         if memory.before[at] != value and owner != MONITOR and "w" not in may_at(memory.rights, address):
-            if value or owner in (HOST, None):
+            is_clearing = not value and owner not in (HOST, None)  # of an enclave that the monitor destroys
+            if not is_clearing:
                 return "M changes %08x of %s from %02x to %02x, which %s may not store to" % (
                     address, owner or "nobody", memory.before[at], value, world)
     return ""

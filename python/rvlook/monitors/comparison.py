@@ -3,7 +3,6 @@ from __future__ import annotations
 
 from dataclasses import dataclass
 from enum import Enum
-from typing import Iterator
 
 from rvlook.monitors.rights import Right, closed_outside, rights_of, shape
 from rvlook.monitors.sides import BELOW, DECIDING, EXACT, REGISTERS, MonitorSetup, SideState
@@ -97,7 +96,8 @@ def rights_differences(own: SideState, reference: SideState, setup: MonitorSetup
     if shape(mine) == shape(others):
         return []
     only, missing = [it for it in mine if shape((it,))[0] not in shape(others)], [it for it in others if shape((it,))[0] not in shape(mine)]
-    return [MonitorDifference(DifferenceKind.rights, "access rights of S and U", ranges_text(only), ranges_text(missing), first_entry(only))]
+    entry = next((it.entry for it in only if it.entry is not None), None)  # the first one that decides a range
+    return [MonitorDifference(DifferenceKind.rights, "access rights of S and U", ranges_text(only), ranges_text(missing), entry)]
 
 
 def ranges_text(rights: list[Right]) -> str:
@@ -105,24 +105,13 @@ def ranges_text(rights: list[Right]) -> str:
     return ", ".join(map(str, rights[:SHOWN_RANGES])) + (", ..." if len(rights) > SHOWN_RANGES else "")
 
 
-def first_entry(rights: list[Right]) -> int | None:
-    """Returns the first PMP entry that decides one of the ranges, or None."""
-    return next((it.entry for it in rights if it.entry is not None), None)
-
-
 def memory_difference(own: bytes, reference: bytes) -> list[MonitorDifference]:
     """Returns the first difference of memory, from the replies of `mem`."""
     if own == reference:
         return []
-    return [next(byte_differences(own.decode(), reference.decode()))]
-
-
-def byte_differences(own: str, reference: str) -> Iterator[MonitorDifference]:
-    """Yields the first difference of each row."""
-    for one, other in zip(own.splitlines(), reference.splitlines()):
-        if one != other:
-            mine, its = bytes_of(one), bytes_of(other)
-            at = next(n for n in range(len(mine)) if mine[n] != its[n])
-            address = int(one[:8], 16) + at
-            yield MonitorDifference(DifferenceKind.memory, "memory at %08x" % address, mine[at:at + SHOWN_BYTES].hex(" "),
-                                    its[at:at + SHOWN_BYTES].hex(" "), address)
+    one, other = next(it for it in zip(own.decode().splitlines(), reference.decode().splitlines()) if it[0] != it[1])
+    mine, its = bytes_of(one), bytes_of(other)
+    at = next(n for n in range(len(mine)) if mine[n] != its[n])
+    address = int(one[:8], 16) + at
+    return [MonitorDifference(DifferenceKind.memory, "memory at %08x" % address, mine[at:at + SHOWN_BYTES].hex(" "),
+                              its[at:at + SHOWN_BYTES].hex(" "), address)]

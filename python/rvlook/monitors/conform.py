@@ -1,25 +1,25 @@
-"""Compares an author's monitor with the monitor of rvbench over directed and random scripts, in one or more processes."""
+"""Compares an author's monitor with the monitor of rvbench over directed and random scripts, in one or more processes. Shrinks a script after which
+two monitors differ, by delta debugging (Zeller, 1999): leaves out halves, quarters, and then single items."""
 from __future__ import annotations
 
-import os
 import time
 from dataclasses import dataclass, field, replace
 from typing import Iterator, Sequence
 
-from rvlook.monitors.coverage import ScriptCoverage
-from rvlook.monitors.directed import directed_scripts
-from rvlook.monitors.directed_large import corner_scripts, large_scripts, long_scripts
-from rvlook.monitors.directed_refusals import refusal_scripts
+from rvlook.monitors.comparison import DifferenceKind, MonitorDifference
+from rvlook.monitors.directed import RandomScript, ReferenceState, corner_scripts, directed_scripts, large_scripts, long_scripts, refusal_scripts
 from rvlook.monitors.items import Item
-from rvlook.protocol.jobs import results_of
-from rvlook.monitors.pair import BothSides, Played, play
+from rvlook.monitors.pair import BothSides, Played, ScriptCoverage, play
 from rvlook.monitors.placement import Placement
-from rvlook.monitors.random_scripts import RandomScript, ReferenceState
 from rvlook.monitors.sides import MonitorSetup
 from rvlook.output.progress import Progress
-
+from rvlook.protocol.jobs import results_of
 
 DEEP_RAM = 0x400000  # bytes for the scripts with large blocks
+MOST_RUNS = 300
+MOST_SECONDS = 60  # after which a script is not shrunk further
+# Kinds whose name is a part of what differs. The names of the others have addresses or causes in them.
+NAMED = (DifferenceKind.register, DifferenceKind.csr, DifferenceKind.entry)
 
 
 @dataclass(frozen=True)
@@ -87,8 +87,8 @@ def play_random(setup: MonitorSetup, task: Task) -> Played:
     source = RandomScript(task.seed, placement.ram)
     with BothSides(setup, task.name) as pair:
         while pair.is_alike and len(pair.played.steps) < task.count:
-            table = [placement.enclave_before(it) for it in pair.table]
-            for item in source.items(ReferenceState(pair.world, pair.mode, placement.address_before(pair.pc), table)):
+            table, reference = [placement.enclave_before(it) for it in pair.table], pair.reference
+            for item in source.items(ReferenceState(pair.world, reference.mode, placement.address_before(reference.pc), table)):
                 if not pair.do(placement.item(item)):
                     break
         pair.end()
@@ -120,6 +120,57 @@ def all_played(setup: MonitorSetup, tasks: Sequence[Task], jobs: int) -> Iterato
     return results_of(lambda number: perform(setup, tasks[number]), len(tasks), jobs)
 
 
-def processors() -> int:
-    """Returns the number of processors that this process may use."""
-    return len(os.sched_getaffinity(0))
+def signature(difference: MonitorDifference) -> tuple[DifferenceKind, str]:
+    """Returns what a shrunk script must still show."""
+    return difference.kind, difference.name if difference.kind in NAMED else ""
+
+
+class Shrinker:
+    """Shrinks the script of one difference. `played` is the shortest script so far, as it was run, and `runs` counts the runs."""
+
+    def __init__(self, setup: MonitorSetup, played: Played) -> None:
+        self.setup, self.played, self.runs, self.is_interrupted = setup, played, 0, False
+        self.wanted, self.end = signature(played.differences[0]), float("inf")
+
+    @property
+    def is_over(self) -> bool:
+        """Returns whether a limit is reached."""
+        return self.runs >= MOST_RUNS or time.monotonic() > self.end
+
+    def is_shorter(self, items: list[Item]) -> bool:
+        """Runs a part of the script; keeps it, without what follows the difference, if it shows the same."""
+        self.runs += 1
+        played = play(self.setup, self.played.name, items, self.wanted[0] is DifferenceKind.memory)
+        if not played.differences or signature(played.differences[0]) != self.wanted:
+            return False
+        self.played = played
+        return True
+
+    def leave_out(self, size: int) -> bool:
+        """Leaves out each part of `size` items that is not needed; returns whether there was one."""
+        at, found = 0, False
+        while at < len(self.played.items) and not self.is_over:
+            items = self.played.items
+            if self.is_shorter(items[:at] + items[at + size:]):
+                found = True
+            else:
+                at += size
+        return found
+
+    def shrink(self) -> Shrinker:
+        """Shrinks the script until no item can be left out, or until Ctrl-C."""
+        try:
+            self.leave_out_all()
+        except KeyboardInterrupt:
+            self.is_interrupted = True
+        return self
+
+    def leave_out_all(self) -> None:
+        """Leaves out halves, quarters, and then single items, until none can be left out."""
+        size = max(1, len(self.played.items) // 2)
+        self.end = time.monotonic() + MOST_SECONDS
+        while not self.is_over:
+            found = self.leave_out(size)
+            if size == 1 and not found:
+                break
+            size = max(1, size // 2)

@@ -4,28 +4,24 @@ from __future__ import annotations
 import os
 from dataclasses import dataclass
 from itertools import groupby
-from typing import Callable, NamedTuple, Optional, Sequence, TYPE_CHECKING
+from typing import Callable, Optional, Sequence
 
 from rvlook.errors import RvlookError, Unfinished
 from rvlook.image.files import image_of, read_file, script_lines
 from rvlook.image.symbols import symbols_from
-from rvlook.monitors.comparison import MonitorDifference, DifferenceKind
-from rvlook.monitors.conform import ConformOutcome, ScriptPlan, compare
-from rvlook.monitors.divergence import Divergence, divergence_of
+from rvlook.monitors.comparison import DifferenceKind, MonitorDifference
+from rvlook.monitors.conform import ConformOutcome, ScriptPlan, Shrinker, compare
+from rvlook.monitors.writers import Divergence, WritingInstruction, divergence_of, writers_of
 from rvlook.monitors.joined import both, joined
+from rvlook.monitors.pair import Played
 from rvlook.monitors.placement import placement_of
-from rvlook.monitors.shrink import Shrinker, Shrunk
 from rvlook.monitors.sides import MonitorSetup, return_addresses, size_line
-from rvlook.monitors.writers import WritingInstruction, writers_of
 from rvlook.output.files import replace_file
+from rvlook.output.findings import ReportedCases
 from rvlook.output.printer import Printer, hex8, place_text
-from rvlook.protocol.lines import no_symbol, resolved_script
+from rvlook.protocol.commands import no_symbol, resolved_script
 from rvlook.protocol.memory_map import MONITOR_END
-
-if TYPE_CHECKING:
-    from rvlook.monitors.pair import Played
-    from rvlook.output.findings import ReportedCases
-    from rvlook.protocol.symbols import Symbols
+from rvlook.protocol.symbols import Symbols
 
 MOST_SHOWN = 6  # differences
 MOST_ITEMS = 40  # of a script that are shown
@@ -33,12 +29,6 @@ MOST_LINES = 4  # source lines before a writer
 MOST_TRACED = 2  # differences whose writers are searched
 CAUSED_BY_A_BRANCH = (DifferenceKind.register, DifferenceKind.pc, DifferenceKind.mode, DifferenceKind.rights)
 LEAST_RAM = 0x30000  # bytes; the directed scripts use them
-
-
-class ConformOutput(NamedTuple):
-    """The output of `conform`: the folder for the shrunk scripts, and whether the coverage table is shown after a difference, too."""
-    scripts: Optional[str] = None
-    table: bool = False
 
 
 @dataclass(frozen=True)
@@ -83,10 +73,9 @@ def address_of(name: str, symbols: Symbols) -> int:
 class Conformance:
     """The result of `conform`: the outcome, and the shrunk script with the monitor as it was set up if there is a difference."""
     outcome: ConformOutcome
-    plan: ScriptPlan
     setup: MonitorSetup
     symbols: Symbols
-    shrunk: Optional[Shrunk] = None
+    shrunk: Optional[Shrinker] = None
 
     @property
     def finding(self) -> str:
@@ -103,7 +92,7 @@ def find_conform(files: MonitorFiles, plan: ScriptPlan, heard: Callable[[Conform
     if not outcome.coverage.scripts and not outcome.is_interrupted:
         raise RvlookError("no script has '%s' in its name" % plan.only)
     heard(outcome)
-    found = Conformance(outcome, plan, setup, symbols)
+    found = Conformance(outcome, setup, symbols)
     if outcome.different and outcome.task:
         found.setup = outcome.task.setup(setup)
         found.shrunk = Shrinker(found.setup, outcome.different).shrink()
@@ -111,16 +100,17 @@ def find_conform(files: MonitorFiles, plan: ScriptPlan, heard: Callable[[Conform
     return found
 
 
-def show_conform(files: MonitorFiles, plan: ScriptPlan, printer: Printer, output: ConformOutput, findings: ReportedCases) -> None:
-    """Compares the monitors, and shows the first difference and the coverage table. A difference is a finding; an empty cell and a time limit
-    make the result incomplete. After Ctrl-C shows what was found, and raises KeyboardInterrupt."""
+def show_conform(files: MonitorFiles, plan: ScriptPlan, printer: Printer, findings: ReportedCases, folder: str | None, has_table: bool) -> None:
+    """Compares the monitors, and shows the first difference and the coverage table, after a difference only if `has_table`. Writes the shrunk scripts
+    to a folder, if there is one. A difference is a finding; an empty cell and a time limit make the result incomplete. After Ctrl-C shows what was
+    found, and raises KeyboardInterrupt."""
     found = find_conform(files, plan, lambda it: show_counts(it, printer))
     if found.shrunk:
         DifferenceReport(found.setup, found.symbols, printer, found.outcome).show(found.shrunk)
     findings.add("conform", found.finding)
-    if found.shrunk and output.scripts:
-        write_scripts(output.scripts, found.setup, found.shrunk, printer)
-    if not found.outcome.different or output.table or printer.as_json:
+    if found.shrunk and folder:
+        write_scripts(folder, found.setup, found.shrunk, printer)
+    if not found.outcome.different or has_table or printer.as_json:
         show_coverage(found.outcome, printer)
     if found.outcome.is_interrupted:
         raise KeyboardInterrupt
@@ -131,23 +121,21 @@ def show_conform(files: MonitorFiles, plan: ScriptPlan, printer: Printer, output
 
 def rest_of(outcome: ConformOutcome, plan: ScriptPlan) -> str:
     """Returns what was not examined: scripts after the time limit, or empty cells of the table; empty if nothing was left out."""
-    empty = outcome.coverage.empty()
-    if outcome.different or plan.only:
+    if outcome.different:
         return ""
     if outcome.left:
         return "the time limit of %g seconds left out %d scripts" % (plan.seconds or 0, outcome.left)
-    return "no script covered %s" % "; ".join(empty) if empty else ""
+    empty = [] if plan.only else outcome.coverage.empty()
+    return "these cells of the coverage table are empty: %s; use --deep, or a larger --tries" % ", ".join(empty) if empty else ""
 
 
 def show_counts(outcome: ConformOutcome, printer: Printer) -> None:
     """Shows how much was run."""
-    it = outcome.coverage
-    if printer.as_json:
-        printer.object("conform", scripts=it.scripts, steps=it.steps, returns=it.returns, steps_in_m=it.spent, most_steps_in_m=it.most[0],
-                       alike=outcome.different is None)
-        return
+    coverage = outcome.coverage
     result = "different" if outcome.different else "alike until Ctrl-C" if outcome.is_interrupted else "alike"
-    printer.line("%s: %d scripts, %d steps below M, %d returns from M, %d steps in M" % (result, it.scripts, it.steps, it.returns, it.spent))
+    printer.show("%s: %d scripts, %d steps below M, %d returns from M, %d steps in M" % (
+        result, coverage.scripts, coverage.steps, coverage.returns, coverage.spent), "conform", scripts=coverage.scripts, steps=coverage.steps,
+        returns=coverage.returns, steps_in_m=coverage.spent, most_steps_in_m=coverage.most[0], alike=outcome.different is None)
 
 
 class DifferenceReport:
@@ -156,7 +144,7 @@ class DifferenceReport:
     def __init__(self, setup: MonitorSetup, symbols: Symbols, printer: Printer, outcome: ConformOutcome) -> None:
         self.setup, self.symbols, self.printer, self.outcome = setup, symbols, printer, outcome
 
-    def show(self, shrunk: Shrunk) -> None:
+    def show(self, shrunk: Shrinker) -> None:
         """Shows the shrunk script, the values of both sides, and the instructions in M that wrote them."""
         found, played = self.outcome.different, shrunk.played
         assert found
@@ -164,12 +152,12 @@ class DifferenceReport:
             self.printer.line("script '%s': different after %d items; shrunk to %d items in %d runs" % (
                 found.name, len(found.items), len(played.items), shrunk.runs))
         self.show_items(played)
-        for number, it in enumerate(played.differences[:MOST_SHOWN]):
-            writers = writers_of(self.setup, played, it) if number < MOST_TRACED else []
+        for number, difference in enumerate(played.differences[:MOST_SHOWN]):
+            writers = writers_of(self.setup, played, difference) if number < MOST_TRACED else []
             if self.printer.as_json:
-                self.difference_object(found.name, it, writers)
+                self.difference_object(found.name, difference, writers)
             else:
-                self.difference_text(it, writers, number < MOST_TRACED)
+                self.difference_text(difference, writers, number < MOST_TRACED)
         if len(played.differences) > MOST_SHOWN and not self.printer.as_json:
             self.printer.line("  and %d more differences" % (len(played.differences) - MOST_SHOWN))
         if played.differences[0].kind in CAUSED_BY_A_BRANCH:
@@ -186,40 +174,37 @@ class DifferenceReport:
             elif number == MOST_ITEMS // 2:
                 self.printer.line("  ... %d items" % left_out)
 
-    def difference_object(self, script: str, it: MonitorDifference, writers: list[WritingInstruction]) -> None:
+    def difference_object(self, script: str, difference: MonitorDifference, writers: list[WritingInstruction]) -> None:
         """Writes a difference as an object."""
-        self.printer.object("mismatch", script=script, kind=it.kind.value, name=it.name, own=it.own, reference=it.reference, writers=[
-            {"pc": hex8(writer.pc), "instruction": writer.text, "address": hex8(writer.address), "symbol": self.symbols.name(writer.pc),
-             "line": source_of(writer, self.symbols)} for writer in writers])
+        self.printer.object("mismatch", script=script, kind=difference.kind.value, name=difference.name, own=difference.own,
+                            reference=difference.reference, writers=[
+                                {"pc": hex8(writer.pc), "instruction": writer.text, "address": hex8(writer.address),
+                                 "symbol": self.symbols.name(writer.pc), "line": source_of(writer, self.symbols)} for writer in writers])
 
-    def difference_text(self, it: MonitorDifference, writers: list[WritingInstruction], is_traced: bool) -> None:
+    def difference_text(self, difference: MonitorDifference, writers: list[WritingInstruction], is_traced: bool) -> None:
         """Prints a difference."""
-        self.printer.line("  " + it.name)
-        self.printer.line("    own monitor        %s" % it.own)
-        self.printer.line("    monitor of rvbench %s" % it.reference)
+        self.printer.line("  " + difference.name)
+        self.printer.line("    own monitor        %s" % difference.own)
+        self.printer.line("    monitor of rvbench %s" % difference.reference)
         for number, writer in enumerate(writers):
-            what = "from %08x, last stored by" % (writer.address or 0) if number else self.what_happened(it)
+            what = "trapped at" if difference.kind is DifferenceKind.fault else "last written in M by"
+            what = "from %08x, last stored by" % (writer.address or 0) if number else what
             self.printer.line("    %s %s at %s" % (what, writer.text, writer_place(writer, self.symbols)))
         if writers:
             self.printer.line("      executed before it: %s" % (", ".join(lines_before(writers[-1], self.symbols)) or "no source lines are known"))
-        if is_traced and not writers and it.kind not in (DifferenceKind.fault, DifferenceKind.trap):
+        if is_traced and not writers and difference.kind not in (DifferenceKind.fault, DifferenceKind.trap):
             self.printer.line("    not written in M")
 
-    def show_divergence(self, it: Divergence | None) -> None:
+    def show_divergence(self, divergence: Divergence | None) -> None:
         """Shows the branch at which the call leaves the path of a similar one."""
-        if it and self.printer.as_json:
-            self.printer.object("divergence", call=it.call, result=it.result, **{
+        if divergence and self.printer.as_json:
+            self.printer.object("divergence", call=divergence.call, result=divergence.result, **{
                 name: {"pc": hex8(pc), "symbol": self.symbols.name(pc), "line": self.symbols.line(pc)}
-                for name, pc in (("after", it.pc), ("own_next", it.own_next), ("other_next", it.other_next))})
-        elif it:
-            self.printer.line("  the result of '%s' is %s in both monitors; the last call leaves its path" % (it.call, it.result))
-            for name, pc in (("after", it.pc), ("to", it.own_next), ("not to", it.other_next)):
+                for name, pc in (("after", divergence.pc), ("own_next", divergence.own_next), ("other_next", divergence.other_next))})
+        elif divergence:
+            self.printer.line("  the result of '%s' is %s in both monitors; the last call leaves its path" % (divergence.call, divergence.result))
+            for name, pc in (("after", divergence.pc), ("to", divergence.own_next), ("not to", divergence.other_next)):
                 self.printer.line("    %-7s %s" % (name, place_text("%08x" % pc, self.symbols)))
-
-    @staticmethod
-    def what_happened(difference: MonitorDifference) -> str:
-        """Returns what an instruction did about a difference."""
-        return "trapped at" if difference.kind is DifferenceKind.fault else "last written in M by"
 
 
 def source_of(writer: WritingInstruction, symbols: Symbols) -> str | None:
@@ -245,8 +230,8 @@ def show_coverage(outcome: ConformOutcome, printer: Printer) -> None:
     """Shows the coverage table."""
     cells = list(outcome.coverage.cells())
     if printer.as_json:
-        for it in cells:
-            printer.object("cell", group=it.group, name=it.name, count=it.count)
+        for cell in cells:
+            printer.object("cell", group=cell.group, name=cell.name, count=cell.count)
         return
     printer.line("coverage: %d of %d cells" % (sum(it.count > 0 for it in cells), len(cells)))
     for group, members in groupby(cells, lambda it: it.group):
@@ -265,12 +250,7 @@ def wrapped(words: list[str]) -> list[str]:
     return lines
 
 
-def script_text(shrunk: Shrunk) -> str:
-    """Returns the shrunk script for the author's monitor."""
-    return "".join(line + "\n" for line in shrunk.played.own_log)
-
-
-def write_scripts(folder: str, setup: MonitorSetup, shrunk: Shrunk, printer: Printer) -> None:
+def write_scripts(folder: str, setup: MonitorSetup, shrunk: Shrinker, printer: Printer) -> None:
     """Writes a script for each side, and prints the commands that show them. Raises Unfinished."""
     own, reference = os.path.join(folder, "own.script"), os.path.join(folder, "reference.script")
     try:

@@ -1,13 +1,19 @@
-"""The directed scripts: every call, every refusal, every state, every switch, and the boundaries of all ranges."""
+"""The scripts of `conform`. The directed ones have every call, every refusal, every state, every switch, and the boundaries of all ranges. Each
+refusal comes alone, and in each pair with the next ones, which shows the order. Large scripts have regions and windows of every size that fits the
+RAM, corner values in all registers, and many calls.
+
+In a random script, each item depends on the worlds and on the enclave table of the reference at that point."""
 from __future__ import annotations
 
-from typing import Iterator
+import random
+from typing import Iterator, NamedTuple, Sequence
 
 from rvlook.monitors.encodings import EBREAK, MRET, csrr, csrw, jump, load, store
-from rvlook.monitors.items import (Item, call, create, destroy, ecall_from_user, get_csr, instruction, jump_to, leave, load_at, measure, nop, poke,
-                                   resume, run, set_csr, set_registers, set_supervisor, sret, stop, store_at, timer)
+from rvlook.monitors.items import (MASK, Item, call, create, destroy, ecall_from_user, get_csr, instruction, jump_to, leave, load_at, measure, nop,
+                                   poke, resume, run, set_all, set_csr, set_registers, set_supervisor, sret, stop, store_at, timer)
 from rvlook.protocol.memory_map import MONITOR_END, RAM_BASE
-from rvlook.protocol.names import CSRS
+from rvlook.protocol.names import CSRS, KEY
+from rvlook.protocol.replies import Enclave
 
 PAGE = 0x1000
 HOST = MONITOR_END
@@ -19,6 +25,19 @@ SUPERVISOR_CSRS = ("stvec", "sscratch", "sepc", "scause", "stval", "sstatus")
 FAULTS = (("illegal instruction", 0), ("ebreak", EBREAK), ("mret", MRET), ("csrr mstatus", csrr(7, CSRS["mstatus"])),
           ("csrw pmpcfg0", csrw(CSRS["pmpcfg0"], 7)), ("csrw mie", csrw(CSRS["mie"], 7)), ("csrr mscratch", csrr(7, CSRS["mscratch"])),
           ("load from 0", load(7, 0)), ("store to 0", store(7, 0)), ("jump to 2", jump(0, 2)), ("jump to 0", jump(0)))
+HOST_SIZE = 16 * PAGE  # bytes that the host has before the first large block
+CORNERS = (0, 1, 0x7F, 0x80, 0x7FFF, 0x8000, 0x7FFFFFFF, 0x80000000, 0x80000001, 0xFFFF0000, MASK, RAM_BASE + PAGE, HOST, FIRST)
+MANY_CREATES, MANY_CALLS = 260, 1030  # more than eight and ten bits count
+GOOD = {"a0": FIRST, "a1": PAGE, "a2": WINDOW, "a3": PAGE, "a4": FIRST}
+ODD_SIZE = 0x1800
+SLOTS = (1, 12, 13, 14, 16, 32, 64, 0x80000000, MASK, 0x100, 0x10000000)
+AROUND = (-33, -32, -31, -30, -16, -2, -1, 0, 1, 31)  # bytes around a boundary, for the 32 bytes of a measurement
+KINDS = {"call": 50, "access": 16, "csr": 8, "registers": 5, "sret": 4, "fault": 6, "timer": 6, "jump": 5}  # and their weights
+CSRS_SET = ("sscratch", "sepc", "scause", "stval", "sstatus", "sie", "sip", "satp", "scounteren")
+STATES = {"run": ("Fresh",), "resume": ("Stopped",)}
+ANY_STATE = ("Fresh", "Stopped", "Exited")
+CALLS = ("create", "create", "run", "run", "resume", "resume", "resume", "destroy", "measure", "odd")
+MOST_LIVE = 13
 
 
 def host() -> list[Item]:
@@ -62,7 +81,7 @@ def life_scripts() -> Iterator[tuple[str, list[Item]]]:
                                resume(0), *map(get_csr, SUPERVISOR_CSRS), stop(2), resume(0), leave(3)]
     yield "two enclaves in turns", [
         *host(), create(FIRST, PAGE, WINDOW, PAGE), create(SECOND, PAGE, WINDOW, PAGE), run(0), *inside(FIRST, "a"), stop(1), run(1),
-        *inside(SECOND, "b"), stop(2), set_registers("h2"), resume(0), nop(), timer(True), nop(), resume(1), nop(), stop(3), resume(0), stop(4),
+        *inside(SECOND, "b"), stop(2), set_registers("h2"), resume(0), nop(), timer(is_on=True), nop(), resume(1), nop(), stop(3), resume(0), stop(4),
         resume(1), leave(5), resume(0), leave(6), destroy(1), destroy(0)]
     yield "destroy zeroes the region", [*host(), poke(FIRST, b"\x5a" * PAGE), made(), destroy(0), load_at(FIRST), load_at(FIRST + PAGE - 4)]
     yield "destroy of a stopped enclave, and another in its slot", [
@@ -75,8 +94,8 @@ def life_scripts() -> Iterator[tuple[str, list[Item]]]:
 def user_scripts() -> Iterator[tuple[str, list[Item]]]:
     """Yields scripts with U, of an enclave and of the host."""
     to_user = [set_csr("sepc", FIRST + 0x100), set_csr("sstatus", 0), sret()]
-    yield "an application in U", [*host(), made(), run(0), *inside(FIRST, "u"), *to_user, nop(), timer(True), nop(), set_registers("4"), resume(0),
-                                  nop(), ecall_from_user(6), stop(5), resume(0), timer(True), nop(), resume(0), leave(1)]
+    yield "an application in U", [*host(), made(), run(0), *inside(FIRST, "u"), *to_user, nop(), timer(is_on=True), nop(), set_registers("4"),
+                                  resume(0), nop(), ecall_from_user(6), stop(5), resume(0), timer(is_on=True), nop(), resume(0), leave(1)]
     faults = [it for name, word in FAULTS for it in (*to_user, instruction(name, word), nop())]
     yield "exceptions of an application", [*host(), made(), run(0), *inside(FIRST, "u"), *faults, stop(1)]
     to_host_user = [set_csr("sepc", HOST + 0x400), set_csr("sstatus", 0), sret()]
@@ -101,8 +120,8 @@ def slot_scripts() -> Iterator[tuple[str, list[Item]]]:
     """Yields scripts with thirteen enclaves."""
     full = [create(0x80014000 + n * PAGE, PAGE, WINDOW, PAGE) for n in range(13)]
     yield "thirteen enclaves, some of them run", [
-        *host(), *full[:12], run(6), *inside(0x8001A000, "s"), stop(1), run(2), leave(2), run(8), timer(True), nop(), full[12], run(6), resume(6),
-        nop(), stop(3), run(2), resume(8), leave(1), destroy(2), full[2]]
+        *host(), *full[:12], run(6), *inside(0x8001A000, "s"), stop(1), run(2), leave(2), run(8), timer(is_on=True), nop(), full[12], run(6),
+        resume(6), nop(), stop(3), run(2), resume(8), leave(1), destroy(2), full[2]]
     yield "thirteen enclaves", [
         *host(), *full, run(12), *inside(0x80020000, "t"), stop(1), run(3), stop(2), destroy(12), destroy(5), destroy(2),
         create(0x80016000, PAGE), create(0x80019000, PAGE), create(0x80020000, PAGE), resume(3), leave(1)]
@@ -125,13 +144,13 @@ def interrupt_scripts() -> Iterator[tuple[str, list[Item]]]:
     """Yields scripts that raise the timer line before each step of an enclave, and while the host runs."""
     body = [set_registers("i"), nop(), set_csr("sscratch", 77), nop(), stop(9)]
     for at in range(len(body) + 1):
-        yield "timer before step %d" % at, [*host(), made(), run(0), *body[:at], timer(True), nop(), set_registers("h"), resume(0), *body[at:],
-                                            resume(0), nop(), leave(1)]
-    yield "timer while the host runs", [*host(), made(), timer(True), nop(), nop(), run(0), nop(), resume(0), nop(), stop(1), timer(True), nop(),
-                                        resume(0), nop(), timer(True), stop(3), nop()]
-    yield "timer lowered again", [*host(), made(), run(0), timer(True), timer(False), nop(), stop(1)]
-    yield "calls while the line is high", [*host(), timer(True), made(), measure(WINDOW), destroy(0), made(), run(0), nop(), nop()]
-    yield "timer after exit", [*host(), made(), create(SECOND, PAGE), run(0), leave(1), timer(True), nop(), run(1), nop(), nop(), resume(1),
+        yield "timer before step %d" % at, [*host(), made(), run(0), *body[:at], timer(is_on=True), nop(), set_registers("h"), resume(0),
+                                            *body[at:], resume(0), nop(), leave(1)]
+    yield "timer while the host runs", [*host(), made(), timer(is_on=True), nop(), nop(), run(0), nop(), resume(0), nop(), stop(1),
+                                        timer(is_on=True), nop(), resume(0), nop(), timer(is_on=True), stop(3), nop()]
+    yield "timer lowered again", [*host(), made(), run(0), timer(is_on=True), timer(is_on=False), nop(), stop(1)]
+    yield "calls while the line is high", [*host(), timer(is_on=True), made(), measure(WINDOW), destroy(0), made(), run(0), nop(), nop()]
+    yield "timer after exit", [*host(), made(), create(SECOND, PAGE), run(0), leave(1), timer(is_on=True), nop(), run(1), nop(), nop(), resume(1),
                                leave(1)]
 
 
@@ -141,11 +160,12 @@ def exception_scripts() -> Iterator[tuple[str, list[Item]]]:
         own = [it for name, word in FAULTS for it in (set_csr("sstatus", status), instruction(name, word), nop(), sret(), nop(),
                                                       instruction(name, word), nop())]
         yield "exceptions of the host, sstatus %x" % status, [*host(), *own]
-        yield "exceptions of an enclave, sstatus %x" % status, [*host(), made(), run(0), *inside(FIRST, "f"), *own, timer(True), nop(), nop()]
+        yield "exceptions of an enclave, sstatus %x" % status, [*host(), made(), run(0), *inside(FIRST, "f"), *own, timer(is_on=True), nop(), nop()]
     yield "stvec with mode bits", [*host(), set_csr("stvec", HOST_HANDLER | 1), instruction("illegal instruction", 0), nop(),
                                    call(1, 0, a0=0)]
     for at in (WINDOW, FIRST, SECOND, RAM_BASE, 0x90000000):
-        yield "jump to %x" % at, [*host(), made(), create(SECOND, PAGE), run(0), *inside(FIRST, "j"), jump_to(at), nop(), nop(), timer(True), nop()]
+        yield "jump to %x" % at, [*host(), made(), create(SECOND, PAGE), run(0), *inside(FIRST, "j"), jump_to(at), nop(), nop(),
+                                  timer(is_on=True), nop()]
 
 
 def access_scripts() -> Iterator[tuple[str, list[Item]]]:
@@ -165,3 +185,312 @@ def size_scripts(end: int) -> Iterator[tuple[str, list[Item]]]:
         if base + size <= end:
             yield "region of %x bytes" % size, [*host(), poke(base + size - 16, b"\x77" * 16), poke(base, b"\x66" * 16), create(base, size),
                                                 run(0), leave(0), destroy(0)]
+
+
+def large_scripts(ram: int) -> Iterator[tuple[str, list[Item]]]:
+    """Yields the name and the items of each script with large blocks, for a RAM of this many bytes."""
+    end, size = RAM_BASE + ram, PAGE
+    while size <= ram:
+        base = -(-(HOST + HOST_SIZE) // size) * size
+        if base + size <= end:
+            yield from large_region_scripts(base, size, end)
+            yield from large_window_scripts(base, size, end)
+        if HOST + HOST_SIZE + size + 2 * PAGE <= end:
+            yield "block: %x bytes apart" % size, blocks_apart(size)
+        size *= 2
+    sizes = [1 << n for n in range(ram.bit_length(), 32)]
+    yield "block: larger than the RAM", [*host(), *(it for at in sizes for it in (create(RAM_BASE, at), create(FIRST, PAGE, RAM_BASE, at)))]
+
+
+def accesses(base: int, size: int) -> list[Item]:
+    """Returns loads and stores at both ends and in the middle of a block."""
+    return [it for at in (base, base + size // 2, base + size) for it in (load_at(at - 4), store_at(at - 4), load_at(at), store_at(at))]
+
+
+def misaligned(base: int, size: int, end: int) -> list[int]:
+    """Returns addresses in RAM that are not a multiple of a size."""
+    return [at for at in (base + PAGE, base + size // 2, base + 4, base - size // 2, base - PAGE) if MONITOR_END <= at and at + size <= end]
+
+
+def large_region_scripts(base: int, size: int, end: int) -> Iterator[tuple[str, list[Item]]]:
+    """Yields the scripts with a region of a size."""
+    ends = accesses(base, size)
+    yield "block: region of %x bytes" % size, [
+        *host(), poke(base + size // 2, b"\x55" * 16), poke(base + size - 16, b"\x77" * 16), poke(base, b"\x66" * 16),
+        create(base, size, WINDOW, PAGE), measure(WINDOW), *ends, run(0), *inside(base, "l"), *ends, measure(base + size - 32),
+        measure(base + size - 31), stop(0), measure(WINDOW + 64), *ends, resume(0), leave(0), destroy(0), *ends]
+    yield "block: region of %x bytes, entry at its end" % size, [
+        *host(), create(base, size, WINDOW, PAGE, base + size - 4), measure(WINDOW), run(0), stop(0), create(base, size, 0, 0, base + size)]
+    yield "block: region of %x bytes, other last byte" % size, [
+        *host(), poke(base + size - 1, b"\x01"), create(base, size), measure(WINDOW), destroy(0)]
+    yield "block: regions of %x bytes at other bases" % size, [
+        *host(), *(it for at in misaligned(base, size, end) for it in (create(at, size), run(0), stop(0), destroy(0)))]
+    odd, far = [it for it in (size + PAGE, size * 3 // 2, size - PAGE, size + 4) if it > PAGE], -(-base // (2 * size)) * 2 * size
+    yield "block: regions of %x bytes that are no power of two" % size, [
+        *host(), *(it for at in odd for it in (create(far, at), create(FIRST, PAGE, far, at), run(0), stop(0), destroy(0)))]
+    over = [at for at in (base, base + size // 2, base + size - PAGE) if size > PAGE]
+    yield "block: a region of %x bytes over a small one" % size, [
+        *host(), *(it for at in over for it in (create(at, PAGE), create(base, size), create(FIRST, PAGE, base, size), destroy(0)))]
+    beside = [at for at in (base, base + PAGE, base + size // 2, base + size - PAGE, base - PAGE, base + size) if at + PAGE <= end]
+    yield "block: beside a region of %x bytes" % size, [
+        *host(), create(base, size), *(it for at in beside for it in (create(at, PAGE), run(1), stop(0), destroy(1))),
+        *(it for at in beside for it in (create(FIRST, PAGE, at, PAGE), run(1), stop(0), destroy(1)))]
+
+
+def large_window_scripts(base: int, size: int, end: int) -> Iterator[tuple[str, list[Item]]]:
+    """Yields the scripts with a window of a size."""
+    ends = accesses(base, size)
+    yield "block: window of %x bytes" % size, [
+        *host(), create(FIRST, PAGE, base, size), run(0), *inside(FIRST, "w"), *ends, measure(base + size - 32), measure(base + size - 31), stop(0),
+        *ends, destroy(0)]
+    yield "block: windows of %x bytes at other bases" % size, [
+        *host(), *(it for at in misaligned(base, size, end) for it in (create(FIRST, PAGE, at, size), run(0), stop(0), destroy(0)))]
+
+
+def blocks_apart(size: int) -> list[Item]:
+    """Returns a script with blocks whose addresses differ by a size."""
+    one, other = HOST + HOST_SIZE, HOST + HOST_SIZE + size
+    return [*host(), create(one, PAGE), create(other, PAGE), create(other + PAGE, PAGE, one + PAGE, PAGE), create(other + PAGE, PAGE, one, PAGE),
+            run(0), stop(0), run(1), stop(1), run(2), stop(2)]
+
+
+def corner_scripts() -> Iterator[tuple[str, list[Item]]]:
+    """Yields scripts with the same value in all registers at an interrupt, a call and an exception."""
+    turns = [it for value in CORNERS for it in (set_all(value), timer(is_on=True), nop(), set_all(value ^ MASK), resume(0))]
+    yield "corner values at interrupts", [*host(), made(), run(0), *inside(FIRST, "c"), *turns, leave(1)]
+    stops = [it for value in CORNERS for it in (set_all(value), stop(value), set_all(value ^ MASK), resume(0))]
+    yield "corner values at stops", [*host(), made(), run(0), *inside(FIRST, "c"), *stops, leave(MASK)]
+    faults = [it for value in CORNERS for it in (set_all(value), instruction("illegal instruction", 0), set_all(value), call(0, a0=value))]
+    yield "corner values at exceptions", [*host(), *faults, made(), run(0), *inside(FIRST, "c"), *faults, stop(0)]
+
+
+def long_scripts() -> Iterator[tuple[str, list[Item]]]:
+    """Yields scripts with many calls."""
+    creates = [it for _ in range(MANY_CREATES) for it in (create(SECOND, PAGE, 0, 0), measure(WINDOW, 1), load_at(WINDOW + 28), destroy(1))]
+    yield "many creates", [*host(), made(), *creates, run(0), stop(1)]
+    calls = [call(8, a0=n) for n in range(MANY_CALLS)]
+    yield "many calls", [*host(), made(), run(0), *inside(FIRST, "n"), stop(1), *calls, resume(0), stop(2), resume(0), leave(1)]
+    switches = [it for n in range(MANY_CREATES) for it in (stop(n), resume(0))]
+    yield "many switches", [*host(), made(), run(0), *inside(FIRST, "n"), *switches, leave(1)]
+
+
+def refusal_scripts(ram: int) -> Iterator[tuple[str, list[Item]]]:
+    """Yields the name and the items of each script, for a RAM of this many bytes."""
+    end = RAM_BASE + ram
+    yield from create_refusals(end)
+    yield from number_scripts()
+    yield from state_scripts()
+    yield from measure_scripts(end)
+    yield from boundary_scripts(end)
+
+
+def bad_create(at: int, *refusals: str) -> Item:
+    """Returns a create in a region at an address that has several errors at once."""
+    arguments = {**GOOD, "a0": at, "a4": at}
+    if "Overlap" in refusals:
+        arguments.update(a2=at, a3=PAGE)
+    if "BadWindow" in refusals:
+        arguments["a3"] = ODD_SIZE
+    if "BadEntry" in refusals:
+        arguments["a4"] = at + 2
+    if "BadRegion" in refusals:
+        arguments["a1"] = ODD_SIZE
+    return call(1, **arguments)
+
+
+def create_refusals(end: int) -> Iterator[tuple[str, list[Item]]]:
+    """Yields scripts with each refusal of create, alone, with each later one, and with thirteen live enclaves."""
+    names = ("BadRegion", "BadWindow", "Overlap", "BadEntry")
+    yield "create, each refusal", [*host(), *(it for name in names for it in (bad_create(FIRST, name), destroy(0)))]
+    pairs = [bad_create(FIRST, one, other) for n, one in enumerate(names) for other in names[n + 1:]]
+    yield "create, two refusals at once", [*host(), *(it for pair in pairs for it in (pair, destroy(0)))]
+    full = [create(0x80014000 + n * PAGE, PAGE) for n in range(13)]
+    late = [bad_create(end - PAGE, name) for name in names]
+    yield "create, each refusal before NoSlot", [*host(), *full, *late]
+    yield "create, NoSlot", [*host(), *full, create(end - PAGE, PAGE), destroy(7), create(end - PAGE, PAGE), create(end - 2 * PAGE, PAGE)]
+    yield "create, window of size 0", [*host(), call(1, **{**GOOD, "a2": 0xDEADBEEF, "a3": 0}), run(0), stop(1)]
+
+
+def number_scripts() -> Iterator[tuple[str, list[Item]]]:
+    """Yields scripts with other values of a7 and a6, and with calls of the other world."""
+    yield "a7", [*host(), *(call(1, key, **GOOD) for key in (0, KEY - 1, KEY | 0x80000000)), call(1, 8, **GOOD)]
+    yield "a6", [*host(), *(call(number, **GOOD) for number in (0, 8, 9, 0x101, 0x80000001, MASK, 0x10001))]
+    yield "a7 of a call with a bad slot", [*host(), *(call(number, 0, a0=13, a1=0) for number in (2, 3, 4, 5))]
+    yield "calls of the other world", [
+        *host(), call(6, a0=1), call(7, a0=1), made(), call(6, a0=0), call(7, a0=0), run(0),
+        *(call(number, **GOOD) for number in (0, 1, 2, 3, 4, 8, MASK)), create(SECOND, PAGE), destroy(0), call(6, 0, a0=1), leave(0)]
+
+
+def state_scripts() -> Iterator[tuple[str, list[Item]]]:
+    """Yields scripts with each call of a slot in each state, and with other slots."""
+    states: tuple[tuple[str, list[Item]], ...] = (
+        ("that does not exist", []), ("that is Fresh", [made()]), ("that is Stopped", [made(), run(0), stop(1)]),
+        ("that is Exited", [made(), run(0), leave(1)]), ("that was interrupted", [made(), run(0), timer(is_on=True), nop()]))
+    for name, before in states:
+        items = [it for ask in (run(0), resume(0), destroy(0), measure(WINDOW)) for it in (*before, ask, nop(), leave(9), destroy(0))]
+        yield "each call of an enclave " + name, [*host(), *items]
+    for number in (2, 3, 4):
+        yield "slots of call %d" % number, [*host(), made(), run(0), stop(1), *(call(number, a0=slot) for slot in SLOTS)]
+    yield "slots of measure", [*host(), made(), run(0), stop(1), *(measure(WINDOW, slot) for slot in SLOTS)]
+    yield "NoEnclave before BadAddress", [*host(), measure(0, 0), measure(0, 13), made(), measure(0, 1), measure(0, 0)]
+
+
+def measure_scripts(end: int) -> Iterator[tuple[str, list[Item]]]:
+    """Yields scripts that store the 32 bytes of a measurement around each boundary."""
+    places = (FIRST, FIRST + PAGE, end, MONITOR_END, 1 << 32, 0, WINDOW, WINDOW + PAGE)
+    addresses = [at + n & MASK for at in places for n in AROUND]
+    yield "measure by the host", [*host(), made(), *(measure(at) for at in addresses)]
+    yield "measure by the enclave", [*host(), made(), run(0), *inside(FIRST, "m"), *(measure(at, 0xFFFF) for at in addresses), leave(0)]
+    yield "measure into another window", [
+        *host(), create(FIRST, PAGE, WINDOW, PAGE), create(SECOND, PAGE, OTHER_WINDOW, PAGE), measure(WINDOW, 1), measure(OTHER_WINDOW, 0),
+        measure(SECOND - 32, 1), measure(SECOND + PAGE, 0), run(1), measure(OTHER_WINDOW), measure(WINDOW), measure(OTHER_WINDOW + PAGE - 32),
+        measure(OTHER_WINDOW + PAGE - 31)]
+    yield "measure across the region and a window beside it", [
+        *host(), create(FIRST, PAGE, FIRST + PAGE, PAGE), measure(FIRST + PAGE - 16), run(0), measure(FIRST + PAGE - 16), stop(0),
+        measure(FIRST + PAGE)]
+
+
+def boundary_scripts(end: int) -> Iterator[tuple[str, list[Item]]]:
+    """Yields scripts with regions, windows and entries at the boundaries of what create accepts."""
+    blocks = [(FIRST, n) for n in (0, 1, 4, 8, 0x800, 0xFFF, 0x1001, 0x3000, 0x8000, 0x20000, 0x80000000, MASK)]
+    blocks += [(FIRST + n, PAGE) for n in (1, 4, 0x800)]
+    blocks += [(at, PAGE) for at in (0, 0x7FFFF000, RAM_BASE, 0x8000F000, HOST, end - PAGE, end, 0xFFFFF000)]
+    blocks += [(end - 2 * PAGE, 2 * PAGE), (end - PAGE, 2 * PAGE), (RAM_BASE, 0x10000), (RAM_BASE, 0x20000), (0, RAM_BASE), (RAM_BASE, RAM_BASE)]
+    after = [run(0), stop(1), destroy(0)]
+    yield "regions", [*host(), *(it for base, size in blocks for it in (create(base, size, WINDOW, PAGE), *after))]
+    yield "windows", [*host(), *(it for base, size in blocks for it in (create(THIRD, PAGE, base, size), *after))]
+    offsets = (-4, -1, 0, 1, 2, 3, 4, PAGE - 4, PAGE - 2, PAGE, -FIRST, MASK - FIRST)
+    yield "entries", [*host(), *(it for n in offsets for it in (create(FIRST, PAGE, WINDOW, PAGE, FIRST + n), *after))]
+
+
+class ReferenceState(NamedTuple):
+    """The state of the reference on which the next items depend: the world that runs, its mode and pc, and the enclave table."""
+    world: str
+    mode: str
+    pc: int
+    table: Sequence[Enclave]
+
+
+class RandomScript:
+    """The source of a random script, which a seed determines. Some scripts create thirteen enclaves."""
+
+    def __init__(self, seed: str, ram: int) -> None:
+        self.draw, self.end, self.is_begun = random.Random("conform %s" % seed), RAM_BASE + ram, False
+        self.fills_table = self.draw.random() < .3
+        self.makers = {"call": self.call, "access": self.access, "csr": self.csr, "registers": self.registers, "sret": self.sret,
+                       "fault": self.fault, "timer": self.timer, "jump": self.jump}
+
+    def items(self, state: ReferenceState) -> list[Item]:
+        """Returns the next items."""
+        draw = self.draw
+        if not self.is_begun:
+            self.is_begun = True
+            return [*set_supervisor(str(draw.random()), HOST_HANDLER), set_registers(str(draw.random()))]
+        if state.world != "host" and (not MONITOR_END <= state.pc < self.end or draw.random() < .06):
+            return [timer(is_on=True), nop()]
+        if state.mode == "U":
+            return self.user(state)
+        return self.makers[draw.choices(list(KINDS), list(KINDS.values()))[0]](state)
+
+    def user(self, state: ReferenceState) -> list[Item]:
+        """Returns items for U."""
+        draw = self.draw
+        kind = draw.randrange(5)
+        if kind < 2:
+            return [nop()] if kind else [ecall_from_user(draw.randrange(8))]
+        return (self.access, self.fault, self.timer)[kind - 2](state)
+
+    def own(self, state: ReferenceState) -> Enclave | None:
+        """Returns the enclave that runs, or None."""
+        return next((it for it in state.table if it.world == state.world), None)
+
+    def place(self, state: ReferenceState) -> int:
+        """Returns a boundary of a range."""
+        places = [RAM_BASE, MONITOR_END, self.end]
+        for enclave in state.table:
+            places += [enclave.base, enclave.base + enclave.size]
+            places += [enclave.window, enclave.window + enclave.window_size] if enclave.window_size else []
+        return self.draw.choice(places)
+
+    def block_base(self, size: int) -> int:
+        """Returns a base in RAM for a block of a size."""
+        return (MONITOR_END + self.draw.randrange(2, (self.end - MONITOR_END) // PAGE) * PAGE) & -size
+
+    def call(self, state: ReferenceState) -> list[Item]:
+        """Returns a call of the world that runs."""
+        draw = self.draw
+        if state.world != "host":
+            return [draw.choice((stop(draw.getrandbits(32)), stop(draw.getrandbits(32)), leave(draw.getrandbits(32)), self.measured(state, 0),
+                                 call(draw.choice((0, 1, 2, 3, 4, 8)), a0=draw.randrange(3))))]
+        if self.fills_table and len(state.table) < MOST_LIVE and draw.random() < .6:
+            return [create(self.block_base(PAGE), PAGE)]
+        kind = draw.choice(CALLS)
+        return self.created(state) if kind == "create" else self.slot_call(state, kind)
+
+    def slot_call(self, state: ReferenceState, kind: str) -> list[Item]:
+        """Returns a call of the host that names a slot."""
+        draw = self.draw
+        wanted = [it.slot for it in state.table if it.state in STATES.get(kind, ANY_STATE)]
+        slot = draw.choice(wanted) if wanted and draw.random() < .8 else draw.choice((0, 1, 2, 3, 12, 13, MASK, draw.getrandbits(32)))
+        if kind == "measure":
+            return [self.measured(state, slot)]
+        if kind == "odd":
+            return [call(draw.choice((0, 6, 7, 8, MASK)), draw.choice((KEY, KEY, 0)), a0=slot)]
+        if kind == "run":
+            fresh = next((it for it in state.table if it.slot == slot and it.state == "Fresh"), None)
+            return [run(slot), *(inside(fresh.base, str(draw.random())) if fresh else ())]
+        return [resume(slot) if kind == "resume" else destroy(slot)]
+
+    def created(self, state: ReferenceState) -> list[Item]:
+        """Returns a create, which is often valid."""
+        draw = self.draw
+        size, width = draw.choice((PAGE, PAGE, PAGE, 2 * PAGE, 4 * PAGE)), draw.choice((0, PAGE, PAGE, 2 * PAGE))
+        base, window = self.block_base(size), self.block_base(width) if width else draw.getrandbits(32)
+        entry = base + draw.choice((0, 0, 0, 4, size - 4))
+        if draw.random() < .12:
+            base = draw.choice((self.place(state), 0, self.end - size, 0xFFFFF000, base + 4))
+        if draw.random() < .12:
+            window = self.place(state)
+        if draw.random() < .06:
+            size, entry = draw.choice((0, 0x1800, 0x40000, 0x80000000)), draw.choice((base, 0))
+        if draw.random() < .06:
+            entry = draw.choice((base + 2, base + size, base - 4))
+        has_bytes = MONITOR_END <= base < self.end - 16
+        data = bytes(draw.getrandbits(8) for _ in range(16))
+        return [*((poke(base, data),) if has_bytes else ()), create(base, size, window, width, entry)]
+
+    def measured(self, state: ReferenceState, slot: int) -> Item:
+        """Returns a measure near a boundary."""
+        return measure(self.place(state) + self.draw.choice((-32, -31, -16, -1, 0, 1, 64, self.draw.randrange(0x800))), slot)
+
+    def access(self, state: ReferenceState) -> list[Item]:
+        """Returns a load or a store near a boundary."""
+        draw = self.draw
+        at, width, register = self.place(state) + draw.randrange(-6, 6), draw.randrange(3), draw.randrange(8, 16)
+        return [load_at(at, register, width) if draw.random() < .5 else store_at(at, register, width)]
+
+    def csr(self, _: ReferenceState) -> list[Item]:
+        """Returns a write of an S-mode register."""
+        return [set_csr(self.draw.choice(CSRS_SET), self.draw.getrandbits(32))]
+
+    def registers(self, _: ReferenceState) -> list[Item]:
+        """Returns new values of all registers."""
+        return [set_registers(str(self.draw.random()))]
+
+    def sret(self, state: ReferenceState) -> list[Item]:
+        """Returns an sret into the code of the world that runs."""
+        own = self.own(state)
+        return [set_csr("sepc", own.base + own.size // 2 if own else HOST + 0x400), sret()]
+
+    def fault(self, _: ReferenceState) -> list[Item]:
+        """Returns an instruction that traps."""
+        return [instruction(*self.draw.choice(FAULTS))]
+
+    def timer(self, _: ReferenceState) -> list[Item]:
+        """Returns a change of the timer line, and a step."""
+        return [timer(self.draw.random() < .8), nop()]
+
+    def jump(self, state: ReferenceState) -> list[Item]:
+        """Returns a jump in the code of the world that runs."""
+        own = self.own(state)
+        return [jump_to(own.base + 4 * self.draw.randrange(64) if own else HOST + 4 * self.draw.randrange(256))]

@@ -6,7 +6,7 @@ from rvlook.protocol.names import CSRS
 ECALL, EBREAK, MRET, SRET, NOP = 0x73, 0x100073, 0x30200073, 0x10200073, 0x13
 BACK = 0xFFDFF06F  # jal zero, -4
 WORD = 2  # the width of a load or store of four bytes, as funct3
-BRANCH, STORE, SYSTEM = 0x63, 0x23, 0x73
+BRANCH, LOAD, STORE, SYSTEM = 0x63, 0x03, 0x23, 0x73
 JAL, JALR, AUIPC = 0x6F, 0x67, 0x17
 READ_SET = (2, 3, 6, 7)  # funct3 of csrrs and csrrc, which write nothing if rs1 is x0
 
@@ -23,7 +23,7 @@ def csrr(target: int, number: int) -> int:
 
 def load(target: int, base: int, width: int = WORD) -> int:
     """Returns a signed load of 1 << width bytes from the address in a register."""
-    return 3 | target << 7 | width << 12 | base << 15
+    return LOAD | target << 7 | width << 12 | base << 15
 
 
 def store(value: int, base: int, width: int = WORD) -> int:
@@ -50,26 +50,31 @@ def written_csr(word: int) -> int | None:
     return word >> 20 if is_csr and not (funct3 in READ_SET and word >> 15 & 31 == 0) else None
 
 
+def is_load(word: int) -> bool:
+    """Returns whether an instruction is a load."""
+    return word & 0x7F == LOAD
+
+
 def is_store(word: int) -> bool:
     """Returns whether an instruction is a store."""
     return word & 0x7F == STORE
 
 
-def loaded_offset(word: int) -> tuple[int, int] | None:
-    """Returns the base register and the signed offset of a load, or None."""
-    if word & 0x7F != 3:
-        return None
-    offset = word >> 20
-    return word >> 15 & 31, offset - 0x1000 if offset & 0x800 else offset
+def signed(value: int, bits: int) -> int:
+    """Sign-extends a number of so many bits."""
+    return value - (value >> bits - 1 << bits)
+
+
+def immediate_of(word: int) -> int:
+    """Returns the signed immediate of a load or of a jalr."""
+    return signed(word >> 20, 12)
 
 
 def branch_offset(word: int) -> int:
     """Returns the signed offset in bytes of a conditional branch."""
-    offset = (word >> 31) << 12 | (word >> 7 & 1) << 11 | (word >> 25 & 63) << 5 | (word >> 8 & 15) << 1
-    return offset - 0x2000 if offset & 0x1000 else offset
+    return signed((word >> 31) << 12 | (word >> 7 & 1) << 11 | (word >> 25 & 63) << 5 | (word >> 8 & 15) << 1, 13)
 
 
 def jump_offset(word: int) -> int:
     """Returns the signed offset in bytes of a jal."""
-    offset = (word >> 31) << 20 | (word >> 12 & 255) << 12 | (word >> 20 & 1) << 11 | (word >> 21 & 1023) << 1
-    return offset - 0x200000 if offset & 0x100000 else offset
+    return signed((word >> 31) << 20 | (word >> 12 & 255) << 12 | (word >> 20 & 1) << 11 | (word >> 21 & 1023) << 1, 21)

@@ -1,19 +1,25 @@
-"""Guards a monitor whose calls are unknown: marks the registers of each world that traps, and checks its state at each return from M."""
+"""Guards a monitor whose calls are unknown: marks the registers of each world that traps, and checks its state at each return from M. Does all runs
+of `guard`: with marks, in pairs, and again for the code that was not executed."""
 from __future__ import annotations
 
 import random
 from collections import Counter, defaultdict
 from dataclasses import dataclass, field
+from typing import Callable
 
 from rvlook.monitors import checks
-from rvlook.monitors.guarded import SWITCHED, Guarded, StayInM, HartState
 from rvlook.monitors.checks import A0, A7, Left, MemoryAndRights
+from rvlook.monitors.guarded import SWITCHED, Guarded, HartState, NewVector, StayInM
 from rvlook.monitors.ownership import HOST, MONITOR, OwnedRange, Ownership
 from rvlook.monitors.rights import Right, rights_of
 from rvlook.monitors.sides import MonitorSetup, word_at
-from rvlook.monitors.traps import NewVector
+from rvlook.monitors.twins import TwinResult, TwinRuns, secrets_of
+from rvlook.monitors.unexecuted import Block, MonitorBlocks, code_of, unexecuted
+from rvlook.output.progress import Progress
+from rvlook.protocol.jobs import results_of, uninterrupted
 from rvlook.protocol.names import CSRS, ECALL_FROM_S, TIMER
 from rvlook.protocol.replies import value_of
+from rvlook.protocol.symbols import Symbols
 
 MOST_INTERVAL = 24  # steps of an enclave before the timer is raised
 FILL = 0x40000001  # bits that every mark has, so that it is not a small number
@@ -31,32 +37,18 @@ class Violation:
 
 
 @dataclass
-class Activity:
-    """How often an owner was entered, was left, continued after it was left, and gave its range back; and whether its ranges ever existed."""
-    entered: int = 0
-    left: int = 0
-    continued: int = 0
-    given_back: int = 0
-    exists: bool = False
-
-    def add(self, other: Activity) -> None:
-        """Adds the counts of another run."""
-        self.entered, self.left = self.entered + other.entered, self.left + other.left
-        self.continued, self.given_back = self.continued + other.continued, self.given_back + other.given_back
-
-
-@dataclass
 class Guard:
-    """One run. `timers` is the seed of the steps before which the timer is raised; without it there are none. `activity` has the counts of each
-    owner, and `log` the lines that repeat the run. `vectors` has the addresses to which traps go, `handled` pc of each trap in M from which M
-    returned. `loop` is pc of a trap that comes again and again, which ends the run."""
+    """One run. `timers` is the seed of the steps before which the timer is raised; without it there are none. `activity` counts how often each owner
+    was `entered`, was `left`, `continued` after it was left, and had its range `given_back`. `log` has the lines that repeat the run. `vectors` has
+    the addresses to which traps go, `handled` pc of each trap in M from which M returned. `loop` is pc of a trap that comes again and again, which
+    ends the run."""
     setup: MonitorSetup
     ownership: Ownership
     limit: int
     timers: str = ""
     violation: Violation | None = None
     counts: Counter[str] = field(default_factory=Counter)
-    activity: dict[str, Activity] = field(default_factory=lambda: defaultdict(Activity))
+    activity: dict[str, Counter[str]] = field(default_factory=lambda: defaultdict(Counter))
     log: list[str] = field(default_factory=list)
     vectors: set[int] = field(default_factory=set)
     handled: Counter[int] = field(default_factory=Counter)
@@ -70,7 +62,7 @@ class Guard:
         self.left: dict[str, Left] = {}
         self.loaded: dict[OwnedRange, int] = {}  # ranges that are not live and that M loaded, and pc of the trap
         self.exposed: dict[OwnedRange, int] = {}  # of these the ranges to which the host may store after it, and pc of the host
-        self.last = Left(HartState((), {}, 0, "S", b"", 0), {}, {}, False)
+        self.last = Left(HartState(registers=(), csrs={}, pc=0, mode="S", entries=b"", here=0), registers={}, csrs={}, is_call=False)
 
     def run(self) -> Violation | None:
         """Runs up to the first violation, the limit, or the end of the host; returns the violation. Starts again if M uses a new trap vector."""
@@ -81,7 +73,7 @@ class Guard:
             except NewVector as found:
                 self.vectors.add(found.address)
                 self.ownership, self.violation = self.declared, None
-                self.counts, self.activity, self.handled = Counter(), defaultdict(Activity), Counter()
+                self.counts, self.activity, self.handled = Counter(), defaultdict(Counter), Counter()
                 self.__post_init__()
 
     def run_once(self) -> None:
@@ -89,7 +81,7 @@ class Guard:
         with Guarded(self.setup, self.vectors, self.ownership.is_monitor) as machine:
             self.log, self.vectors = machine.log, machine.vectors
             stay = machine.begin()
-            self.last = Left(stay.exit, {}, {}, False)
+            self.last = Left(stay.exit, registers={}, csrs={}, is_call=False)
             self.arrive(machine, stay, b"", 0)
             while not self.violation and self.loop is None:
                 machine.leave()
@@ -178,19 +170,14 @@ class Guard:
         left, world = self.last, self.world
         if stay.cause not in (ECALL_FROM_S, TIMER) and checks.is_redirect(stay):
             self.check(checks.wrong_redirect(world, left, stay, tval), "redirect", machine)
-            machine.set_state(self.restored(left, stay.exit, False), {"sscratch": left.state.csrs["sscratch"], "sstatus": self.redirected(left)})
+            csrs = {"sscratch": left.state.csrs["sscratch"], "sstatus": checks.redirected_status(left.state.csrs["sstatus"], left.state.mode)}
+            machine.set_state(self.restored(left, stay.exit, is_call=False), csrs)
             return
         if stay.cause in (ECALL_FROM_S, TIMER):
             self.check(checks.changed_context(self.ownership, world, left, stay.exit), "context", machine)
         else:
             self.check(checks.wrong_emulation(world, left, stay), "context", machine)
         machine.set_state(self.restored(left, stay.exit, left.is_call), {name: left.state.csrs[name] for name in left.csrs})
-
-    @staticmethod
-    def redirected(left: Left) -> int:
-        """Returns sstatus of a redirected exception, from the values before the marks."""
-        status = left.state.csrs["sstatus"]
-        return status & checks.MXR | (checks.SPIE if status & checks.SIE else 0) | (checks.SPP if left.state.mode == "S" else 0)
 
     def restored(self, left: Left, state: HartState, is_call: bool) -> dict[int, int]:
         """Returns the registers before the marks, for those that still have their marks."""
@@ -201,9 +188,9 @@ class Guard:
         """Checks a switch to another world, which continues or is entered for the first time."""
         left, back = self.last, self.left.pop(self.world, None)
         self.left[was] = left
-        self.activity[was].left += 1
-        self.activity[self.world].entered += 1
-        self.activity[self.world].continued += back is not None
+        self.activity[was]["left"] += 1
+        self.activity[self.world]["entered"] += 1
+        self.activity[self.world]["continued"] += back is not None
         self.check(checks.visible_mark(self.ownership, was, left, self.world, state), "registers", machine)
         if back is None:
             self.check(checks.leftover(was, left, self.world, state), "registers", machine)
@@ -220,7 +207,7 @@ class Guard:
         for part in [it for it in self.live if it.is_timed and it not in private]:
             self.give_back(machine, part, memory, ())
         for part in private:
-            self.activity[part.owner].exists = True
+            self.activity.setdefault(part.owner, Counter())
             is_open = any(it.may != "---" and part.overlaps(it) for it in rights)
             if part.is_timed:
                 self.live.add(part)
@@ -239,7 +226,7 @@ class Guard:
         self.check(checks.not_zeroed(part, HOST, memory, rights), "zeros", machine)
         self.live.discard(part)
         self.left.pop(part.owner, None)
-        self.activity[part.owner].given_back += 1
+        self.activity[part.owner]["given_back"] += 1
         self.counts["ranges given back"] += 1
 
     def note_load(self, part: OwnedRange, stay: StayInM, rights: tuple[Right, ...]) -> None:
@@ -256,3 +243,99 @@ class Guard:
         if at is None or part in self.live or part.first in stay.loaded:
             return ""
         return "host at %08x could store to %s of %s, which M had loaded at the trap at %08x" % (at, part, part.owner, pc)
+
+
+@dataclass(frozen=True)
+class GuardPlan:
+    """The runs to do: one without and `timers` ones with timer interrupts, each of at most `limit` steps below M. `jobs` run at the same time."""
+    setup: MonitorSetup
+    ownership: Ownership
+    symbols: Symbols
+    limit: int
+    seed: int
+    timers: int
+    jobs: int
+
+    def name(self, number: int) -> str:
+        """Returns the name of a run with marks."""
+        return "timers %d-%d" % (self.seed, number) if number else "no timer"
+
+    def guarded(self, number: int) -> Guard:
+        """Does a run with marks. Number 0 has no timer interrupts."""
+        guard = Guard(self.setup, self.ownership, self.limit, "%d-%d" % (self.seed, number) if number else "")
+        guard.run()
+        return guard
+
+
+@dataclass
+class GuardResults:
+    """What was done. `pairs`, `code` and `never` are None for what was not done, because of a violation or of Ctrl-C."""
+    guards: list[Guard] = field(default_factory=list)
+    pairs: list[TwinResult] | None = None
+    code: MonitorBlocks | None = None
+    never: list[Block] | None = None
+    is_interrupted: bool = False
+
+    @property
+    def violation(self) -> Violation | None:
+        """Returns the first violation."""
+        found = [it.violation for it in self.guards if it.violation]
+        found += [Violation("noninterference", "%s, which depends on %s" % (it.difference, it.secret.text), it.step, it.pc)
+                  for it in self.pairs or () if it.difference]
+        return found[0] if found else None
+
+    @property
+    def finding(self) -> str:
+        """Returns the first violation as a text; empty if there is none."""
+        return "%s: %s" % (self.violation.check, self.violation.text) if self.violation else ""
+
+    @property
+    def activity(self) -> dict[str, Counter[str]]:
+        """Returns the activity of each owner in all runs with marks."""
+        found: dict[str, Counter[str]] = defaultdict(Counter)
+        for owner, activity in ((owner, it) for guard in self.guards for owner, it in guard.activity.items()):
+            found[owner].update(activity)
+        return found
+
+    @property
+    def handled(self) -> Counter[int]:
+        """Returns how often each instruction of M trapped, and M returned from the trap."""
+        return sum((it.handled for it in self.guards), Counter())
+
+    @property
+    def loops(self) -> list[int]:
+        """Returns pc of each run that ended in a loop of traps."""
+        return [it.loop for it in self.guards if it.loop is not None]
+
+
+def do_runs(plan: GuardPlan, progress: Progress, show: Callable[[int, Guard], None]) -> GuardResults:
+    """Does all runs up to the first violation or Ctrl-C. Calls `show` with the number and the result of each run with marks."""
+    results = GuardResults()
+    try:
+        for number, guard in enumerate(results_of(plan.guarded, plan.timers + 1, plan.jobs)):
+            with uninterrupted():
+                results.guards.append(guard)
+                show(number, guard)
+            progress.bar(number + 1, plan.timers + 1, "runs with marks")
+            if guard.violation:
+                return results
+        compare_pairs(plan, results, progress)
+        if not results.violation:
+            results.code = code_of(plan.setup, plan.ownership, plan.symbols, results.guards[0].vectors)
+            results.never = unexecuted(plan.setup, results.code, [it.log for it in results.guards], progress)
+    except KeyboardInterrupt:
+        results.is_interrupted = True
+    return results
+
+
+def compare_pairs(plan: GuardPlan, results: GuardResults, progress: Progress) -> None:
+    """Does the pairs of runs up to the first difference."""
+    vectors = set().union(*(it.vectors for it in results.guards))
+    secrets = secrets_of(plan.setup, plan.ownership, plan.limit, vectors)
+    results.pairs = []
+    compare = [TwinRuns(plan.setup, plan.ownership, plan.limit, vectors, it).compare for it in secrets]
+    for pair in results_of(lambda number: compare[number](), len(compare), plan.jobs):
+        results.pairs.append(pair)
+        progress.bar(len(results.pairs), len(compare), "pairs of runs")
+        if pair.difference:
+            break

@@ -1,25 +1,23 @@
 """Shows the result of `guard`."""
 from __future__ import annotations
 
-from typing import Sequence, TYPE_CHECKING
+from collections import Counter
+from itertools import groupby
+from typing import Iterable, Iterator, Sequence
 
-from rvlook.monitors.guard_runs import GuardPlan, GuardResults, do_runs
-from rvlook.monitors.ownership import HOST
-from rvlook.monitors.unexecuted_text import show_unexecuted
-from rvlook.output.printer import hex8, place_text
+from rvlook.access.touch import place_of
+from rvlook.monitors.guard import Guard, GuardPlan, GuardResults, Violation, do_runs
+from rvlook.monitors.ownership import HOST, Ownership
+from rvlook.monitors.twins import TwinResult
+from rvlook.monitors.unexecuted import Block, MonitorBlocks
+from rvlook.output.findings import ReportedCases
+from rvlook.output.printer import Printer, hex8, place_text
 from rvlook.output.progress import Progress
-
-if TYPE_CHECKING:
-    from collections import Counter
-    from rvlook.monitors.guard import Activity, Guard, Violation
-    from rvlook.monitors.ownership import Ownership
-    from rvlook.monitors.twins import TwinResult
-    from rvlook.output.findings import ReportedCases
-    from rvlook.output.printer import Printer
-    from rvlook.protocol.symbols import Symbols
+from rvlook.protocol.symbols import Symbols
 
 COUNTS = {"steps": "steps below M", "returns": "returns from M", "switches": "switches", "continued": "worlds that continue",
           "given_back": "ranges given back"}
+MOST_FUNCTIONS = 40  # that are shown
 
 
 def show_guard(plan: GuardPlan, printer: Printer, findings: ReportedCases) -> None:
@@ -34,8 +32,8 @@ def show_guard(plan: GuardPlan, printer: Printer, findings: ReportedCases) -> No
     findings.add("guard", results.finding)
     if results.is_interrupted:
         raise KeyboardInterrupt
-    for it in rest_of(results, plan):
-        findings.cut_short(it)
+    for text in rest_of(results, plan):
+        findings.cut_short(text)
 
 
 def show_results(plan: GuardPlan, results: GuardResults, printer: Printer) -> None:
@@ -51,7 +49,7 @@ def show_results(plan: GuardPlan, results: GuardResults, printer: Printer) -> No
         show_unexecuted(printer, symbols, results.code, results.never)
 
 
-def enclaves_of(activity: dict[str, Activity], ownership: Ownership) -> list[str]:
+def enclaves_of(activity: dict[str, Counter[str]], ownership: Ownership) -> list[str]:
     """Returns the names of the declared enclaves and of those that a table had. If a table had no enclave, its own name is in the list."""
     seen = [it for it in activity if it != HOST]
     unused = [it.name for it in ownership.tables if not any(owner.rstrip("0123456789") == it.name for owner in seen)]
@@ -65,15 +63,15 @@ def rest_of(results: GuardResults, plan: GuardPlan) -> list[str]:
              for it in results.loops[:1]]
     if results.violation:
         return found
-    found += ["the two runs that differ in %s end after %d steps: %s" % (it.secret.text, it.step, it.why_cut)
+    found += ["guard compared only %d steps of the two runs that differ in %s: %s" % (it.step, it.secret.text, it.why_cut)
               for it in results.pairs or () if it.why_cut]
     activity, ownership = results.activity, plan.ownership
     enclaves = enclaves_of(activity, ownership)
     if not any(it.counts["returns from M"] for it in results.guards):
         found.append("no world trapped, so that M never ran after its boot")
-    idle = [it for it in enclaves if not activity[it].entered]
-    kept = [it for it in enclaves if activity[it].entered and not activity[it].left]
-    ended = [it for it in enclaves if activity[it].left and not activity[it].continued and not ownership.runs_once(it)]
+    idle = [it for it in enclaves if not activity[it]["entered"]]
+    kept = [it for it in enclaves if activity[it]["entered"] and not activity[it]["left"]]
+    ended = [it for it in enclaves if activity[it]["left"] and not activity[it]["continued"] and not ownership.runs_once(it)]
     if ended:
         found.append("after they were left, these enclaves never continued: %s; let the host continue them, or add 'once OWNER' to RANGES"
                      % ", ".join(ended))
@@ -87,38 +85,29 @@ def rest_of(results: GuardResults, plan: GuardPlan) -> list[str]:
 def show_handled(printer: Printer, symbols: Symbols, handled: Counter[int]) -> None:
     """Shows the traps in M from which M returned, by the instruction that trapped."""
     for pc, count in sorted(handled.items()):
-        if printer.as_json:
-            printer.object("handled_trap", pc=hex8(pc), symbol=symbols.name(pc), line=symbols.line(pc), count=count)
-        else:
-            printer.line("trap in M:   %d times handled by M, at %s" % (count, place_text("%08x" % pc, symbols)))
+        printer.show("trap in M:   %d times handled by M, at %s" % (count, place_text("%08x" % pc, symbols)),
+                     "handled_trap", pc=hex8(pc), symbol=symbols.name(pc), line=symbols.line(pc), count=count)
 
 
-def show_activity(printer: Printer, activity: dict[str, Activity], ownership: Ownership) -> None:
+def show_activity(printer: Printer, activity: dict[str, Counter[str]], ownership: Ownership) -> None:
     """Shows how often each enclave ran."""
     for owner in enclaves_of(activity, ownership):
-        it = activity[owner]
-        if printer.as_json:
-            printer.object("owner", name=owner, entered=it.entered, left=it.left, continued=it.continued, given_back=it.given_back)
-        else:
-            printer.line("%-12s entered %d times, left %d, continued %d, range given back %d" % (
-                owner + ":", it.entered, it.left, it.continued, it.given_back))
+        counts = {name: activity[owner][name] for name in ("entered", "left", "continued", "given_back")}
+        text = "entered %(entered)d times, left %(left)d, continued %(continued)d, range given back %(given_back)d" % counts
+        printer.show("%-12s %s" % (owner + ":", text), "owner", name=owner, **counts)
 
 
 def show_run(printer: Printer, name: str, guard: Guard) -> None:
     """Shows how much one run did."""
-    if printer.as_json:
-        printer.object("guarded_run", name=name, **{name: guard.counts[it] for name, it in COUNTS.items()}, holds=guard.violation is None)
-    else:
-        printer.line("%-12s %s" % (name + ":", ", ".join("%d %s" % (guard.counts[it], it) for it in COUNTS.values())))
+    printer.show("%-12s %s" % (name + ":", ", ".join("%d %s" % (guard.counts[it], it) for it in COUNTS.values())), "guarded_run", name=name,
+                 **{name: guard.counts[it] for name, it in COUNTS.items()}, holds=guard.violation is None)
 
 
 def show_twins(printer: Printer, results: Sequence[TwinResult]) -> None:
     """Shows how much the pairs of runs compared."""
     changes, returns = sum(it.changes for it in results), sum(it.returns for it in results)
-    if printer.as_json:
-        printer.object("guarded_twins", points=changes, compared=returns, pairs=len(results), alike=not any(it.difference for it in results))
-    else:
-        printer.line("two runs:    %d pairs, private state changed at %d returns, %d returns compared" % (len(results), changes, returns))
+    printer.show("two runs:    %d pairs, private state changed at %d returns, %d returns compared" % (len(results), changes, returns),
+                 "guarded_twins", points=changes, compared=returns, pairs=len(results), alike=not any(it.difference for it in results))
 
 
 def report(printer: Printer, symbols: Symbols, violation: Violation) -> None:
@@ -135,3 +124,54 @@ def report(printer: Printer, symbols: Symbols, violation: Violation) -> None:
         printer.line("  the trap was at %s" % place_text("%08x" % violation.pc, symbols))
     else:
         printer.line("  no trap came before it; the host begins at %s" % place_text("%08x" % violation.pc, symbols))
+
+
+def show_unexecuted(printer: Printer, symbols: Symbols, code: MonitorBlocks, found: Sequence[Block]) -> None:
+    """Shows blocks that were not executed: as objects, or a line for each function."""
+    if printer.as_json:
+        for first, end in joined(found):
+            printer.object("unexecuted", first=hex8(first), last=hex8(end - 4), function=symbols.function(first), line=symbols.source(first))
+        return
+    missing = sum(it.end - it.first for it in found) // 4
+    total = code.instructions
+    printer.line("code of M:   %d of %d instructions executed%s" % (total - missing, total, "; not executed:" if found else ""))
+    lines = list(lines_of(symbols, code, found))
+    for line in lines[:MOST_FUNCTIONS]:
+        printer.line("  " + line)
+    if len(lines) > MOST_FUNCTIONS:
+        printer.line("  and parts of %d more functions; --json lists all" % (len(lines) - MOST_FUNCTIONS))
+
+
+def joined(ranges: Iterable[tuple[int, int]]) -> list[tuple[int, int]]:
+    """Joins adjacent ones of sorted ranges, each its first address or number and its end."""
+    found: list[tuple[int, int]] = []
+    for first, end in ranges:
+        if found and found[-1][1] == first:
+            first = found.pop()[0]
+        found.append((first, end))
+    return found
+
+
+def lines_of(symbols: Symbols, code: MonitorBlocks, found: Sequence[Block]) -> Iterator[str]:
+    """Yields a text for each function that has blocks which were not executed."""
+    for name, members in groupby(found, lambda it: symbols.function(it.first)):
+        blocks = list(members)
+        entry = code.entry_of(blocks[0].first)
+        if entry is not None and blocks[0].first == entry and len(blocks) == code.count_in(entry):
+            yield "%-24s whole function  %s" % (name, symbols.source(entry) or hex8(entry))
+        else:
+            yield "%-24s %s" % (name or "code without a symbol", places_of(symbols, blocks))
+
+
+def places_of(symbols: Symbols, blocks: Sequence[Block]) -> str:
+    """Returns the source lines of blocks, and the addresses of the blocks that have none."""
+    lines = [{it for at in range(block.first, block.end, 4) for it in [symbols.source(at)] if it} for block in blocks]
+    sources = sorted({place_of(it) for members in lines for it in members})
+    texts = ["%s:%s" % (file, ranges_text([number for _, number in members])) for file, members in groupby(sources, lambda it: it[0])]
+    return "  ".join([*texts, *("%08x-%08x" % (first, end - 4) for first, end in joined([it for it, own in zip(blocks, lines) if not own]))])
+
+
+def ranges_text(numbers: Sequence[int]) -> str:
+    """Returns sorted numbers as a text with ranges, as `3, 7-9`."""
+    found = joined((it, it + 1) for it in numbers)
+    return ", ".join("%d" % first if end == first + 1 else "%d-%d" % (first, end - 1) for first, end in found)

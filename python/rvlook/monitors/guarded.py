@@ -1,23 +1,22 @@
 """Runs a monitor with its host and enclaves on the bare bench from one trap to the next. Observes the state at the entry to M and at the return
-from M."""
+from M. Follows traps that a monitor may not survive: traps in M itself, and loops of traps below M."""
 from __future__ import annotations
 
 import struct
 from dataclasses import dataclass
-from typing import Callable, Iterable, Sequence, TYPE_CHECKING
+from typing import Callable, Iterable, Sequence
 
-from rvlook.errors import BenchEnded, RvlookError, Unfinished
+from rvlook.errors import Unfinished
 from rvlook.monitors.encodings import BACK, csrw, is_store
-from rvlook.monitors.sides import ENTRIES, MOST_RETURNS, MOST_STEPS, REGISTERS, MonitorSetup, memory_lines, poke_lines, word_at
-from rvlook.monitors.traps import NewVector, TrapLoop, TrapsInM, vector_of_first_trap
+from rvlook.monitors.ownership import OwnedRange
+from rvlook.monitors.sides import ENTRIES, MOST_RETURNS, MOST_STEPS, REGISTERS, MonitorBench, MonitorSetup, memory_lines, trap_text, word_at
 from rvlook.protocol.memory_map import MONITOR_END, RAM_BASE
 from rvlook.protocol.names import CSRS, TIMER
-from rvlook.protocol.replies import ROW, Ran, register_values, step_of, value_of
-from rvlook.protocol.run import error_of
+from rvlook.protocol.replies import ROW, Ran, RanTrap, poke_commands, register_values, step_of, value_of
 
-if TYPE_CHECKING:
-    from rvlook.monitors.ownership import OwnedRange
-
+MOST_NESTED = 3  # traps in M, each in the handler of the one before
+MOST_REPEATED = 64  # equal traps in a row
+WORD = 4
 SUPERVISOR = ("sscratch", "sepc", "scause", "stval", "stvec", "sstatus")
 STATE_CSRS = (*SUPERVISOR, "mepc", "mstatus", "mtvec")
 STATE = "".join(["regs\n", *("csr %x\n" % CSRS[name] for name in STATE_CSRS), "pmp\n"]).encode()
@@ -31,6 +30,80 @@ MOST_WATCHED = 32  # watchpoints of the bench
 MOST_STOPS = 10000  # of the bench in M before M returns: at traps, at each mret, and at watchpoints
 TIMER_VECTOR = 28  # bytes from the base of mtvec, if it is vectored
 WITHOUT_EFFECT = ("break ", "clear ", "watch ", "unwatch ", "csr ")  # commands that do not change the state of the hart
+
+
+class NewVector(Exception):
+    """M has trapped to an address that has no breakpoint yet. The run starts again with a breakpoint there."""
+
+    def __init__(self, address: int) -> None:
+        super().__init__("%08x" % address)
+        self.address = address
+
+
+def vector_of_first_trap(setup: MonitorSetup, log: Sequence[str], steps: int) -> int:
+    """Returns the address to which the first trap goes within a number of steps after a run with this log, in which there is a trap."""
+    low, high = 0, steps  # there is no trap within `low` steps, and one within `high`
+    while high - low > 1:
+        middle = (low + high) // 2
+        ran = after(setup, log, middle)
+        low, high = (low, middle) if ran.trap else (middle, high)
+    return int(after(setup, log, high).pc, 16)
+
+
+def after(setup: MonitorSetup, log: Sequence[str], steps: int) -> Ran:
+    """Returns the reply of `run` for a number of steps after a run with this log."""
+    with setup.own.bench() as bench:
+        bench.replies_to(log)
+        return step_of(bench.one("run %d" % steps))
+
+
+class TrapsInM:
+    """The traps in M before one return from M. A handler of M must return to the instruction that trapped or to the next one. `is_code` says
+    whether an address is in memory of the monitor."""
+
+    def __init__(self, is_code: Callable[[int], bool]) -> None:
+        self.is_code = is_code
+        self.pending: list[tuple[int, str]] = []  # pc of each trap whose handler runs, and its description
+        self.handled: list[int] = []  # pc of each trap whose handler returned
+
+    @property
+    def text(self) -> str:
+        """Returns the description of the last trap whose handler has not returned."""
+        return self.pending[-1][1] if self.pending else ""
+
+    def enter(self, state: HartState, trap: RanTrap) -> str:
+        """Notes a trap; returns why it is a violation, or an empty text."""
+        self.pending.append((state.pc, "trap in M at %08x, %s" % (state.pc, trap_text(trap))))
+        if not self.is_code(state.here):
+            return "%s, whose vector %08x is not in memory of the monitor" % (self.text, state.here)
+        return "%s, in the handler of a trap in M" % self.text if len(self.pending) > MOST_NESTED else ""
+
+    def leave(self, state: HartState) -> str:
+        """Notes an mret that continues M; returns why it is a violation, or an empty text."""
+        if not self.pending:
+            return "" if self.is_code(state.pc) else "M continues at %08x in M, which is not in memory of the monitor" % state.pc
+        pc, text = self.pending.pop()
+        self.handled.append(pc)
+        return "" if state.pc in (pc, pc + WORD) else "%s, after which M continues at %08x" % (text, state.pc)
+
+    def end(self, state: HartState) -> str:
+        """Returns why a return to S or U is a violation, or an empty text."""
+        return "%s, after which M enters %s at %08x" % (self.text, state.mode, state.pc) if self.pending else ""
+
+
+class TrapLoop:
+    """Finds a loop of traps below M: an instruction traps again and again with the same cause and access rights, with at most one step in between."""
+
+    def __init__(self) -> None:
+        self.last: tuple[str, int, str, bytes] = ("", 0, "", b"")
+        self.count, self.steps = 0, 0
+
+    def is_closed(self, cause: str, entry: HartState, steps: int) -> bool:
+        """Notes a trap, after a number of steps below M; returns whether it is one of such a loop."""
+        key = (cause, entry.pc, entry.mode, entry.entries)
+        self.count = self.count + 1 if key == self.last and steps - self.steps <= 1 else 0
+        self.last, self.steps = key, steps
+        return self.count >= MOST_REPEATED
 
 
 @dataclass(frozen=True)
@@ -64,26 +137,18 @@ def entries_of(mtvec: int) -> list[int]:
     return [mtvec & ~3] + ([(mtvec & ~3) + TIMER_VECTOR] if mtvec & 1 else [])
 
 
-class Guarded:
+class Guarded(MonitorBench):
     """A bench with a monitor, its host and its enclaves. `steps` counts the steps below M. `log` has the lines that change the state; in it
     `run N` has the number of steps that were done. `vectors` has the addresses to which traps go, at which the bench stops. `is_code` says whether an
     address is in memory of the monitor."""
 
     def __init__(self, setup: MonitorSetup, vectors: Iterable[int] = (), is_code: Callable[[int], bool] = lambda _: True) -> None:
-        self.setup, self.bench, self.steps, self.is_code = setup, setup.own.bench(), 0, is_code
-        self.vectors = set(vectors)
-        self.loop = TrapLoop()
-        self.log: list[str] = []
-
-    def __enter__(self) -> Guarded:
-        return self
-
-    def __exit__(self, *_: object) -> None:
-        self.bench.close()
+        super().__init__(setup, setup.own)
+        self.steps, self.is_code, self.vectors, self.loop = 0, is_code, set(vectors), TrapLoop()
 
     def do(self, *lines: str) -> list[bytes]:
         """Does lines with one line of reply each; returns the replies."""
-        replies = self.bench.block(("\n".join(lines) + "\n").encode(), len(lines)).splitlines() if lines else []
+        replies = self.bench.replies_to(lines)
         for line, reply in zip(lines, replies):
             if line.startswith("run "):
                 self.log.append("run %d" % step_of(reply.decode()).steps)
@@ -93,16 +158,9 @@ class Guarded:
 
     def begin(self) -> StayInM:
         """Starts the monitor; returns its first return from M. Raises RvlookError if the bench refuses the image or a line of the boot."""
-        try:
-            self.bench.one("reg 0")
-        except BenchEnded as error:
-            raise error_of(self.setup.own, error) from None
-        self.do(*("break %x" % it for it in self.setup.returns), *("watch %x" % it for it in self.setup.lowered))
+        self.set_stops()
         self.stop_at({*self.vectors, *entries_of(self.mtvec())})
-        for line in self.setup.boot:
-            reply = self.do(line)[0]
-            if reply.startswith(b"error"):
-                raise RvlookError("boot line '%s': %s" % (line, reply.decode()))
+        self.boot()
         entry = self.state()
         return self.to_return("", entry)
 
@@ -198,9 +256,9 @@ class Guarded:
             words = [word_at(self.bench, pc), word_at(self.bench, pc + 4)]
             lines = []
             for name, value in csrs.items():
-                lines += ["setreg %d %x" % (T0, value), *poke_lines(pc, struct.pack("<I", csrw(CSRS[name], T0))), "step 1"]
-                lines += [*poke_lines(pc + 4, struct.pack("<I", BACK)), "step 1"]
-            self.do(*lines, *poke_lines(pc, struct.pack("<II", *words)), "setreg %d %x" % (T0, last))
+                lines += ["setreg %d %x" % (T0, value), *poke_commands(pc, struct.pack("<I", csrw(CSRS[name], T0))), "step 1"]
+                lines += [*poke_commands(pc + 4, struct.pack("<I", BACK)), "step 1"]
+            self.do(*lines, *poke_commands(pc, struct.pack("<II", *words)), "setreg %d %x" % (T0, last))
         self.do(*("setreg %d %x" % it for it in registers.items() if it[0]))
 
     def memory(self) -> bytes:
@@ -216,8 +274,8 @@ class Guarded:
     def rows_outside(self, hidden: Sequence[OwnedRange]) -> bytes:
         """Returns the replies of `mem` for the rows of 64 bytes after the range of the monitor that are not whole rows of some ranges."""
         found, at, end = [], MONITOR_END, RAM_BASE + self.setup.ram
-        for it in sorted(hidden, key=lambda it: it.first):
-            first, after = max(at, -(-it.first // ROW) * ROW), min(it.end & -ROW, end)
+        for hidden_range in sorted(hidden, key=lambda it: it.first):
+            first, after = max(at, -(-hidden_range.first // ROW) * ROW), min(hidden_range.end & -ROW, end)
             if first < after:
                 found.append((at, first))
                 at = after

@@ -4,9 +4,10 @@ from __future__ import annotations
 
 import random
 from dataclasses import dataclass
+from functools import partial
 
 from rvlook.monitors.encodings import ECALL, NOP, SRET, csrr, csrw, jump, load, store
-from rvlook.protocol.names import CSRS, KEY, NUMBERED
+from rvlook.protocol.names import CSRS, KEY, NUMBERED, Call
 
 MASK = 0xFFFFFFFF
 SSTATUS_VALUES = (0x100, 0x20, 2, 0x80000, 0, 0x122, 0x80122)  # of SIE, SPIE, SPP and MXR
@@ -41,37 +42,20 @@ def call(number: int, key: int = KEY, **arguments: int) -> Item:
 
 def create(base: int, size: int, window: int = 0, window_size: int = 0, entry: int | None = None) -> Item:
     """Returns a create; the entry is the region's base by default."""
-    return call(1, a0=base, a1=size, a2=window, a3=window_size, a4=base if entry is None else entry)
+    return call(Call.create, a0=base, a1=size, a2=window, a3=window_size, a4=base if entry is None else entry)
 
 
-def destroy(slot: int) -> Item:
-    """Returns a destroy."""
-    return call(2, a0=slot)
+def call_with(number: Call, value: int) -> Item:
+    """Returns a call of the monitor with one argument: a slot, or the value of an enclave that stops or exits."""
+    return call(number, a0=value)
 
 
-def run(slot: int) -> Item:
-    """Returns a run."""
-    return call(3, a0=slot)
-
-
-def resume(slot: int) -> Item:
-    """Returns a resume."""
-    return call(4, a0=slot)
+destroy, run, resume, stop, leave = (partial(call_with, it) for it in (Call.destroy, Call.run, Call.resume, Call.stop, Call.exit))
 
 
 def measure(address: int, slot: int = 0) -> Item:
     """Returns a measure that stores at an address."""
-    return call(5, a0=slot, a1=address)
-
-
-def stop(value: int) -> Item:
-    """Returns a stop of the enclave that runs."""
-    return call(6, a0=value)
-
-
-def leave(value: int) -> Item:
-    """Returns an exit of the enclave that runs."""
-    return call(7, a0=value)
+    return call(Call.measure, a0=slot, a1=address)
 
 
 def instruction(text: str, word: int, **registers: int) -> Item:

@@ -54,4 +54,4 @@ def header_of(image: Image, count: int) -> bytes:
 def both(one: Symbols, other: Symbols) -> Symbols:
     """Returns the symbols of two files."""
     symbols = dict.fromkeys(it for part in (one, other) for it in (*part.ordered, *part.by_name.values()))
-    return Symbols(list(symbols), [*one.units.units, *other.units.units])
+    return Symbols(list(symbols), [*one.units, *other.units])

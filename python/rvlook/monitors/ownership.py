@@ -52,7 +52,7 @@ class RangesTable:
         if size and self.window:
             base, size = (words(at + it & MASK) for it in self.window)
             if size:
-                yield OwnedRange(base, base + size, SHARED, DATA, (owner,), True)
+                yield OwnedRange(base, base + size, SHARED, DATA, (owner,), is_timed=True)
 
 
 @dataclass(frozen=True)

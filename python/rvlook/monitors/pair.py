@@ -1,16 +1,77 @@
-"""Runs a script on both monitors, item by item, and stops at the first difference."""
+"""Runs a script on both monitors, item by item, and stops at the first difference. Counts what the scripts covered: each result of each call, each
+switch between worlds, and each redirected exception."""
 from __future__ import annotations
 
+from collections import Counter
 from dataclasses import dataclass, field, replace
+from typing import Iterator
 
 from rvlook.monitors.comparison import MonitorDifference, differences, memory_difference
-from rvlook.monitors.coverage import DONE, ENCLAVE, HOST, OTHER, ScriptCoverage
 from rvlook.monitors.items import Item
-from rvlook.monitors.sides import DECIDING, MonitorSetup, SideState, Side, Stay
-from rvlook.protocol.names import ECALL_FROM_S, NUMBERED, STATUSES, TIMER
+from rvlook.monitors.sides import DECIDING, MonitorSetup, Side, SideState, Stay
+from rvlook.protocol.bench import Closing
+from rvlook.protocol.names import ECALL_FROM_S, NUMBERED, STATUSES, TIMER, Call
 from rvlook.protocol.replies import Enclave
 
+DONE, OTHER = "done", "other"
+HOST, ENCLAVE = "host", "enclave"
+HOST_RESULTS = {
+    Call.create.name: (DONE, "BadRegion", "BadWindow", "Overlap", "BadEntry", "NoSlot"), Call.destroy.name: (DONE, "NoEnclave"),
+    Call.run.name: (DONE, "NoEnclave", "BadState"), Call.resume.name: (DONE, "NoEnclave", "BadState"),
+    Call.measure.name: (DONE, "NoEnclave", "BadAddress"), Call.stop.name: ("NotSupported",), Call.exit.name: ("NotSupported",),
+    OTHER: ("NotSupported",)}
+ENCLAVE_RESULTS = {
+    Call.create.name: ("NotSupported",), Call.destroy.name: ("NotSupported",), Call.run.name: ("NotSupported",),
+    Call.resume.name: ("NotSupported",), Call.measure.name: (DONE, "BadAddress"), Call.stop.name: (DONE,), Call.exit.name: (DONE,),
+    OTHER: ("NotSupported",)}
+SWITCHES = ("run", "resume after stop", "resume after timer in S", "resume after timer in U", "stop", "exit", "timer in S", "timer in U",
+            "destroy of Fresh", "destroy of Stopped", "destroy of Exited")
+CAUSES = {"S": (0, 1, 2, 3, 5, 7), "U": (0, 1, 2, 3, 5, 7, 8)}
 A0 = 10
+
+
+@dataclass(frozen=True)
+class Cell:
+    """One cell of the table, and how often the scripts reached it."""
+    group: str
+    name: str
+    count: int
+
+
+@dataclass
+class ScriptCoverage:
+    """Counts of scripts, steps below M, returns from M and steps in M, and of each cell. `most` is the longest stay in M and its item."""
+    scripts: int = 0
+    steps: int = 0
+    returns: int = 0
+    spent: int = 0
+    most: tuple[int, str] = (0, "")
+    calls: Counter[tuple[str, str, str]] = field(default_factory=Counter)  # side, call, result
+    switches: Counter[str] = field(default_factory=Counter)
+    redirected: Counter[tuple[str, str, int]] = field(default_factory=Counter)  # side, mode, cause
+
+    def add(self, other: ScriptCoverage) -> None:
+        """Adds the counts of more scripts."""
+        self.scripts, self.steps = self.scripts + other.scripts, self.steps + other.steps
+        self.returns, self.spent = self.returns + other.returns, self.spent + other.spent
+        self.most = max(self.most, other.most)
+        self.calls.update(other.calls)
+        self.switches.update(other.switches)
+        self.redirected.update(other.redirected)
+
+    def cells(self) -> Iterator[Cell]:
+        """Yields all cells of the table."""
+        for side, results in ((HOST, HOST_RESULTS), (ENCLAVE, ENCLAVE_RESULTS)):
+            for call, statuses in results.items():
+                yield from (Cell("call of the %s" % side, "%s %s" % (call, it), self.calls[side, call, it]) for it in statuses)
+        yield from (Cell("switch", it, self.switches[it]) for it in SWITCHES)
+        for side in (HOST, ENCLAVE):
+            yield from (Cell("exception of the %s" % side, "cause %d in %s" % (cause, mode), self.redirected[side, mode, cause])
+                        for mode, causes in CAUSES.items() for cause in causes)
+
+    def empty(self) -> list[str]:
+        """Returns the names of the empty cells."""
+        return ["%s: %s" % (it.group, it.name) for it in self.cells() if not it.count]
 
 
 @dataclass(frozen=True)
@@ -38,26 +99,20 @@ class Played:
         return [it.item for it in self.steps]
 
 
-class BothSides:
+class BothSides(Closing):
     """Both sides. `compares_memory` selects whether memory is compared after each trap."""
 
     def __init__(self, setup: MonitorSetup, name: str, compares_memory: bool = True) -> None:
         self.setup, self.compares_memory, self.played = setup, compares_memory, Played(name)
-        self.own, self.reference = Side(setup, True), Side(setup, False)
+        self.own, self.reference = Side(setup, is_own=True), Side(setup, is_own=False)
         self.world, self.has_trapped = "host", False
         self.table: list[Enclave] = []
         self.left: dict[str, str] = {}  # how each enclave that is Stopped was left
         try:
-            self.compare(self.own.begin(), self.reference.begin(), True)
+            self.compare(self.own.begin(), self.reference.begin(), has_trap=True)
         except BaseException:
             self.close()
             raise
-
-    def __enter__(self) -> BothSides:
-        return self
-
-    def __exit__(self, *_: object) -> None:
-        self.close()
 
     def close(self) -> None:
         """Ends both benches, and keeps their logs."""
@@ -70,19 +125,9 @@ class BothSides:
         """Returns whether there is no difference so far."""
         return not self.played.differences
 
-    @property
-    def pc(self) -> int:
-        """Returns pc of the reference."""
-        return self.reference.pc
-
-    @property
-    def mode(self) -> str:
-        """Returns the mode of the reference."""
-        return self.reference.mode
-
     def do(self, item: Item) -> bool:
         """Does an item on both sides; returns whether they are still alike."""
-        world, mode = self.world, self.mode
+        world, mode = self.world, self.reference.mode
         own, reference = self.own.step(item), self.reference.step(item)
         self.world = reference.world or world
         self.played.coverage.steps += item.steps
@@ -111,7 +156,8 @@ class BothSides:
         """Returns what a step did, in words."""
         if seen.cause == ECALL_FROM_S and item.call_number is not None:
             return self.world if self.world != world else STATUSES.get(seen.registers[A0], DONE)
-        return "" if seen.trap == "-" else "trap %s" % seen.trap + (", then %s" % self.world if self.world != world else "")
+        after = ", then %s" % self.world if self.world != world else ""
+        return "" if seen.trap == "-" else "trap %s%s" % (seen.trap, after)
 
     def count(self, item: Item, world: str, mode: str, seen: tuple[SideState, SideState]) -> None:
         """Counts what a trap covers."""

@@ -4,14 +4,11 @@ from __future__ import annotations
 
 import re
 from dataclasses import dataclass, replace
-from typing import TYPE_CHECKING
 
 from rvlook.errors import UsageError
 from rvlook.monitors.items import Item
 from rvlook.protocol.memory_map import MONITOR_END, RAM_BASE
-
-if TYPE_CHECKING:
-    from rvlook.protocol.replies import Enclave
+from rvlook.protocol.replies import Enclave
 
 STEP = 0x10000  # both ends are multiples of it
 ADDRESS = re.compile(r"\b[0-9a-f]{8}\b")
@@ -48,17 +45,17 @@ class Placement:
         """Returns the address in a script that was moved to this one. Other values stay."""
         return value - self.offset if self.host <= value <= self.end else value
 
-    def item(self, it: Item) -> Item:
+    def item(self, item: Item) -> Item:
         """Moves an item."""
         if not self.offset:
-            return it
-        text = ADDRESS.sub(lambda found: "%08x" % self.address(int(found[0], 16)), it.text)
-        return replace(it, text=text, registers=tuple((n, self.address(value)) for n, value in it.registers),
-                       data=tuple((self.address(at), data) for at, data in it.data))
+            return item
+        text = ADDRESS.sub(lambda found: "%08x" % self.address(int(found[0], 16)), item.text)
+        return replace(item, text=text, registers=tuple((n, self.address(value)) for n, value in item.registers),
+                       data=tuple((self.address(at), data) for at, data in item.data))
 
-    def enclave_before(self, it: Enclave) -> Enclave:
+    def enclave_before(self, enclave: Enclave) -> Enclave:
         """Returns an entry of the enclave table as a script has it."""
-        return replace(it, base=self.address_before(it.base), window=self.address_before(it.window), entry=self.address_before(it.entry))
+        return replace(enclave, **{name: self.address_before(getattr(enclave, name)) for name in ("base", "window", "entry")})
 
 
 def placement_of(text: str | None, ram: int, least: int) -> Placement:

@@ -46,11 +46,11 @@ def closed_outside(rights: tuple[Right, ...], first: int, end: int, last: int) -
     """Returns rights without those outside of a range; `last` is the end of the RAM."""
     inside = [Right(max(it.first, first), min(it.end, end), it.may, it.entry) for it in rights if it.first < end and first < it.end]
     found: list[Right] = []
-    for it in (Right(RAM_BASE, first, NOTHING, None), *inside, Right(end, last, NOTHING, None)):
-        if found and found[-1].may == it.may == NOTHING:
-            found[-1] = Right(found[-1].first, it.end, NOTHING, found[-1].entry)
-        elif it.first < it.end:
-            found.append(it)
+    for right in (Right(RAM_BASE, first, NOTHING, None), *inside, Right(end, last, NOTHING, None)):
+        if found and found[-1].may == right.may == NOTHING:
+            found[-1] = Right(found[-1].first, right.end, NOTHING, found[-1].entry)
+        elif right.first < right.end:
+            found.append(right)
     return tuple(found)
 
 

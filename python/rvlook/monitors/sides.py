@@ -13,10 +13,12 @@ from rvlook.protocol.inputs import Image
 from rvlook.monitors.encodings import MRET, is_store, jump
 from rvlook.monitors.items import MASK, T0, Item
 from rvlook.monitors.placement import Placement
-from rvlook.protocol.bench import Bench
+from rvlook.protocol.bench import Bench, Closing
+from rvlook.protocol.bench_line import tokens_of
 from rvlook.protocol.memory_map import MONITOR_END, RAM_BASE
+from rvlook.protocol.commands import line_error
 from rvlook.protocol.names import CSRS, TIMER
-from rvlook.protocol.replies import ROW, Enclave, Trap, bytes_of, enclave_of, memory_commands, register_values, step_of
+from rvlook.protocol.replies import ROW, Enclave, RanTrap, bytes_of, enclave_of, memory_commands, poke_commands, register_values, step_of
 from rvlook.protocol.run import Setup, error_of
 
 MOST_RETURNS = 31  # breakpoints for `mret` instructions; the bench has 32
@@ -70,7 +72,7 @@ class MonitorSetup:
     @property
     def reference(self) -> Setup:
         """Returns the configuration of the reference, whose memory is empty."""
-        return Setup(Image("the monitor of rvbench", b"", b""), monitor=True, ram=self.placement.end - RAM_BASE)
+        return Setup(Image("the monitor of rvbench", text=b"", data=b""), monitor=True, ram=self.placement.end - RAM_BASE)
 
 
 def return_addresses(image: Image) -> tuple[int, ...]:
@@ -125,89 +127,93 @@ class Stay:
     steps: int
 
 
-class Side:
-    """A bench with the author's monitor (`is_own`) or with the reference. `log` has all lines that change the state."""
+class MonitorBench(Closing):
+    """A bench with a monitor. `log` has all lines that change the state."""
 
-    def __init__(self, setup: MonitorSetup, is_own: bool) -> None:
-        self.setup, self.is_own = setup, is_own
-        self.bench = (setup.own if is_own else setup.reference).bench()
+    def __init__(self, setup: MonitorSetup, run: Setup) -> None:
+        self.setup, self.run, self.bench = setup, run, run.bench()
         self.log: list[str] = []
-        self.stays: list[Stay] = []
-        self.placement = setup.placement
-        self.pc, self.mode = self.placement.host, "S"
-
-    def __enter__(self) -> Side:
-        return self
-
-    def __exit__(self, *_: object) -> None:
-        self.close()
 
     def close(self) -> None:
         """Ends the bench."""
         self.bench.close()
 
-    def do(self, lines: list[str]) -> list[bytes]:
+    def do(self, *lines: str) -> list[bytes]:
         """Does lines with one line of reply each; returns the replies."""
         self.log += lines
-        return self.bench.block(("\n".join(lines) + "\n").encode(), len(lines)).splitlines() if lines else []
+        return self.bench.replies_to(lines)
 
-    def begin(self) -> SideState:
-        """Goes to the first instruction below M. Raises RvlookError if the bench refuses the image or a line of the boot."""
+    def set_stops(self) -> None:
+        """Sets the breakpoints and watchpoints in M. Raises RvlookError if the bench refuses the image."""
         try:
             self.bench.one("reg 0")
         except BenchEnded as error:
-            raise error_of(self.setup.own if self.is_own else self.setup.reference, error) from None
-        if self.is_own:
-            self.boot()
-            return self.stay("-", "bare")
-        if self.placement.offset:  # the reference begins at 80010000, and jumps to the host
-            self.do(["setreg %d %x" % (T0, self.pc), *poke_lines(MONITOR_END, struct.pack("<I", jump(T0))), "step 1", "setreg %d 0" % T0])
-        return self.observation("-", "host")
+            raise error_of(self.run, error) from None
+        self.do(*("break %x" % it for it in self.setup.returns), *("watch %x" % it for it in self.setup.lowered))
 
     def boot(self) -> None:
-        """Sets breakpoints and watchpoints, and does the lines of the boot."""
-        self.do(["break %x" % it for it in self.setup.returns] + ["watch %x" % it for it in self.setup.lowered])
+        """Does the lines of the boot. Raises RvlookError if the bench refuses one."""
         for line in self.setup.boot:
-            reply = self.do([line])[0]
+            reply = self.do(line)[0]
             if reply.startswith(b"error"):
-                raise RvlookError("boot line '%s': %s" % (line, reply.decode()))
-        self.mode = "M"
+                raise RvlookError("boot line '%s': %s" % (line, line_error(reply.decode(), tokens_of(line))[0]))
+
+
+class Side(MonitorBench):
+    """A bench with the author's monitor (`is_own`) or with the reference."""
+
+    def __init__(self, setup: MonitorSetup, is_own: bool) -> None:
+        super().__init__(setup, setup.own if is_own else setup.reference)
+        self.is_own, self.placement = is_own, setup.placement
+        self.stays: list[Stay] = []
+        self.pc, self.mode = self.placement.host, "S"
+
+    def begin(self) -> SideState:
+        """Goes to the first instruction below M. Raises RvlookError if the bench refuses the image or a line of the boot."""
+        if self.is_own:
+            self.set_stops()
+            self.boot()
+            self.mode = "M"
+            return self.stay("-", "bare")
+        if self.placement.offset:  # the reference begins at 80010000, and jumps to the host
+            self.do("setreg %d %x" % (T0, self.pc), *poke_commands(MONITOR_END, struct.pack("<I", jump(T0))), "step 1", "setreg %d 0" % T0)
+        return self.observation("-", "host")
 
     def step(self, item: Item) -> SideState:
         """Does an item, and all steps in M after it."""
         lines = self.lines_of(item)
         if not item.steps:
-            self.do(lines)
+            self.do(*lines)
             return self.observation("-", "")
-        ran = step_of(self.do(lines + ["step 1"])[-1].decode())
+        ran = step_of(self.do(*lines, "step 1")[-1].decode())
         self.pc, self.mode, trap = int(ran.pc, 16), ran.mode, trap_text(ran.trap)
         if self.is_own and trap[:8] == TIMER and not self.setup.lowered:
-            self.do(["timer off"])  # the bare bench has no device that M could clear
+            self.do("timer off")  # the bare bench has no device that M could clear
         return self.stay(trap, ran.world) if self.is_own and self.mode == "M" else self.observation(trap, ran.world)
 
     def lines_of(self, item: Item) -> list[str]:
         """Returns the lines that prepare an item."""
-        lines = [line for address, data in item.data for line in poke_lines(address, data)]
+        lines = [line for address, data in item.data for line in poke_commands(address, data)]
         lines += ["setreg %d %x" % it for it in item.registers if it[0]]
         if item.word is not None and self.placement.first <= self.pc and self.pc + 4 <= self.placement.end:
-            lines += poke_lines(self.pc, struct.pack("<I", item.word))
+            lines += poke_commands(self.pc, struct.pack("<I", item.word))
         return lines + (["timer " + item.line] if item.line else [])
 
     def stay(self, trap: str, world: str) -> SideState:
         """Does the steps in M up to the return; the fault says why there is none."""
         first, spent, fault = len(self.log), 0, ""
         while self.mode == "M" and not fault:
-            ran, last = (step_of(it.decode()) for it in self.do([STAY, "step 1"]))
+            ran, last = (step_of(it.decode()) for it in self.do(STAY, "step 1"))
             spent += ran.steps + 1
             fault = self.fault_of(ran.mode, ran.trap or last.trap, spent, MOST_STEPS + MOST_PER_BYTE * self.setup.ram)
             if ran.why.startswith("watch") and is_store(word_at(self.bench, int(ran.pc, 16) - 4)):
-                self.do(["timer off"])
+                self.do("timer off")
             self.pc, self.mode = int(last.pc, 16), last.mode
         self.stays.append(Stay(first, spent))
         return self.observation(trap, world, spent, fault)
 
     @staticmethod
-    def fault_of(mode: str, trap: Trap | None, spent: int, most: int) -> str:
+    def fault_of(mode: str, trap: RanTrap | None, spent: int, most: int) -> str:
         """Returns why M does not return as it should; empty if it does."""
         if mode != "M":
             return "M is left by another instruction than mret"
@@ -216,12 +222,13 @@ class Side:
         return "M does not return within %d steps" % spent if spent > most else ""
 
     def observation(self, trap: str, world: str, spent: int = 0, fault: str = "") -> SideState:
-        """Returns the state now."""
+        """Returns the state now, and takes over its pc."""
         replies = self.bench.block(STATE, STATE_LINES).splitlines()
         values = register_values(replies[CUT:-ENTRIES])
         above = tuple(value & DECIDING.get(name, MASK) for name, value in zip(CSR_LIST[len(BELOW):], values))
         self.pc = int(replies[REGISTERS - 1][3:], 16)
-        return SideState(self.pc, self.mode, trap, world, b"\n".join(replies[:CUT]), above, b"\n".join(replies[-ENTRIES:]), spent, fault)
+        return SideState(pc=self.pc, mode=self.mode, trap=trap, world=world, below=b"\n".join(replies[:CUT]), above=above,
+                         entries=b"\n".join(replies[-ENTRIES:]), spent=spent, fault=fault)
 
     def memory(self) -> bytes:
         """Returns the replies of `mem` for all bytes of host and enclaves."""
@@ -239,12 +246,7 @@ def memory_lines(first: int, end: int) -> bytes:
     return "\n".join([*memory_commands(first, end - first), ""]).encode()
 
 
-def poke_lines(address: int, data: bytes) -> list[str]:
-    """Returns the commands that change bytes."""
-    return ["poke %x %02x" % (address + n, it) for n, it in enumerate(data)]
-
-
-def trap_text(trap: Trap | None) -> str:
+def trap_text(trap: RanTrap | None) -> str:
     """Returns a trap as the bench writes it."""
     return "%s:%s" % (trap.cause, trap.value) if trap else "-"
 

@@ -14,9 +14,10 @@ from rvlook.monitors.guarded import STATE_CSRS, SUPERVISOR, Guarded, StayInM, Ha
 from rvlook.monitors.items import MASK
 from rvlook.monitors.ownership import HOST, MONITOR, OwnedRange, Ownership
 from rvlook.monitors.rights import rights_of
-from rvlook.monitors.sides import MonitorSetup, poke_lines, word_at
+from rvlook.monitors.sides import MonitorSetup, word_at
 from rvlook.protocol.memory_map import MONITOR_END, RAM_BASE
 from rvlook.protocol.names import ECALL_FROM_S, abi_name
+from rvlook.protocol.replies import poke_commands
 
 OTHERS = "the ranges of enclaves that do not run"
 UNUSED, SECRETS = "unused memory of the monitor", "secret memory of the monitor"
@@ -73,8 +74,8 @@ class Track:
         registers = {n: entry.registers[n] ^ MASK for n in range(1, 32) if not (arguments and A0 <= n <= A7)}
         self.machine.set_state(registers, {name: entry.csrs[name] ^ MASK for name in MARKED_CSRS})
         self.inverted = [it for it in self.ownership.private() if it.owner == self.world and not any(map(it.has, arguments))]
-        for it in self.inverted:
-            self.machine.do(*poke_lines(it.first, bytes(byte ^ 0xFF for byte in self.machine.bytes_of(it.first, it.end))))
+        for inverted in self.inverted:
+            self.machine.do(*poke_commands(inverted.first, bytes(byte ^ 0xFF for byte in self.machine.bytes_of(inverted.first, inverted.end))))
 
     def note_closed(self, stay: StayInM) -> None:
         """Notes which ranges are live and closed to the world that continues."""
@@ -179,7 +180,8 @@ class TwinRuns:
         self.changes += bool(tracks[1].inverted)
         if tracks[0].world in self.secret.owners and tracks[1].world == tracks[0].world:
             if (one.exit.pc, one.exit.mode) != (other.exit.pc, other.exit.mode):
-                return self.result("", steps, why_cut="%s continues at %08x or %08x" % (tracks[0].world, one.exit.pc, other.exit.pc))
+                places = tracks[0].world, one.exit.pc, other.exit.pc
+                return self.result("", steps, why_cut="%s then continues at %08x in one run, and at %08x in the other" % places)
             self.restore(tracks, one, other)
             return None
         self.inverted = [it for it in self.inverted if it in tracks[0].closed or it in self.secret.ranges]
@@ -190,17 +192,18 @@ class TwinRuns:
 
     def invert(self, tracks: tuple[Track, Track], ranges: list[OwnedRange] | tuple[OwnedRange, ...]) -> None:
         """Inverts all bytes of ranges in the second run."""
-        for it in ranges:
-            data = tracks[0].machine.bytes_of(it.first, it.end)
-            tracks[1].machine.do(*poke_lines(it.first, bytes(byte ^ 0xFF for byte in data)))
-            self.inverted.append(it)
+        for secret_range in ranges:
+            data = tracks[0].machine.bytes_of(secret_range.first, secret_range.end)
+            tracks[1].machine.do(*poke_commands(secret_range.first, bytes(byte ^ 0xFF for byte in data)))
+            self.inverted.append(secret_range)
         self.changes += bool(ranges)
 
     def restore(self, tracks: tuple[Track, Track], one: StayInM, other: StayInM) -> None:
         """Gives the owner that continues in the second run the bytes and registers of the first run."""
-        for it in [it for it in self.inverted if it not in self.secret.ranges]:
-            data, old = (track.machine.bytes_of(it.first, it.end) for track in tracks)
-            tracks[1].machine.do(*(line for n, byte in enumerate(data) if byte != old[n] for line in poke_lines(it.first + n, bytes([byte]))))
+        for inverted in [it for it in self.inverted if it not in self.secret.ranges]:
+            data, old = (track.machine.bytes_of(inverted.first, inverted.end) for track in tracks)
+            pokes = poke_commands(inverted.first, data)
+            tracks[1].machine.do(*(line for line, byte, other in zip(pokes, data, old) if byte != other))
         self.inverted = list(self.secret.ranges)
         registers = {n: value for n, value in enumerate(one.exit.registers) if value != other.exit.registers[n]}
         csrs = {name: one.exit.csrs[name] for name in SUPERVISOR if one.exit.csrs[name] != other.exit.csrs[name]}
@@ -239,7 +242,7 @@ def memory_difference(tracks: tuple[Track, Track], inverted: list[OwnedRange]) -
 def without(memory: bytes, hidden: list[OwnedRange]) -> bytes:
     """Returns memory with zeros in some ranges."""
     shown = bytearray(memory)
-    for it in hidden:
-        first, end = max(0, it.first - MONITOR_END), max(0, it.end - MONITOR_END)
+    for hidden_range in hidden:
+        first, end = max(0, hidden_range.first - MONITOR_END), max(0, hidden_range.end - MONITOR_END)
         shown[first:end] = bytes(len(shown[first:end]))
     return bytes(shown)

@@ -5,19 +5,16 @@ from __future__ import annotations
 import struct
 from bisect import bisect_right
 from dataclasses import dataclass
-from typing import Iterable, Iterator, Sequence, TYPE_CHECKING
+from typing import Iterable, Iterator, NamedTuple, Sequence
 
 from rvlook.errors import BenchEnded
-from rvlook.monitors.encodings import AUIPC, BRANCH, JAL, JALR, MRET, SRET, branch_offset, jump_offset
+from rvlook.monitors.encodings import AUIPC, BRANCH, JAL, JALR, MRET, SRET, branch_offset, immediate_of, jump_offset
 from rvlook.monitors.items import MASK
-from rvlook.monitors.ownership import MONITOR
+from rvlook.monitors.ownership import MONITOR, Ownership
+from rvlook.monitors.sides import MonitorSetup
+from rvlook.output.progress import Progress
 from rvlook.protocol.replies import step_of
-
-if TYPE_CHECKING:
-    from rvlook.monitors.ownership import Ownership
-    from rvlook.monitors.sides import MonitorSetup
-    from rvlook.output.progress import Progress
-    from rvlook.protocol.symbols import Symbols
+from rvlook.protocol.symbols import Symbols
 
 BREAKPOINTS = 32
 EXECUTABLE = 1  # a flag of a segment
@@ -25,8 +22,7 @@ AT_ENTRY = 24  # the offset of the first instruction's address in the header of 
 MOST_STEPS = 1000000  # of one `run`
 
 
-@dataclass(frozen=True)
-class Block:
+class Block(NamedTuple):
     """A basic block: the addresses of its first instruction and of the end."""
     first: int
     end: int
@@ -72,11 +68,11 @@ def code_of(setup: MonitorSetup, ownership: Ownership, symbols: Symbols, vectors
 def segments_of(setup: MonitorSetup, ownership: Ownership) -> Iterator[tuple[int, bytes]]:
     """Yields the address and the bytes of the part of each executable segment that is in a range of the monitor."""
     data = setup.image.data or b""
-    for it in (it for it in setup.image.segments() if it.flags & EXECUTABLE):
+    for segment in (it for it in setup.image.segments() if it.flags & EXECUTABLE):
         for part in (part for part in ownership.ranges if part.owner == MONITOR):
-            first, end = max(it.address, part.first), min(it.address + it.in_file, part.end)
+            first, end = max(segment.address, part.first), min(segment.address + segment.in_file, part.end)
             if first < end:
-                yield first, data[it.offset + first - it.address:it.offset + end - it.address]
+                yield first, data[segment.offset + first - segment.address:segment.offset + end - segment.address]
 
 
 def words_of(first: int, data: bytes) -> Iterator[tuple[int, int]]:
@@ -98,8 +94,7 @@ def far_target(words: dict[int, int], at: int) -> list[int]:
     first, word = words.get(at - 4, 0), words[at]
     if word & 0x7F != JALR or first & 0x7F != AUIPC or first >> 7 & 31 != word >> 15 & 31:
         return []
-    offset = word >> 20
-    return [at - 4 + (first & 0xFFFFF000) + (offset - 0x1000 if offset & 0x800 else offset) & MASK]
+    return [at - 4 + (first & 0xFFFFF000) + immediate_of(word) & MASK]
 
 
 def reachable(words: dict[int, int], roots: Iterable[int]) -> set[int]:
@@ -171,10 +166,8 @@ class BlockReplay:
 
     def do(self, lines: Sequence[str]) -> None:
         """Does lines with one line of reply each, and notes pc."""
-        if lines:
-            replies = self.bench.block(("\n".join(lines) + "\n").encode(), len(lines)).splitlines()
-            ran = next((it for it in reversed(replies) if it.startswith(b"ran ")), None)
-            self.pc = int(step_of(ran.decode()).pc, 16) if ran else self.pc
+        ran = next((it for it in reversed(self.bench.replies_to(lines)) if it.startswith(b"ran ")), None)
+        self.pc = int(step_of(ran.decode()).pc, 16) if ran else self.pc
 
     def go(self, steps: int) -> None:
         """Does the steps of a `run`. The instruction at pc is executed first, whether there is a breakpoint or not."""

@@ -1,22 +1,23 @@
-"""Finds the last instruction in M that wrote what differs: a register, a control and status register, a PMP entry, or a byte. For a trap in M it
-is the instruction that trapped."""
+"""Explains a difference of two monitors. Finds the last instruction in M that wrote what differs: a register, a control and status register, a PMP
+entry, or a byte. For a trap in M it is the instruction that trapped.
+
+Also finds the branch in M at which a call with a wrong result leaves the path of a similar call that has the right result. It shows the cause if a
+check is missing, because no instruction wrote a wrong value then."""
 from __future__ import annotations
 
+import time
 from dataclasses import dataclass, replace
-from typing import Callable, Iterator, TYPE_CHECKING
+from typing import Callable, Iterator
 
-from rvlook.monitors.comparison import MonitorDifference, DifferenceKind
-from rvlook.monitors.encodings import is_store, loaded_offset, written_csr, written_register
-from rvlook.monitors.items import MASK
-from rvlook.monitors.sides import word_at
-from rvlook.protocol.bench import Bench
-from rvlook.protocol.names import CSRS, with_abi_names
+from rvlook.monitors.comparison import DifferenceKind, MonitorDifference
+from rvlook.monitors.encodings import immediate_of, is_load, is_store, written_csr, written_register
+from rvlook.monitors.items import MASK, Item
+from rvlook.monitors.pair import Played, play
+from rvlook.monitors.sides import MonitorSetup, Stay, word_at
+from rvlook.protocol.bench import Closing
+from rvlook.protocol.names import CSRS, Call, with_abi_names
 from rvlook.protocol.replies import step_of
-from rvlook.protocol.run import MOST_STEPS
-
-if TYPE_CHECKING:
-    from rvlook.monitors.pair import Played
-    from rvlook.monitors.sides import MonitorSetup, Stay
+from rvlook.protocol.timeline import MOST_STEPS
 
 CHUNK = 16384  # single steps in one exchange
 PATH = 64  # instructions before a writer that are kept
@@ -25,6 +26,14 @@ ALSO_WRITTEN_BY = {"sstatus": ("sstatus", "mstatus"), "mstatus": ("mstatus", "ss
 MOST_SEARCHED = 1 << 18  # steps of a stay, its last ones, that are searched for a writer
 MOST_FAULTY = 1000000  # steps of a stay that is searched for a trap in M
 Test = Callable[[int], bool]
+ARGUMENTS = range(10, 15)  # a0 to a4
+BASE, ENTRY = 10, 14  # of create
+MOST_SECONDS = 20  # for all similar calls
+MOST_COMPARED = 1 << 18  # steps in M of each path
+CHANGES: tuple[Callable[[int], int], ...] = (  # of one argument, the smallest ones first
+    lambda it: it + 4, lambda it: it - 4, lambda it: it + 1, lambda it: it - 1, lambda it: it + 2, lambda it: it + 0x1000, lambda it: it - 0x1000,
+    lambda it: it * 2, lambda it: it // 2, lambda it: it ^ 0x1800, lambda it: 0, lambda it: MASK, lambda it: it + 0x10000,
+    lambda it: it - 0x10000, lambda it: it ^ 0x80000000)
 
 
 @dataclass(frozen=True)
@@ -37,27 +46,26 @@ class WritingInstruction:
     path: tuple[int, ...] = ()
 
 
-class StayReplay:
+class StayReplay(Closing):
     """The author's side of a script, brought to the begin of one of its stays in M."""
 
     def __init__(self, setup: MonitorSetup, played: Played, stay: Stay) -> None:
         self.bench, self.stay = setup.own.bench(), stay
-        lines = played.own_log[:stay.line]
-        self.bench.block(("\n".join(lines) + "\n").encode(), len(lines))
+        self.bench.replies_to(played.own_log[:stay.line])
 
-    def __enter__(self) -> StayReplay:
-        return self
-
-    def __exit__(self, *_: object) -> None:
+    def close(self) -> None:
+        """Ends the bench."""
         self.bench.close()
 
     def addresses(self, first: int = 0) -> list[int]:
         """Returns the address of each instruction of the stay, from the one with a number on."""
-        found = [self.go(first)]
-        for done in range(first, self.stay.steps, CHUNK):
-            count = min(CHUNK, self.stay.steps - done)
-            found += [int(step_of(it.decode()).pc, 16) for it in self.bench.block(b"step 1\n" * count, count).splitlines()]
-        return found[:-1]
+        return [self.go(first), *self.step(self.stay.steps - first)][:-1]
+
+    def step(self, count: int) -> Iterator[int]:
+        """Does instructions; yields the address of the one after each."""
+        for done in range(0, count, CHUNK):
+            part = min(CHUNK, count - done)
+            yield from (int(step_of(it.decode()).pc, 16) for it in self.bench.block(b"step 1\n" * part, part).splitlines())
 
     def last_match(self, test: Test) -> int | None:
         """Returns the number of the last instruction of the stay that a test accepts, or None. Searches only the last steps of a long stay."""
@@ -158,13 +166,12 @@ def writer_at(setup: MonitorSetup, played: Played, stay: Stay, number: int) -> W
     """Returns the instruction of a stay that has a number, with the address that it loads if it is a load."""
     with StayReplay(setup, played, stay) as replay:
         first = max(0, number - PATH)
-        path = [replay.go(first)]
-        path += [int(step_of(it.decode()).pc, 16) for it in replay.bench.block(b"step 1\n" * (number - first), number - first).splitlines()]
-        loaded, address = loaded_offset(word_at(replay.bench, path[-1])), None
-        if loaded:
-            base = int(replay.bench.one("reg %d" % loaded[0]).partition("=")[2], 16)
-            address = base + loaded[1] & MASK
-        return WritingInstruction(path[-1], text_at(replay.bench, path[-1]), address, tuple(path[-2::-1]))
+        path = [replay.go(first), *replay.step(number - first)]
+        word = word_at(replay.bench, path[-1])
+        address = replay.bench.register(word >> 15 & 31) + immediate_of(word) & MASK if is_load(word) else None
+        reply = replay.bench.one("dis %x" % path[-1])
+        text = reply if reply.startswith("error") else with_abi_names(reply.split(None, 2)[2])
+        return WritingInstruction(path[-1], text, address, tuple(path[-2::-1]))
 
 
 def last_store(setup: MonitorSetup, played: Played, address: int, skipped: int = 0, before: int | None = None) -> WritingInstruction | None:
@@ -179,7 +186,52 @@ def last_store(setup: MonitorSetup, played: Played, address: int, skipped: int =
     return None
 
 
-def text_at(bench: Bench, address: int) -> str:
-    """Returns the text of an instruction."""
-    reply = bench.one("dis %x" % address)
-    return reply if reply.startswith("error") else with_abi_names(reply.split(None, 2)[2])
+@dataclass(frozen=True)
+class Divergence:
+    """The last instruction in M that both calls execute, the next one of each, the similar call, and its result on both monitors."""
+    pc: int
+    own_next: int
+    other_next: int
+    call: str
+    result: str
+
+
+def similar_calls(item: Item) -> Iterator[Item]:
+    """Yields calls that differ from one in one argument. The entry of a create moves with its region."""
+    registers = dict(item.registers)
+    for change in CHANGES:
+        for number in ARGUMENTS:
+            value = change(registers.get(number, 0)) & MASK
+            if number in registers and registers[number] != value:
+                text = "%s with a%d=%x" % (item.text.split()[0], number - ARGUMENTS.start, value)
+                changed = {**registers, number: value}
+                if item.call_number == Call.create and number == BASE:
+                    changed[ENTRY] = registers[ENTRY] + value - registers[BASE] & MASK
+                yield replace(item, registers=tuple(changed.items()), text=text)
+
+
+def divergence_of(setup: MonitorSetup, played: Played) -> Divergence | None:
+    """Returns where the last call of a script leaves the path of a similar call. The similar call has the result of the reference on both monitors.
+    Returns None if there is no such call."""
+    last, end = played.steps[-1] if played.steps else None, time.monotonic() + MOST_SECONDS
+    if last is None or last.item.call_number is None or not played.stays:
+        return None
+    for item in similar_calls(last.item):
+        other = play(setup, played.name, [*played.items[:-1], item], compares_memory=False)
+        if not other.differences and len(other.steps) == len(played.steps) and other.steps[-1].result == last.result:
+            return first_difference(setup, played, other)
+        if time.monotonic() > end:
+            break
+    return None
+
+
+def first_difference(setup: MonitorSetup, played: Played, other: Played) -> Divergence | None:
+    """Returns where the paths of the last stays in M of two scripts differ first."""
+    paths = []
+    for side in (played, other):
+        stay = replace(side.stays[-1], steps=min(side.stays[-1].steps, MOST_COMPARED))
+        with StayReplay(setup, side, stay) as replay:
+            paths.append(replay.addresses())
+    one, two = paths
+    at = next((number for number, pair in enumerate(zip(one, two)) if pair[0] != pair[1]), 0)
+    return Divergence(one[at - 1], one[at], two[at], other.steps[-1].item.text, other.steps[-1].result) if at else None

@@ -53,11 +53,6 @@ class ReportedCases:
         """Notes that a question has no answer, which the output says already. A result that is not to be trusted counts more than its findings."""
         self.cut, self.distrusted = line, is_distrusted
 
-    @property
-    def has_found(self) -> bool:
-        """Returns whether there is a finding."""
-        return any(it.finding for it in self.cases)
-
     def status(self, is_report: bool) -> int:
         """Returns the exit status. A report (--exit-zero) does not count what was found. The status of a program that was run counts more than what
         was found in its run."""
@@ -67,7 +62,7 @@ class ReportedCases:
             return self.program_status
         if self.distrusted:
             return UNFINISHED
-        if self.has_found and not is_report:
+        if any(it.finding for it in self.cases) and not is_report:
             return FOUND
         return UNFINISHED if self.cut else 0
 
@@ -85,8 +80,8 @@ def write_junit(path: str, name: str, findings: ReportedCases, error: str = "") 
     """Writes one test suite, with at least one case. A finding is a failure; a refused line, why the work was cut short, and `error` are errors."""
     from junitparser import Error, Failure, JUnitXml, TestCase, TestSuite
     suite = TestSuite("rvlook " + name)
-    for it in findings.cases:
-        suite.add_testcase(case_of(TestCase(visible(it.name), classname="rvlook." + name, time=it.seconds), Failure, it.finding))
+    for case in findings.cases:
+        suite.add_testcase(case_of(TestCase(visible(case.name), classname="rvlook." + name, time=case.seconds), Failure, case.finding))
     errors = dict.fromkeys(it for it in (*findings.refused, findings.cut, error) if it)
     for text in errors or ([] if findings.cases else [""]):
         suite.add_testcase(case_of(TestCase("the run", classname="rvlook." + name, time=findings.seconds()), Error, text))
@@ -94,17 +89,12 @@ def write_junit(path: str, name: str, findings: ReportedCases, error: str = "") 
     report.add_testsuite(suite)
     report.update_statistics()
     try:
-        write_report(report, path)
+        if os.path.exists(path) and not os.path.isfile(path):  # a device or pipe
+            report.write(path, pretty=True)
+        else:
+            replace_by(path, lambda it: report.write(it, pretty=True))
     except OSError as fault:
         raise Unfinished("cannot write '%s': %s" % (path, fault.strerror)) from None
-
-
-def write_report(report: Any, path: str) -> None:
-    """Writes a report to a file, which is replaced, or to a device or pipe. Raises OSError."""
-    if os.path.exists(path) and not os.path.isfile(path):
-        report.write(path, pretty=True)
-    else:
-        replace_by(path, lambda it: report.write(it, pretty=True))
 
 
 def case_of(case: Any, kind: Any, text: str) -> Any:

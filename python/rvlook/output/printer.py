@@ -6,7 +6,7 @@ import os
 import re
 import sys
 from enum import Enum
-from typing import Any, Mapping, Optional, Protocol, Sequence, TYPE_CHECKING, TextIO, Union, overload
+from typing import Any, Mapping, Protocol, Sequence, TYPE_CHECKING, TextIO, Union
 
 from rvlook.escapes import visible_line
 
@@ -38,17 +38,13 @@ OWN_ESCAPES = re.compile("(\033\\[(?:0|%s)m)" % "|".join(it.value for it in Styl
 NO_ESCAPES = re.compile(r"(\Z\A.)")  # matches nowhere
 
 
-def has_colours(stream: TextIO) -> bool:
-    """Returns whether the stream is a terminal with colours."""
-    return stream.isatty() and os.environ.get("TERM", "dumb") != "dumb" and "NO_COLOR" not in os.environ
-
-
 class Printer:
     """Writes lines and objects to standard output."""
 
     def __init__(self, as_json: bool = False, stream: TextIO | None = None) -> None:
         self.as_json, self.stream = as_json, stream or sys.stdout
-        self.colours = not as_json and has_colours(self.stream)
+        has_terminal = self.stream.isatty() and os.environ.get("TERM", "dumb") != "dumb" and "NO_COLOR" not in os.environ
+        self.colours = has_terminal and not as_json
 
     def line(self, text: str = "") -> None:
         """Prints a line, or lines. Makes control characters visible, except those of `styled`."""
@@ -59,6 +55,13 @@ class Printer:
         """Returns lines of text without control characters, except those of `styled` if there are colours."""
         own = OWN_ESCAPES if self.colours else NO_ESCAPES
         return "\n".join("".join(it if own.fullmatch(it) else visible_line(it) for it in own.split(line)) for line in text.split("\n"))
+
+    def show(self, __text: str, __kind: str, **members: Json) -> None:
+        """Prints a line for a person, or writes an object for a program."""
+        if self.as_json:
+            self.object(__kind, **members)
+        else:
+            self.line(__text)
 
     def document(self, text: str) -> None:
         """Writes a text in UTF-8, whatever the locale has."""
@@ -79,17 +82,14 @@ class Printer:
         return "\033[%sm%s\033[0m" % (style.value, text) if self.colours else text
 
 
-@overload
-def hex8(number: int) -> str: ...
-
-
-@overload
-def hex8(number: Optional[int]) -> Optional[str]: ...
-
-
 def hex8(number: int | None) -> str | None:
     """Returns a number in eight hexadecimal digits, None for None."""
     return None if number is None else "%08x" % number
+
+
+def counted(count: int, name: str) -> str:
+    """Returns a number and a noun, in the plural if needed."""
+    return "%d %s%s" % (count, name, "" if count == 1 else "s")
 
 
 def end_object(printer: ObjectWriter, end: End) -> None:
@@ -100,8 +100,7 @@ def end_object(printer: ObjectWriter, end: End) -> None:
 def end_text(printer: Printer, end: End, symbols: Symbols) -> None:
     """Prints the last line of a run."""
     why = "halts at" if end.why == "halted" else "is at"
-    count = "1 step" if end.steps == 1 else "%d steps" % end.steps
-    printer.line("%s: %s %s %s in %s" % (count, end.world, why, place_text(end.pc, symbols), end.mode))
+    printer.line("%s: %s %s %s in %s" % (counted(end.steps, "step"), end.world, why, place_text(end.pc, symbols), end.mode))
 
 
 def place_text(pc: str, symbols: Symbols) -> str:

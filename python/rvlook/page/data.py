@@ -11,16 +11,14 @@ import struct
 import sys
 import zlib
 from array import array
-from typing import Any, Hashable, Mapping, TYPE_CHECKING
+from typing import Any, Hashable, Mapping
 
+from rvlook.output.printer import Json
 from rvlook.protocol import names
+from rvlook.protocol.run import Run
+from rvlook.protocol.symbols import Symbols
 from rvlook.trace.text import ObjectTrace
-
-if TYPE_CHECKING:
-    from rvlook.output.printer import Json
-    from rvlook.protocol.run import Run
-    from rvlook.protocol.symbols import Symbols
-    from rvlook.trace.tracer import TracedStep, Touch
+from rvlook.trace.tracer import Touch, TracedStep
 
 GRANULE = 16  # bytes that are touched are kept by so many, which bounds the memory for them
 KINDS = {"r": 0, "w": 1}
@@ -86,7 +84,6 @@ class Collector:
         self.objects, self.symbols = ObjectTrace(run, symbols, self), symbols
         self.path = ""
         self.run: dict[str, Any] = {}
-        self.end: dict[str, Any] = {}
         self.sites, self.places, self.traps, self.names = NumberedValues(), NumberedValues(), NumberedValues(), NumberedValues()
         self.site_numbers: dict[tuple[object, ...], int] = {}  # by pc, word, and whether the word was fetched or an interrupt came
         self.name_numbers: dict[int, int] = {}  # by address
@@ -95,9 +92,8 @@ class Collector:
         self.touch = {"step": array("I"), "address": array("I"), "width": array("B"), "kind": array("B"), "name": array("I"),
                       "value": array("I")}
         self.calls: list[dict[str, Any]] = []
-        self.commands: list[dict[str, Any]] = []
-        self.consoles: list[dict[str, Any]] = []
         self.events: list[dict[str, Any]] = []
+        self.others: dict[str, list[dict[str, Any]]] = {"end": [], "command": [], "console": []}  # objects of other kinds
         self.granules: set[int] = set()
         self.labels: dict[str, int] = {}
         self.maps = NumberedValues()
@@ -109,34 +105,26 @@ class Collector:
         """Returns the name of the image, or of its folder if the image has a common name."""
         path = os.path.abspath(self.path)
         name = os.path.basename(path)
-        return os.path.basename(os.path.dirname(path)) if name in COMMON else os.path.splitext(name)[0] if name.endswith(".elf") else name
+        if name in COMMON:
+            return os.path.basename(os.path.dirname(path))
+        return os.path.splitext(name)[0] if name.endswith(".elf") else name
 
     def object(self, __kind: str, **members: Json) -> None:
-        """Takes an object of a kind."""
-        getattr(self, "take_" + __kind)(members)
+        """Takes an object of a kind. A page is passed on, so it has the name of the image and no path."""
+        record: dict[str, Any] = members
+        if __kind == "event":
+            self.take_event(record)
+        elif __kind == "run":
+            self.path, self.run = record["image"], {**record, "image": os.path.basename(record["image"])}
+        else:
+            self.others[__kind].append(record)
 
-    def take_run(self, it: dict[str, Any]) -> None:
-        """Takes the object of the run. A page is passed on, so it has the name of the image and no path."""
-        self.path, self.run = it["image"], {**it, "image": os.path.basename(it["image"])}
-
-    def take_end(self, it: dict[str, Any]) -> None:
-        """Takes the object of the end."""
-        self.end = it
-
-    def take_command(self, it: dict[str, Any]) -> None:
-        """Takes a line of the script."""
-        self.commands.append(it)
-
-    def take_console(self, it: dict[str, Any]) -> None:
-        """Takes a line that the program wrote to a console."""
-        self.consoles.append(it)
-
-    def take_event(self, it: dict[str, Any]) -> None:
-        """Takes a event. Equal maps are stored once."""
-        self.rows += len(it["rows"])
-        self.boundaries.update(row["first"] for row in it["rows"])
-        shown = json.dumps({name: it[name] for name in MAP})
-        rest = {name: value for name, value in it.items() if name not in MAP}
+    def take_event(self, record: dict[str, Any]) -> None:
+        """Takes an event. Equal maps are stored once."""
+        self.rows += len(record["rows"])
+        self.boundaries.update(row["first"] for row in record["rows"])
+        shown = json.dumps({name: record[name] for name in MAP})
+        rest = {name: value for name, value in record.items() if name not in MAP}
         self.events.append({**rest, "map": self.maps.number(shown)})
 
     def step(self, step: TracedStep) -> None:
@@ -161,14 +149,14 @@ class Collector:
         """Returns the number of the site of a step: its pc and instruction. A new site is drawn, unless an interrupt came in its place."""
         key = step.at.pc, step.instruction and step.instruction.word, step.trap and (step.is_executed, step.is_interrupt)
         if key not in self.site_numbers:
-            it, target, pc = self.objects.site(step), step.target, int(step.at.pc, 16)
-            text = it["abi"]
+            site, target, pc = self.objects.site(step), step.target, int(step.at.pc, 16)
+            text = site["abi"]
             if text and target is not None and BRANCH.match(text):
                 symbol = self.symbols.name(target)
                 text = "%s%08x%s" % (text[:text.rindex(" ") + 1], target, " <%s>" % symbol if symbol else "")
-            self.site_numbers[key] = self.sites.number((step.at.pc, *(it[name] for name in SITE), text))
+            self.site_numbers[key] = self.sites.number((step.at.pc, *(site[name] for name in SITE), text))
             if not step.is_interrupt:
-                self.add_place(pc, 4, it["symbol"])
+                self.add_place(pc, 4, site["symbol"])
         return self.site_numbers[key]
 
     def take_touch(self, step: int, touch: Touch) -> None:
@@ -205,11 +193,11 @@ class Collector:
     def data(self, columns: NumberColumns) -> dict[str, Any]:
         """Returns all data as one object, and appends the columns."""
         return {
-            "title": self.title, "run": self.run, "end": self.end, "steps": len(self.site), "points": self.points,
+            "title": self.title, "run": self.run, "end": self.others["end"][-1], "steps": len(self.site), "points": self.points,
             "rows": self.rows, "maps": [json.loads(it) for it in self.maps.numbers],
             "sites": self.sites.rows("pc", *SITE, "shown"),
             "places": self.places.rows("hart", "world", "mode"), "traps": self.traps.rows("cause", "value", "name"),
             "names": list(self.names.numbers), "site": columns.add(self.site), "place": columns.add(self.place),
             "trap": columns.add(self.trap), "changes": columns.add(self.changes), "registers": columns.add(self.registers),
             "values": columns.add(self.values), "touch": {name: columns.add(column) for name, column in self.touch.items()},
-            "calls": self.calls, "commands": self.commands, "consoles": self.consoles, "events": self.events}
+            "calls": self.calls, "commands": self.others["command"], "consoles": self.others["console"], "events": self.events}

@@ -4,29 +4,26 @@ from __future__ import annotations
 import base64
 import hashlib
 import os
-from typing import Any, Sequence, TYPE_CHECKING
+from typing import Any, Iterator, Sequence
 
-from rvlook.errors import Unfinished, package_missing
-from rvlook.access.map_text import write_event
 from rvlook.access.map import events
-from rvlook.image.frames import frames_of
-from rvlook.page.axis import segments_of
-from rvlook.page.data import Collector, NumberColumns, compressed
+from rvlook.access.map_text import write_event
+from rvlook.errors import Unfinished, package_missing
+from rvlook.image.variables import frames_of
+from rvlook.output.printer import Printer, end_object, run_object
+from rvlook.page.data import GRANULE, Collector, NumberColumns, compressed
 from rvlook.page.sources import roots_of, source_texts
 from rvlook.protocol.console import consoles_of
-from rvlook.protocol.run import End
-from rvlook.output.printer import end_object, run_object
-from rvlook.trace.tracer import TracedStep, Tracer
+from rvlook.protocol.memory_map import RAM_BASE
+from rvlook.protocol.run import End, Run
+from rvlook.protocol.symbols import Symbols
 from rvlook.trace.text import lines_of
-
-if TYPE_CHECKING:
-    from rvlook.output.printer import Printer
-    from rvlook.protocol.run import Run
-    from rvlook.protocol.symbols import Symbols
+from rvlook.trace.tracer import RunTracer, TracedStep
 
 FOLDER = os.path.dirname(os.path.abspath(__file__))
 STYLES = ("page.css",)
 SCRIPTS = ("data.js", "chart.js", "marks.js", "panel.js", "stack.js", "find.js", "keys.js")
+JOINED = 1024  # touched places nearer than that are one segment
 
 
 def page_template() -> Any:
@@ -77,7 +74,7 @@ def collected(run: Run, symbols: Symbols) -> Collector:
     found, consoles = Collector(run, symbols), consoles_of(symbols)
     writer = found.objects
     run_object(found, run, symbols)
-    for item in Tracer(run).events():
+    for item in RunTracer(run).events():
         if isinstance(item, TracedStep):
             found.step(item)
             for of, line in lines_of(item, consoles):
@@ -92,3 +89,41 @@ def collected(run: Run, symbols: Symbols) -> Collector:
         else:
             write_event(found, event, symbols)
     return found
+
+
+def segments_of(found: Collector) -> list[dict[str, Any]]:
+    """Returns the segments of RAM in ascending order: first and last address, whether it is accessed, and the names in it. RAM is cut at the
+    boundaries of the map, and where accessed memory begins and ends."""
+    boundaries = sorted(int(first, 16) for first in found.boundaries)
+    ends = boundaries[1:] + [RAM_BASE + found.run["ram"]]
+    touched = sorted(it * GRANULE for it in found.granules)
+    below, above = any(it < boundaries[0] for it in touched), any(it >= ends[-1] for it in touched)
+    labels = sorted((address, name) for name, address in found.labels.items())
+    segments = [unmapped(0, RAM_BASE)] if below else []
+    for first, end in zip(boundaries, ends):
+        for low, high, is_open in parts_of_range(first, end, [it for it in touched if first <= it < end]):
+            names = [{"address": "%08x" % address, "name": name} for address, name in labels if low <= address < high]
+            segments.append({"first": "%08x" % low, "last": "%08x" % (high - 1), "range": "%08x" % first, "open": is_open,
+                             "labels": names if is_open else []})
+    return segments + ([unmapped(ends[-1], 1 << 32)] if above else [])
+
+
+def unmapped(first: int, end: int) -> dict[str, Any]:
+    """Returns a segment without memory that was accessed."""
+    return {"first": "%08x" % first, "last": "%08x" % (end - 1), "range": "%08x" % first, "open": True, "outside": True, "labels": []}
+
+
+def parts_of_range(first: int, end: int, touched: Sequence[int]) -> Iterator[tuple[int, int, bool]]:
+    """Yields the parts of a range: first address, end, and whether it is accessed."""
+    start, at = first, 0
+    while at < len(touched):
+        low = high = touched[at]
+        while at < len(touched) and touched[at] - high <= JOINED:
+            high, at = touched[at], at + 1
+        high = min(high + GRANULE, end)
+        if low > start:
+            yield start, low, False
+        yield low, high, True
+        start = high
+    if start < end:
+        yield start, end, False

@@ -9,7 +9,7 @@ from typing import Sequence
 
 from rvlook.escapes import visible
 from rvlook.errors import RvlookError, note
-from rvlook.image.source_paths import files_of
+from rvlook.image.symbols import files_of
 
 LARGEST = 200000  # bytes of a source that is shown
 ENDINGS = (".c", ".h", ".s", ".S", ".asm", ".inc", ".cc", ".cpp", ".cxx", ".C", ".hh", ".hpp", ".hxx", ".rs", ".zig", ".go", ".ads", ".adb", ".d")

@@ -6,18 +6,15 @@ import subprocess
 import sys
 from dataclasses import dataclass
 from difflib import get_close_matches
-from typing import Iterable, Optional, Sequence, TYPE_CHECKING
+from typing import Iterable, Optional, Sequence
 
-from rvlook.protocol.bench import COUNTS, program_path
-from rvlook.protocol.bench_line import LONGEST_LINE, has_reply, is_separator, lines_of, tokens_of
-from rvlook.protocol.commands import COMMANDS
-from rvlook.protocol.messages import input_error, line_error
 from rvlook.errors import RvlookError, Unfinished
 from rvlook.image.files import MOST_LINES, bounded, read_file
-
-if TYPE_CHECKING:
-    from rvlook.output.findings import ReportedCases
-    from rvlook.output.printer import Printer
+from rvlook.output.findings import ReportedCases
+from rvlook.output.printer import Printer
+from rvlook.protocol.bench import COUNTS, program_path
+from rvlook.protocol.bench_line import LONGEST_LINE, has_reply, is_separator, lines_of, tokens_of
+from rvlook.protocol.commands import COMMANDS, input_error, line_error
 
 MOST_ERRORS = 10000  # errors of an input that are explained
 
@@ -51,16 +48,12 @@ def explained(arguments: Sequence[str], data: bytes) -> list[Explained]:
     if last == "rvbench: hex":
         return image_errors(lines)
     if last:
-        return [input_error_of(last)]
+        return [Explained(0, "", last, *input_error(last))]
     cut = next((index for index, line in enumerate(lines) if is_separator(line)), None)
     if cut is None:
-        return [Explained(0, "", "", "the input has no line --, so all of it is read as the image", "-- before the first command")]
+        meaning = "the input has no line --, so all of it is read as the image"
+        return [Explained(line=0, text="", reply="", meaning=meaning, suggestion="-- before the first command")]
     return script_errors(list(enumerate(lines[cut + 1:], cut + 2)), replies, arguments[:1] == ["twin"])
-
-
-def input_error_of(reply: str) -> Explained:
-    """Returns an error of the whole input."""
-    return Explained(0, "", reply, *input_error(reply))
 
 
 def image_errors(lines: Sequence[str]) -> list[Explained]:
@@ -71,7 +64,7 @@ def image_errors(lines: Sequence[str]) -> list[Explained]:
         found = image_line_error(line)
         if found:
             return [Explained(number, shown(line), "rvbench: hex", *found)]
-    return [Explained(0, "", "rvbench: hex", "a line of the image is malformed", None)]
+    return [Explained(line=0, text="", reply="rvbench: hex", meaning="a line of the image is malformed", suggestion=None)]
 
 
 def image_line_error(line: str) -> tuple[str, str | None] | None:
@@ -168,16 +161,16 @@ def show_explain(path: str, arguments: Sequence[str], printer: Printer, findings
     if data.count(b"\n") > MOST_LINES:
         raise RvlookError("script '%s' is too long: it has more than %d lines" % (path, MOST_LINES))
     found = explained(arguments or ["run"], data)
-    for it in found[:MOST_ERRORS]:
-        findings.add("line %d" % it.line if it.line else "input", "%s: %s: %s" % (it.text, it.reply, it.meaning))
+    for error in found[:MOST_ERRORS]:
+        findings.add("line %d" % error.line if error.line else "input", "%s: %s: %s" % (error.text, error.reply, error.meaning))
         if printer.as_json:
-            printer.object("error", line=it.line, text=it.text, reply=it.reply, meaning=it.meaning, suggestion=it.suggestion)
+            printer.object("error", line=error.line, text=error.text, reply=error.reply, meaning=error.meaning, suggestion=error.suggestion)
             continue
-        index = "line %d: %s" % (it.line, it.text) if it.line else "input" if it.text == "" else "arguments: " + it.text
-        printer.line("%s   %s" % (index, it.reply))
-        printer.line("  " + it.meaning)
-        if it.suggestion:
-            printer.line("  try: " + it.suggestion)
+        place = "line %d: %s" % (error.line, error.text) if error.line else "arguments: " + error.text if error.text else "input"
+        printer.line("%s   %s" % (place, error.reply))
+        printer.line("  " + error.meaning)
+        if error.suggestion:
+            printer.line("  try: " + error.suggestion)
     if len(found) > MOST_ERRORS:
         findings.cut_short("explain stopped after %d errors; correct them, and run it again" % MOST_ERRORS)
     if not found:

@@ -14,7 +14,7 @@ import subprocess
 import sys
 import time
 from functools import lru_cache
-from typing import IO, Sequence
+from typing import IO, Sequence, TypeVar
 
 from rvlook.protocol.bench_line import ended, has_reply, is_malformed, tokens_of
 from rvlook.protocol.replies import bytes_of, memory_commands, value_of
@@ -31,6 +31,7 @@ LINE, PAUSE = 2e-6, 0.001  # seconds in which the program writes a line, and the
 COUNTS = {"regs": 33, "pmp": 16}  # lines of reply; one for every other command
 MARK = "reg 0"  # sent after `enclaves`, whose reply may have no line
 MARKED = b"x0=00000000"
+Own = TypeVar("Own", bound="Closing")
 
 
 @lru_cache(maxsize=None)
@@ -83,7 +84,20 @@ def widen(*pipes: IO[bytes]) -> None:
             pass
 
 
-class Bench:
+class Closing:
+    """A resource that a `with` closes at its end."""
+
+    def __enter__(self: Own) -> Own:
+        return self
+
+    def __exit__(self, *_: object) -> None:
+        self.close()
+
+    def close(self) -> None:
+        """Releases what it holds."""
+
+
+class Bench(Closing):
     """One process of the bench. `arguments` are its arguments, `image` the text of the image."""
 
     def __init__(self, arguments: Sequence[str], image: bytes, harts: int = 1) -> None:
@@ -102,12 +116,6 @@ class Bench:
         self.parts: list[bytes] = []  # what was read and not yet taken
         self.lines: list[bytes] = []  # complete lines that were read, the next one last
         self.send(image + b"--\n")
-
-    def __enter__(self) -> Bench:
-        return self
-
-    def __exit__(self, *_: object) -> None:
-        self.close()
 
     def close(self) -> None:
         """Ends the program."""
@@ -161,6 +169,10 @@ class Bench:
                 time.sleep(min(PAUSE, (count - found) * LINE))
         block, self.parts = b"".join(self.parts), []
         return block
+
+    def replies_to(self, commands: Sequence[str]) -> list[bytes]:
+        """Sends commands whose replies have one line each; returns these lines."""
+        return self.block(("\n".join(commands) + "\n").encode(), len(commands)).splitlines() if commands else []
 
     def line(self) -> bytes:
         """Returns the next line of the replies."""
@@ -221,5 +233,4 @@ class Bench:
 
     def memory(self, address: int, size: int) -> bytes:
         """Returns bytes of memory, which must be in RAM."""
-        commands = memory_commands(address, size)
-        return b"".join(map(bytes_of, self.block("\n".join([*commands, ""]).encode(), len(commands)).decode().splitlines())) if commands else b""
+        return b"".join(bytes_of(it.decode()) for it in self.replies_to(memory_commands(address, size)))

@@ -3,13 +3,11 @@ program has ended, and a ring with the last characters. A host has one, and an e
 from __future__ import annotations
 
 from dataclasses import dataclass, field
-from typing import Callable, Iterator, Sequence, TYPE_CHECKING
+from typing import Callable, Iterator, Sequence
 
 from rvlook.escapes import visible_line
 from rvlook.protocol.replies import bytes_of
-
-if TYPE_CHECKING:
-    from rvlook.protocol.symbols import Symbols
+from rvlook.protocol.symbols import Symbols
 
 PLACES = {"host_console": "host", "window_console": "enclave"}  # the symbol of each console, and who writes to it
 WRITTEN, ENDED, STATUS, TEXT = 0, 4, 8, 16  # offsets in bytes

@@ -47,7 +47,10 @@ class Instruction:
     def memory(self) -> Optional[MemoryOperand]:
         """Returns the operand of a load or a store, else None."""
         width = LOADS.get(self.name) or STORES.get(self.name)
-        return MemoryOperand("r" if self.name in LOADS else "w", width, self.operands[2], self.operands[1], self.operands[0]) if width else None
+        if not width:
+            return None
+        register, offset, base = self.operands
+        return MemoryOperand("r" if self.name in LOADS else "w", width, base, offset, register)
 
     @property
     def offset(self) -> int | None:

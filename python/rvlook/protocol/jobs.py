@@ -1,12 +1,15 @@
 """Does numbered tasks in one or more processes."""
 from __future__ import annotations
 
-import multiprocessing
 import signal
+import threading
 from collections import deque
+from contextlib import contextmanager
+from importlib import import_module
 from itertools import islice
-from typing import Callable, Iterator, TypeVar
+from typing import Any, Callable, Iterator, TypeVar
 
+from rvlook.errors import Unfinished
 from rvlook.protocol.bench import program_path
 
 Result = TypeVar("Result")
@@ -16,19 +19,29 @@ TASKS: list[Callable[[int], object]] = []  # the task of the processes, which in
 
 def results_of(task: Callable[[int], Result], count: int, jobs: int) -> Iterator[Result]:
     """Yields the results of a task for the numbers 0 to `count` - 1, in this order. With more than one job, forked processes do the task. They
-    inherit all that it needs, and the pipe to them has at most AHEAD numbers for each. A pipe full of tasks could block the end of the pool."""
+    inherit all that it needs. They end with the generator. Raises Unfinished if one of them is killed."""
     if jobs == 1 or count < 2:
         yield from map(task, range(count))
         return
     program_path()  # builds the program once, if it has to be built
     TASKS[:] = [task]
-    with multiprocessing.get_context("fork").Pool(min(jobs, count), ignore_interrupts) as pool:
-        numbers = iter(range(count))
-        waiting = deque(pool.apply_async(do_number, (it,)) for it in islice(numbers, AHEAD * jobs))
+    processes, futures = map(import_module, ("multiprocessing", "concurrent.futures.process"))  # only here, since this takes time
+    others, numbers, is_done = set(processes.active_children()), iter(range(count)), False
+    pool = futures.ProcessPoolExecutor(min(jobs, count), processes.get_context("fork"), ignore_interrupts)
+    waiting: deque[Any] = deque()
+    try:
+        waiting.extend(pool.submit(do_number, it) for it in islice(numbers, AHEAD * jobs))
         while waiting:
-            result = waiting.popleft().get()
-            waiting.extend(pool.apply_async(do_number, (it,)) for it in islice(numbers, 1))
-            yield result  # type: ignore[misc]
+            result = waiting.popleft().result()
+            waiting.extend(pool.submit(do_number, it) for it in islice(numbers, 1))
+            yield result
+        is_done = True
+    except futures.BrokenProcessPool:
+        raise Unfinished("a process of --jobs %d was killed; use fewer jobs, or look for a lack of memory" % jobs) from None
+    finally:
+        for process in () if is_done else set(processes.active_children()) - others:
+            process.terminate()
+        pool.shutdown()
 
 
 def do_number(number: int) -> object:
@@ -39,3 +52,20 @@ def do_number(number: int) -> object:
 def ignore_interrupts() -> None:
     """Leaves Ctrl-C to the process that waits for the results."""
     signal.signal(signal.SIGINT, signal.SIG_IGN)
+
+
+@contextmanager
+def uninterrupted() -> Iterator[None]:
+    """Delays Ctrl-C until the end of the body, so that a result which counts is also shown. Only the main thread is interrupted at all."""
+    handler = signal.getsignal(signal.SIGINT)
+    if not callable(handler) or threading.current_thread() is not threading.main_thread():
+        yield
+        return
+    came: list[Any] = []
+    signal.signal(signal.SIGINT, lambda *them: came.append(them))
+    try:
+        yield
+    finally:
+        signal.signal(signal.SIGINT, handler)
+    if came:
+        handler(*came[0])

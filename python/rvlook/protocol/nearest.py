@@ -11,6 +11,12 @@ MOST_PAIRS = 12  # pairs of characters that are looked for in each of many names
 LONGEST_NAME = 120  # characters of an unknown name; a longer one has no suggestion
 
 
+def meant(name: str, known: Iterable[str], otherwise: str = "") -> str:
+    """Returns the end of a message about an unknown name: whether the most similar known name is meant, or another remedy if there is none."""
+    near = nearest(name, known)
+    return "; did you mean '%s'?" % near if near else otherwise and "; " + otherwise
+
+
 def nearest(name: str, known: Iterable[str]) -> str | None:
     """Returns the known name that is most similar to an unknown one, or None. Among many names, only those that share the most pairs
     of characters with it are compared."""

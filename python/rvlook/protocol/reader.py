@@ -13,15 +13,15 @@ from dataclasses import dataclass
 from functools import lru_cache
 from itertools import accumulate, chain, compress
 from operator import sub
-from typing import Callable, Dict, Generic, Mapping, Optional, Sequence, TYPE_CHECKING, Tuple, TypeVar
+from typing import Callable, Dict, Generic, Mapping, Optional, Sequence, Tuple, TypeVar
 
+from rvlook.protocol.bench import Closing
 from rvlook.protocol.instructions import MemoryOperand, instruction_of
 from rvlook.protocol.names import ECALL_FROM_S
 from rvlook.protocol.replies import NO_TRAP
-
-if TYPE_CHECKING:
-    from rvlook.protocol.run import Replay, Run
-    from rvlook.protocol.stretch import Stretch
+from rvlook.protocol.run import Run
+from rvlook.protocol.stretch import Stretch
+from rvlook.protocol.timeline import Timeline
 
 Item = TypeVar("Item")
 Need = Tuple[Item, Tuple[int, ...], bool]  # of an instruction: what its reader makes of it, registers, and whether they are read after the step
@@ -81,17 +81,15 @@ class Asked(Generic[Item]):
     text: bytes
 
 
-class Reader(Generic[Item]):
+class Reader(Closing, Generic[Item]):
     """A bench that follows a run, stretch after stretch. `needs` returns what is needed of the instruction in a reply of `dis`, or None."""
 
     def __init__(self, run: Run, needs: Callable[[bytes], Optional[Need[Item]]]) -> None:
         self.run, self.replay, self.needs = run, run.replay(), needs
         self.probes: Dict[Tuple[bytes, bool], Optional[Probe[Item]]] = {}
 
-    def __enter__(self) -> Reader[Item]:
-        return self
-
-    def __exit__(self, *_: object) -> None:
+    def close(self) -> None:
+        """Ends the bench."""
         self.replay.bench.close()
 
     def read(self, stretch: Stretch) -> Reads[Item]:
@@ -112,7 +110,7 @@ class Reader(Generic[Item]):
         stretch.lines = asked.lines
         return reads_of(asked, values)
 
-    def registers(self, replay: Replay, stretch: Stretch) -> Reads[Item]:
+    def registers(self, replay: Timeline, stretch: Stretch) -> Reads[Item]:
         """Reads the registers of the steps of a stretch whose instructions are known."""
         asked = self.asked(stretch, stretch.lines)
         if not asked.text:
@@ -133,7 +131,7 @@ class Reader(Generic[Item]):
         indices, probes = [n for n, it in enumerate(every) if it], [it for it in every if it]
         starts = list(accumulate([it.count for it in probes], initial=0))
         if not starts[-1] and not listing:
-            return Asked(lines, indices, probes, starts, (), b"")
+            return Asked(lines, indices, probes, starts, calls=(), text=b"")
         positions, texts = [n + it.is_after for n, it in zip(indices, probes)], [it.questions for it in probes]
         calls = calls_in(stretch) if self.run.setup.monitor and listing else []
         for n in calls:
@@ -214,7 +212,7 @@ def changed_after(asked: Asked[Item], block: bytes, code: Mapping[bytes, bytes])
     return found
 
 
-def begin(replay: Replay, stretch: Stretch) -> None:
+def begin(replay: Timeline, stretch: Stretch) -> None:
     """Brings a replay to the step before a stretch, and marks the steps of the stretch as done."""
-    replay.bench.ask(*(replay.lines_to(stretch.first - 1) + replay.lines_up_to_next() or ["reg 0"]))
+    replay.go_before(stretch.first)
     replay.lines_to(stretch.first - 1 + stretch.count)

@@ -10,7 +10,6 @@ RAN = re.compile(r"ran (\d+) pc=(\w+) mode=(\w) world=(\w+) why=(\S+) trap=(\S+)
 RAN_FIELDS = re.compile(rb"ran 1 pc=(\w+) mode=(\w) world=(\w+) why=\S+ trap=(\S+)")  # of one step: pc, mode, world and trap
 ROW = 64  # bytes that `mem` shows at once
 NO_TRAP = b"-"  # the trap of a step that has none
-STOPS = ("watch", "break")
 RanFields = Tuple[bytes, bytes, bytes, bytes]  # of RAN_FIELDS: pc, mode, world and trap
 
 
@@ -22,7 +21,7 @@ class Location(NamedTuple):
 
 
 @dataclass(frozen=True)
-class Trap:
+class RanTrap:
     """A trap, by its cause and value."""
     cause: str
     value: str
@@ -36,7 +35,7 @@ class Ran:
     mode: str
     world: str
     why: str
-    trap: Optional[Trap]
+    trap: Optional[RanTrap]
 
 
 @dataclass(frozen=True)
@@ -56,6 +55,14 @@ class Enclave:
         """Returns the world of the enclave."""
         return "e%d" % self.slot
 
+    def has(self, address: int) -> bool:
+        """Returns whether an address is in the region."""
+        return self.base <= address < self.base + self.size
+
+    def shares(self, address: int) -> bool:
+        """Returns whether an address is in the window."""
+        return self.window <= address < self.window + self.window_size
+
 
 @dataclass(frozen=True)
 class PmpEntry:
@@ -64,9 +71,10 @@ class PmpEntry:
     addr: int
 
 
-def trap_of(text: str) -> Trap | None:
+@lru_cache(maxsize=4096)
+def trap_of(text: str) -> RanTrap | None:
     """Decodes the text after `trap=`; returns None for a hyphen."""
-    return None if text == "-" else Trap(*text.split(":"))
+    return None if text == "-" else RanTrap(*text.split(":"))
 
 
 def ran_of(line: str) -> Ran | None:
@@ -114,6 +122,11 @@ def bytes_of(line: str) -> bytes:
 def memory_commands(address: int, size: int) -> list[str]:
     """Returns the commands that show a range of memory."""
     return ["mem %x %d" % (address + at, min(ROW, size - at)) for at in range(0, size, ROW)]
+
+
+def poke_commands(address: int, data: bytes) -> list[str]:
+    """Returns the commands that change bytes of memory."""
+    return ["poke %x %02x" % (address + n, it) for n, it in enumerate(data)]
 
 
 def step_fields(data: bytes) -> list[RanFields]:

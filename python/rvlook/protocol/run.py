@@ -1,17 +1,15 @@
-"""A run: what its script does, step by step, and how to return to any step. The script is run once unchanged, which shows the number of
-steps of each `run`. From then on every step can be done alone: a `run` is as many single steps, and `sched` is a step of the hart that each
-digit names."""
+"""A run: what its script does, step by step. The script is run once unchanged, which shows the number of steps of each `run`. From then on every
+step can be done alone: a `run` is as many single steps, and `sched` is a step of the hart that each digit names."""
 from __future__ import annotations
 
 import copy
-import re
 from dataclasses import dataclass, field, replace
-from functools import cached_property
-from typing import AnyStr, Generator, Iterable, Iterator, Sequence
+from itertools import islice
+from typing import AnyStr, Iterable, Iterator, Sequence
 
 from rvlook.protocol.bench import Bench
 from rvlook.protocol.bench_line import has_reply, tokens_of
-from rvlook.protocol.messages import INPUT_REPLIES, input_error
+from rvlook.protocol.commands import INPUT_REPLIES, input_error
 from rvlook.errors import BenchEnded, RvlookError, Unfinished
 from rvlook.protocol.inputs import Image, ScriptLine
 from rvlook.protocol.memory_map import MONITOR_END, RAM_BASE
@@ -19,11 +17,10 @@ from rvlook.protocol.replies import NO_TRAP, RanFields, ran_of, step_of
 from rvlook.protocol.schedule import turns_of
 from rvlook.protocol.stretch import Stretch
 from rvlook.protocol.symbols import Symbols
+from rvlook.protocol.timeline import Line, ScheduledSteps, Timeline, steps_within
 
 CHUNK = 16384  # single steps in one exchange
-MOST_STEPS = 1000000  # of one command
 MOST_KEPT = 2000000  # steps of a run whose replies are kept, some 60 bytes each
-STATE_COMMANDS = ("poke", "setreg", "timer", "hart")  # commands that change the state without a step
 EQUAL = 3  # equal replies (pc, mode, world and trap) after which a hart counts as halted
 SINGLE = b"step 1\n"
 OUTSIDE = "rvbench: image 9"
@@ -62,45 +59,14 @@ class Setup:
         """Starts a bench."""
         return Bench(self.arguments(), self.image.text, self.harts)
 
+    def choice(self, hart: int) -> list[str]:
+        """Returns the command that chooses a hart, if there are several."""
+        return ["hart %d" % hart] if self.harts > 1 else []
+
     @property
     def modes(self) -> str:
         """Returns the modes in which an access can be checked."""
         return "SU" if self.monitor else "MSU"
-
-
-@dataclass(frozen=True)
-class Line:
-    """A line of the script that does no step, in the syntax of the bench and as given; a hidden one is a part of another line."""
-    text: str
-    replies: tuple[str, ...] = ()
-    hidden: bool = False
-    given: str = ""
-
-    @property
-    def is_refused(self) -> bool:
-        """Returns whether the bench refused the line."""
-        return bool(self.replies) and self.replies[0].startswith("error ")
-
-    @cached_property
-    def command(self) -> str:
-        """Returns the command; empty if it was refused."""
-        return "" if self.is_refused else tokens_of(self.text)[0]
-
-    @property
-    def changes_state(self) -> bool:
-        """Returns whether the command changes what a step does."""
-        return self.command in STATE_COMMANDS
-
-    @property
-    def hart(self) -> int | None:
-        """Returns the hart that the line chooses, or None."""
-        return int(tokens_of(self.text)[1]) if self.command == "hart" else None
-
-
-@dataclass(frozen=True)
-class Steps:
-    """Steps of the chosen hart."""
-    count: int
 
 
 @dataclass(frozen=True)
@@ -119,7 +85,7 @@ class Run:
 
     def __init__(self, setup: Setup) -> None:
         self.setup, self.hart, self.length = setup, 0, 0
-        self.plan: list[Line | Steps] = []
+        self.plan: list[Line | ScheduledSteps] = []
         self.errors: list[tuple[ScriptLine, str]] = []
         self.mode, self.world = ("S", "host") if setup.monitor else ("M", "bare")
         self.kept: list[Line | Stretch | End] = []  # what `stretches` has yielded
@@ -128,39 +94,34 @@ class Run:
         with setup.bench() as bench:
             self.pc = bench.ask("regs")[0][32][3:]
             for line in setup.lines:
-                self.play(bench, line.text, line)
+                self.play(bench, line)
             if setup.schedule:
                 self.add_turns(bench)
 
-    def play(self, bench: Bench, line: str, script_line: ScriptLine) -> None:
+    def play(self, bench: Bench, given: ScriptLine) -> None:
         """Runs a line of the script, and adds it to the plan."""
-        if not has_reply(line):
+        if not has_reply(given.text):
             return
-        tokens = tokens_of(line)
-        replies = bench.ask(line)[0]
+        tokens = tokens_of(given.text)
+        replies = bench.ask(given.text)[0]
+        is_refused = bool(replies) and replies[0].startswith("error ")
         ran = ran_of(replies[0]) if replies else None
-        if replies and replies[0].startswith("error "):
-            self.errors.append((script_line, replies[0]))
+        if is_refused:
+            self.errors.append((given, replies[0]))
         if ran:
-            self.add_steps(ran.steps)
-        elif tokens[:1] == ["sched"] and replies[0].startswith("hart "):
-            self.add_schedule(tokens[1])
+            self.add_steps(str(self.hart), ran.steps)
+        elif tokens[:1] == ["sched"] and not is_refused:
+            self.add_steps(tokens[1], len(tokens[1]))
+            self.plan.append(Line("hart %d" % self.hart, self.hart, hidden=True))
         else:
-            done = Line(line, tuple(replies), given=script_line.given)
-            self.plan.append(done)
-            self.hart = self.hart if done.hart is None else done.hart
+            self.hart = int(tokens[1]) if tokens[:1] == ["hart"] and not is_refused else self.hart
+            self.plan.append(Line(given.text, self.hart, tuple(replies), given=given.given))
 
-    def add_steps(self, count: int) -> None:
-        """Adds steps to the plan."""
-        self.plan.append(Steps(count))
-        self.length += count
-
-    def add_schedule(self, digits: str) -> None:
-        """Adds the steps of a `sched` to the plan."""
-        for part in re.finditer(r"0+|1+", digits):
-            self.plan.append(Line("hart " + part[0][0], hidden=True))
-            self.add_steps(len(part[0]))
-        self.plan.append(Line("hart %d" % self.hart, hidden=True))
+    def add_steps(self, turns: str, count: int) -> None:
+        """Adds steps of a schedule to the plan."""
+        if count:
+            self.plan.append(ScheduledSteps(turns, count))
+            self.length += count
 
     def add_turns(self, bench: Bench) -> None:
         """Adds the steps after the script by the schedule, to the limit or until every hart has halted."""
@@ -173,30 +134,27 @@ class Run:
             repeated = equal_at_end(replies)
             is_same = repeated == count and replies[0] == kept[hart]
             kept[hart], equal[hart] = replies[-1], repeated + (equal[hart] if is_same else 0)
-            self.plan.append(Line("hart %d" % hart, hidden=True))
             self.hart = hart
-            self.add_steps(count)
             left -= count
+        self.add_steps(self.setup.schedule, self.setup.limit - left)
         self.ended = "halted" if min(equal) >= EQUAL else "limit"
 
     def with_lines(self, step: int, lines: Sequence[str]) -> Run:
         """Returns the run with more lines after a step; the lines of the script stay at their steps."""
         other = copy.copy(self)
-        inserted = [Line(line, hidden=True) for line in lines]
-        other.plan, other.kept, other.is_known, position = [], [], False, 0
+        other.plan, other.kept, other.is_known, position, is_missing = [], [], False, 0, True
         for item in self.plan:
-            if isinstance(item, Steps) and inserted and position < step <= position + item.count:
-                rest = position + item.count - step
-                other.plan.append(Steps(step - position))
-                other.plan += inserted
-                other.plan += [Steps(rest)] if rest else []
-                inserted = []
+            count = item.count if isinstance(item, ScheduledSteps) else 0
+            if isinstance(item, ScheduledSteps) and is_missing and position < step <= position + count:
+                before, after = steps_within(item, 0, step - position), steps_within(item, step - position, count)
+                other.plan += [before, *hidden_lines(lines, before.last), *([after] if after.count else [])]
+                is_missing = False
             else:
                 other.plan.append(item)
-            position += item.count if isinstance(item, Steps) else 0
-        if inserted:
-            other.plan += [Steps(step - position)] if step > position else []
-            other.plan += inserted
+            position += count
+        if is_missing:
+            other.plan += [ScheduledSteps(str(self.hart), step - position)] if step > position else []
+            other.plan += hidden_lines(lines, self.hart)
             other.setup = replace(self.setup, limit=max(0, self.setup.limit - (step - position)))
         return other
 
@@ -233,19 +191,15 @@ class Run:
             last = ("ran 0 pc=%s mode=%s world=%s why=done trap=-" % (self.pc, self.mode, self.world)).encode()
             for item in self.plan:
                 if isinstance(item, Line):
-                    hart = self.apply(bench, item, hart)
+                    if item.changes_state:
+                        bench.ask(item.text)
+                    hart = item.hart
                     yield item
-                else:
-                    last = (yield from single_steps(bench, position, hart, item.count)) or last
-                    position += item.count
+                    continue
+                for step in single_steps(bench, position, hart, item):
+                    hart, last, position = step.hart, step.data, position + step.count
+                    yield step
             yield from self.tail(bench, position, hart, last)
-
-    @staticmethod
-    def apply(bench: Bench, line: Line, hart: int) -> int:
-        """Sends a line that changes the state; returns the hart that is chosen after it."""
-        if line.changes_state:
-            bench.ask(line.text)
-        return hart if line.hart is None else line.hart
 
     def tail(self, bench: Bench, position: int, hart: int, last: bytes) -> Iterator[Stretch | End]:
         """Yields the steps after the script, until the hart does nothing more or the limit is reached, and then the end."""
@@ -254,7 +208,7 @@ class Run:
         while left > 0 and why == "limit":
             count = min(left, CHUNK)
             left -= count
-            lines = (pending + bench.block(SINGLE * count, count)).splitlines(True)
+            lines = (pending + bench.block(SINGLE * count, count)).splitlines(keepends=True)
             equal = equal_at_end(lines)
             if equal >= EQUAL:
                 why, kept = "halted", len(lines) - equal + 1
@@ -267,9 +221,9 @@ class Run:
         ran = step_of(last.splitlines()[-1].decode())
         yield End(position, why, ran.pc, ran.mode, ran.world)
 
-    def replay(self) -> Replay:
+    def replay(self) -> Timeline:
         """Starts the run again from reset."""
-        return Replay(self)
+        return Timeline(self.setup, future=(it for it in self.plan if isinstance(it, ScheduledSteps) or it.changes_state))
 
 
 def equal_at_end(lines: Sequence[AnyStr]) -> int:
@@ -280,74 +234,28 @@ def equal_at_end(lines: Sequence[AnyStr]) -> int:
     return count
 
 
-def single_steps(bench: Bench, position: int, hart: int, count: int) -> Generator[Stretch, None, bytes]:
-    """Yields single steps; returns the replies to the last of them."""
-    data = b""
-    for done in range(0, count, CHUNK):
-        part = min(CHUNK, count - done)
-        data = bench.block(SINGLE * part, part)
-        yield Stretch(position + done + 1, hart, data, part)
-    return data
+def hidden_lines(lines: Iterable[str], hart: int) -> list[Line]:
+    """Returns commands as lines that are not in the script. `hart` is the chosen hart before them."""
+    found = []
+    for line in lines:
+        hart = int(line[5:]) if line.startswith("hart ") else hart
+        found.append(Line(line, hart, hidden=True))
+    return found
 
 
-@dataclass
-class Replay:
-    """A bench that is brought to one step of a run after another. `lines_to` returns the commands, which the caller sends."""
-    run: Run
-    position: int = 0
-    hart: int = 0
-    bench: Bench = field(init=False)
-    index: int = 0  # in the plan
-    inside: int = 0  # of the plan's part there
-
-    def __post_init__(self) -> None:
-        self.bench = self.run.setup.bench()
-
-    def __enter__(self) -> Replay:
-        return self
-
-    def __exit__(self, *_: object) -> None:
-        self.bench.close()
-
-    def lines_to(self, step: int) -> list[str]:
-        """Returns the commands from the present step to right after a step."""
-        commands: list[str] = []
-        while self.position < step:
-            item = self.run.plan[self.index] if self.index < len(self.run.plan) else Steps(step - self.position)
-            if isinstance(item, Line):
-                self.index += 1
-                self.take(item, commands)
-                continue
-            count = min(item.count - self.inside, step - self.position, MOST_STEPS)
-            commands.append("step %d" % count)
-            self.position, self.inside = self.position + count, self.inside + count
-            if self.inside >= item.count and self.index < len(self.run.plan):
-                self.index, self.inside = self.index + 1, 0
-            elif self.index >= len(self.run.plan):
-                self.inside = 0
-        return commands
-
-    def take(self, line: Line, commands: list[str]) -> None:
-        """Takes a line of the script on the way."""
-        if line.changes_state:
-            commands.append(line.text)
-        self.hart = self.hart if line.hart is None else line.hart
-
-    def lines_up_to_next(self) -> list[str]:
-        """Returns the lines of the script before the next step."""
-        commands: list[str] = []
-        while self.index < len(self.run.plan):
-            item = self.run.plan[self.index]
-            if not isinstance(item, Line):
-                break
-            self.take(item, commands)
-            self.index += 1
-        return commands
-
-    def go(self, step: int) -> str | None:
-        """Goes right after a step; returns the reply of the last command, or None."""
-        commands = self.lines_to(step)
-        return self.bench.ask(*commands)[-1][0] if commands else None
+def single_steps(bench: Bench, position: int, hart: int, steps: ScheduledSteps) -> Iterator[Stretch]:
+    """Yields single steps, a stretch for each turn of a schedule. `hart` is the chosen one before them."""
+    for done in range(0, steps.count, CHUNK):
+        turns, texts = list(steps_within(steps, done, done + CHUNK).by_hart()), []
+        for next_hart, count in turns:
+            texts += [b"hart %d\n" % next_hart if next_hart != hart else b"", SINGLE * count]
+            hart = next_hart
+        text = b"".join(texts)
+        block = bench.block(text, text.count(b"\n"))
+        lines = iter([block] if len(texts) == 2 and not texts[0] else [it for it in block.splitlines(keepends=True) if it.startswith(b"ran ")])
+        for next_hart, count in turns:
+            yield Stretch(position + 1, next_hart, b"".join(islice(lines, count)), count)
+            position += count
 
 
 def run_of(setup: Setup) -> Run:

@@ -48,7 +48,7 @@ class Stretch:
         if worlds.count(worlds[0]) == self.count:
             yield self
             return
-        lines = self.data.splitlines(True)
+        lines = self.data.splitlines(keepends=True)
         for _, group in itertools.groupby(worlds):
             count = len(list(group))
             part = Stretch(self.first + at, self.hart, b"".join(lines[at:at + count]), count, before, self.lines[at:at + count])

@@ -2,20 +2,23 @@
 another bench. Steps are counted over all harts."""
 from __future__ import annotations
 
-from dataclasses import dataclass
+import re
+from collections import deque
+from dataclasses import dataclass, field
+from functools import cached_property
 from typing import Iterable, Iterator, Sequence, TYPE_CHECKING, Union
 
+from rvlook.protocol.bench import Closing
 from rvlook.protocol.bench_line import has_reply, tokens_of
-from rvlook.protocol.replies import step_of
-from rvlook.protocol.run import MOST_STEPS
+from rvlook.protocol.replies import Ran, step_of
 
 if TYPE_CHECKING:
-    from rvlook.protocol.replies import Ran
     from rvlook.protocol.run import Setup
 
 CHANGING = ("poke", "setreg", "timer")  # commands that change the state without a step
 CONTRARY = {"break": "clear", "watch": "unwatch", "clear": "break", "unwatch": "watch"}
 TURNS = 64  # digits of a sched, at most
+MOST_STEPS = 1000000  # of one command
 
 
 @dataclass(frozen=True)
@@ -34,21 +37,50 @@ class ScheduledSteps:
         """Returns the hart of the last step."""
         return int(self.turns[(self.count - 1) % len(self.turns)])
 
+    def by_hart(self) -> Iterator[tuple[int, int]]:
+        """Yields the turns: each is a hart and its number of steps, at most MOST_STEPS."""
+        parts = [self.turns] if self.chosen else re.findall("0+|1+", self.turns)
+        left = self.count
+        while left:
+            for part in parts:
+                count = min(left, MOST_STEPS if self.chosen else len(part))
+                if count:
+                    yield int(part[0]), count
+                left -= count
+
     def lines(self) -> list[str]:
         """Returns the commands that do the steps, after `chosen`."""
         if self.chosen:
-            full, rest = divmod(self.count, MOST_STEPS)
-            return ["step %d" % MOST_STEPS] * full + (["step %d" % rest] if rest else [])
+            return ["step %d" % count for _, count in self.by_hart()]
         digits = self.turns * (TURNS // len(self.turns))
         full, rest = divmod(self.count, len(digits))
         return ["sched " + digits] * full + (["sched " + digits[:rest]] if rest else [])
 
 
 @dataclass(frozen=True)
-class StateChange:
-    """A command that changed the state without a step, with the selected hart."""
+class Line:
+    """A line of a script that does no step, in the syntax of the bench, with the hart that is chosen after it. `replies` are the replies to it, and
+    `given` is the line as in the script. A hidden line is a part of another line."""
+    text: str
     hart: int
-    line: str
+    replies: tuple[str, ...] = field(default=(), compare=False)
+    hidden: bool = field(default=False, compare=False)
+    given: str = field(default="", compare=False)
+
+    @property
+    def is_refused(self) -> bool:
+        """Returns whether the bench refused the line."""
+        return bool(self.replies) and self.replies[0].startswith("error ")
+
+    @cached_property
+    def command(self) -> str:
+        """Returns the command; empty if it was refused."""
+        return "" if self.is_refused else tokens_of(self.text)[0]
+
+    @property
+    def changes_state(self) -> bool:
+        """Returns whether the command changes what a step does."""
+        return self.command == "hart" or self.command in CHANGING
 
     @property
     def chosen(self) -> list[str]:
@@ -56,11 +88,11 @@ class StateChange:
         return ["hart %d" % self.hart]
 
     def lines(self) -> list[str]:
-        """Returns the command."""
-        return [self.line]
+        """Returns the command, after `chosen`."""
+        return [] if self.command == "hart" else [self.text]
 
 
-Action = Union[ScheduledSteps, StateChange]  # a part of the history of a bench
+Action = Union[ScheduledSteps, Line]  # a part of the history of a bench
 
 
 def rotated(turns: str, count: int) -> str:
@@ -72,15 +104,15 @@ def rotated(turns: str, count: int) -> str:
 def actions_between(past: Iterable[Action], first: int, end: int) -> Iterator[Action]:
     """Yields what was done after step `first`, up to step `end`, with the commands right after that."""
     at = 0
-    for it in past:
-        if isinstance(it, StateChange):
+    for action in past:
+        if isinstance(action, Line):
             if first < at <= end:
-                yield it
+                yield action
             continue
-        skipped, count = max(0, first - at), min(at + it.count, end) - max(at, first)
-        if count > 0:
-            yield ScheduledSteps(rotated(it.turns, skipped), count)
-        at += it.count
+        found = steps_within(action, max(0, first - at), end - at)
+        if found.count:
+            yield found
+        at += action.count
 
 
 def steps_within(steps: ScheduledSteps, first: int, end: int) -> ScheduledSteps:
@@ -91,11 +123,11 @@ def steps_within(steps: ScheduledSteps, first: int, end: int) -> ScheduledSteps:
 def commands_of(past: Iterable[Action], chosen: int, hart: int) -> Iterator[str]:
     """Yields the commands that repeat what was done; hart `chosen` is chosen before, and `hart` after them."""
     choice = ["hart %d" % chosen]
-    for it in past:
-        if it.chosen and it.chosen != choice:
-            choice = it.chosen
+    for action in past:
+        if action.chosen and action.chosen != choice:
+            choice = action.chosen
             yield from choice
-        yield from it.lines()
+        yield from action.lines()
     if choice != ["hart %d" % hart]:
         yield "hart %d" % hart
 
@@ -103,18 +135,19 @@ def commands_of(past: Iterable[Action], chosen: int, hart: int) -> Iterator[str]
 def agree(one: str, other: str, count: int) -> bool:
     """Returns whether two schedules agree for a number of steps."""
     period = len(one) * len(other)
-    return all(one[n % len(one)] == other[n % len(other)] for n in range(min(count, period)))
+    return one == other or all(one[n % len(one)] == other[n % len(other)] for n in range(min(count, period)))
 
 
-class Timeline:
-    """A bench after the actions in `past`. `future` has the actions that followed before the user went back, as long as the same ones are repeated.
+class Timeline(Closing):
+    """A bench after the actions in `past`. `future` has the actions that follow: those of a run, or those that were done before the user went back,
+    as long as the same ones are repeated. The caller sends what `lines_to` and `lines_up_to_next` return.
     `modes` and `worlds` are those of each hart, and `stops` the breakpoints and watchpoints. `changes` counts the actions that may have changed a
     register or a byte, and `moved`, for each hart, those that may have changed its world."""
 
-    def __init__(self, setup: Setup, past: Iterable[Action] = (), hart: int = 0) -> None:
+    def __init__(self, setup: Setup, past: Iterable[Action] = (), hart: int = 0, future: Iterable[Action] = ()) -> None:
         self.setup = setup
         self.past: list[Action] = []
-        self.future: list[Action] = []
+        self.future: deque[Action] = deque(future)
         self.stops: dict[str, None] = {}
         self.position = self.hart = self.changes = 0
         mode, world = ("S", "host") if setup.monitor else ("M", "bare")
@@ -145,8 +178,8 @@ class Timeline:
         for line in lines:
             self.hart = int(line[5:]) if line.startswith("hart ") else self.hart
             self.given.append((line, self.hart))
-        for it in past:
-            self.add(it)
+        for action in past:
+            self.add(action)
         if lines:
             self.bench.begin(*lines)
 
@@ -232,50 +265,93 @@ class Timeline:
         elif name == "sched":
             self.add(ScheduledSteps(line.split()[1], len(line.split()[1])))
         elif name in CHANGING:
-            self.add(StateChange(self.hart, line))
+            self.add(Line(line, self.hart))
         elif name in ("break", "watch"):
             self.stops["%s %x" % (name, int(line.split()[1], 16))] = None
         elif name in CONTRARY:
             self.stops.pop("%s %x" % (CONTRARY[name], int(line.split()[1], 16)), None)
 
-    def add(self, it: Action) -> None:
+    def add(self, action: Action) -> None:
         """Appends to what was done; joins steps that continue the schedule."""
         self.changes += 1
-        self.spend(it)
+        self.spend(action)
         last = self.past[-1] if self.past else None
-        if isinstance(it, ScheduledSteps):
-            self.position += it.count
-            if isinstance(last, ScheduledSteps) and rotated(last.turns, last.count) == it.turns:
-                self.past[-1] = ScheduledSteps(last.turns, last.count + it.count)
+        if isinstance(action, ScheduledSteps):
+            self.position += action.count
+            if isinstance(last, ScheduledSteps) and rotated(last.turns, last.count) == action.turns:
+                self.past[-1] = ScheduledSteps(last.turns, last.count + action.count)
                 return
-        self.past.append(it)
+        self.past.append(action)
 
-    def spend(self, it: Action) -> None:
+    def spend(self, action: Action) -> None:
         """Removes what is done now from the future; drops the future if it differs."""
-        if isinstance(it, StateChange):
-            self.future = self.future[1:] if self.future[:1] == [it] else []
+        if isinstance(action, Line):
+            if not self.future or self.future.popleft() != action:
+                self.future.clear()
             return
-        while self.future and it.count:
-            head = self.future[0]
-            done = min(it.count, head.count) if isinstance(head, ScheduledSteps) else 0
-            if isinstance(head, StateChange) or not done or not agree(it.turns, head.turns, done):
-                self.future = []
+        while self.future and action.count:
+            head = self.future.popleft()
+            done = min(action.count, head.count) if isinstance(head, ScheduledSteps) else 0
+            if isinstance(head, Line) or not done or not agree(action.turns, head.turns, done):
+                self.future.clear()
                 return
-            self.future[:1] = [ScheduledSteps(rotated(head.turns, done), head.count - done)] if done < head.count else []
-            it = ScheduledSteps(rotated(it.turns, done), it.count - done)
+            if done < head.count:
+                self.future.appendleft(steps_within(head, done, head.count))
+            action = steps_within(action, done, action.count)
+
+    # the way forward
+
+    def lines_to(self, step: int) -> list[str]:
+        """Returns the commands of the future up to a step, without those right after it. After the future the chosen hart continues."""
+        lines: list[str] = []
+        while self.position < step:
+            head = self.future[0] if self.future else ScheduledSteps(str(self.hart), step - self.position)
+            lines += self.repeated(head if isinstance(head, Line) else steps_within(head, 0, step - self.position))
+        return lines
+
+    def lines_up_to_next(self) -> list[str]:
+        """Returns the commands of the future before its next step, and the choice of the hart of that step."""
+        lines: list[str] = []
+        while self.future:
+            head = self.future[0]
+            if not isinstance(head, Line):
+                return lines + self.choice(int(head.turns[0]))
+            lines += self.repeated(head)
+        return lines
+
+    def repeated(self, action: Action) -> list[str]:
+        """Counts an action as done; returns its commands."""
+        lines = [*self.choice(action.hart), *action.lines()] if isinstance(action, Line) else \
+            [line for hart, count in action.by_hart() for line in (*self.choice(hart), "step %d" % count)]
+        self.add(action)
+        return lines
+
+    def choice(self, hart: int) -> list[str]:
+        """Returns the command that chooses a hart, if another one is chosen."""
+        before, self.hart = self.hart, hart
+        return [] if hart == before else ["hart %d" % hart]
+
+    def go(self, step: int) -> str | None:
+        """Goes right after a step of the future; returns the reply to the last command, or None."""
+        lines = self.lines_to(step)
+        return self.bench.ask(*lines)[-1][0] if lines else None
+
+    def go_before(self, step: int) -> None:
+        """Goes right before a step of the future: does the step before it, and the commands between them."""
+        self.bench.ask(*self.lines_to(step - 1), *self.lines_up_to_next())
 
     @property
     def has_command(self) -> bool:
         """Returns whether the future has a command."""
-        return any(isinstance(it, StateChange) for it in self.future)
+        return any(isinstance(it, Line) for it in self.future)
 
     def room(self) -> int | None:
         """Returns the number of steps before the first command of the future, or None."""
         count = 0
-        for it in self.future:
-            if isinstance(it, StateChange):
+        for action in self.future:
+            if isinstance(action, Line):
                 return count
-            count += it.count
+            count += action.count
         return None
 
     def redo(self) -> bool:
@@ -283,11 +359,11 @@ class Timeline:
         found = False
         while self.future:
             head = self.future[0]
-            if not isinstance(head, StateChange):
+            if not isinstance(head, Line):
                 break
             found = True
             self.choose(head.hart)
-            self.do(head.line)
+            self.do(head.text)
         return found
 
     # the way back
@@ -298,7 +374,7 @@ class Timeline:
 
     def take_future(self, old: Timeline) -> None:
         """Takes what another timeline did after this step as the future."""
-        self.future = [*actions_between(old.past, self.position, old.position), *old.future]
+        self.future = deque([*actions_between(old.past, self.position, old.position), *old.future])
 
     def set_stops(self, wanted: Iterable[str]) -> None:
         """Sets these breaks and watches, and removes all others."""
@@ -313,18 +389,18 @@ class Timeline:
 
     def turns_of(self, schedule: str) -> str:
         """Returns the schedule from the next step on, also if a hart ran alone meanwhile."""
-        for it in reversed(self.past):
-            if isinstance(it, ScheduledSteps) and len(it.turns) == len(schedule) and it.turns in schedule * 2:
-                return rotated(it.turns, it.count)
+        for action in reversed(self.past):
+            if isinstance(action, ScheduledSteps) and len(action.turns) == len(schedule) and action.turns in schedule * 2:
+                return rotated(action.turns, action.count)
         return schedule
 
     def step_before(self, hart: int) -> int | None:
         """Returns the step before the last one of a hart, or None if it did none."""
         at = self.position
-        for it in reversed(self.past):
-            if isinstance(it, ScheduledSteps):
-                for back in range(1, min(len(it.turns), it.count) + 1):
-                    if int(it.turns[(it.count - back) % len(it.turns)]) == hart:
+        for action in reversed(self.past):
+            if isinstance(action, ScheduledSteps):
+                for back in range(1, min(len(action.turns), action.count) + 1):
+                    if int(action.turns[(action.count - back) % len(action.turns)]) == hart:
                         return at - back
-                at -= it.count
+                at -= action.count
         return None

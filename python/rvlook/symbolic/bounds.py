@@ -16,6 +16,7 @@ if TYPE_CHECKING:
 
 MOST_PLACES = 40  # words of one kind about which facts are learned
 LONGEST_ROW, NEAR = 16, 16  # elements of an array of bytes whose bounds are learned; bytes between two words whose sum is
+LONGEST_BOUND = 1000  # operations
 Assumed = Tuple[List[Node], Dict[str, int]]  # conditions, and values for which they hold
 
 
@@ -36,9 +37,9 @@ class Bounds:
                 if at.startswith("x"):
                     found[at.split("_")[0]] = None
                 continue
-            it = self.extents.member(at) if at < stack else None
-            size = (it.element or it.size) if it else 4
-            if it and size < 4 and it.size <= LONGEST_ROW * size:
+            member = self.extents.member(at) if at < stack else None
+            size = (member.element or member.size) if member else 4
+            if member and size < 4 and member.size <= LONGEST_ROW * size:
                 found["b%x" % at] = None
             elif size >= 4:
                 found[at & -4] = None
@@ -59,14 +60,15 @@ class Bounds:
         """Returns whether a word is a variable."""
         if not isinstance(x, int) or x >= self.search.world.objects.stack:
             return False
-        it = self.extents.variable(x)
-        return it.high - it.low <= 4
+        extent = self.extents.variable(x)
+        return extent.high - extent.low <= 4
 
     def candidates(self, new: Sequence[WordPlace], others: Sequence[WordPlace], words: Words, tags: Dict[Any, Any], own: Optional[int]) -> List[Fact]:
-        """Returns what may hold for words that are not known any more. `own` has the variables of the loop, None outside a loop."""
+        """Returns what may hold for words that are not known any more, without long bounds such as results of a hash. `own` has the variables of the
+        loop, None outside a loop."""
         bases = {at: it.base for at, it in tags.items() if it is not None and it.how in (How.SYMBOL, How.FRAME, How.MEMORY, How.UPPER)}
         found = candidates(new[:MOST_PLACES], others[:MOST_PLACES], words, bases, self.limits, own is not None)
-        return [it for it in found if type(it.bound) is not Node or not mask_of(it.bound) & (own or 0)]
+        return [it for it in found if type(it.bound) is not Node or it.bound.weight <= LONGEST_BOUND and not mask_of(it.bound) & (own or 0)]
 
     def holding(self, assumed: Assumed, facts: Sequence[Fact], words: Words) -> List[Fact]:
         """Returns the facts that hold under conditions."""
@@ -75,15 +77,15 @@ class Bounds:
     @staticmethod
     def conditions(facts: Sequence[Fact], words: Words) -> List[Node]:
         """Returns facts as conditions."""
-        return [c for c in (condition_of(it, words) for it in active(facts)) if type(c) is Node]
+        return [condition for condition in (condition_of(it, words) for it in active(facts)) if type(condition) is Node]
 
 
 def words_of(state: State) -> Words:
     """Returns the function that gives the words of a state."""
     def words(at: WordPlace) -> Word:
         if isinstance(at, int):
-            return state.load(at, 4, False)
-        return state.regs[int(at[1:])] if at.startswith("x") else state.load(int(at[1:], 16), 1, False)
+            return state.load(at, 4, is_signed=False)
+        return state.regs[int(at[1:])] if at.startswith("x") else state.load(int(at[1:], 16), 1, is_signed=False)
     return words
 
 
@@ -98,11 +100,12 @@ def words_of_cells(byte_at: Callable[[Any], Any]) -> Words:
 
 def numbers_of(search: Search) -> Set[int]:
     """Returns the numbers that instructions of the enclave have."""
-    w, found = search.world, set()
-    for at in range(0, len(w.memory) - 3, 4):
-        it = decode(int.from_bytes(w.memory[at:at + 4], "little"))
-        if it.kind == "imm" and it.more in ("add", "sltu", "slt", "and") and 0 < it.imm < 2048 and (it.r1 == 0 or it.more != "add"):
-            found.add(it.imm)
+    memory, found = search.world.memory, set()
+    for at in range(0, len(memory) - 3, 4):
+        instruction = decode(int.from_bytes(memory[at:at + 4], "little"))
+        is_number = instruction.more in ("sltu", "slt", "and") or instruction.more == "add" and instruction.r1 == 0
+        if instruction.kind == "imm" and is_number and 0 < instruction.imm < 2048:
+            found.add(instruction.imm)
     return found
 
 
@@ -112,6 +115,6 @@ def sizes_of(extents: Extents) -> Set[int]:
     for symbol in extents.objects.own:
         if symbol.size and not symbol.is_function:
             found.add(symbol.size)
-    for it in extents.objects.fixed:
-        found |= {it.size, it.size // it.element if it.element else it.size}
+    for start in extents.objects.fixed:
+        found |= {start.size, start.size // start.element if start.element else start.size}
     return {n for n in found if n <= 4096}

@@ -17,7 +17,7 @@ from rvlook.symbolic.state import State
 from rvlook.symbolic.world import World
 
 if TYPE_CHECKING:
-    from rvlook.finders.inputs.search import Search as InputSearch
+    from rvlook.finders.inputs.search import InputSearch
     from rvlook.finders.inputs.trace import Trace
     from rvlook.symbolic.extents import Extent
     from rvlook.symbolic.fields import AnyState, Load
@@ -34,7 +34,7 @@ class Model:
 
     def __init__(self, state: AnyState, values: Mapping[str, int], pair: Optional[Turn] = None) -> None:
         self.loads: List[Load] = state.loads[:]
-        self.ends: List[int] = [it[0] for it in state.answers]
+        self.ends: List[int] = [it.step for it in state.answers]
         self.values, self.pair, self.index = values, pair, state.steps - (pair is not None)
 
 
@@ -44,13 +44,13 @@ class TraceState(State):
 
     def asked_outside(self, x: Node, insides: List[Tuple[Condition, Extent]], is_sure: bool, kind: str) -> Optional[bool]:
         """Proposes addresses right before and right after the objects of an access, and the last one inside."""
-        s: TracePath = self.search  # type: ignore[assignment]
-        if self.is_base and s.is_new_access(self.pc, self.context):
-            for _, it in insides:
-                for at in (it.high, it.high - 1, it.low - 1):
-                    answer, model = s.solver.satisfiable(self.conds, eq(x, at), self.model)
+        search: TracePath = self.search  # type: ignore[assignment]
+        if self.is_base and search.is_new_access(self.pc, self.context):
+            for _, extent in insides:
+                for at in (extent.high, extent.high - 1, extent.low - 1):
+                    answer, model = search.solver.satisfiable(self.conds, eq(x, at), self.model)
                     if answer:
-                        s.models.append(Model(self, model))
+                        search.models.append(Model(self, model))
         return True
 
 
@@ -108,8 +108,8 @@ def compares_memory(search: InputSearch, trace: Trace, index: int) -> bool:
 def path_of(search: InputSearch, trace: Trace) -> Optional[TracePath]:
     """Executes the path of a trace with expressions; returns it, or None if z3 is missing."""
     run = search.run
-    for it in trace.changes:
-        run = run.with_lines(it.step, it.lines())
+    for change in trace.changes:
+        run = run.with_lines(change.step, change.lines())
     options = VerifyOptions(search.tracer.slot, calm=True, merges=False, replay=0, bound=MOST_ROUNDS, path_steps=MOST_STEPS, timeout=TIMEOUT,
                             seconds=SECONDS)
     try:

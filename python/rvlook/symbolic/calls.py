@@ -3,10 +3,10 @@ from __future__ import annotations
 
 from typing import Tuple
 
-from rvlook.symbolic.fields import CSRS, SCAUSE, SEPC, SSCRATCH, SSTATUS, STVAL, STVEC, Ended
+from rvlook.symbolic.fields import CSRS, EXITED, FINDING, SCAUSE, SEPC, SSCRATCH, SSTATUS, STOPPED, STVAL, STVEC, Answer, Area, Ended, OpenCall
 from rvlook.symbolic.memory import Memory
 from rvlook.symbolic.nodes import M32, Node, Word
-from rvlook.symbolic.words import add, operation
+from rvlook.symbolic.words import add, is_number_choice, operation
 
 MONITOR_KEY, MEASURE, STOP, EXIT = 0x0A454E43, 5, 6, 7
 BAD_ADDRESS, NOT_SUPPORTED = 0xFFFFFFF7, M32
@@ -21,40 +21,37 @@ class Traps(Memory):
 
     def called(self, pc: int, target: int, is_trap: bool = False) -> None:
         """Takes a call of a function, or a trap."""
-        s = self.search
-        self.context = s.world.contexts.called(self.context, pc, is_trap)
-        s.calls += 1
-        self.calls, self.call = (self.calls, self.call, pc + 4, self.regs[2], self.entry), s.calls
+        search = self.search
+        self.context = search.world.contexts.called(self.context, pc, is_trap)
+        search.calls += 1
+        self.calls, self.call = OpenCall(self.calls, self.call, pc + 4, self.regs[2], self.entry), search.calls
         self.entry = target
-        if target not in s.flows.known:
-            s.note_flow(target)
+        if target not in search.flows.known:
+            search.note_flow(target)
 
     def returned(self, target: int) -> None:
         """Takes a return. The host must not choose where it goes."""
-        s, c = self.search, self.search.world.contexts
-        if self.calls and self.calls[2] != target:
+        search, contexts = self.search, self.search.world.contexts
+        if self.calls and self.calls.back != target:
             if self.is_base:
-                s.doubt("return", self, "a return that is none")
+                search.doubt("return", self, "a return that is none")
             else:
-                s.report("return", self, "goes to %08x" % target, self.model)
-                raise Ended("finding")
-        self.context = c.returned(self.context, target)
+                search.report("return", self, "goes to %08x" % target, self.model)
+                raise Ended(FINDING)
+        self.context = contexts.returned(self.context, target)
         self.leave_call(target)
 
     def leave_call(self, target: int) -> None:
         """Ends the innermost call that returns to an address, and those inside it."""
-        calls = self.calls
-        while calls:
-            calls, call, back, _, entry = calls
-            if back == target:
-                self.calls, self.call, self.entry = calls, call, entry
-                self.areas = tuple(it for it in self.areas if self.is_open(it[0]))
-                return
+        found = next((it for it in self.open_calls() if it.back == target), None)
+        if found:
+            self.calls, self.call, self.entry = found.outer, found.caller, found.entry
+            self.areas = tuple(it for it in self.areas if self.is_open(it.call))
 
     def leave_frame(self) -> None:
         """Ends the frame of the present call: a function that it jumps to has another one."""
         self.search.calls += 1
-        self.areas = tuple(it for it in self.areas if it[0] != self.call)
+        self.areas = tuple(it for it in self.areas if it.call != self.call)
         self.call = self.search.calls
 
     def moved_sp(self, old: int, is_relative: bool) -> None:
@@ -64,41 +61,45 @@ class Traps(Memory):
             raise Ended("sp")
         self.bottom, _ = self.search.extents.stack_of(new)
         if is_relative and new < old:
-            self.areas += ((self.call, new, old),)
+            self.areas += (Area(self.call, new, old),)
             if new < self.bottom:
                 self.overflow(new, "store")
         elif is_relative:
-            self.areas = tuple(it for it in self.areas if it[0] != self.call or it[1] >= new)
+            self.areas = tuple(it for it in self.areas if it.call != self.call or it.low >= new)
 
     # ---- traps
 
     def trap(self, cause: int, value: Word) -> int:
         """Takes a trap, as the monitor redirects it (docs/MONITOR.md, Trap handling). Returns the pc."""
-        s, csr = self.search, self.csr
-        target = self.fixed(csr[STVEC]) & -4  # first: it may divide the path, which then executes this step again
-        s.note_trap(self, cause, value)
+        search, csr = self.search, self.csr
+        target = self.jumped(csr[STVEC]) & -4  # first: it may divide the path, which then executes this step again
+        search.note_trap(self, cause, value)
         status = csr[SSTATUS]
         csr[SEPC], csr[SCAUSE], csr[STVAL] = self.pc & -4, cause, value
         csr[SSTATUS] = status & ~(SIE | SPIE | SPP) | (SPP if self.mode else 0) | (SPIE if status & SIE else 0)
         self.mode = 1
-        self.called(self.pc, target, True)
+        self.called(self.pc, target, is_trap=True)
         return target
+
+    def jumped(self, x: Word) -> int:
+        """Returns the address in a register of mode S at which the path goes on. The host must not choose it, unless as one of several numbers."""
+        return self.search.jump(self, x, is_return=True) if type(x) is Node and not is_number_choice(x) else self.fixed(x)
 
     def sret(self) -> int:
         """Returns from a trap; returns the pc."""
-        target = self.fixed(self.csr[SEPC])
-        status, c = self.csr[SSTATUS], self.search.world.contexts
+        target = self.jumped(self.csr[SEPC])
+        status, contexts = self.csr[SSTATUS], self.search.world.contexts
         self.mode = status >> 8 & 1
         self.csr[SSTATUS] = status & ~(SIE | SPIE | SPP) | (SIE if status & SPIE else 0) | SPIE
         self.leave_call(target)
-        self.context = next((c.parents[it] for it in c.chain(self.context) if c.traps[it]), 0)
+        self.context = next((contexts.parents[it] for it in contexts.chain(self.context) if contexts.traps[it]), 0)
         return target
 
-    def csr_access(self, rd: int, r1: int, number: int, w: int, more: Tuple[str, bool]) -> int:
+    def csr_access(self, rd: int, r1: int, number: int, word: int, more: Tuple[str, bool]) -> int:
         """Executes an instruction on a control and status register. Returns the pc."""
         how, is_number = more
         if not self.mode or number not in CSRS:
-            return self.trap(ILLEGAL, w)
+            return self.trap(ILLEGAL, word)
         old, new, tag = self.csr[number], r1 if is_number else self.regs[r1], None if is_number else self.tags[r1]
         old_tag, old_sp = self.csr_tags.get(number), self.regs[2]
         if how == "w" or r1 != 0:
@@ -110,7 +111,7 @@ class Traps(Memory):
         if rd:
             self.regs[rd], self.tags[rd] = old, old_tag
             if rd == 2:
-                self.moved_sp(old_sp, False)
+                self.moved_sp(old_sp, is_relative=False)
         return self.pc + 4
 
     # ---- the monitor
@@ -119,8 +120,8 @@ class Traps(Memory):
         """Calls the monitor, or its own runtime. Returns the pc."""
         if not self.mode:
             return self.trap(ECALL_U, 0)
-        r = self.regs
-        call = self.fixed(r[16]) if self.fixed(r[17]) == MONITOR_KEY else 0
+        registers = self.regs
+        call = self.fixed(registers[16]) if self.fixed(registers[17]) == MONITOR_KEY else 0
         if call in (STOP, EXIT):
             self.leave_enclave(call)
         elif call == MEASURE:
@@ -136,40 +137,40 @@ class Traps(Memory):
 
     def leave_enclave(self, call: int) -> None:
         """Stops or exits. The next activation begins with what the host then gives."""
-        s, r = self.search, self.regs
-        s.answered(self, r[10])
-        self.answers.append((self.steps, call, r[10], len(self.loads), len(self.stores)))
-        s.left(self)
+        search, registers = self.search, self.regs
+        search.answered(self, registers[10])
+        self.answers.append(Answer(self.steps, call, registers[10], len(self.loads), len(self.stores)))
+        search.left(self)
         if call == EXIT:
-            raise Ended("exit")
-        if s.merger:
-            s.take_stop(self)
+            raise Ended(EXITED)
+        if search.merger:
+            search.take_stop(self)
             if not self.is_base:
-                raise Ended("stop")
-            self.is_covered = bool(s.means.loops_from)
-        if self.visit + 1 >= s.activations:
-            raise Ended("stop")
+                raise Ended(STOPPED)
+            self.is_covered = bool(search.means.loops_from)
+        if self.visit + 1 >= search.activations:
+            raise Ended(STOPPED)
         self.visit += 1
         self.win, self.fetched, self.fetched_at, self.counts, self.pending, self.released = {}, {}, [], {}, (), False
-        self.winmem = bytearray(s.world.windows[min(self.visit, len(s.world.windows) - 1)])
+        self.winmem = bytearray(search.world.windows[min(self.visit, len(search.world.windows) - 1)])
         self.answer(0)
 
     def measure(self) -> int:
         """Stores the measurement of the enclave, as the monitor does. Returns the pc."""
-        at, w = self.regs[11], self.search.world
-        digest = bytes.fromhex(w.enclave.measurement)
+        at, world = self.regs[11], self.search.world
+        digest = bytes.fromhex(world.enclave.measurement)
         if type(at) is Node:
-            it = self.place_at(at, DIGEST, self.tags[11], 0, "store")
-            if it is not None and it.low == w.window[0]:
-                for n, b in enumerate(digest):
-                    self.sent(self.value(at) + n, 1, b, add(at, n))
+            extent = self.place_at(at, DIGEST, self.tags[11], 0, "store")
+            if extent is not None and extent.low == world.window[0]:
+                for n, byte in enumerate(digest):
+                    self.sent(self.value(at) + n, 1, byte, add(at, n))
                 self.answer(0)
                 return self.pc + 4
             at = self.fixed(at, "address")
-        if all(w.is_allowed(at + n, 1) for n in range(DIGEST)):
+        if all(world.is_allowed(at + n, 1) for n in range(DIGEST)):
             self.access(at, DIGEST, self.tags[11], 0, "store")
-            for n, b in enumerate(digest):
-                self.store(at + n, 1, b)
+            for n, byte in enumerate(digest):
+                self.store(at + n, 1, byte)
             self.answer(0)
         else:
             self.answer(BAD_ADDRESS)

@@ -4,7 +4,7 @@ from __future__ import annotations
 from typing import Any, Callable, Dict, List, Optional, Tuple
 
 from rvlook.symbolic.nodes import M32, Byte, Condition, Node, Word, make, signed
-from rvlook.symbolic.words import RULES, bool_, may_of, not_
+from rvlook.symbolic.words import RULES, bool_, may_of, not_, operation
 
 
 def eq(x: Word, y: Word) -> Condition:
@@ -26,8 +26,8 @@ def equals_number(x: Node, y: int) -> Condition:
     if op == "bool":
         return x.args[0] if y else not_(x.args[0])
     if op == "ite":
-        it = divided(x.args[0], eq(x.args[1], y), eq(x.args[2], y))
-        return make("eq", (x, y), 1) if it is None else it
+        known = divided(x.args[0], eq(x.args[1], y), eq(x.args[2], y))
+        return make("eq", (x, y), 1) if known is None else known
     if op in ("add", "xor") and type(last) is int:
         return eq(x.args[0], y - last & M32 if op == "add" else y ^ last)
     if y == 0 and op in ("xor", "sub"):
@@ -39,21 +39,21 @@ def equals_number(x: Node, y: int) -> Condition:
     return word_equals(x, y) if op == "word" else make("eq", (x, y), 1)
 
 
-def divided(c: Node, one: Condition, two: Condition) -> Optional[Condition]:
+def divided(condition: Node, one: Condition, two: Condition) -> Optional[Condition]:
     """Returns whether one condition holds, or another if `c` does not hold; None if neither of them is known."""
     if type(one) is bool and type(two) is bool:
-        return one if one == two else c if one else not_(c)
+        return one if one == two else condition if one else not_(condition)
     if type(one) is bool:
-        return any_of(c, two) if one else all_of(not_(c), two)
+        return any_of(condition, two) if one else all_of(not_(condition), two)
     if type(two) is bool:
-        return any_of(not_(c), one) if two else all_of(c, one)
+        return any_of(not_(condition), one) if two else all_of(condition, one)
     return None
 
 
 def word_equals(x: Node, y: int) -> Condition:
     """Returns whether a word of bytes has a value: the constant bytes decide at once."""
     wanted = [y >> 8 * n & 255 for n in range(4)]
-    if any(type(b) is int and b != v for b, v in zip(x.args, wanted)):
+    if any(type(part) is int and part != expected for part, expected in zip(x.args, wanted)):
         return False
     parts = [n for n in range(4) if type(x.args[n]) is Node]
     return make("eq8", (x.args[parts[0]], wanted[parts[0]]), 1) if len(parts) == 1 else make("eq", (x, y), 1)
@@ -117,8 +117,8 @@ def ult(x: Word, y: Word) -> Condition:
             return False
         if x == 0:
             return not_(eq(y, 0))
-    it = by_choice(ult, x, y)
-    return make("ult", (x, y), 1) if it is None else it
+    chosen = by_choice(ult, x, y)
+    return make("ult", (x, y), 1) if chosen is None else chosen
 
 
 def by_choice(compare: Callable[[Word, Word], Condition], x: Word, y: Word) -> Optional[Condition]:
@@ -138,8 +138,8 @@ def lt(x: Word, y: Word) -> Condition:
         return False
     if may_of(x) < 1 << 31 and may_of(y) < 1 << 31:
         return ult(x, y)
-    it = by_choice(lt, x, y)
-    return make("lt", (x, y), 1) if it is None else it
+    chosen = by_choice(lt, x, y)
+    return make("lt", (x, y), 1) if chosen is None else chosen
 
 
 RULES.update({"slt": lambda x, y: bool_(lt(x, y)), "sltu": lambda x, y: bool_(ult(x, y))})
@@ -147,8 +147,8 @@ RULES.update({"slt": lambda x, y: bool_(lt(x, y)), "sltu": lambda x, y: bool_(ul
 
 def all_of(*conditions: Condition) -> Condition:
     """Returns the conjunction of conditions."""
-    left = [c for c in conditions if c is not True]
-    if any(c is False for c in left):
+    left = [condition for condition in conditions if condition is not True]
+    if any(condition is False for condition in left):
         return False
     if len(left) > 1:
         left = distinct(left)
@@ -160,23 +160,23 @@ def all_of(*conditions: Condition) -> Condition:
 def distinct(conditions: List[Node]) -> List[Node]:
     """Returns the parts of conditions, each once. A looser bound of a word by a number is left out."""
     found: Dict[Any, Node] = {}
-    for c in conditions:
-        for it in c.args if c.op == "and1" else (c,):
-            key, n = bound_of(it)
+    for condition in conditions:
+        for part in condition.args if condition.op == "and1" else (condition,):
+            key, n = bound_of(part)
             old = found.get(key)
             if old is None or n > bound_of(old)[1]:
-                found[key] = it
+                found[key] = part
     return list(found.values())
 
 
-def bound_of(c: Node) -> Tuple[Any, int]:
+def bound_of(condition: Node) -> Tuple[Any, int]:
     """Returns what a condition bounds, and a number that is the greater the stricter it is."""
-    it, is_not = (c.args[0], True) if c.op == "not" else (c, False)
-    if it.op == "ult" and type(it.args[0]) is int:  # a < x, or x <= a
-        return (it.args[1], is_not), -it.args[0] if is_not else it.args[0]
-    if it.op == "ult" and type(it.args[1]) is int:  # x < a, or a <= x
-        return (it.args[0], not is_not), it.args[1] - 1 if is_not else 1 - it.args[1]
-    return c, 0
+    compared, is_not = (condition.args[0], True) if condition.op == "not" else (condition, False)
+    if compared.op == "ult" and type(compared.args[0]) is int:  # a < x, or x <= a
+        return (compared.args[1], is_not), -compared.args[0] if is_not else compared.args[0]
+    if compared.op == "ult" and type(compared.args[1]) is int:  # x < a, or a <= x
+        return (compared.args[0], not is_not), compared.args[1] - 1 if is_not else 1 - compared.args[1]
+    return condition, 0
 
 
 def any_of(*conditions: Condition) -> Condition:
@@ -200,6 +200,14 @@ def within(x: Word, low: int, last: int) -> Condition:
     return all_of(not_(ult(x, low)), not_(ult(last, x)))
 
 
+def overlap(x: Word, width: int, y: Word, size: Word) -> Condition:
+    """Returns whether two accesses have a byte in common. The size of the second may be an expression: its end."""
+    if type(size) is Node:
+        return all_of(not_(ult(operation("add", x, width - 1), y)), ult(x, size))
+    distance = operation("add", operation("sub", x, y), width - 1)
+    return within(distance, 0, width + size - 2)
+
+
 class Table:
     """The bytes of an object that is read at an index."""
 
@@ -212,14 +220,14 @@ tables: Dict[Tuple[Byte, ...], Table] = {}
 
 def element(at: Word, low: int, content: Tuple[Byte, ...]) -> Byte:
     """Returns the byte of an object at an address. The object begins at `low`; the caller makes sure that the address is inside."""
-    it = tables.get(content)
-    if it is None:
-        it = tables[content] = Table(content)
+    table = tables.get(content)
+    if table is None:
+        table = tables[content] = Table(content)
     taint = 0
-    for b in content:
-        if type(b) is Node:
-            taint |= b.taint
-    node = make("table", (at, low, it), 255)
+    for content_byte in content:
+        if type(content_byte) is Node:
+            taint |= content_byte.taint
+    node = make("table", (at, low, table), 255)
     node.taint |= taint
     return node
 
@@ -229,14 +237,14 @@ def is_same(x: Byte, y: Byte) -> bool:
     return x is y or type(x) is int and type(y) is int and x == y
 
 
-def choice8(c: Condition, x: Byte, y: Byte) -> Byte:
+def choice8(condition: Condition, x: Byte, y: Byte) -> Byte:
     """Returns one byte or another."""
-    if type(c) is bool:
-        return x if c else y
+    if type(condition) is bool:
+        return x if condition else y
     if is_same(x, y):
         return x
     if type(y) is Node and y.op == "ite8" and is_same(y.args[1], x):
-        return choice8(any_of(c, y.args[0]), x, y.args[2])
+        return choice8(any_of(condition, y.args[0]), x, y.args[2])
     if type(x) is Node and x.op == "ite8" and is_same(x.args[2], y):
-        return choice8(all_of(c, x.args[0]), x.args[1], y)
-    return make("ite8", (c, x, y), may_of(x) | may_of(y))
+        return choice8(all_of(condition, x.args[0]), x.args[1], y)
+    return make("ite8", (condition, x, y), may_of(x) | may_of(y))

@@ -12,7 +12,7 @@ from rvlook.symbolic.nodes import by_name, mask_of
 
 if TYPE_CHECKING:
     from rvlook.output.printer import Json
-    from rvlook.symbolic.record import Finding
+    from rvlook.symbolic.record import Counterexample
     from rvlook.symbolic.search import Search
 
 MOST_INPUTS = 24  # rows of the table of inputs
@@ -27,21 +27,21 @@ class InputRow(NamedTuple):
     old: bytes
 
 
-def rows_of(search: Search, it: Finding) -> Iterator[InputRow]:
+def rows_of(search: Search, example: Counterexample) -> Iterator[InputRow]:
     """Yields the inputs that the path of a finding asks about, by load."""
     memo: Dict[Any, Any] = {}
     mask = 0
-    for condition in it.conds:
+    for condition in example.conds:
         mask |= mask_of(condition)
-    mask |= mask_of(it.address)
-    ends = [end[0] for end in it.answers]
-    for step, at, names in it.loads:
+    mask |= mask_of(example.address)
+    ends = [it.step for it in example.answers]
+    for step, at, names in example.loads:
         if not any(name in by_name and (by_name[name].mask or 0) & mask for _, name in names):
             continue
-        visit, first = sum(end < step for end in ends), evaluate(at, it.one, memo)
+        visit, first = sum(end < step for end in ends), evaluate(at, example.one, memo)
         parts: List[InputRow] = []
         for n, name in names:
-            row = InputRow(visit + 1, first + n, bytes([it.one[name]]), bytes([own_byte(search, visit, first + n)]))
+            row = InputRow(visit + 1, first + n, bytes([example.one[name]]), bytes([own_byte(search, visit, first + n)]))
             is_next = bool(parts) and parts[-1].at + len(parts[-1].values) == row.at
             parts[len(parts) - is_next:] = [joined(parts[-1], row) if is_next else row]
         yield from parts
@@ -49,10 +49,10 @@ def rows_of(search: Search, it: Finding) -> Iterator[InputRow]:
 
 def own_byte(search: Search, visit: int, at: int) -> int:
     """Returns a byte of the window or of the region in the run itself."""
-    w = search.world
-    if w.window[0] <= at < w.window[1]:
-        return w.windows[min(visit, len(w.windows) - 1)][at - w.window[0]]
-    return w.memory[at - w.region[0]]
+    world = search.world
+    if world.window[0] <= at < world.window[1]:
+        return world.windows[min(visit, len(world.windows) - 1)][at - world.window[0]]
+    return world.memory[at - world.region[0]]
 
 
 def joined(one: InputRow, two: InputRow) -> InputRow:
@@ -60,11 +60,11 @@ def joined(one: InputRow, two: InputRow) -> InputRow:
     return one._replace(values=one.values + two.values, old=one.old + two.old)
 
 
-def table(search: Search, it: Finding) -> List[InputRow]:
+def table(search: Search, example: Counterexample) -> List[InputRow]:
     """Returns the inputs of a finding. Bytes that are loaded one by one are put together to aligned words of one field."""
     fields = search.world.fields
     found: List[InputRow] = []
-    for row in rows_of(search, it):
+    for row in rows_of(search, example):
         last = found[-1] if found else row
         size = len(last.values)
         is_part = row is not last and len(row.values) == 1 and size < 4 and last.at % 4 + size < 4 and last.at % 2 == 0
@@ -75,9 +75,9 @@ def table(search: Search, it: Finding) -> List[InputRow]:
     return found
 
 
-def input_lines(search: Search, it: Finding) -> List[str]:
+def input_lines(search: Search, example: Counterexample) -> List[str]:
     """Returns the inputs that differ from those of the run itself, as lines."""
-    found = [line_of(search, row) for row in table(search, it) if row.values != row.old]
+    found = [line_of(search, row) for row in table(search, example) if row.values != row.old]
     more = ["  input  ... and %d more" % (len(found) - MOST_INPUTS)] if len(found) > MOST_INPUTS else []
     return (found[:MOST_INPUTS] or ["  input  none: the run itself"]) + more
 
@@ -90,17 +90,17 @@ def line_of(search: Search, row: InputRow) -> str:
     return "  input  activation %d: %s = 0x%x instead of 0x%x (%08x, %s)" % (row.visit, name, value, old, row.at, count)
 
 
-def input_objects(search: Search, it: Finding) -> List[Json]:
+def input_objects(search: Search, example: Counterexample) -> List[Json]:
     """Returns the bytes of the inputs as objects."""
     return [{"activation": row.visit, "address": hex8(row.at + n), "name": search.world.fields.name(row.at + n), "value": value,
-             "instead_of": row.old[n]} for row in rows_of(search, it) for n, value in enumerate(row.values)]
+             "instead_of": row.old[n]} for row in rows_of(search, example) for n, value in enumerate(row.values)]
 
 
 def is_elf_file(path: str) -> bool:
     """Returns whether a file is an ELF file, which a debugger can read. A hex image is none."""
     try:
-        with open(path, "rb") as it:
-            return it.read(len(ELF_MAGIC)) == ELF_MAGIC
+        with open(path, "rb") as file:
+            return file.read(len(ELF_MAGIC)) == ELF_MAGIC
     except OSError:
         return False
 

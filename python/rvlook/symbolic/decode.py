@@ -1,6 +1,7 @@
 """Decodes an instruction into its kind, its registers and its immediate (Unprivileged ISA 20191213, chapters 2, 7 and 9)."""
 from __future__ import annotations
 
+from functools import lru_cache
 from typing import Any, Callable, Dict, NamedTuple
 
 from rvlook.symbolic.nodes import M32, signed
@@ -8,6 +9,7 @@ from rvlook.symbolic.nodes import M32, signed
 BRANCHES = {0: "beq", 1: "bne", 4: "blt", 5: "bge", 6: "bltu", 7: "bgeu"}
 LOADS = {0: (1, True), 1: (2, True), 2: (4, False), 4: (1, False), 5: (2, False)}  # width in bytes, and whether the sign is extended
 STORES = {0: 1, 1: 2, 2: 4}
+SHIFTS = {(1, 0): "sll", (5, 0): "srl", (5, 32): "sra"}  # by funct3 and funct7
 IMMEDIATE = {0: "add", 2: "slt", 3: "sltu", 4: "xor", 6: "or", 7: "and"}
 REGISTER = {(0, 0): "add", (0, 32): "sub", (1, 0): "sll", (2, 0): "slt", (3, 0): "sltu", (4, 0): "xor", (5, 0): "srl", (5, 32): "sra", (6, 0): "or",
             (7, 0): "and"}
@@ -20,83 +22,101 @@ SFENCE = 9  # funct7 of sfence.vma
 class Decoded(NamedTuple):
     """An instruction. `more` has what its kind needs: an operation, a width, or how a CSR is accessed."""
     kind: str
-    rd: int
-    r1: int
-    r2: int
-    imm: int
+    rd: int = 0
+    r1: int = 0
+    r2: int = 0
+    imm: int = 0
     more: Any = None
 
 
-def decode(w: int) -> Decoded:
+@lru_cache(maxsize=1 << 16)
+def decode(word: int) -> Decoded:
     """Returns the instruction of a word; its kind is `illegal` if it is none."""
-    maker = KINDS.get(w & 127)
-    return maker(w) if maker else illegal(w)
+    maker = KINDS.get(word & 127)
+    return maker(word) if maker else illegal(word)
 
 
-def illegal(w: int) -> Decoded:
+def rd_of(word: int) -> int:
+    """Returns the register that an instruction writes."""
+    return word >> 7 & 31
+
+
+def r1_of(word: int) -> int:
+    """Returns the first register that an instruction reads."""
+    return word >> 15 & 31
+
+
+def r2_of(word: int) -> int:
+    """Returns the second register that an instruction reads, or the distance of a shift."""
+    return word >> 20 & 31
+
+
+def funct3(word: int) -> int:
+    """Returns the bits that distinguish instructions of one kind."""
+    return word >> 12 & 7
+
+
+def illegal(word: int) -> Decoded:
     """Returns a word that is no instruction."""
-    return Decoded("illegal", 0, 0, 0, w)
+    return Decoded("illegal", imm=word)
 
 
-def jal(w: int) -> Decoded:
+def jal(word: int) -> Decoded:
     """Decodes `jal`."""
-    i = (w >> 31) << 20 | (w >> 12 & 255) << 12 | (w >> 20 & 1) << 11 | (w >> 21 & 1023) << 1
-    return Decoded("jal", w >> 7 & 31, 0, 0, signed(i, 21) & M32)
+    offset = (word >> 31) << 20 | (word >> 12 & 255) << 12 | (word >> 20 & 1) << 11 | (word >> 21 & 1023) << 1
+    return Decoded("jal", rd=rd_of(word), imm=signed(offset, 21) & M32)
 
 
-def branch(w: int) -> Decoded:
+def branch(word: int) -> Decoded:
     """Decodes a conditional branch."""
-    i = (w >> 31) << 12 | (w >> 7 & 1) << 11 | (w >> 25 & 63) << 5 | (w >> 8 & 15) << 1
-    f3 = w >> 12 & 7
-    return Decoded("branch", 0, w >> 15 & 31, w >> 20 & 31, signed(i, 13) & M32, BRANCHES[f3]) if f3 in BRANCHES else illegal(w)
+    offset = (word >> 31) << 12 | (word >> 7 & 1) << 11 | (word >> 25 & 63) << 5 | (word >> 8 & 15) << 1
+    name = BRANCHES.get(funct3(word))
+    return Decoded("branch", r1=r1_of(word), r2=r2_of(word), imm=signed(offset, 13) & M32, more=name) if name else illegal(word)
 
 
-def load(w: int) -> Decoded:
+def load(word: int) -> Decoded:
     """Decodes a load."""
-    f3 = w >> 12 & 7
-    return Decoded("load", w >> 7 & 31, w >> 15 & 31, 0, signed(w >> 20, 12) & M32, LOADS[f3]) if f3 in LOADS else illegal(w)
+    how = LOADS.get(funct3(word))
+    return Decoded("load", rd=rd_of(word), r1=r1_of(word), imm=signed(word >> 20, 12) & M32, more=how) if how else illegal(word)
 
 
-def store(w: int) -> Decoded:
+def store(word: int) -> Decoded:
     """Decodes a store."""
-    f3 = w >> 12 & 7
-    i = signed(w >> 25 << 5 | w >> 7 & 31, 12) & M32
-    return Decoded("store", 0, w >> 15 & 31, w >> 20 & 31, i, STORES[f3]) if f3 in STORES else illegal(w)
+    offset, width = word >> 25 << 5 | rd_of(word), STORES.get(funct3(word))
+    return Decoded("store", r1=r1_of(word), r2=r2_of(word), imm=signed(offset, 12) & M32, more=width) if width else illegal(word)
 
 
-def immediate(w: int) -> Decoded:
+def immediate(word: int) -> Decoded:
     """Decodes an operation on a register and an immediate."""
-    f3, f7, rd, r1 = w >> 12 & 7, w >> 25, w >> 7 & 31, w >> 15 & 31
+    f3, rd, r1 = funct3(word), rd_of(word), r1_of(word)
     if f3 in IMMEDIATE:
-        return Decoded("imm", rd, r1, 0, signed(w >> 20, 12) & M32, IMMEDIATE[f3])
-    if f3 == 1 and f7 == 0:
-        return Decoded("imm", rd, r1, 0, w >> 20 & 31, "sll")
-    if f3 == 5 and f7 in (0, 32):
-        return Decoded("imm", rd, r1, 0, w >> 20 & 31, "sra" if f7 else "srl")
-    return illegal(w)
+        return Decoded("imm", rd, r1, imm=signed(word >> 20, 12) & M32, more=IMMEDIATE[f3])
+    name = SHIFTS.get((f3, word >> 25))
+    return Decoded("imm", rd, r1, imm=r2_of(word), more=name) if name else illegal(word)
 
 
-def register(w: int) -> Decoded:
+def register(word: int) -> Decoded:
     """Decodes an operation on two registers."""
-    f3, f7 = w >> 12 & 7, w >> 25
+    f3, f7 = funct3(word), word >> 25
     name = PRODUCTS[f3] if f7 == 1 else REGISTER.get((f3, f7))
-    return Decoded("op", w >> 7 & 31, w >> 15 & 31, w >> 20 & 31, 0, name) if name else illegal(w)
+    return Decoded("op", rd_of(word), r1_of(word), r2_of(word), more=name) if name else illegal(word)
 
 
-def system(w: int) -> Decoded:
+def system(word: int) -> Decoded:
     """Decodes a privileged instruction, or one that accesses a CSR."""
-    f3, rd = w >> 12 & 7, w >> 7 & 31
-    if w in PRIVILEGED:
-        return Decoded(PRIVILEGED[w], 0, 0, 0, w)
-    if w >> 25 == SFENCE and f3 == 0 and rd == 0:
-        return Decoded("sfence", 0, 0, 0, w)
+    f3, rd = funct3(word), rd_of(word)
+    if word in PRIVILEGED:
+        return Decoded(PRIVILEGED[word], imm=word)
+    if word >> 25 == SFENCE and f3 == 0 and rd == 0:
+        return Decoded("sfence", imm=word)
     if f3 & 3:
-        return Decoded("csr", rd, w >> 15 & 31, w >> 20, w, ("?wsc"[f3 & 3], bool(f3 & 4)))
-    return illegal(w)
+        return Decoded("csr", rd, r1_of(word), r2=word >> 20, imm=word, more=("?wsc"[f3 & 3], bool(f3 & 4)))
+    return illegal(word)
 
 
 KINDS: Dict[int, Callable[[int], Decoded]] = {
-    0x37: lambda w: Decoded("lui", w >> 7 & 31, 0, 0, w & 0xFFFFF000), 0x17: lambda w: Decoded("auipc", w >> 7 & 31, 0, 0, w & 0xFFFFF000),
+    0x37: lambda word: Decoded("lui", rd=rd_of(word), imm=word & 0xFFFFF000),
+    0x17: lambda word: Decoded("auipc", rd=rd_of(word), imm=word & 0xFFFFF000),
     0x6F: jal, 0x63: branch, 0x03: load, 0x23: store, 0x13: immediate, 0x33: register, 0x73: system,
-    0x67: lambda w: Decoded("jalr", w >> 7 & 31, w >> 15 & 31, 0, signed(w >> 20, 12) & M32) if w >> 12 & 7 == 0 else illegal(w),
-    0x0F: lambda w: Decoded("fence", 0, 0, 0, 0) if w >> 12 & 7 == 0 else illegal(w)}
+    0x67: lambda word: Decoded("jalr", rd_of(word), r1_of(word), imm=signed(word >> 20, 12) & M32) if funct3(word) == 0 else illegal(word),
+    0x0F: lambda word: Decoded("fence") if funct3(word) == 0 else illegal(word)}

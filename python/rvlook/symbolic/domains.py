@@ -7,7 +7,7 @@ from rvlook.symbolic.evaluation import value_of
 from rvlook.symbolic.nodes import M32, Node, mask_of, operands
 
 VALUES = 256  # of a byte
-HEAVIEST = 400  # operations of a condition that is tried
+LONGEST = 400  # operations of a condition that is tried, apart from those that were tried before
 ALL = (1 << VALUES) - 1
 
 
@@ -23,7 +23,7 @@ class Domains:
         found = self.sets.get(condition)
         if found is None:
             mask = mask_of(condition)
-            if condition.weight > HEAVIEST or not mask or mask & mask - 1:
+            if not mask or mask & mask - 1 or not self.is_short(condition):
                 return None
             found = 0
             for n, holds in enumerate(self.values(condition)):
@@ -31,35 +31,44 @@ class Domains:
             self.sets[condition] = found
         return found
 
+    def is_short(self, condition: Node) -> bool:
+        """Returns whether few operations of a condition have no values yet. An operation counts once, however often its result is used."""
+        new, stack = {condition}, [condition]
+        while stack and len(new) <= LONGEST:
+            more = [operand for operand in operands(stack.pop()) if operand not in self.known and operand not in new]
+            new.update(more)
+            stack += more
+        return len(new) <= LONGEST
+
     def values(self, node: Node) -> List[Any]:
         """Returns the values of a node that depends on one byte, for each value of it."""
         known, stack = self.known, [node]
         while stack:
-            it = stack[-1]
-            missing = [a for a in operands(it) if a not in known]
-            if it.op == "var":
-                known[it] = list(range(VALUES))
+            top = stack[-1]
+            missing = [operand for operand in operands(top) if operand not in known]
+            if top.op == "var":
+                known[top] = list(range(VALUES))
             elif missing:
                 stack += missing
                 continue
-            elif it not in known:
-                known[it] = self.looked_up(it) if it.op == "table" else self.computed(it)
+            elif top not in known:
+                known[top] = self.looked_up(top) if top.op == "table" else self.computed(top)
             stack.pop()
         return known[node]
 
-    def computed(self, it: Node) -> List[Any]:
+    def computed(self, node: Node) -> List[Any]:
         """Returns the values of an operation whose operands have values."""
-        rows = [self.known[a] if type(a) is Node else [a] * VALUES for a in it.args]
-        return [value_of(it.op, row) for row in zip(*rows)]
+        rows = [self.known[operand] if type(operand) is Node else [operand] * VALUES for operand in node.args]
+        return [value_of(node.op, row) for row in zip(*rows)]
 
-    def looked_up(self, it: Node) -> List[int]:
+    def looked_up(self, node: Node) -> List[int]:
         """Returns the values of a byte of a table; 0 outside."""
-        at, low, table = it.args
+        at, low, table = node.args
         found = []
         for n, place in enumerate(self.known[at] if type(at) is Node else [at] * VALUES):
             index = place - low & M32
-            b = table.content[index] if index < len(table.content) else 0
-            found.append(self.known[b][n] if type(b) is Node else b)
+            content_byte = table.content[index] if index < len(table.content) else 0
+            found.append(self.known[content_byte][n] if type(content_byte) is Node else content_byte)
         return found
 
     def answer(self, conditions: Sequence[Node]) -> Tuple[Optional[bool], Dict[Node, int]]:
@@ -67,24 +76,24 @@ class Domains:
         also if those about some byte contradict each other, and otherwise None."""
         sets: Dict[int, Tuple[Node, int]] = {}
         is_whole = True
-        for it in parts_of(conditions):
-            own = self.set_of(it)
+        for part in parts_of(conditions):
+            own = self.set_of(part)
             if own is None:
                 is_whole = False
                 continue
-            mask = mask_of(it)
+            mask = mask_of(part)
             left = sets[mask][1] & own if mask in sets else own
             if not left:
                 return False, {}
-            sets[mask] = it, left
+            sets[mask] = part, left
         return (True if is_whole else None), {it: left for it, left in sets.values()}
 
 
 def parts_of(conditions: Sequence[Node]) -> List[Node]:
     """Returns conditions with the parts of conjunctions one by one."""
     found: List[Node] = []
-    for it in conditions:
-        found += parts_of([a for a in it.args if type(a) is Node]) if it.op == "and1" else [it]
+    for condition in conditions:
+        found += parts_of([operand for operand in condition.args if type(operand) is Node]) if condition.op == "and1" else [condition]
     return found
 
 

@@ -18,59 +18,59 @@ def evaluate(node: Word, model: Model, memo: Dict[Node, Any]) -> Any:
         return memo[node]
     stack = [node]
     while stack:
-        it = stack[-1]
-        if it in memo:
+        top = stack[-1]
+        if top in memo:
             stack.pop()
-        elif it.op == "var":
-            memo[it] = model.get(it.args[0], 0)
-        elif it.op == "table":
-            missing = table_operand(it, memo)
+        elif top.op == "var":
+            memo[top] = model.get(top.args[0], 0)
+        elif top.op == "table":
+            missing = table_operand(top, memo)
             if missing is None:
-                memo[it] = table_value(it, memo)
+                memo[top] = table_value(top, memo)
             else:
                 stack.append(missing)
         else:
-            step(it, memo, stack)
+            step(top, memo, stack)
     return memo[node]
 
 
-def step(it: Node, memo: Dict[Node, Any], stack: List[Node]) -> None:
+def step(node: Node, memo: Dict[Node, Any], stack: List[Node]) -> None:
     """Notes the value of a node if those of its operands are known, else adds one of them to the stack."""
     values = []
-    for a in it.args:
-        if type(a) is Node:
-            v = memo.get(a)
-            if v is None:
-                stack.append(a)
+    for operand in node.args:
+        if type(operand) is Node:
+            value = memo.get(operand)
+            if value is None:
+                stack.append(operand)
                 return
-            values.append(v)
+            values.append(value)
         else:
-            values.append(a)
-    memo[it] = value_of(it.op, values)
+            values.append(operand)
+    memo[node] = value_of(node.op, values)
 
 
-def table_operand(it: Node, memo: Dict[Node, Any]) -> Optional[Node]:
+def table_operand(node: Node, memo: Dict[Node, Any]) -> Optional[Node]:
     """Returns an operand of a table whose value is not known yet: the address, or the byte there."""
-    at, low, table = it.args
+    at, low, table = node.args
     if type(at) is Node and at not in memo:
         return at
     index = (memo[at] if type(at) is Node else at) - low & M32
-    b = table.content[index] if index < len(table.content) else 0
-    return b if type(b) is Node and b not in memo else None
+    content_byte = table.content[index] if index < len(table.content) else 0
+    return content_byte if type(content_byte) is Node and content_byte not in memo else None
 
 
-def table_value(it: Node, memo: Dict[Node, Any]) -> int:
+def table_value(node: Node, memo: Dict[Node, Any]) -> int:
     """Returns the byte of a table at its address; 0 outside."""
-    at, low, table = it.args
+    at, low, table = node.args
     index = (memo[at] if type(at) is Node else at) - low & M32
-    b = table.content[index] if index < len(table.content) else 0
-    return memo[b] if type(b) is Node else b
+    content_byte = table.content[index] if index < len(table.content) else 0
+    return memo[content_byte] if type(content_byte) is Node else content_byte
 
 
-def value_of(op: str, v: Sequence[Any]) -> Any:
+def value_of(op: str, values: Sequence[Any]) -> Any:
     """Returns the value of an operation on values."""
     found = VALUES.get(op)
-    return found(v) if found else concrete(op, v[0], v[1])
+    return found(values) if found else concrete(op, values[0], values[1])
 
 
 VALUES: Dict[str, Any] = {
@@ -88,32 +88,33 @@ def rebuilt(node: Word, values: Mapping[Node, int], memo: Dict[Node, Any]) -> An
         return node
     stack = [node]
     while stack:
-        it = stack[-1]
-        if it in memo:
+        top = stack[-1]
+        if top in memo:
             stack.pop()
             continue
-        missing = [a for a in operands(it) if a not in memo]
-        if it.op == "var":
-            memo[it] = values.get(it, it)
+        missing = [operand for operand in operands(top) if operand not in memo]
+        if top.op == "var":
+            memo[top] = values.get(top, top)
         elif missing:
             stack += missing
         else:
-            memo[it] = remade(it, memo)
+            memo[top] = remade(top, memo)
     return memo[node]
 
 
-def remade(it: Node, memo: Mapping[Node, Any]) -> Any:
+def remade(node: Node, memo: Mapping[Node, Any]) -> Any:
     """Returns a node of the rebuilt operands."""
-    if it.op == "table":
-        at, low, table = it.args
-        at, content = memo[at] if type(at) is Node else at, tuple(memo[b] if type(b) is Node else b for b in table.content)
+    if node.op == "table":
+        at, low, table = node.args
+        at = memo[at] if type(at) is Node else at
+        content = tuple(memo[byte_] if type(byte_) is Node else byte_ for byte_ in table.content)
         if type(at) is not int:
             return element(at, low, content)
         index = at - low & M32
         return content[index] if index < len(content) else 0
-    a = [memo[x] if type(x) is Node else x for x in it.args]
-    maker = MAKERS.get(it.op)
-    return maker(a) if maker else operation(it.op, *a)
+    values = [memo[x] if type(x) is Node else x for x in node.args]
+    maker = MAKERS.get(node.op)
+    return maker(values) if maker else operation(node.op, *values)
 
 
 MAKERS: Dict[str, Any] = {
@@ -127,12 +128,14 @@ MAKERS: Dict[str, Any] = {
 def note_known(condition: Node, found: Dict[Node, int]) -> None:
     """Adds the variables whose values a condition says."""
     if condition.op == "and1":
-        for it in condition.args:
-            note_known(it, found)
+        for part in condition.args:
+            note_known(part, found)
     elif condition.op in ("eq", "eq8") and type(condition.args[1]) is int:
-        x, v = condition.args
-        parts = [(x, v)] if condition.op == "eq8" else [(b, v >> 8 * n & 255) for n, b in enumerate(x.args)] if x.op == "word" else []
-        found.update((b, value) for b, value in parts if type(b) is Node and b.op == "var")
+        word_or_byte, value = condition.args
+        parts = [(word_or_byte, value)] if condition.op == "eq8" else []
+        if condition.op == "eq" and word_or_byte.op == "word":
+            parts = [(part, value >> 8 * n & 255) for n, part in enumerate(word_or_byte.args)]
+        found.update((part, content) for part, content in parts if type(part) is Node and part.op == "var")
 
 
 def reduced(conditions: Sequence[Condition]) -> Tuple[Optional[List[Condition]], Dict[Node, int]]:
@@ -141,9 +144,9 @@ def reduced(conditions: Sequence[Condition]) -> Tuple[Optional[List[Condition]],
     left = list(conditions)
     while True:
         new: Dict[Node, int] = {}
-        for it in left:
-            note_known(it, new)
-        new = {k: v for k, v in new.items() if k not in values}
+        for condition in left:
+            note_known(condition, new)
+        new = {node: value for node, value in new.items() if node not in values}
         if not new:
             return left, values
         values.update(new)

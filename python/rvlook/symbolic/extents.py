@@ -13,7 +13,16 @@ if TYPE_CHECKING:
     from rvlook.symbolic.world import World
 
 Bounds = Tuple[int, int]  # first address, and end
-Variable = Tuple[int, int, bool, int, int, str]  # instructions from and to, whether relative to sp, offsets from and to, and the name
+
+
+class LocalVariable(NamedTuple):
+    """A local variable: the instructions from `first` up to before `end`, its offsets from sp (or from the end of the frame), and its name."""
+    first: int
+    end: int
+    is_sp: bool
+    low: int
+    high: int
+    name: str
 
 
 class Extent(NamedTuple):
@@ -22,6 +31,11 @@ class Extent(NamedTuple):
     high: int
     name: str
     is_start: bool
+
+    @property
+    def bounds(self) -> Bounds:
+        """Returns the first address and the end."""
+        return self.low, self.high
 
     def has(self, at: int, width: int) -> bool:
         """Returns whether an access stays inside."""
@@ -44,12 +58,13 @@ class Extents:
         self.stacks: List[Stack] = [it for kind in stacks_of(world.symbols).values() for it in kind if world.region[0] <= it.bottom < world.region[1]]
         self.locals = variables_of(world.objects.locals)
         self.member_starts = {it.at for it in self.objects.fixed}
+        self.reaches: Dict[Member, int] = {}  # the size of the largest object that begins with a member
 
     def stack_of(self, sp: int) -> Bounds:
         """Returns the stack to which a stack pointer belongs; the part above all variables if the symbols do not say it."""
-        for it in self.stacks:
-            if it.bottom < sp <= it.top:
-                return it.bottom, it.top
+        for stack in self.stacks:
+            if stack.bottom < sp <= stack.top:
+                return stack.bottom, stack.top
         return self.objects.stack, self.world.region[1]
 
     def variable(self, at: int) -> Extent:
@@ -62,7 +77,7 @@ class Extents:
             return Extent(symbol.address, high, self.objects.fixed_at(at).name, at == symbol.address or at in self.member_starts)
         last = self.objects.own[index - 1] if index else None
         low = last.address + last.size if last else self.world.region[0]
-        return Extent(low, max(end, at + 1), "the data after %s" % last.name if last else "the data", False)
+        return Extent(low, max(end, at + 1), "the data after %s" % last.name if last else "the data", is_start=False)
 
     def member(self, at: int) -> Optional[Member]:
         """Returns the member of a variable at an address below the stacks, or None without DWARF."""
@@ -73,34 +88,38 @@ class Extents:
             index -= 1
         return None
 
+    def is_other_member(self, one: int, two: int) -> bool:
+        """Returns whether a member begins at the second address, in which the first address is not."""
+        member = self.member(two) if two < self.objects.stack else None
+        return member is not None and member.at == two and not member.at <= one < member.at + member.size
+
     # ---- frames
 
     def frames(self, state: State) -> Iterator[Frame]:
         """Yields the frames of a state, the innermost first."""
-        call, sp, pc, calls = state.call, state.regs[2], state.pc, state.calls
-        while calls:
-            rest, caller, back, entry, _ = calls
-            yield Frame(call, sp, self.top_of(sp, entry), pc)
-            call, sp, pc, calls = caller, entry, back - 4, rest
+        call, sp, pc = state.call, state.regs[2], state.pc
+        for it in state.open_calls():
+            yield Frame(call, sp, self.top_of(sp, it.sp), pc)
+            call, sp, pc = it.caller, it.sp, it.back - 4
         yield Frame(call, sp, self.stack_of(sp)[1], pc)
 
-    def top_of(self, sp: int, entry: int) -> int:
+    def top_of(self, sp: int, callers: int) -> int:
         """Returns the end of a frame: the sp of its caller, unless that is on another stack."""
-        bottom, top = self.stack_of(sp)
-        return entry if sp <= entry <= top else top
+        _, top = self.stack_of(sp)
+        return callers if sp <= callers <= top else top
 
     def at(self, state: State, at: int, origin: Optional[Origin]) -> Optional[Extent]:
         """Returns the object at an address; None outside region and window, and where no frame is."""
-        w = self.world
-        if w.window[0] <= at < w.window[1]:
-            return Extent(*w.window, "the window", True)
-        if not w.region[0] <= at < w.region[1]:
+        world = self.world
+        if world.window[0] <= at < world.window[1]:
+            return Extent(*world.window, name="the window", is_start=True)
+        if not world.region[0] <= at < world.region[1]:
             return None
         if at < self.objects.stack:
             return self.variable(at)
-        for it in self.frames(state):
-            if it.sp <= at < it.top:
-                return self.in_frame(state, at, it, origin.pc if origin and origin.pc and origin.call == it.call else it.pc)
+        for frame in self.frames(state):
+            if frame.sp <= at < frame.top:
+                return self.in_frame(state, at, frame, origin.pc if origin and origin.pc and origin.call == frame.call else frame.pc)
         return None
 
     def in_frame(self, state: State, at: int, frame: Frame, pc: int) -> Extent:
@@ -109,30 +128,30 @@ class Extents:
         low, high = frame.sp, frame.top
         saved = state.search.saved.get(frame.call, ())
         parts = [(n, n + 4, "a saved register of " + function) for n in saved]
-        for first, end, is_sp, start, stop, name in self.locals:
-            if first <= pc < end:
-                base = frame.sp if is_sp else frame.top
-                parts.append((base + start, base + stop, "%s in %s" % (name, function)))
-        areas = [(start, stop, "the variable-length array in " + function) for call, start, stop in state.areas if call == frame.call]
+        for it in self.locals:
+            if it.first <= pc < it.end:
+                base = frame.sp if it.is_sp else frame.top
+                parts.append((base + it.low, base + it.high, "%s in %s" % (it.name, function)))
+        areas = [(it.low, it.high, "the variable-length array in " + function) for it in state.areas if it.call == frame.call]
         for start, stop, name in parts + areas:
             if start <= at < stop:
                 return Extent(start, stop, name, at == start)
         for start, stop, _ in parts + areas:
             low, high = (max(low, stop) if stop <= at else low), (min(high, start) if start > at else high)
-        return Extent(low, high, "the frame of " + function, False)
+        return Extent(low, high, "the frame of " + function, is_start=False)
 
 
-def variables_of(members: Sequence[Local]) -> List[Variable]:
+def variables_of(members: Sequence[Local]) -> List[LocalVariable]:
     """Returns the local variables as a whole: members of one variable are joined."""
     found: Dict[Tuple[int, int, bool, str, int], Bounds] = {}
     last: Dict[Tuple[int, int, bool, str], Tuple[int, int]] = {}
-    for it in members:
-        name, at, size = it.member.name.partition(".")[0].partition("[")[0], it.member.at, it.member.size
-        key = it.first, it.end, it.is_sp, name
+    for member in members:
+        name, at, size = member.member.name.partition(".")[0].partition("[")[0], member.member.at, member.member.size
+        key = member.first, member.end, member.is_sp, name
         number, end = last.get(key, (0, at))
-        if "." not in it.member.name and "[" not in it.member.name or at < end - size:
+        if "." not in member.member.name and "[" not in member.member.name or at < end - size:
             number += 1  # another variable of this name
         last[key] = number, at + size
         low, high = found.get((*key, number), (at, at + size))
         found[(*key, number)] = min(low, at), max(high, at + size)
-    return [(first, end, is_sp, low, high, name) for (first, end, is_sp, name, _), (low, high) in found.items()]
+    return [LocalVariable(first, end, is_sp, low, high, name) for (first, end, is_sp, name, _), (low, high) in found.items()]

@@ -1,7 +1,7 @@
 """The state of a path: registers and memory as numbers or expressions, what it has loaded and stored, and its conditions."""
 from __future__ import annotations
 
-from typing import Any, Dict, List, Optional, Set, Tuple, TYPE_CHECKING
+from typing import Any, Dict, Iterator, List, NamedTuple, Optional, Set, Tuple, TYPE_CHECKING
 
 from rvlook.symbolic.evaluation import evaluate
 from rvlook.symbolic.nodes import Condition, Node, Word
@@ -9,22 +9,76 @@ from rvlook.symbolic.origins import Tag
 
 if TYPE_CHECKING:
     from rvlook.symbolic.search import Search
+    from rvlook.symbolic.endless import Mark
 
 CSRS = {0x100: 0x00080122, 0x104: 0, 0x105: 0xFFFFFFFD, 0x106: 0, 0x10A: 0, 0x140: 0xFFFFFFFF, 0x141: 0xFFFFFFFC, 0x142: 0xFFFFFFFF,
         0x143: 0xFFFFFFFF, 0x144: 0, 0x180: 0}  # the registers of mode S by number, with the bits that can be written (docs/ISA.md)
 SSTATUS, STVEC, SSCRATCH, SEPC, SCAUSE, STVAL = 0x100, 0x105, 0x140, 0x141, 0x142, 0x143
 MERGED_STOPS, MERGED_LOOP = -1, -2  # in `first_visit`: the path begins in a state that was merged
+LATE = "late"  # the end of a part of a path that may be continued
+FINDING, EXITED, STOPPED, CODE, MERGED, IMPOSSIBLE = "finding", "exit", "stop", "code", "merged", "impossible"  # other ends of a path
 AnyState = Any  # a State; its bases call functions that take one
-Calls = Optional[Tuple[Any, int, int, int, int]]  # the calls that are open: the outer ones, their number, the return address, sp, and the entry
-Load = Tuple[int, Word, Tuple[Tuple[int, str], ...]]  # the step, the address, and the offset and the variable of each byte
-Store = Tuple[int, Word, int, Word]  # the step, the address, the width and the value
-# the address, the width (or the end, if it is an expression), the instruction, its context, and conditions of joined paths
-FetchedAt = Tuple[Word, Word, int, int, Tuple[Node, ...]]
-Answer = Tuple[int, int, Word, int, int]  # the step, the call, the value, and the numbers of loads and stores before
+
+
+class Load(NamedTuple):
+    """A load of inputs: the step, the address, and the offset and the variable of each byte."""
+    step: int
+    at: Word
+    names: Tuple[Tuple[int, str], ...]
+
+
+class Store(NamedTuple):
+    """A store to the window: the step, the address, the width and the value."""
+    step: int
+    at: Word
+    width: int
+    value: Word
+
+
+class Answer(NamedTuple):
+    """A stop or an exit of the enclave: the step, the function of its call, the value, and the numbers of loads and stores before."""
+    step: int
+    call: int
+    value: Word
+    loads: int
+    stores: int
+
+
+class FetchedAt(NamedTuple):
+    """A load of the window at an expression: the address, the width, the instruction, its call context, and the conditions of joined paths. If
+    `width` is an expression, it is the end."""
+    at: Word
+    width: Word
+    pc: int
+    context: int
+    joined: Tuple[Node, ...] = ()
+
+
+class Area(NamedTuple):
+    """A variable-length array: the call that has it, its first address, and its end."""
+    call: int
+    low: int
+    high: int
+
+
+class OpenCall(NamedTuple):
+    """A call that has not returned: the call around it, the number and the entry of its caller, the return address, and sp."""
+    outer: Optional[OpenCall]
+    caller: int
+    back: int
+    sp: int
+    entry: int
 
 
 class Ended(Exception):
     """The end of a path, with the reason."""
+
+
+class TimeIsOver(Ended):
+    """The end of the time of a whole run, in the middle of a step."""
+
+    def __init__(self) -> None:
+        super().__init__(LATE)
 
 
 class Fields:
@@ -33,7 +87,7 @@ class Fields:
     __slots__ = ("search", "regs", "mem", "sym", "pc", "mode", "csr", "conds", "public", "model", "memo", "context", "calls", "call", "visit",
                  "loads", "stores", "answers", "trail", "pcs", "before", "counts", "winmem", "win", "inside", "is_base", "first_visit", "fetched",
                  "fetched_at", "number", "rejoined", "head", "round", "tags", "mem_tags", "csr_tags", "areas", "bottom", "pending", "released",
-                 "past", "earlier", "inputs", "rounds", "entry", "opening", "resumed", "is_covered")
+                 "past", "earlier", "inputs", "rounds", "entry", "opening", "resumed", "is_covered", "marks", "target")
     search: Search
     regs: List[Word]
     mem: bytearray
@@ -46,7 +100,7 @@ class Fields:
     model: Dict[str, int]
     memo: Dict[Node, Any]
     context: int
-    calls: Calls
+    calls: Optional[OpenCall]
     call: int  # the number of the innermost call
     visit: int  # the number of earlier activations
     loads: List[Load]
@@ -70,7 +124,7 @@ class Fields:
     tags: List[Tag]
     mem_tags: Dict[int, Tag]
     csr_tags: Dict[int, Tag]
-    areas: Tuple[Tuple[int, int, int], ...]  # variable-length arrays: the call, and the first address and the end
+    areas: Tuple[Area, ...]
     bottom: int  # of the stack to which sp belongs
     pending: Tuple[Tuple[int, Word, int], ...]  # outputs that are public only with an answer: the answer, the word, the instruction
     released: bool  # whether the secret has come out in this activation
@@ -82,6 +136,8 @@ class Fields:
     opening: int  # the number of the merged state in which the path begins
     resumed: Optional[int]  # the place at which the path has waited
     is_covered: bool  # whether a merged state that is explored includes the path
+    marks: Dict[Tuple[int, int], Mark]  # the states at branches
+    target: int  # the value that a word has in the step at which the path begins, if it is followed value by value
 
     def fork(self, pc: int, is_again: bool = False) -> Any:
         """Returns a copy that goes on at a pc. The present step belongs to it unless it is done again."""
@@ -89,18 +145,29 @@ class Fields:
             self.trail = self.trail, self.pcs
             self.before += len(self.pcs)
             self.pcs = []
-        it = type(self).__new__(type(self))
+        copy = type(self).__new__(type(self))
         for name in ("search", "mode", "model", "context", "calls", "call", "visit", "trail", "before", "first_visit", "rejoined", "areas", "bottom",
                      "pending", "released", "round", "past", "earlier", "inputs", "entry", "opening", "is_covered"):
-            setattr(it, name, getattr(self, name))
+            setattr(copy, name, getattr(self, name))
         for name in ("loads", "stores", "answers", "conds", "regs", "tags", "fetched_at"):
-            setattr(it, name, getattr(self, name)[:])
-        for name in ("sym", "csr", "counts", "win", "inside", "fetched", "mem_tags", "csr_tags", "public", "rounds"):
-            setattr(it, name, getattr(self, name).copy())
-        it.mem, it.winmem, it.memo, it.is_base, it.number, it.head = bytearray(self.mem), bytearray(self.winmem), {}, False, 0, None
-        it.resumed = None
-        it.pcs, it.pc = [] if is_again else [self.pc], pc
-        return it
+            setattr(copy, name, getattr(self, name)[:])
+        for name in ("sym", "csr", "counts", "win", "inside", "fetched", "mem_tags", "csr_tags", "public", "rounds", "marks"):
+            setattr(copy, name, getattr(self, name).copy())
+        copy.mem, copy.winmem, copy.memo, copy.is_base, copy.number, copy.head = bytearray(self.mem), bytearray(self.winmem), {}, False, 0, None
+        copy.resumed, copy.target = None, 0
+        copy.pcs, copy.pc = [] if is_again else [self.pc], pc
+        return copy
+
+    def open_calls(self) -> Iterator[OpenCall]:
+        """Yields the calls that have not returned, the innermost first."""
+        found = self.calls
+        while found:
+            yield found
+            found = found.outer
+
+    def call_numbers(self) -> List[int]:
+        """Returns the numbers of the calls that have not returned, the innermost first."""
+        return [self.call, *(it.caller for it in self.open_calls())]
 
     @property
     def is_merged(self) -> bool:

@@ -4,45 +4,48 @@ from __future__ import annotations
 from typing import Any, Dict, Iterator, List, Optional, Tuple
 
 from rvlook.symbolic.evaluation import Model, evaluate
-from rvlook.symbolic.nodes import M32, Node, Word, signed
+from rvlook.symbolic.nodes import HEAVY, M32, Node, Word, signed
 from rvlook.symbolic.words import may_of, not_
 
 Part = Dict[str, int]  # values of some variables
 COMPARISONS = ("eq", "eq8", "ult", "lt")
 FLIPPED = 0x55555555  # bits of a value that are changed for another one
-DEEPEST = 60  # operations that are inverted one after another
+LEAP = 8  # steps to a value that leads further, such as that of a longer message
+MOST_INVERTED = 60  # operations that are inverted one after another
 
 
-def solutions(question: Node, model: Model, memo: Dict[Node, Any]) -> Iterator[Part]:
-    """Yields values of variables for which a condition may hold. The caller evaluates it."""
-    it, is_not = (question.args[0], True) if question.op == "not" else (question, False)
-    if it.op == "and1":
-        yield from parts_of_conjunction(it, is_not, model, memo)
-    elif it.op in COMPARISONS:
-        x, y = it.args
-        if it.op == "eq8" and x.op == "byte" and x.args[0].op == "or":
+def solutions(question: Node, model: Model, memo: Dict[Node, Any], is_far: bool = False) -> Iterator[Part]:
+    """Yields values of variables for which a condition may hold. The caller evaluates it. If `is_far`, values that are larger by some steps come
+    early: a loop that goes on for one more round then goes on for several."""
+    question_part, is_not = (question.args[0], True) if question.op == "not" else (question, False)
+    if question_part.op == "and1":
+        yield from parts_of_conjunction(question_part, is_not, model, memo, is_far)
+    elif question_part.op in COMPARISONS:
+        x, y = question_part.args
+        if question_part.op == "eq8" and x.op == "byte" and x.args[0].op == "or":
             x = x.args[0]
         if not is_not and type(y) is int and not y and x.op == "or":
             yield zeros(x, model, memo)
         for one, two in ((x, y), (y, x)):
             if type(one) is Node:
-                v, step = evaluate(two, model, memo), may_of(one) & -may_of(one)
-                targets = (v, v + step, v - step, v ^ FLIPPED & may_of(one))
+                value, step = evaluate(two, model, memo), may_of(one) & -may_of(one)
+                further = (value + LEAP * step,) if is_far else ()
+                targets = (value, *further, value + step, value - step, value ^ FLIPPED & may_of(one))
                 yield from (part for part in (inverse(one, target & M32, model, memo) for target in targets) if part)
 
 
-def parts_of_conjunction(it: Node, is_not: bool, model: Model, memo: Dict[Node, Any]) -> Iterator[Part]:
+def parts_of_conjunction(node: Node, is_not: bool, model: Model, memo: Dict[Node, Any], is_far: bool) -> Iterator[Part]:
     """Yields values for which all parts of a conjunction may hold, or for which one may not."""
     if is_not:
-        for a in it.args:
-            yield from solutions(a.args[0] if a.op == "not" else not_(a), model, memo)
+        for part in node.args:
+            yield from solutions(part.args[0] if part.op == "not" else not_(part), model, memo, is_far)
         return
     chosen: Part = {}
-    for a in it.args:
+    for part in node.args:
         values = {**model, **chosen} if chosen else model
         known = {} if chosen else memo
-        if not evaluate(a, values, known):
-            chosen.update(next(solutions(a, values, known), {}))
+        if not evaluate(part, values, known):
+            chosen.update(next(solutions(part, values, known), {}))
     yield chosen
 
 
@@ -66,13 +69,15 @@ def zeros(x: Node, model: Model, memo: Dict[Node, Any]) -> Part:
 
 
 def inverse(node: Word, value: int, model: Model, memo: Dict[Node, Any]) -> Optional[Part]:
-    """Returns values of variables for which a node has a value, or None if it is not that simple. A choice keeps to its side, and an index to its
-    value."""
-    for _ in range(DEEPEST):
+    """Returns values of variables for which a node has a value, or None if it is not that simple: the results of a hash are not. A choice keeps to
+    its side, and an index to its value."""
+    for _ in range(MOST_INVERTED):
         if type(node) is int:
             return {} if node == value else None
         if node.op == "var":
             return {node.args[0]: value} if value < 256 else None
+        if node.op in ("word", "or") and node.weight > HEAVY:
+            return None
         if node.op == "word":
             return inverse_of_bytes(node.args, value, model, memo)
         if node.op == "sx16":
@@ -105,21 +110,23 @@ def inner(node: Node, value: int, model: Model, memo: Dict[Node, Any]) -> Option
     one, two = args[0], args[1]
     if type(one) is not Node:
         return (two, one - value & M32) if op == "sub" else None
-    v = evaluate(two, model, memo)
-    if op in ("add", "sub", "xor"):
-        return one, value - v & M32 if op == "add" else value + v & M32 if op == "sub" else value ^ v
-    if op == "and" and not value & ~v:
-        return one, value | evaluate(one, model, memo) & ~v
-    if op == "sll" and not value & (1 << (v & 31)) - 1:
-        return one, value >> (v & 31)
-    if op == "srl" and value << (v & 31) <= M32:
-        return one, value << (v & 31) | evaluate(one, model, memo) & (1 << (v & 31)) - 1
+    other = evaluate(two, model, memo)
+    if op in ("add", "sub"):
+        return one, (value - other if op == "add" else value + other) & M32
+    if op == "xor":
+        return one, value ^ other
+    if op == "and" and not value & ~other:
+        return one, value | evaluate(one, model, memo) & ~other
+    if op == "sll" and not value & (1 << (other & 31)) - 1:
+        return one, value >> (other & 31)
+    if op == "srl" and value << (other & 31) <= M32:
+        return one, value << (other & 31) | evaluate(one, model, memo) & (1 << (other & 31)) - 1
     return None
 
 
 def joined(one: Optional[Part], two: Optional[Part]) -> Optional[Part]:
     """Returns the values of two parts, or None if they contradict each other."""
-    if one is None or two is None or any(one.get(k, v) != v for k, v in two.items()):
+    if one is None or two is None or any(one.get(name, value) != value for name, value in two.items()):
         return None
     return {**one, **two}
 
@@ -127,6 +134,7 @@ def joined(one: Optional[Part], two: Optional[Part]) -> Optional[Part]:
 def inverse_of_bytes(parts: Tuple[Any, ...], value: int, model: Model, memo: Dict[Node, Any]) -> Optional[Part]:
     """Returns values of variables for which bytes have a value together, or None."""
     found: Optional[Part] = {}
-    for n, b in enumerate(parts):
-        found = joined(found, inverse(b, value >> 8 * n & 255, model, memo))
+    for n, part in enumerate(parts):
+        if found is not None:
+            found = joined(found, inverse(part, value >> 8 * n & 255, model, memo))
     return found

@@ -2,7 +2,7 @@
 from __future__ import annotations
 
 from dataclasses import dataclass, field
-from typing import Any, List, Mapping, NamedTuple, Optional, TYPE_CHECKING
+from typing import Any, Dict, List, Mapping, NamedTuple, Optional, Tuple, TYPE_CHECKING
 
 from rvlook.symbolic.evaluation import evaluate
 
@@ -49,10 +49,28 @@ def history_of(state: AnyState, model: Mapping[str, int]) -> History:
         if join is None:
             break
         parts.append(join.one if evaluate(join.condition, model, memo) else join.two)
-    for it in reversed(parts):
+    for part in reversed(parts):
         steps, loads, stores = len(found.pcs), len(found.loads), len(found.stores)
-        found.pcs += it.pcs
-        found.loads += [(step + steps, at, names) for step, at, names in it.loads]
-        found.stores += [(step + steps, at, width, value) for step, at, width, value in it.stores]
-        found.answers += [(step + steps, call, value, m + loads, n + stores) for step, call, value, m, n in it.answers]
+        found.pcs += part.pcs
+        found.loads += [it._replace(step=it.step + steps) for it in part.loads]
+        found.stores += [it._replace(step=it.step + steps) for it in part.stores]
+        found.answers += [it._replace(step=it.step + steps, loads=it.loads + loads, stores=it.stores + stores) for it in part.answers]
     return found
+
+
+def is_calm(path: History, model: Mapping[str, int]) -> bool:
+    """Returns whether the host changes no byte of the window during an activation: each load of a byte gives what was loaded or stored last."""
+    memo: Any = {}
+    changes: List[Tuple[int, int, Mapping[int, int]]] = [(it.step, 0, {}) for it in path.answers]
+    changes += [(step, 1, {evaluate(at, model, memo) + n: model[name] for n, name in names}) for step, at, names in path.loads]
+    for step, at, width, value in path.stores:
+        first, number = evaluate(at, model, memo), evaluate(value, model, memo)
+        changes.append((step, 2, {first + n: number >> 8 * n & 255 for n in range(width)}))
+    window: Dict[int, int] = {}
+    for _, kind, values in sorted(changes, key=lambda it: it[0]):
+        if kind == 1 and any(window.get(at, stored_value) != stored_value for at, stored_value in values.items()):
+            return False
+        window.update(values)
+        if not kind:
+            window = {}
+    return True

@@ -7,6 +7,7 @@ from __future__ import annotations
 from typing import Any, Dict, List, Optional, Sequence, Tuple, TYPE_CHECKING
 
 from rvlook.symbolic.conditions import all_of, any_of, choice8
+from rvlook.symbolic.fields import FetchedAt
 from rvlook.symbolic.history import Join, part_of
 from rvlook.symbolic.liveness import is_read
 from rvlook.symbolic.merge import changed_bytes
@@ -25,8 +26,9 @@ Half = Tuple[Any, List[Node]]  # a path, and its conditions since the paths divi
 
 
 def key_of(state: State) -> Tuple[Any, ...]:
-    """Returns what paths must have in common to be joined."""
-    return (*(getattr(state, name) for name in SAME), id(state.calls), state.regs[2], state.csr[0x100])
+    """Returns what paths must have in common to be joined. If loops are merged, these are also the indices by which their heads are divided."""
+    indices = state.search.indices.values(state) if state.search.loops_from else ()
+    return (*(getattr(state, name) for name in SAME), id(state.calls), state.regs[2], state.csr[0x100], indices)
 
 
 class Joins:
@@ -38,47 +40,47 @@ class Joins:
     def joined(self, states: Sequence[State]) -> List[State]:
         """Joins paths as far as possible; returns those that are left. Paths that have divided last are joined first."""
         groups: Dict[Any, List[State]] = {}
-        for it in states:
-            groups.setdefault(key_of(it), []).append(it)
+        for state in states:
+            groups.setdefault(key_of(state), []).append(state)
         found = []
         for group in groups.values():
-            group.sort(key=lambda it: [c.number for c in it.conds])
+            group.sort(key=lambda it: [condition.number for condition in it.conds])
             while len(group) > 1:
                 at = max(range(len(group) - 1), key=lambda n: common(group[n].conds, group[n + 1].conds))
-                it = self.pair(group[at], group[at + 1])
-                if it is None:
+                joined = self.pair(group[at], group[at + 1])
+                if joined is None:
                     found.append(group.pop(at))
                 else:
-                    group[at:at + 2] = [it]
+                    group[at:at + 2] = [joined]
             found += group
         return found
 
     def pair(self, one: State, two: State) -> Optional[State]:
         """Returns two paths as one, or None."""
         first = common(one.conds, two.conds)
-        a, b = one.conds[first:], two.conds[first:]
-        if not a or not b or len(a) + len(b) > MOST_CONDITIONS or one.public != two.public or one.win.keys() != two.win.keys():
+        own, others = one.conds[first:], two.conds[first:]
+        if not own or not others or len(own) + len(others) > MOST_CONDITIONS or one.public != two.public or one.win.keys() != two.win.keys():
             return None
-        if any(it.weight > HEAVY for it in (*a, *b)):
+        if any(it.weight > HEAVY for it in (*own, *others)):
             return None
-        condition = self.divides(one, a, b)
+        condition = self.divides(one, own, others)
         if condition is None or not self.fits(one, two):
             return None
-        c: Node = condition
-        if c.op == "not":
-            one, two, a, b, c = two, one, b, a, c.args[0]
+        divider: Node = condition
+        if divider.op == "not":
+            one, two, own, others, divider = two, one, others, own, divider.args[0]
         self.count += 1
-        self.join(one, two, c)
-        one.conds = one.conds[:first] + rest_of(c, a, b)
+        self.join(one, two, divider)
+        one.conds = one.conds[:first] + rest_of(divider, own, others)
         return one
 
-    def divides(self, one: State, a: List[Node], b: List[Node]) -> Optional[Node]:
+    def divides(self, one: State, own: List[Node], others: List[Node]) -> Optional[Node]:
         """Returns a condition that the first path implies and the other excludes, or None. It must not depend on a secret."""
-        condition: Condition = a[0]
-        if b[0] is not not_(a[0]):
-            condition = all_of(*a)
-            if not any(it is not_(condition) for it in b):
-                answer, _ = self.search.solver.within(TIMEOUT).satisfiable(a, all_of(*b), one.model)
+        condition: Condition = own[0]
+        if others[0] is not not_(own[0]):
+            condition = all_of(*own)
+            if not any(it is not_(condition) for it in others):
+                answer, _ = self.search.solver.within(TIMEOUT).satisfiable(own, all_of(*others), one.model)
                 if answer is not False:
                     return None
         if type(condition) is not Node or condition.taint & (SECRET | CHECK):
@@ -102,9 +104,9 @@ class Joins:
                 return False
         return True
 
-    def join(self, one: State, two: State, c: Node) -> None:
+    def join(self, one: State, two: State, condition: Node) -> None:
         """Makes the first path both paths: itself if a condition holds, else the second."""
-        past = Join(c, part_of(one), part_of(two))
+        past = Join(condition, part_of(one), part_of(two))
         one.earlier = max(one.earlier + one.steps, two.earlier + two.steps)
         one.past, one.trail, one.pcs, one.before, one.loads, one.stores, one.answers = past, None, [], 0, [], [], []
         one.model = {**two.model, **one.model}  # later inputs may take the other side, which has loads of its own
@@ -112,31 +114,31 @@ class Joins:
         for n in range(1, 32):
             if one.tags[n] != two.tags[n]:
                 one.tags[n] = MIXED
-            one.regs[n] = chosen(c, one.regs[n], two.regs[n])
+            one.regs[n] = chosen(condition, one.regs[n], two.regs[n])
         for n in one.csr:
-            one.csr[n] = chosen(c, one.csr[n], two.csr[n])
-        self.join_memory(one, two, c)
-        join_fetched(one, two, c)
-        one.win = {at: choice8(c, one.win[at], two.win[at]) for at in one.win}
+            one.csr[n] = chosen(condition, one.csr[n], two.csr[n])
+        self.join_memory(one, two, condition)
+        join_fetched(one, two, condition)
+        one.win = {at: choice8(condition, one.win[at], two.win[at]) for at in one.win}
         for key, n in two.counts.items():
             one.counts[key] = max(n, one.counts.get(key, 0))
         for place, n in two.rounds.items():
             one.rounds[place] = max(n, one.rounds.get(place, 0))
         one.inside = {pc: it for pc, it in one.inside.items() if two.inside.get(pc) == it}
 
-    def join_memory(self, one: State, two: State, c: Node) -> None:
+    def join_memory(self, one: State, two: State, condition: Node) -> None:
         """Joins the region, word by word, with the origins of words."""
         low = self.search.world.region[0]
         places = {at & -4 for at in changed_bytes(bytes(one.mem), bytes(two.mem), low)}
         places |= {at & -4 for at, x in one.sym.items() if two.sym.get(at) != x} | {at & -4 for at in two.sym if at not in one.sym}
         for at in sorted(places):
             x, y = contents(one, at, low), contents(two, at, low)
-            v = chosen(c, word(*x), word(*y))
-            if type(v) is Node and v.op != "word":
-                one.sym[at], one.sym[at + 1], one.sym[at + 2], one.sym[at + 3] = parts_of(v)
+            value = chosen(condition, word(*x), word(*y))
+            if type(value) is Node and value.op != "word":
+                one.sym[at], one.sym[at + 1], one.sym[at + 2], one.sym[at + 3] = parts_of(value)
                 continue
             for n in range(4):
-                one.put(at + n, byte(v, n))
+                one.put(at + n, byte(value, n))
         for at in {**one.mem_tags, **two.mem_tags}:
             x, y = one.mem_tags.get(at), two.mem_tags.get(at)
             if x != y:
@@ -148,31 +150,31 @@ def contents(state: State, at: int, low: int) -> List[Byte]:
     return [plain(state.sym.get(at + n, state.mem[at + n - low])) for n in range(4)]
 
 
-def chosen(c: Node, x: Word, y: Word) -> Word:
+def chosen(condition: Node, x: Word, y: Word) -> Word:
     """Returns one word or another; byte by byte if one of them is made of bytes."""
     if x is y:
         return x
-    p, q = bytes_of(x), bytes_of(y)
-    if p and q and not (type(x) is int and type(y) is int):
-        return word(*(choice8(c, a, b) for a, b in zip(p, q)))
-    return choice(c, x, y)
+    first, second = bytes_of(x), bytes_of(y)
+    if first and second and not (type(x) is int and type(y) is int):
+        return word(*(choice8(condition, own, other) for own, other in zip(first, second)))
+    return choice(condition, x, y)
 
 
-def common(a: Sequence[Node], b: Sequence[Node]) -> int:
+def common(one: Sequence[Node], two: Sequence[Node]) -> int:
     """Returns how many conditions two paths have in common from the beginning on."""
     n = 0
-    for x, y in zip(a, b):
+    for x, y in zip(one, two):
         if x is not y:
             break
         n += 1
     return n
 
 
-def rest_of(c: Node, a: List[Node], b: List[Node]) -> List[Node]:
+def rest_of(condition: Node, one: List[Node], two: List[Node]) -> List[Node]:
     """Returns the conditions of joined paths, after those that they have in common."""
-    both = [it for it in a if it in b]
-    p, q = ([it for it in own if it not in both and it is not c and it is not not_(c)] for own in (a, b))
-    parts = ((not_(c), all_of(*p)), (c, all_of(*q)))
+    both = [it for it in one if it in two]
+    first, second = ([it for it in own if it not in both and it is not condition and it is not not_(condition)] for own in (one, two))
+    parts = ((not_(condition), all_of(*first)), (condition, all_of(*second)))
     return [it for it in (*both, *(any_of(x, y) for x, y in parts if y is not not_(x))) if type(it) is Node]
 
 
@@ -181,7 +183,7 @@ def join_fetched(one: State, two: State, c: Node) -> None:
     both = [it for it in one.fetched_at if it in two.fetched_at]
     found = both[:]
     for own, other, condition in ((one, two, c), (two, one, not_(c))):
-        found += [(*it[:4], (*it[4], condition)) for it in own.fetched_at if it not in both]
-        found += [(at, 1, *it, (condition,)) for at, it in own.fetched.items() if at not in other.fetched]
+        found += [it._replace(joined=(*it.joined, condition)) for it in own.fetched_at if it not in both]
+        found += [FetchedAt(at, 1, pc, context, (condition,)) for at, (pc, context) in own.fetched.items() if at not in other.fetched]
     one.fetched = {at: it for at, it in one.fetched.items() if at in two.fetched}
     one.fetched_at = found

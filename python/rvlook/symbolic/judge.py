@@ -1,16 +1,16 @@
 """Questions about steps: double fetches, traps, jumps, and stores to code."""
 from __future__ import annotations
 
-from typing import Dict, List, Sequence, Set, Tuple, TYPE_CHECKING
+from typing import Dict, List, NamedTuple, Sequence, Set, Tuple, TYPE_CHECKING
 
 from rvlook.protocol.names import MARKS
-from rvlook.symbolic.conditions import all_of, any_of, differ, eq, ult, within
+from rvlook.symbolic.conditions import all_of, any_of, differ, eq, overlap, within
 from rvlook.symbolic.evaluation import evaluate
-from rvlook.symbolic.fields import Ended
+from rvlook.symbolic.fields import CODE, FINDING, Ended, FetchedAt
 from rvlook.symbolic.nodes import Condition, Node, Word
 from rvlook.symbolic.origins import How
 from rvlook.symbolic.outputs import Outputs
-from rvlook.symbolic.words import not_, operation
+from rvlook.symbolic.words import not_
 
 if TYPE_CHECKING:
     from rvlook.symbolic.extents import Extents
@@ -19,11 +19,17 @@ if TYPE_CHECKING:
     from rvlook.symbolic.fields import AnyState as State
 
 Place = Tuple[int, int]  # an instruction and its call context
-Earlier = Tuple[Condition, Place, Tuple[Node, ...]]  # whether a load meets an earlier one, that one, and the conditions of joined paths
 ILLEGAL, ASSUMPTION = 2, MARKS["4153000b"]
 CONSOLE_STATE = 16  # bytes before the text of a console (examples/shared/console.h)
 ECALL, WAITS = 8, "one instruction loads a byte again, as a loop that waits does"
 MEETS = "an index of the host may lead to a byte that was loaded before"
+
+
+class EarlierLoad(NamedTuple):
+    """A load before another one: whether the two have a byte in common, its instruction and call context, and the conditions of joined paths."""
+    overlaps: Condition
+    site: Place
+    joined: Tuple[Node, ...] = ()
 
 
 class Judge(Outputs):
@@ -34,10 +40,18 @@ class Judge(Outputs):
         super().__init__()
         self.code: Dict[int, Step] = {}  # the decoded instructions
         self.written: Set[int] = set()  # the words of the region that any path stores to
+        self.written_before: Set[int] = set()  # those that a path of an earlier search stores to
+        self.stored_words: Set[int] = set()  # those that a path stores as a word, and not only byte by byte
+        self.loaded: Set[int] = set()  # the words of the region that any path loads
+        self.unread: Set[int] = set()  # words without facts in a merged state, since no path had loaded them
+        self.is_outgrown = False  # whether another search has to begin with what this one knows
         self.saved: Dict[int, Set[int]] = {}  # the addresses at which a call saves registers
         self.assumptions: Set[int] = set()  # the assumptions of the enclave that some input does not fulfil
+        self.not_assumed: Set[int] = set()  # those that the run itself does not fulfil
         self.usual_moves: Set[Place] = set()
+        self.usual_members: Set[Tuple[int, int, int]] = set()  # a context, a pc, and a member that the run itself reaches by it
         self.landed: Set[Tuple[int, Tuple[int, int]]] = set()  # an instruction, and an object that it reaches
+        self.reached: Dict[Tuple[int, int], Tuple[int, int]] = {}  # the variable that an instruction reaches from an address, on all paths
         self.again: Set[Tuple[Place, Place]] = set()
         self.allowed: Dict[int, Set[str]] = {}  # the accesses that only --allow makes right, with what is not known about them
 
@@ -54,13 +68,21 @@ class Judge(Outputs):
 
     # ---- code
 
-    def note_written(self, state: State, at: int, width: int) -> None:
+    def note_written(self, state: State, at: int, width: int, is_word: bool) -> None:
         """Takes a store to the region. A store to an instruction that any path executes ends the path, which is then not complete."""
         for place in range(at & -4, at + width, 4):
             self.written.add(place)
+            if is_word:
+                self.stored_words.add(place)
             if place in self.code and not self.is_trial:
                 self.changed_code.add(state.pc)
-                raise Ended("code")
+                raise Ended(CODE)
+
+    def note_loaded(self, low: int, high: int) -> None:
+        """Takes a load of the region. A merged state needs facts about its words from now on."""
+        new = set(range(low & -4, high, 4)) - self.loaded
+        self.loaded |= new
+        self.is_outgrown |= bool(new & self.unread)
 
     # ---- the window
 
@@ -71,8 +93,8 @@ class Judge(Outputs):
 
     def is_console(self, at: int, width: int) -> bool:
         """Returns whether bytes are those in which a console in the window keeps its state: it reads back how much it has printed."""
-        it = self.world.symbols.by_name.get("window_console")
-        return it is not None and it.address <= at and at + width <= it.address + CONSOLE_STATE
+        console = self.world.symbols.by_name.get("window_console")
+        return console is not None and console.address <= at and at + width <= console.address + CONSOLE_STATE
 
     def note_fetch(self, state: State, place: Word, width: int, names: Sequence[Tuple[int, str]]) -> None:
         """Takes a load of the window: no byte of it may be loaded twice in an activation."""
@@ -87,12 +109,12 @@ class Judge(Outputs):
         if (type(place) is not int or state.fetched_at) and ("reread", state.pc) not in self.found:
             self.ask_overlap(state, place, width)
         if type(place) is not int:
-            state.fetched_at.append((place, width, *here, ()))
+            state.fetched_at.append(FetchedAt(place, width, *here))
 
     def fetched_again(self, state: State, first: Place, at: int, model: Dict[str, int]) -> None:
         """Takes a byte of the window that is loaded a second time in an activation."""
         here = state.pc, state.context
-        if (first, here) in self.again and not state.is_merged:
+        if self.is_trial or (first, here) in self.again and not state.is_merged:
             return
         if not state.is_merged:
             self.again.add((first, here))
@@ -104,17 +126,17 @@ class Judge(Outputs):
     def ask_overlap(self, state: State, place: Word, width: int) -> None:
         """Asks whether a load has a byte that an earlier one had, where one of them is at an expression. If it must have one, it is a double fetch.
         If it only can, that is not decided, unless the place is a pointer of the host, which may meet any other place."""
-        earlier: List[Earlier] = [(overlap(place, width, x, size), (pc, context), it) for x, size, pc, context, it in state.fetched_at]
+        earlier = [EarlierLoad(overlap(place, width, it.at, it.width), (it.pc, it.context), it.joined) for it in state.fetched_at]
         if type(place) is not int:
-            earlier += [(within(place, low - width + 1, high - 1), first, ()) for low, high, first in ranges_of(state.fetched)]
-        earlier = [it for it in earlier if it[0] is not False]
-        for joined in sorted({it[2] for it in earlier}, key=len):
-            own = [it for it in earlier if set(it[2]) <= set(joined)]
+            earlier += [EarlierLoad(within(place, low - width + 1, high - 1), first) for low, high, first in ranges_of(state.fetched)]
+        earlier = [it for it in earlier if it.overlaps is not False]
+        for joined in sorted({it.joined for it in earlier}, key=len):
+            own = [it for it in earlier if set(it.joined) <= set(joined)]
             self.ask_overlap_of(state, place, own, all_of(*joined))
 
-    def ask_overlap_of(self, state: State, place: Word, earlier: List[Earlier], joined: Condition) -> None:
+    def ask_overlap_of(self, state: State, place: Word, earlier: List[EarlierLoad], joined: Condition) -> None:
         """Asks the same for one of the paths that were joined: that of a condition."""
-        here, question = (state.pc, state.context), any_of(*(it[0] for it in earlier))
+        here, question = (state.pc, state.context), any_of(*(it.overlaps for it in earlier))
         can, model = self.solver.satisfiable(state.conds, all_of(joined, question), state.model)
         if can is False or ("reread", state.pc) in self.found:
             return
@@ -123,7 +145,7 @@ class Judge(Outputs):
             self.undecided["reread", state.pc] += 1
         elif must_not is False:
             memo: Dict[Node, object] = {}
-            hits = [first for condition, first, _ in earlier if evaluate(condition, model, memo)]
+            hits = [it.site for it in earlier if evaluate(it.overlaps, model, memo)]
             first = next((it for it in hits if it != here), hits[0])
             self.fetched_again(state, first, evaluate(place, model, memo), model)
         elif state.has_origin():
@@ -136,6 +158,8 @@ class Judge(Outputs):
         mark = MARKS.get("%08x" % value) if cause == ILLEGAL and type(value) is int else None
         if mark == ASSUMPTION:
             self.assumptions.add(state.pc)
+            if state.is_base:
+                self.not_assumed.add(state.pc)
             raise Ended("assumed")
         if mark:
             self.report("assertion", state, "the check fails", state.model)
@@ -157,7 +181,7 @@ class Judge(Outputs):
             if not answer:
                 return state.fixed(x)
         if not state.is_base:
-            raise Ended("finding")
+            raise Ended(FINDING)
         self.assumed_inside[state.pc] += 1
         state.assume(eq(x, state.value(x)))
         return state.value(x)
@@ -170,14 +194,6 @@ class Judge(Outputs):
             self.doubt("jump", state, "a target that is no function and no address of the program")
         elif tag.how in (How.FRAME, How.STACK) or target & 3:
             self.doubt("jump", state, "a target that is no instruction")
-
-
-def overlap(x: Word, width: int, y: Word, size: Word) -> Condition:
-    """Returns whether two accesses have a byte in common. The size of the second may be an expression: its end."""
-    if type(size) is Node:
-        return all_of(not_(ult(operation("add", x, width - 1), y)), ult(x, size))
-    distance = operation("add", operation("sub", x, y), width - 1)
-    return within(distance, 0, width + size - 2)
 
 
 def ranges_of(fetched: Dict[int, Place]) -> List[Tuple[int, int, Place]]:

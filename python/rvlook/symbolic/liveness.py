@@ -1,4 +1,5 @@
-"""Registers that are not read any more. It only decides which paths are joined: no answer depends on it."""
+"""Registers that are not read any more. It only decides which paths are joined, and which words of merged loops have facts: no answer depends on
+it."""
 from __future__ import annotations
 
 from typing import List, Set, Tuple, TYPE_CHECKING
@@ -14,13 +15,18 @@ RESULTS, ARGUMENTS, TEMPORARIES = (10, 11), range(10, 18), (1, 5, 6, 7, 28, 29, 
 BOTH, FIRST = ("op", "store", "branch"), ("imm", "load", "jalr", "csr")
 
 
-def reads(it: Decoded, register: int) -> bool:
-    """Returns whether an instruction reads a register."""
-    return it.kind in BOTH and register in (it.r1, it.r2) or it.kind in FIRST and it.r1 == register or it.kind in ("ecall", "sret", "illegal")
+def reads(instruction: Decoded, register: int, is_saved: bool) -> bool:
+    """Returns whether an instruction reads a register. An `ecall` reads its arguments, and saves all registers if `is_saved`."""
+    if instruction.kind == "ecall":
+        return is_saved or register in ARGUMENTS
+    if instruction.kind in BOTH:
+        return register in (instruction.r1, instruction.r2)
+    return register == instruction.r1 if instruction.kind in FIRST else instruction.kind in ("sret", "illegal")
 
 
-def is_read(flows: Flows, pc: int, register: int) -> bool:
-    """Returns whether a register may be read from a pc on before it is written. Calls keep to the calling convention."""
+def is_read(flows: Flows, pc: int, register: int, is_saved: bool = True) -> bool:
+    """Returns whether a register may be read from a pc on before it is written. Calls keep to the calling convention. `is_saved`: an `ecall` reads
+    all registers."""
     stack, seen = [(pc, 0)], set()  # type: List[Tuple[int, int]], Set[Tuple[int, int]]
     while stack:
         at, depth = stack.pop()
@@ -31,19 +37,19 @@ def is_read(flows: Flows, pc: int, register: int) -> bool:
         if found is None or len(seen) > MOST_LOOKED_AT:
             return True
         n = at - flows.low
-        it = decode(int.from_bytes(bytes(flows.memory[n:n + 4]), "little"))
-        if reads(it, register):
+        instruction = decode(int.from_bytes(bytes(flows.memory[n:n + 4]), "little"))
+        if reads(instruction, register, is_saved):
             return True
-        if it.rd == register and it.kind not in ("ecall", "sret"):
+        if instruction.rd == register and instruction.kind not in ("ecall", "sret"):
             continue
-        if it.kind == "jalr" and it.rd == 0:  # a return, or a jump
-            if it.r1 not in LINKS or not depth and register not in TEMPORARIES and register not in ARGUMENTS[2:]:
+        if instruction.kind == "jalr" and instruction.rd == 0 and not found[0]:  # a return, or a jump
+            if instruction.r1 not in LINKS or not depth and register not in TEMPORARIES and register not in ARGUMENTS[2:]:
                 return True
             continue
-        if found[1] and it.kind in ("jal", "jalr") and (register in TEMPORARIES or register in ARGUMENTS):
-            if register in ARGUMENTS and it.kind == "jalr":
+        if found[1] and instruction.kind in ("jal", "jalr") and (register in TEMPORARIES or register in ARGUMENTS):
+            if register in ARGUMENTS and instruction.kind == "jalr":
                 return True
-            stack += [(at + it.imm & 0xFFFFFFFF, depth + 1)] if register in ARGUMENTS else []
+            stack += [(at + instruction.imm & 0xFFFFFFFF, depth + 1)] if register in ARGUMENTS else []
             continue
         stack += [(to, depth) for to in found[0]]
     return False

@@ -10,10 +10,13 @@ if TYPE_CHECKING:
 
 @dataclass(frozen=True)
 class Means:
-    """The means of a search. `is_rare_first`: rare branches come first. `loops_from`: after so many divisions in a loop its head is merged, 0 for
-    never. `merges` and `activations` replace --each and --activations. `rounds`: so many times the rounds of --bound are followed."""
+    """The means of a search. `is_rare_first`: rare branches come first. `is_far`: values that lead further, such as long messages, are tried first.
+    `loops_from`: after so many divisions in a loop its head is merged, 0 for never. `is_rough`: facts of merged states do not depend on the contents
+    of large tables. `merges` and `activations` replace --each and --activations. `rounds`: so many times the rounds of --bound are followed."""
     is_rare_first: bool = False
+    is_far: bool = False
     loops_from: int = 0
+    is_rough: bool = False
     merges: Optional[bool] = None
     activations: int = 0
     rounds: int = 1

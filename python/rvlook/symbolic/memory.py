@@ -7,21 +7,21 @@ from rvlook.symbolic.accesses import Accesses
 from rvlook.errors import RvlookError
 from rvlook.symbolic.conditions import choice8, element, eq, ult
 from rvlook.symbolic.extents import Extent
-from rvlook.symbolic.fields import Ended
-from rvlook.symbolic.nodes import INPUT, M32, Byte, Node, Word, signed, variable
+from rvlook.symbolic.fields import Ended, Load, Store
+from rvlook.symbolic.nodes import CHECK, INPUT, M32, SECRET, Byte, Node, Word, signed, variable
 from rvlook.symbolic.origins import NO_ORIGIN, How, Origin, Tag, known
 from rvlook.symbolic.words import byte, extended, not_, parts_of, plain, word
 
 MOST_TABLE, MOST_STORED = 4096, 1024  # bytes of an object that is read or written at an index as a whole
 
 
-def assembled(b: List[Byte], width: int, is_signed: bool) -> Word:
+def assembled(parts: List[Byte], width: int, is_signed: bool) -> Word:
     """Returns the word that a load makes of its bytes."""
     if width == 4:
-        return word(*b)
+        return word(*parts)
     if is_signed:
-        return extended(b[0], b[-1], width)
-    return word(b[0], b[1] if width == 2 else 0, 0, 0)
+        return extended(parts[0], parts[-1], width)
+    return word(parts[0], parts[1] if width == 2 else 0, 0, 0)
 
 
 class Memory(Accesses):
@@ -39,12 +39,12 @@ class Memory(Accesses):
         parts = [sym.get(at + n) for n in range(width)] if sym else []
         at -= low
         if not any(parts):
-            v = int.from_bytes(mem[at:at + width], "little")
-            return signed(v, 8 * width) & M32 if is_signed else v
-        p = parts[0]
-        if width == 4 and type(p) is tuple and p[0].parts == tuple(parts):
-            return p[0]
-        return assembled([(plain(p) if p is not None else mem[at + n]) for n, p in enumerate(parts)], width, is_signed)
+            value = int.from_bytes(mem[at:at + width], "little")
+            return signed(value, 8 * width) & M32 if is_signed else value
+        first = parts[0]
+        if width == 4 and type(first) is tuple and first[0].parts == tuple(parts):
+            return first[0]
+        return assembled([mem[at + n] if part is None else plain(part) for n, part in enumerate(parts)], width, is_signed)
 
     def store(self, at: int, width: int, value: Word, tag: Tag = None) -> None:
         """Stores a word at a number."""
@@ -52,7 +52,7 @@ class Memory(Accesses):
         if not (low <= at and at + width <= high):
             self.sent(at, width, value, at)
             return
-        self.search.note_written(self, at, width)
+        self.search.note_written(self, at, width, width == 4)
         if type(value) is int:
             self.mem[at - low:at - low + width] = (value & (1 << 8 * width) - 1).to_bytes(width, "little")
             if self.sym:
@@ -65,13 +65,13 @@ class Memory(Accesses):
                 self.put(at + n, byte(value, n))
         self.note_origin(at, width, value, tag)
 
-    def put(self, at: int, b: Byte) -> None:
+    def put(self, at: int, value: Byte) -> None:
         """Sets a byte of the region."""
-        if type(b) is int:
-            self.mem[at - self.search.world.region[0]] = b
+        if type(value) is int:
+            self.mem[at - self.search.world.region[0]] = value
             self.sym.pop(at, None)
         else:
-            self.sym[at] = b
+            self.sym[at] = value
 
     # ---- origins of words in memory
 
@@ -92,8 +92,8 @@ class Memory(Accesses):
 
     def looks_like_pointer(self, at: int) -> bool:
         """Returns whether a word of the region is an address, or may be one."""
-        w, low = self.search.world, self.search.world.region[0]
-        return at + 4 <= w.region[1] and w.is_pointer(int.from_bytes(self.mem[at - low:at - low + 4], "little"))
+        world, low = self.search.world, self.search.world.region[0]
+        return at + 4 <= world.region[1] and world.is_pointer(int.from_bytes(self.mem[at - low:at - low + 4], "little"))
 
     def origin_at(self, at: int, value: Word) -> Tag:
         """Returns the origin of a word that was loaded at a number. A pointer that the image has in its data names the object there."""
@@ -101,8 +101,8 @@ class Memory(Accesses):
             return None
         if at in self.mem_tags:
             return known(self.mem_tags[at])
-        w = self.search.world
-        return Origin(How.MEMORY, value) if type(value) is int and w.region[0] <= at < w.region[1] and w.is_pointer(value) else None
+        world = self.search.world
+        return Origin(How.MEMORY, value) if type(value) is int and world.region[0] <= at < world.region[1] and world.is_pointer(value) else None
 
     def has_pointers(self, low: int, high: int) -> bool:
         """Returns whether an object has pointers, so that an index into it decides which."""
@@ -117,39 +117,40 @@ class Memory(Accesses):
 
     def received(self, at: int, width: int, place: Word) -> List[Byte]:
         """Returns bytes of the window: new inputs, unless the host waits during an activation. `place` is the address, maybe an expression."""
-        s, own = self.search, self.search.world.window[0]
+        search, own = self.search, self.search.world.window[0]
         is_number = type(place) is int
-        if is_number and s.options.calm and all(at + n in self.win for n in range(width)):
+        if is_number and search.options.calm and all(at + n in self.win for n in range(width)):
             return [self.win[at + n] for n in range(width)]
-        if is_number and s.is_given(at, width):
+        if is_number and search.is_given(at, width):
             return self.given(at, width)
         number, found, names = self.inputs, [], []  # type: int, List[Byte], List[Tuple[int, str]]
         for n in range(width):
-            if is_number and s.options.calm and at + n in self.win:
+            if is_number and search.options.calm and at + n in self.win:
                 found.append(self.win[at + n])
                 continue
             name, value = "i%d_%d" % (number, n), self.winmem[at + n - own]
-            it = variable(name, INPUT)
+            input_byte = variable(name, INPUT)
             if self.model.get(name) != value:
                 self.memo = {} if name in self.model else self.memo
                 self.model = {**self.model, name: value}
             names.append((n, name))
-            found.append(it)
-            if is_number and s.options.calm:
-                self.win[at + n] = it
-        self.loads.append((self.steps, place, tuple(names)))
+            found.append(input_byte)
+            if is_number and search.options.calm:
+                self.win[at + n] = input_byte
+        self.loads.append(Load(self.steps, place, tuple(names)))
         self.inputs += 1
-        s.note_fetch(self, place, width, names)
-        if is_number and at in s.world.lengths:
-            self.limit(at, assembled(found, width, False))
+        search.note_fetch(self, place, width, names)
+        if is_number and at in search.world.lengths:
+            self.limit(at, assembled(found, width, is_signed=False))
         return found
 
     def limit(self, at: int, value: Word) -> None:
         """Takes a length of --length: leaves out inputs with a greater one. Raises RvlookError if the run itself has one."""
-        s, most = self.search, self.search.world.lengths[at]
+        search, most = self.search, self.search.world.lengths[at]
         if self.is_base and self.value(value) > most:
-            raise RvlookError("--length leaves out the run itself, which has %d at %s" % (self.value(value), s.world.symbols.name(at) or "%08x" % at))
-        s.limited.add(at)
+            name = search.world.symbols.name(at) or "%08x" % at
+            raise RvlookError("--length leaves out the run itself, which has %d at %s" % (self.value(value), name))
+        search.limited.add(at)
         self.move_to(not_(ult(most, value)))
 
     def become_any(self, at: int, count: int) -> None:
@@ -162,82 +163,87 @@ class Memory(Accesses):
         self.inputs += 1
         values = {name: self.value(plain(self.sym[at + n])) if at + n in self.sym else self.mem[at + n - low] for n, name in names}
         self.model, self.memo = {**self.model, **values}, {}
-        self.search.note_written(self, at, count)
+        self.search.note_written(self, at, count, True)
         for n, name in names:
             self.put(at + n, variable(name, INPUT))
             self.note_origin(at + n, 1, 0, None)
-        self.loads.append((self.steps, at, tuple(names)))
+        self.loads.append(Load(self.steps, at, tuple(names)))
 
     def given(self, at: int, width: int) -> List[Byte]:
         """Returns bytes of the window that the host gives as in the run itself."""
         own = self.search.world.window[0]
         values = list(self.winmem[at - own:at - own + width])
-        names = tuple((n, "g%02x" % v) for n, v in enumerate(values))
-        self.model = {**self.model, **{name: v for (_, name), v in zip(names, values)}}
-        self.loads.append((self.steps, at, names))
+        names = tuple((n, "g%02x" % value) for n, value in enumerate(values))
+        self.model = {**self.model, **{name: value for (_, name), value in zip(names, values)}}
+        self.loads.append(Load(self.steps, at, names))
         return values
 
     def sent(self, at: int, width: int, value: Word, place: Word) -> None:
         """Stores to the window. Asks about bytes that depend on a secret, unless they are public."""
-        s, own, is_number = self.search, self.search.world.window[0], type(place) is int
+        search, own, is_number = self.search, self.search.world.window[0], type(place) is int
         parts = [byte(value, n) for n in range(width)]
-        s.output(self, parts, [place + n if is_number else None for n in range(width)], "window")
-        v: Optional[int] = value if type(value) is int else self.value(value) if self.is_base else None
-        if v is not None:
+        first = place if is_number else None
+        if not is_number and type(value) is Node and value.taint & (SECRET | CHECK):
+            first = search.public_place(self, place, width)
+        search.output(self, parts, [first + n if first is not None else None for n in range(width)], "window")
+        stored: Optional[int] = value if type(value) is int else self.value(value) if self.is_base else None
+        if stored is not None:
             for n in range(width):
-                self.winmem[at + n - own] = v >> 8 * n & 255
-        if s.options.calm and is_number:
+                self.winmem[at + n - own] = stored >> 8 * n & 255
+        if search.options.calm and is_number:
             for n in range(width):
                 self.win[place + n] = parts[n]
-        elif s.options.calm:
+        elif search.options.calm:
             self.win.clear()
-        if s.world.given and (not is_number or s.is_given(at, width)):
-            s.given_written.add(self.pc)
-        self.stores.append((self.steps, place, width, value))
+        if search.world.given and (not is_number or search.is_given(at, width)):
+            search.given_written.add(self.pc)
+        self.stores.append(Store(self.steps, place, width, value))
 
     # ---- expressions as addresses
 
     def read(self, x: Node, width: int, is_signed: bool, tag: Tag, offset: int) -> Tuple[Optional[Word], int]:
         """Loads at an address that is an expression. Returns the word and its address if that was followed value by value, else 0; None for the word
         if the load traps."""
-        it = self.place_at(x, width, tag, offset, "load")
-        w = self.search.world
-        if it is not None and it.low == w.window[0]:
+        extent = self.place_at(x, width, tag, offset, "load")
+        world = self.search.world
+        if extent is not None and extent.low == world.window[0]:
             return assembled(self.received(self.value(x), width, x), width, is_signed), 0
-        if it is not None and it.high - it.low <= MOST_TABLE and not (width == 4 and self.has_pointers(it.low, it.high)):
-            raw, sym = self.mem[it.low - w.region[0]:it.high - w.region[0]], self.sym
-            content = tuple(plain(sym.get(at, raw[at - it.low])) for at in range(it.low, it.high)) if sym else tuple(raw)
-            return assembled([element(x, it.low - n, content) for n in range(width)], width, is_signed), 0
+        if extent is not None and extent.high - extent.low <= MOST_TABLE and not (width == 4 and self.has_pointers(extent.low, extent.high)):
+            self.search.note_loaded(extent.low, extent.high)
+            raw, sym = self.mem[extent.low - world.region[0]:extent.high - world.region[0]], self.sym
+            content = tuple(plain(sym.get(at, raw[at - extent.low])) for at in range(extent.low, extent.high)) if sym else tuple(raw)
+            return assembled([element(x, extent.low - n, content) for n in range(width)], width, is_signed), 0
         at = self.fixed(x, "address")
-        return (self.load(at, width, is_signed), at) if w.is_allowed(at, width) else (None, at)
+        self.search.note_loaded(at, at + width)
+        return (self.load(at, width, is_signed), at) if world.is_allowed(at, width) else (None, at)
 
     def write(self, x: Node, width: int, value: Word, tags: Tuple[Tag, Tag], offset: int) -> Optional[int]:
         """Stores at an address that is an expression; returns the address if the store traps. `tags` are the origins of the address and of the
         value."""
-        it, tag = self.place_at(x, width, tags[0], offset, "store"), tags[1]
-        w = self.search.world
-        if it is not None and it.low == w.window[0]:
+        extent, tag = self.place_at(x, width, tags[0], offset, "store"), tags[1]
+        world = self.search.world
+        if extent is not None and extent.low == world.window[0]:
             self.sent(self.value(x), width, value, x)
             return None
-        if it is not None and it.high - it.low <= MOST_STORED and tag is None and not self.has_pointers(it.low & -4, it.high):
-            self.write_anywhere(x, width, value, it)
+        if extent is not None and extent.high - extent.low <= MOST_STORED and tag is None and not self.has_pointers(extent.low & -4, extent.high):
+            self.write_anywhere(x, width, value, extent)
             return None
         at = self.fixed(x, "address")
-        if not w.is_allowed(at, width):
+        if not world.is_allowed(at, width):
             return at
         self.store(at, width, value, tag)
         return None
 
-    def write_anywhere(self, x: Node, width: int, value: Word, it: Extent) -> None:
+    def write_anywhere(self, x: Node, width: int, value: Word, extent: Extent) -> None:
         """Stores at an expression: each byte of the object becomes a choice."""
-        self.search.note_written(self, it.low, it.high - it.low)
-        step = width if x.op == "add" and type(x.args[1]) is int and not (x.args[0].may | x.args[1] - it.low) & width - 1 else 1
+        self.search.note_written(self, extent.low, extent.high - extent.low, width == 4)
+        step = width if x.op == "add" and type(x.args[1]) is int and not (x.args[0].may | x.args[1] - extent.low) & width - 1 else 1
         low = self.search.world.region[0]
-        for at in range(it.low, it.high - width + 1, step):
+        for at in range(extent.low, extent.high - width + 1, step):
             is_here = eq(x, at)
             for n in range(width if is_here is not False else 0):
                 old = plain(self.sym.get(at + n, self.mem[at + n - low]))
                 self.put(at + n, choice8(is_here, byte(value, n), old))
-        for at in range(it.low & -4, it.high, 4):
+        for at in range(extent.low & -4, extent.high, 4):
             if at in self.mem_tags or type(value) is not int:
                 self.mem_tags[at] = NO_ORIGIN

@@ -42,35 +42,40 @@ def forget() -> None:
 def make(op: str, args: Tuple[Any, ...], may: int = M32) -> Node:
     """Returns the node with an operation and operands."""
     key = (op, args)
-    it = known.get(key)
-    if it is None:
+    node = known.get(key)
+    if node is None:
         taint, weight = 0, 1
-        for a in args:
-            if type(a) is Node:
-                taint |= a.taint
-                weight += a.weight
-        it = known[key] = Node(op, args, taint, may, len(known))
-        it.weight = weight if weight < HEAVIEST else HEAVIEST
-    return it
+        for operand in args:
+            if type(operand) is Node:
+                taint |= operand.taint
+                weight += operand.weight
+        node = known[key] = Node(op, args, taint, may, len(known))
+        node.weight = weight if weight < HEAVIEST else HEAVIEST
+    return node
 
 
 def variable(name: str, taint: int) -> Node:
     """Returns the variable of a byte. A name belongs to one taint."""
-    it = by_name.get(name)
-    if it is None:
-        it = by_name[name] = Node("var", (name,), taint, 255, -1 - len(variables))
-        it.mask = 1 << len(variables)
-        variables.append(it)
-    assert it.taint == taint, name
-    return it
+    node = by_name.get(name)
+    if node is None:
+        node = by_name[name] = Node("var", (name,), taint, 255, -1 - len(variables))
+        node.mask = 1 << len(variables)
+        variables.append(node)
+    assert node.taint == taint, name
+    return node
 
 
-def operands(it: Node) -> List[Node]:
+def operands(node: Node) -> List[Node]:
     """Returns the nodes on which the value of a node depends directly."""
-    if it.op == "table":
-        at = it.args[0]
-        return ([at] if type(at) is Node else []) + [b for b in it.args[2].content if type(b) is Node]
-    return [a for a in it.args if type(a) is Node]
+    if node.op == "table":
+        at = node.args[0]
+        return ([at] if type(at) is Node else []) + [content_byte for content_byte in node.args[2].content if type(content_byte) is Node]
+    return [operand for operand in node.args if type(operand) is Node]
+
+
+def weight_of(x: Word | Condition) -> int:
+    """Returns the number of operations in an expression, with repetitions."""
+    return x.weight if type(x) is Node else 0
 
 
 def mask_of(node: Word) -> int:
@@ -81,17 +86,17 @@ def mask_of(node: Word) -> int:
         return node.mask
     stack = [node]
     while stack:
-        it = stack[-1]
-        if it.mask is None:
-            own = operands(it)
-            missing = [a for a in own if a.mask is None]
+        top = stack[-1]
+        if top.mask is None:
+            own = operands(top)
+            missing = [operand for operand in own if operand.mask is None]
             if missing:
                 stack += missing
                 continue
             mask = 0
-            for a in own:
-                mask |= a.mask or 0
-            it.mask = mask
+            for operand in own:
+                mask |= operand.mask or 0
+            top.mask = mask
         stack.pop()
     return node.mask or 0
 
@@ -111,9 +116,9 @@ def names_of(mask: int) -> List[str]:
     return [variables[n].args[0] for n in bits_of(mask)]
 
 
-def signed(v: int, bits: int = 32) -> int:
+def signed(value: int, bits: int = 32) -> int:
     """Returns a word of so many bits as a signed number."""
-    return v - (1 << bits) if v >> (bits - 1) & 1 else v
+    return value - (1 << bits) if value >> (bits - 1) & 1 else value
 
 
 def concrete(op: str, x: int, y: int) -> int:
@@ -123,20 +128,20 @@ def concrete(op: str, x: int, y: int) -> int:
 
 def divided(x: int, y: int) -> int:
     """Returns the result of `div` (Unprivileged ISA, section 7.2)."""
-    p, q = signed(x), signed(y)
-    if q == 0:
+    dividend, divisor = signed(x), signed(y)
+    if divisor == 0:
         return M32
-    d = abs(p) // abs(q)
-    return (d if (p < 0) == (q < 0) else -d) & M32
+    quotient = abs(dividend) // abs(divisor)
+    return (quotient if (dividend < 0) == (divisor < 0) else -quotient) & M32
 
 
 def remainder(x: int, y: int) -> int:
     """Returns the result of `rem` (Unprivileged ISA, section 7.2)."""
-    p, q = signed(x), signed(y)
-    if q == 0:
+    dividend, divisor = signed(x), signed(y)
+    if divisor == 0:
         return x
-    d = abs(p) % abs(q)
-    return (d if p >= 0 else -d) & M32
+    rest = abs(dividend) % abs(divisor)
+    return (rest if dividend >= 0 else -rest) & M32
 
 
 NUMBERS = {

@@ -10,7 +10,7 @@ from rvlook.errors import RvlookError
 from rvlook.finders.secrets import IN_IMAGE
 from rvlook.image.variables import Variables
 from rvlook.output.progress import Progress
-from rvlook.symbolic.fields import Ended
+from rvlook.symbolic.fields import EXITED, STOPPED, Ended
 from rvlook.symbolic.nodes import Byte, Word
 from rvlook.symbolic.options import VerifyOptions
 from rvlook.symbolic.search import Search
@@ -90,7 +90,7 @@ class OwnPath(Search):
         it, visits = self.last, self.world.visits
         if it is None or self.queue or self.is_divided or self.harm() or self.assumed_inside or self.many or self.changed_code:
             return False
-        return (self.ends["exit"] + self.ends["stop"] == self.paths == 1 and len(it.answers) == len(visits)
+        return (self.ends[EXITED] + self.ends[STOPPED] == self.paths == 1 and len(it.answers) == len(visits)
                 and it.all_pcs() == [pc for visit in visits for pc in visit.pcs])
 
 

@@ -1,55 +1,83 @@
 """Conditions with bytes of tables and choices taken as any bytes. If they cannot hold then, they cannot hold at all."""
 from __future__ import annotations
 
-from typing import Any, Dict, List, Optional, Sequence
+from typing import Any, Callable, Dict, List, Optional, Sequence, Tuple
 
 from rvlook.symbolic.nodes import Node, operands
 from rvlook.symbolic.translate import Translator
 
-OPAQUE = ("table", "ite8")
+FEW_BYTES = 8  # expressions in a table that is not large
+
+
+def is_lookup_or_choice(node: Node) -> bool:
+    """Returns whether a node is a byte of a table or a choice of bytes."""
+    return node.op in ("table", "ite8")
+
+
+def is_large_lookup(node: Node) -> bool:
+    """Returns whether a node is a byte of a table that has many expressions."""
+    return node.op == "table" and sum(type(it) is Node for it in node.args[2].content) > FEW_BYTES
+
+
+def is_none(_: Node) -> bool:
+    """Returns that no node is taken as a variable."""
+    return False
 
 
 class Opaque(Translator):
-    """Makes expressions of z3 in which a byte of a table and a choice of bytes are variables."""
+    """Makes expressions of z3 in which some nodes are variables: those for which `is_opaque` holds."""
 
-    def __init__(self) -> None:
+    def __init__(self, is_opaque: Callable[[Node], bool] = is_lookup_or_choice) -> None:
         super().__init__()
+        self.is_opaque = is_opaque
         self.masks: Dict[Node, int] = {}
-        self.bits: Dict[Node, int] = {}
+        self.bits: Dict[Node, int] = {}  # of the nodes that are taken as variables, and of variables
 
-    def given(self, it: Node) -> Optional[Any]:
+    @staticmethod
+    def name_of(node: Node) -> str:
+        """Returns the name of the variable in place of a node."""
+        return "o%d" % node.number
+
+    def given(self, node: Node) -> Optional[Any]:
         """Returns the variable of a node that is taken as any byte, or None."""
-        return self.z3.variable("o%d" % it.number) if it.op in OPAQUE else None
+        return self.z3.variable(self.name_of(node)) if self.is_opaque(node) else None
 
     def mask_of(self, node: Node) -> int:
         """Returns the variables of a node, and the nodes that are taken as variables, as a set of bits."""
         stack, masks = [node], self.masks
         while stack:
-            it = stack[-1]
-            if it in masks:
+            top = stack[-1]
+            if top in masks:
                 stack.pop()
                 continue
-            own = [] if it.op in OPAQUE else operands(it)
-            missing = [a for a in own if a not in masks]
+            own = [] if self.is_opaque(top) else operands(top)
+            missing = [operand for operand in own if operand not in masks]
             if missing:
                 stack += missing
                 continue
-            mask = 0 if own else 1 << self.bits.setdefault(it, len(self.bits))
-            for a in own:
-                mask |= masks[a]
-            masks[it] = mask
+            mask = 0 if own else 1 << self.bits.setdefault(top, len(self.bits))
+            for operand in own:
+                mask |= masks[operand]
+            masks[top] = mask
         return masks[node]
 
     def relevant(self, conditions: Sequence[Node], question: Node) -> Optional[List[Node]]:
         """Returns the conditions that share variables with a question, and the question; None if there is nothing to leave out."""
-        mask, left, found = self.mask_of(question), list(conditions), []  # type: int, List[Node], List[Node]
+        found, mask = self.sliced(conditions, self.mask_of(question))
+        return [*found, question] if self.within(mask) or len(found) < len(conditions) else None
+
+    def sliced(self, conditions: Sequence[Node], mask: int) -> Tuple[List[Node], int]:
+        """Returns the conditions that share variables with a set of them, directly or by others, and all these variables."""
+        left, found = list(conditions), []  # type: List[Node], List[Node]
         while True:
             more = [it for it in left if self.mask_of(it) & mask]
             if not more:
-                break
+                return found, mask
             found += more
-            left = [it for it in left if it not in set(more)]
+            left = [it for it in left if not self.mask_of(it) & mask]
             for it in more:
                 mask |= self.mask_of(it)
-        has_opaque = any(it.op in OPAQUE and mask >> bit & 1 for it, bit in self.bits.items())
-        return [*found, question] if has_opaque or left else None
+
+    def within(self, mask: int) -> List[Node]:
+        """Returns the nodes of a set of variables that are taken as such."""
+        return [it for it, bit in self.bits.items() if mask >> bit & 1 and self.is_opaque(it)]

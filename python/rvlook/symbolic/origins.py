@@ -36,20 +36,20 @@ LOST = Origin(How.NONE, 1)  # of a word that has an origin on some of the paths 
 Tag = Optional[Origin]
 
 
-def known(it: Tag) -> Tag:
+def known(tag: Tag) -> Tag:
     """Returns an origin, or None for the mark of a word that is no pointer."""
-    return None if it is NO_ORIGIN else it
+    return None if tag is NO_ORIGIN else tag
 
 
-def moved_by_constant(it: Tag, offset: int, pc: int) -> Tag:
+def moved_by_constant(tag: Tag, offset: int, pc: int) -> Tag:
     """Returns the origin of a pointer to which a constant is added: it completes an address whose lower bits were still to come."""
-    if it is None or offset == 0:
-        return it
-    if it.how is How.UPPER:
-        return Origin(How.SYMBOL, it.base + offset & M32, it.call)
-    if it.how is How.STACK:
-        return Origin(How.FRAME, it.base + offset & M32, it.call, pc)
-    return it
+    if tag is None or offset == 0:
+        return tag
+    if tag.how is How.UPPER:
+        return Origin(How.SYMBOL, tag.base + offset & M32, tag.call)
+    if tag.how is How.STACK:
+        return Origin(How.FRAME, tag.base + offset & M32, tag.call, pc)
+    return tag
 
 
 def added(one: Tag, two: Tag) -> Tag:
@@ -57,7 +57,9 @@ def added(one: Tag, two: Tag) -> Tag:
     if one is LOST or two is LOST:
         other = two if one is LOST else one
         return other if other is not None else LOST
-    return one if two is None else two if one is None else None
+    if two is None:
+        return one
+    return two if one is None else None
 
 
 def subtracted(one: Tag, two: Tag) -> Tag:

@@ -1,13 +1,14 @@
 """Questions about what leaves an enclave: secrets in the window and in answers, codes that the host must know, what remains at a stop."""
 from __future__ import annotations
 
-from typing import Dict, List, Optional, Sequence, Set, Tuple, TYPE_CHECKING
+from typing import Dict, List, NamedTuple, Optional, Sequence, Set, Tuple, TYPE_CHECKING
 
-from rvlook.symbolic.conditions import all_of, any_of, differ, eq
+from rvlook.symbolic.conditions import all_of, any_of, differ, eq, overlap, within
 from rvlook.symbolic.evaluation import evaluate
-from rvlook.symbolic.nodes import CHECK, INPUT, SECRET, Byte, Node, Word, by_name, mask_of, names_of, operands, variable
+from rvlook.symbolic.history import history_of, is_calm
+from rvlook.symbolic.nodes import CHECK, INPUT, SECRET, Byte, Condition, Node, Word, by_name, mask_of, names_of, operands, variable
 from rvlook.symbolic.record import Record
-from rvlook.symbolic.words import byte, plain, word
+from rvlook.symbolic.words import byte, not_, plain, word
 
 if TYPE_CHECKING:
     from rvlook.symbolic.means import Means
@@ -16,8 +17,15 @@ if TYPE_CHECKING:
     from rvlook.symbolic.options import VerifyOptions
     from rvlook.symbolic.world import World
 
-COMPARISONS = ("eq", "eq8", "ult", "lt")
+COMPARISONS = ("eq", "eq8", "and1")
 BYTES = 256  # values of a byte
+CHANGES = "only known for a window that changes while the enclave runs"
+
+
+class Counts(NamedTuple):
+    """The numbers of loads and of stores of the window up to a stop."""
+    loads: int
+    stores: int
 
 
 class Outputs(Record):
@@ -30,23 +38,34 @@ class Outputs(Record):
     def __init__(self) -> None:
         super().__init__()
         self.usual_raw: Set[Tuple[int, Optional[int]]] = set()  # where the run itself shows bytes of the secret
+        self.declared_raw: Set[int] = set()  # the instructions with which it shows them at a public place
+        self.whole: Dict[Node, bool] = {}  # conditions on what the host must know: whether they are comparisons of all its bytes
         self.matters: Set[str] = set()  # bytes of which an output is known to depend on them
         self.appears = 0  # the variables of all outputs and of all conditions at stops
 
+    def report(self, what: str, state: State, text: str, one: Dict[str, int], two: Optional[Dict[str, int]] = None) -> None:
+        """Adds a finding. With --calm it is none if the window changes during an activation."""
+        is_new = self.options.calm and not state.is_merged and (what, state.pc) not in self.found
+        if is_new and not is_calm(history_of(state, one), one):
+            self.doubt(what, state, CHANGES)
+        else:
+            super().report(what, state, text, one, two)
+
     def output(self, state: State, parts: Sequence[Byte], places: Sequence[Optional[int]], what: str) -> None:
         """Takes bytes that the host can read afterwards. `places` has their addresses in the window, None for one that is not a number."""
-        own = [n for n, b in enumerate(parts) if type(b) is Node and b.taint & (SECRET | CHECK)]
+        own = [n for n, part in enumerate(parts) if type(part) is Node and part.taint & (SECRET | CHECK)]
         if not own:
             return
         public = self.world.public
         shown = [n for n in own if public.answer] if what == "answer" else [n for n in own if (at := places[n]) is not None and public.has(at)]
-        self.raw(state, parts, places, own, shown)
+        self.raw(state, parts, places, own, [n for n in own if n in shown or self.condition_of([places[n]]) is not None])
         self.shows_check(state, [parts[n] for n in own])
         secret = [n for n in own if parts[n].taint & SECRET]
         if secret:
             self.comes_out(state, any(parts[n].taint & CHECK for n in secret))
             self.note_influence(state, parts)
-        hidden = [n for n in secret if n not in shown]
+        self.solver.declared.update(parts[n] for n in secret if n in shown)
+        hidden = [n for n in secret if n not in shown and not (parts[n] in state.public and parts[n] in self.solver.declared)]
         value = word(*[parts[n] if n in hidden else 0 for n in range(len(parts))], *[0] * (4 - len(parts)))
         wanted = self.condition_of([places[n] for n in hidden])
         if hidden and wanted is not None:
@@ -57,6 +76,15 @@ class Outputs(Record):
             state.public.add(parts[n])
         if type(value) is Node and len(hidden) == len(parts) == 4:
             state.public.add(value)
+
+    def public_place(self, state: State, place: Node, width: int) -> Optional[int]:
+        """Returns the beginning of a public range in which a store at an expression always stays, or None."""
+        for public in (self.world.public, *(it for it, _ in self.world.public_if)):
+            for low, count in public.ranges:
+                inside = within(place, low, low + count - width)
+                if inside is True or inside is not False and self.solver.satisfiable(state.conds, not_(inside), state.model)[0] is False:
+                    return low
+        return None
 
     def condition_of(self, places: Sequence[Optional[int]]) -> Optional[int]:
         """Returns the answer with which bytes are public, or None."""
@@ -72,18 +100,40 @@ class Outputs(Record):
         key = state.pc, places[bare[0]] if bare else None
         if state.is_base and bare:
             self.usual_raw.add(key)
+            self.declared_raw |= {state.pc} if set(bare) <= set(shown) else set()
         elif bare and set(bare) <= set(shown) and key not in self.usual_raw:
             self.report("raw", state, "%d bytes of the secret itself, at a public place where the run has others" % len(bare), state.model)
 
     def shows_check(self, state: State, parts: Sequence[Node]) -> None:
         """Takes bytes that depend on what the host must know: they may show whether it is right, and nothing else."""
-        for b in parts:
-            if not b.taint & CHECK:
+        for part in parts:
+            if not part.taint & CHECK:
                 continue
-            if is_one_byte(b, CHECK):
+            if is_one_byte(part, CHECK):
                 self.report("check", state, "what the host must know comes out", state.model)
-            elif comparisons_with(b, CHECK) != 1:
-                self.doubt("check", state, "an output depends on what the host must know by more than one comparison")
+            elif not self.is_compared(part):
+                self.doubt("check", state, "an output depends on what the host must know by something else than one comparison of all its bytes")
+
+    def compares(self, state: State, condition: Node) -> None:
+        """Takes a condition by which a path divides: it may compare all bytes that the host must know at once, and nothing else."""
+        if condition.taint & CHECK and not self.is_whole_comparison(condition.args[0] if condition.op == "not" else condition):
+            self.doubt("check", state, "a path depends on what the host must know by something else than one comparison of all its bytes")
+
+    def is_compared(self, byte: Node) -> bool:
+        """Returns whether a byte depends on what the host must know by one comparison of all its bytes only."""
+        comparison = comparison_with(byte, CHECK)
+        return comparison is not None and self.is_whole_comparison(comparison)
+
+    def is_whole_comparison(self, condition: Node) -> bool:
+        """Returns whether a condition holds for only one value of the bytes that the host must know, for equal inputs."""
+        if condition not in self.whole:
+            self.whole[condition] = self.solver.is_free([condition], self.check_names) is False
+        return self.whole[condition]
+
+    @property
+    def check_names(self) -> List[str]:
+        """The variables of what the host must know."""
+        return ["c_%08x" % at for at in self.world.check]
 
     def comes_out(self, state: State, is_mixed: bool) -> None:
         """Takes a place where a secret comes out: asks whether the host must know what it is to know. An output in which both are mixed may be chosen
@@ -91,7 +141,7 @@ class Outputs(Record):
         if not self.world.check or state.released or ("check", state.pc) in self.found:
             return
         state.released = True
-        answer = self.solver.is_free(state.conds, ["c_%08x" % at for at in self.world.check])
+        answer = self.solver.is_free(state.conds, self.check_names)
         if answer and is_mixed:
             self.doubt("check", state, "an output is computed of the secret and of what the host must know")
         elif answer:
@@ -122,15 +172,15 @@ class Outputs(Record):
     def note_influence(self, state: State, parts: Sequence[Byte]) -> None:
         """Notes the bytes of the secret on which an output depends, each with two values for which it differs."""
         mask = 0
-        for b in parts:
-            mask |= mask_of(b)
+        for part in parts:
+            mask |= mask_of(part)
         self.appears |= mask
-        for name in names_of(mask) if self.options.must_matter else ():
+        for name in names_of(mask) if self.options.must_matter and not state.is_merged else ():
             if name.startswith("k_") and name not in self.matters:
                 other = {**state.model, name: state.model.get(name, 0) ^ 0x55}
                 memo: Dict[Node, object] = {}
                 is_possible = all(evaluate(it, other, memo) for it in state.conds)
-                if is_possible and any(evaluate(b, other, memo) != state.value(b) for b in parts):
+                if is_possible and any(evaluate(part, other, memo) != state.value(part) for part in parts):
                     self.matters.add(name)
 
     # ---- the end of an activation
@@ -158,11 +208,11 @@ class Outputs(Record):
 
     def older(self, state: State) -> None:
         """Asks whether the activation accepts a state of an earlier one as it does the latest."""
-        ends = [(0, 0)] + [(it[3], it[4]) for it in state.answers]
+        ends = [Counts(0, 0)] + [Counts(it.loads, it.stores) for it in state.answers]
         loaded: Dict[int, str] = {}
-        for _, at, names in state.loads[ends[state.visit][0]:]:
-            for n, name in names if type(at) is int else ():
-                loaded.setdefault(at + n, name)
+        for load in state.loads[ends[state.visit].loads:]:
+            for n, name in load.names if type(load.at) is int else ():
+                loaded.setdefault(load.at + n, name)
         kept = kept_states(state, ends)
         latest = kept[-1]
         places = [at for at in loaded if at in latest]
@@ -173,6 +223,18 @@ class Outputs(Record):
             question = all_of(*then, any_of(*(differ(as_word(old[at]), as_word(latest[at])) for at in changed)))
             if self.accepts(state, question, now, changed):
                 return
+        self.older_at_index(state, ends, sorted({at for old in kept[:-1] for at in old if old[at] != latest[at]}))
+
+    def older_at_index(self, state: State, ends: Sequence[Counts], changed: List[int]) -> None:
+        """Takes the loads and stores at expressions: it is not decided whether a load gives an older state if it may meet what an earlier activation
+        has stored. `changed` has the bytes that differ between two stops."""
+        stored = [(it.at, it.width) for it in state.stores[:ends[state.visit].stores] if type(it.at) is Node]
+        meets: List[Condition] = []
+        for load in state.loads[ends[state.visit].loads:]:
+            places = stored + ([(other, 1) for other in changed] if type(load.at) is Node else [])
+            meets += [overlap(load.at, len(load.names), other, width) for other, width in places]
+        if self.solver.satisfiable(state.conds, any_of(*meets), state.model)[0] is not False:
+            self.doubt("older", state, "an index of the host may lead to what an earlier activation has stored")
 
     def accepts(self, state: State, question: Node, now: Node, changed: List[int]) -> bool:
         """Reports an older state that is accepted; returns whether it is."""
@@ -185,13 +247,13 @@ class Outputs(Record):
         return bool(answer and latest)
 
 
-def kept_states(state: State, ends: Sequence[Tuple[int, int]]) -> List[Dict[int, Byte]]:
+def kept_states(state: State, ends: Sequence[Counts]) -> List[Dict[int, Byte]]:
     """Returns the bytes that the enclave has stored to the window up to the end of each earlier activation, by address."""
     found: List[Dict[int, Byte]] = []
     contents: Dict[int, Byte] = {}
-    for u in range(state.visit):
-        for _, at, width, v in state.stores[ends[u][1]:ends[u + 1][1]]:
-            contents.update({at + n: byte(v, n) for n in range(width)} if type(at) is int else {})
+    for visit in range(state.visit):
+        for store in state.stores[ends[visit].stores:ends[visit + 1].stores]:
+            contents.update({store.at + n: byte(store.value, n) for n in range(store.width)} if type(store.at) is int else {})
         found.append(dict(contents))
     return found
 
@@ -201,36 +263,37 @@ def input_of(name: str) -> Word:
     return as_word(by_name[name] if name in by_name else variable(name, INPUT))
 
 
-def as_word(b: Byte) -> Word:
+def as_word(byte: Byte) -> Word:
     """Returns a byte as a word."""
-    return word(b, 0, 0, 0)
+    return word(byte, 0, 0, 0)
 
 
-def is_secret(state: State, it: object) -> bool:
+def is_secret(state: State, value: object) -> bool:
     """Returns whether a word or a byte depends on the secret and is not public."""
-    return type(it) is Node and bool(it.taint & SECRET) and it not in state.public
+    return type(value) is Node and bool(value.taint & SECRET) and value not in state.public
 
 
-def is_one_byte(b: Node, taint: int) -> bool:
+def is_one_byte(byte: Node, taint: int) -> bool:
     """Returns whether a byte depends on one byte of a secret alone, and shows it: it has another value for each of its values."""
-    mask = mask_of(b)
-    if b.taint & ~taint or mask & mask - 1 or not mask:
+    mask = mask_of(byte)
+    if byte.taint & ~taint or mask & mask - 1 or not mask:
         return False
     name = names_of(mask)[0]
-    return len({evaluate(b, {name: v}, {}) for v in range(BYTES)}) == BYTES
+    return len({evaluate(byte, {name: variable}, {}) for variable in range(BYTES)}) == BYTES
 
 
-def comparisons_with(node: Node, taint: int) -> int:
-    """Returns the number of comparisons through which a node depends on a secret; more than one if it depends on it otherwise."""
-    found, stack, seen = 0, [node], {node}
+def comparison_with(node: Node, taint: int) -> Optional[Node]:
+    """Returns the comparison through which a node depends on a secret; None if there are several, or if it depends on it otherwise."""
+    found: List[Node] = []
+    stack, seen = [node], {node}
     while stack:
         it = stack.pop()
+        if it.op == "var" and it.taint & taint:
+            return None
         if it.op in COMPARISONS and it.taint & taint:
-            found += 1
-        elif it.op == "var" and it.taint & taint:
-            found += 2
-        else:
-            new = [a for a in operands(it) if a.taint & taint and a not in seen]
-            seen.update(new)
-            stack += new
-    return found
+            found.append(it)
+            continue
+        new = [operand for operand in operands(it) if operand.taint & taint and operand not in seen]
+        seen.update(new)
+        stack += new
+    return found[0] if len(found) == 1 else None

@@ -2,7 +2,9 @@
 from __future__ import annotations
 
 from rvlook.symbolic.conditions import differ, eq
-from rvlook.symbolic.fields import MERGED_LOOP, Ended, Fields
+from rvlook.symbolic.endless import TRIED_AT
+from rvlook.symbolic.evaluation import evaluate
+from rvlook.symbolic.fields import FINDING, IMPOSSIBLE, MERGED, MERGED_LOOP, Ended, Fields
 from rvlook.symbolic.nodes import SECRET, Condition, Node, Word
 from rvlook.symbolic.words import not_
 
@@ -17,13 +19,13 @@ class Paths(Fields):
     def move_to(self, condition: Condition) -> None:
         """Changes the model to one in which a condition holds, and adds it. Ends the path if there is none."""
         if condition is False:
-            raise Ended("impossible")
+            raise Ended(IMPOSSIBLE)
         if not self.holds(condition):
             answer, model = self.search.solver.satisfiable(self.conds, condition, self.model)
             if answer is None:
                 self.search.undecided["value", self.pc] += 1
             if not answer:
-                raise Ended("impossible")
+                raise Ended(IMPOSSIBLE)
             self.model, self.memo = model, {}
         self.assume(condition)
 
@@ -31,36 +33,38 @@ class Paths(Fields):
         """Asks whether two secrets can give different values of a word, for equal inputs. Returns whether it is known that they can."""
         if type(word) is not Node or not word.taint & SECRET:
             return False
-        s, key = self.search, (what, self.pc)
-        if s.world.public.has(self.pc):
+        search, key = self.search, (what, self.pc)
+        if search.world.public.has(self.pc):
             return False
-        if key in s.found:
+        if key in search.found:
             return True
-        answer, one, two = s.solver.pair(self.conds, word, self.public, self.model)
+        answer, one, two = search.solver.pair(self.conds, word, self.public, self.model)
         if answer and one is not None:
-            s.report(what, self, "", one, two)
+            search.report(what, self, "", one, two)
             return True
         if answer is None:
-            s.undecided[key] += 1
+            search.undecided[key] += 1
         return False
 
     def branch(self, condition: Node, target: int, following: int) -> int:
         """Goes on where a condition says, and leaves the other side to another path if it is possible. Returns the pc."""
-        s, pc = self.search, self.pc
-        if self.first_visit == MERGED_LOOP and (pc, self.context) in s.heads:
+        search, pc = self.search, self.pc
+        if self.first_visit == MERGED_LOOP and (pc, self.context) in search.heads:
             if self.head != pc:
-                s.take_loop(self)
-                raise Ended("merged")
+                search.take_loop(self)
+                raise Ended(MERGED)
             self.head = None
+        search.endless.at_branch(self)
         taken = self.holds(condition)
         is_leak = bool(condition.taint & SECRET) and self.differs("pc", condition)
+        search.compares(self, condition)
         here = condition if taken else not_(condition)
-        is_known = (pc, not taken) in s.sides
-        s.sides.add((pc, taken))
+        is_known = (pc, not taken) in search.sides
+        search.sides.add((pc, taken))
         if is_leak and is_known:
-            s.left_after_leak[pc] += 1
+            search.left_after_leak[pc] += 1
         else:
-            answer, model = s.solver.satisfiable(self.conds, not_(here), self.model)
+            answer, model = search.solver.satisfiable(self.conds, not_(here), self.model)
             if answer is False:  # the conditions imply this side
                 self.count_implied()
                 if self.first_visit == MERGED_LOOP:
@@ -69,39 +73,41 @@ class Paths(Fields):
             if answer:
                 self.leave_other_side(here, model, following if taken else target)
             else:
-                s.undecided["branch", pc] += 1
+                search.undecided["branch", pc] += 1
         self.conds.append(here)
         return target if taken else following
 
     def count_implied(self) -> None:
         """Counts the rounds of a loop whose end is not possible any more. After as many as are followed, the state may repeat."""
-        s, key = self.search, (-self.pc, self.context)
+        search, key = self.search, (-self.pc, self.context)
         count = self.counts[key] = self.counts.get(key, 0) + 1
-        if count == s.options.bound:
-            s.try_endless(self)
-            if ("stuck", self.pc) in s.found and not self.is_base:
-                raise Ended("finding")
+        if count == search.options.bound or count in TRIED_AT:
+            search.endless.try_numbers(self, search.tries)
+            if count >= search.options.bound and ("stuck", self.pc) in search.found and not self.is_base:
+                raise Ended(FINDING)
 
     def leave_other_side(self, here: Node, model: dict[str, int], other: int) -> None:
         """Leaves the other side of a branch to a path of its own, unless this is one round of a loop too many. A misaligned target traps at the
         branch, which that path executes again."""
-        s, key, whole = self.search, (self.pc, self.context), (self.pc, ~self.context)
+        search, key, whole = self.search, (self.pc, self.context), (self.pc, ~self.context)
         count = self.counts[key] = self.counts.get(key, 0) + 1
         total = self.counts[whole] = self.counts.get(whole, 0) + 1
-        if count <= s.options.bound and total <= s.options.bound * NESTED:
+        if count in TRIED_AT:
+            search.endless.try_numbers(self, search.tries)
+        if count <= search.options.bound and total <= search.options.bound * NESTED:
             is_trap = bool(other & 3)
-            it = self.fork(self.pc if is_trap else other, is_trap)
-            it.model, it.head = model, self.pc if is_trap and key in s.heads else None
-            it.conds.append(not_(here))
-            s.later(it)
-        elif s.options.loops and s.merger:
-            s.heads.add(key)
-            s.take_loop(self)
+            branch = self.fork(self.pc if is_trap else other, is_trap)
+            branch.model, branch.head = model, self.pc if is_trap and key in search.heads else None
+            branch.conds.append(not_(here))
+            search.divide(branch)
+        elif search.options.loops and search.merger:
+            search.heads.add(key)
+            search.take_loop(self)
             if not self.is_base:
-                raise Ended("merged")
+                raise Ended(MERGED)
         else:
-            s.cut_loops[self.pc] += 1
-            s.try_endless(self)
+            search.cut_loops[self.pc] += 1
+            search.endless.try_numbers(self, search.tries)
             if not self.is_base:
                 raise Ended("bound")
 
@@ -109,25 +115,25 @@ class Paths(Fields):
         """Returns the value of a word as a number. Other values are left to other paths. `what` is the channel by which the host sees the value."""
         if type(x) is int:
             return x
-        s, v = self.search, self.value(x)
+        search, value = self.search, self.value(x)
         is_leak = bool(x.taint & SECRET) and self.differs(what, x)
         tried = self.rejoined[1] if self.rejoined and self.rejoined[0] == self.steps else 0  # values of this very step
-        other = differ(x, v)
-        answer, model = s.solver.satisfiable(self.conds, other, self.model)
+        other = differ(x, value)
+        answer, model = search.solver.satisfiable(self.conds, other, self.model)
         if answer is None:
-            s.undecided["value", self.pc] += 1
+            search.undecided["value", self.pc] += 1
         elif answer and is_leak:
-            s.left_after_leak[self.pc] += 1
+            search.left_after_leak[self.pc] += 1
         elif answer and tried >= MOST_VALUES:
-            s.many[self.pc] += 1
+            search.many[self.pc] += 1
         elif answer:
-            self.again(other, model, tried + 1)
-        self.assume(eq(x, v))
-        return v
+            self.again(other, model, tried + 1, evaluate(x, model, {}))
+        self.assume(eq(x, value))
+        return value
 
-    def again(self, condition: Node, model: dict[str, int], tried: int) -> None:
-        """Leaves this step to another path, with another condition."""
-        it = self.fork(self.pc, True)
-        it.model, it.rejoined, it.head = model, (it.before, tried), self.head
-        it.conds.append(condition)
-        self.search.later(it)
+    def again(self, condition: Node, model: dict[str, int], tried: int, target: int) -> None:
+        """Leaves this step to another path, with another condition, and with a value of a word or an object."""
+        other = self.fork(self.pc, is_again=True)
+        other.model, other.rejoined, other.head, other.target = model, (other.before, tried), self.head, target
+        other.conds.append(condition)
+        self.search.divide(other)

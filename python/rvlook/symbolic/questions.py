@@ -4,10 +4,11 @@ from __future__ import annotations
 from dataclasses import dataclass, field
 from typing import Dict, List, Sequence, Tuple, TYPE_CHECKING
 
+from rvlook.symbolic.fields import CODE, FINDING
 from rvlook.symbolic.paths import MOST_VALUES
 
 if TYPE_CHECKING:
-    from rvlook.symbolic.record import Finding
+    from rvlook.symbolic.record import Counterexample
     from rvlook.symbolic.search import Search
 
 PROVED, FOUND, NOT_DECIDED, NONE_FOUND = "PROVED", "FOUND", "NOT DECIDED", "none found"
@@ -24,10 +25,11 @@ QUESTIONS: Dict[str, Tuple[str, Sequence[str]]] = {
     "remains": ("nothing in the region or the registers depends on the secret at a stop", ("remains",)),
     "influence": ("what comes out depends on each byte of the secret that must matter", ("influence",)),
     "state": ("no older state is accepted as the latest", ("older",))}
-BUT_ALLOWED = "; what it cannot know about the accesses of --allow is taken to be right"
-OWN_PATH = ", in the activations of the run itself; use --each for others"
+DIVIDING = ("branch", "value")  # kinds of questions about the paths that exist
+LIMITS = {"memory": "; what it cannot know about the accesses of --allow is taken to be right",  # of an answer, by question
+          "state": ", in the activations of the run itself; use --each for others"}
 REASONS = {"any_bytes": "any_bytes names bytes outside the region",
-           "code": "a path reaches code that changes", "outside": "a path leaves the region", "steps": "a path is too long",
+           CODE: "a path reaches code that changes", "outside": "a path leaves the region", "steps": "a path is too long",
            "sp": "the stack pointer depends on the host", "bound": ""}
 
 
@@ -37,7 +39,7 @@ class Answer:
     name: str
     verdict: str
     title: str
-    findings: List[Finding] = field(default_factory=list)
+    findings: List[Counterexample] = field(default_factory=list)
     places: List[str] = field(default_factory=list)
 
 
@@ -52,6 +54,11 @@ def asked(search: Search) -> List[str]:
 def gone(search: Search) -> List[str]:
     """Returns why not all paths were covered."""
     place, found = search.world.place, ["Ctrl-C ended the search"] if search.is_cut else []
+    for count, what in ((search.not_replayed, "paths"), (search.not_confirmed, "findings")):
+        if count:
+            found.append("the time is over before %d %s were replayed" % (count, what))
+    if not search.has_begun:
+        found.append("nothing was explored")
     if search.merge_queue:
         found.append("%d merged states are left" % len(search.merge_queue))
     if search.queue:
@@ -60,6 +67,10 @@ def gone(search: Search) -> List[str]:
         found.append("the time is over before the ends of loops were examined")
     for pc in search.cut_loops:
         found.append("the loop at %s is followed for %d rounds" % (place(pc), search.options.bound))
+    for pc in sorted({pc for what, pc in search.undecided if what in DIVIDING}):
+        found.append("it is not known where paths go on at %s" % place(pc))
+    for pc in search.not_assumed:
+        found.append("the run itself does not fulfil the assumption at %s" % place(pc))
     for pc in search.left_after_leak:
         found.append("after the leak at %s other secrets are left out" % place(pc))
     for pc in search.many:
@@ -71,8 +82,8 @@ def gone(search: Search) -> List[str]:
     for pc in sorted(search.given_written):
         found.append("%s stores to bytes of --given" % place(pc))
     found += ["%s (%d paths)" % (text, search.ends[why]) for why, text in REASONS.items() if text and search.ends[why]]
-    if search.ends["finding"]:
-        found.append("%d paths end at a finding" % search.ends["finding"])
+    if search.ends[FINDING]:
+        found.append("%d paths end at a finding" % search.ends[FINDING])
     return found
 
 
@@ -89,17 +100,20 @@ def answers(search: Search) -> List[Answer]:
     found = []
     for name in asked(search):
         title, kinds = QUESTIONS[name]
-        more = BUT_ALLOWED if name == "memory" and search.allowed else OWN_PATH if name == "state" and search.merger else ""
-        it = Answer(name, PROVED if is_complete else NONE_FOUND, title + more)
-        it.findings = sorted((x for x in search.found.values() if x.what in kinds and x.is_confirmed), key=lambda x: (x.pc, x.what))
+        is_limited = {"memory": bool(search.allowed), "state": search.merger is not None}.get(name, False)
+        more = LIMITS[name] if is_limited else ""
+        answer = Answer(name, PROVED if is_complete else NONE_FOUND, title + more)
+        answer.findings = sorted((x for x in search.found.values() if x.what in kinds and x.is_confirmed), key=lambda x: (x.pc, x.what))
         for (what, pc), count in sorted(search.undecided.items(), key=lambda x: (x[0][1], x[0][0])):
             if what in kinds and (what, pc) not in search.found:
                 why = "; ".join(sorted(search.reasons.get((what, pc), ())))
-                it.places.append("%s at %s%s, %d times" % (what, search.world.place(pc), ": " + why if why else "", count))
-        it.places += ["the end of the loop at %s" % search.world.place(pc) for pc in search.loops.endless()] if name == "returns" else []
-        it.places += influences(search) if name == "influence" else []
-        it.verdict = FOUND if it.findings else NOT_DECIDED if it.places else it.verdict
-        found.append(it)
+                answer.places.append("%s at %s%s, %d times" % (what, search.world.place(pc), ": " + why if why else "", count))
+        late = [x for x in search.found.values() if x.what in kinds and not x.answer]
+        answer.places += ["%s at %s: not replayed" % (x.what, search.world.place(x.pc)) for x in late]
+        answer.places += ["the end of the loop at %s" % search.world.place(pc) for pc in search.loops.endless()] if name == "returns" else []
+        answer.places += influences(search) if name == "influence" else []
+        answer.verdict = FOUND if answer.findings else NOT_DECIDED if answer.places else answer.verdict
+        found.append(answer)
     return found
 
 
@@ -131,7 +145,9 @@ def covered(search: Search) -> str:
     places = ", ".join(search.world.place(pc) for pc in sorted(search.assumptions))
     assumed = ", if the assumptions hold at %s" % places if places else ""
     allowed = ", if the allowed accesses are right: %s" % "; ".join(allowed_texts(search)) if search.allowed else ""
-    return "%sall paths, all inputs%s%s, %s%s%s%s%s" % (limits(search), secrets, given, number, calm, assumed, allowed, types)
+    copies = ", ".join(search.world.place(pc) for pc in sorted(search.declared_raw))
+    shown = ", if copies of the secret may come out at %s" % copies if copies else ""
+    return "%sall paths, all inputs%s%s, %s%s%s%s%s%s" % (limits(search), secrets, given, number, calm, assumed, allowed, shown, types)
 
 
 def allowed_texts(search: Search) -> List[str]:
@@ -146,6 +162,6 @@ def unused(search: Search) -> List[str]:
 
 def limits(search: Search) -> str:
     """Returns up to which lengths a search has gone, or nothing."""
-    w = search.world
-    places = ["%d at %s" % (w.lengths[at], w.symbols.name(at) or "%08x" % at) for at in sorted(search.limited)]
+    world = search.world
+    places = ["%d at %s" % (world.lengths[at], world.symbols.name(at) or "%08x" % at) for at in sorted(search.limited)]
     return "up to %s: " % " and ".join(places) if places else ""

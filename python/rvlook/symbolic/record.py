@@ -18,16 +18,23 @@ IN_MERGED = "only in a merged state: no sequence of activations is known that re
 Key = Tuple[str, int]  # a kind and an instruction
 
 
+def unknown_place(name: str) -> Optional[Union[int, str]]:
+    """Returns the place of an unknown of a state that was merged at a stop, by its name: an address, or a byte of a register. Returns None for
+    another variable."""
+    if not name.startswith("u"):
+        return None
+    place = name.split("_", 2)[2]
+    return place if "_" in place else int(place, 16)
+
+
 def merged_place(name: str) -> Optional[Union[int, str]]:
     """Returns the address or the register of an unknown of a state that was merged at a stop, by its name; None for another variable."""
-    kind, _, place = name.partition("_")
-    if not kind.startswith("u"):
-        return None
-    return place.partition("_")[0] if "_" in place else int(place, 16)
+    place = unknown_place(name)
+    return place.partition("_")[0] if isinstance(place, str) else place
 
 
 @dataclass
-class Finding:
+class Counterexample:
     """A finding: its kind, its instruction, a text, the path up to it, and the model, or two that differ in the secret. `answer` says what a replay
     showed."""
     what: str
@@ -45,7 +52,7 @@ class Finding:
     answer: str = ""
     log: List[str] = field(default_factory=list)  # the commands of its replay, up to its last step
 
-    def copy_without_stores(self) -> Finding:
+    def copy_without_stores(self) -> Counterexample:
         """Returns the finding without its stores, which differ with another secret."""
         return replace(self, stores=[])
 
@@ -59,7 +66,7 @@ class Record:
     """The results of a search. Those of a trial are dropped."""
 
     def __init__(self) -> None:
-        self.found: Dict[Key, Finding] = {}
+        self.found: Dict[Key, Counterexample] = {}
         self.undecided: Counts[Key] = Counter()
         self.reasons: Dict[Key, Set[str]] = {}
         self.left_after_leak: Counts[int] = Counter()
@@ -89,18 +96,18 @@ class Record:
             old.count += 1
             return
         address = state.access_address() if what in ("load", "store") else None
-        it = history_of(state, one)
-        self.found[key] = Finding(what, state.pc, text, it.pcs + [state.pc], it.loads, it.stores, it.answers, dict(one),
-                                  dict(two) if two else None, state.conds[:], address)
+        history = history_of(state, one)
+        self.found[key] = Counterexample(what, state.pc, text, history.pcs + [state.pc], history.loads, history.stores, history.answers, dict(one),
+                                         dict(two) if two else None, state.conds[:], address)
 
     def note_wanted(self, state: State, what: str) -> None:
         """Notes the places of a merged state on which a finding depends: those of the address, and of conditions that share a variable with it."""
         address = state.access_address() if what in ("load", "store") else None
         mask = mask_of(address) if address is not None else 0
-        for it in state.conds[-LAST:] if not mask else ():
-            mask |= mask_of(it)
-        for it in [it for it in state.conds if mask_of(it) & mask]:
-            mask |= mask_of(it)
+        for condition in state.conds[-LAST:] if not mask else ():
+            mask |= mask_of(condition)
+        for condition in [it for it in state.conds if mask_of(it) & mask]:
+            mask |= mask_of(condition)
         self.wanted |= {place for place in map(merged_place, names_of(mask)) if place is not None}
 
     def doubt(self, what: str, state: State, reason: str) -> None:

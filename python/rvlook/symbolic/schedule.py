@@ -21,10 +21,7 @@ Position = Tuple[int, ...]
 def position_of(flows: Flows, state: State) -> Position:
     """Returns where a path is, for the order."""
     parts = [place_of(flows, state, state.entry, state.call, state.pc)]
-    calls = state.calls
-    while calls:
-        calls, number, back, _, entry = calls
-        parts.append(place_of(flows, state, entry, number, back - 4))
+    parts += [place_of(flows, state, it.entry, it.caller, it.back - 4) for it in state.open_calls()]
     return (state.opening, state.visit, *(n for part in reversed(parts) for n in part), state.pc)
 
 
@@ -37,6 +34,17 @@ def place_of(flows: Flows, state: State, entry: int, call: int, pc: int) -> Posi
     for head in flow.heads.get(pc, ()):
         found += flow.order[head], state.rounds.get((call, head), 0)
     return (*found, flow.order[pc])
+
+
+def turn_of(flows: Flows, state: State) -> Position:
+    """Returns when the head of a loop has its turn: after the loops that come before it, and before those inside it."""
+    found: List[int] = []
+    for entry, pc in reversed([(state.entry, state.pc), *((it.entry, it.back - 4) for it in state.open_calls())]):
+        flow = flows.known.get(entry)
+        if flow is not None and pc in flow.order:
+            heads = flow.heads.get(pc, ())
+            found += [flow.order[head] for head in heads] + ([] if heads[-1:] == (pc,) else [flow.order[pc]])
+    return tuple(found)
 
 
 class Schedule:
@@ -56,8 +64,9 @@ class Schedule:
         heapq.heappush(self.heap, (self.rarity(state) if self.is_rare_first else position_of(self.flows, state), self.count, state))
 
     def rarity(self, state: State) -> Position:
-        """Returns how many paths have begun at the place of a path."""
-        place = state.pc, state.context
+        """Returns how many paths have begun at the place of a path. Its indices and the value with which it goes on belong to the place: a parser is
+        at another one for each depth, and for each type of a field."""
+        place = state.pc, state.context, *state.search.indices.values(state), state.target
         self.begun[place] += 1
         return (self.begun[place],)
 
@@ -70,21 +79,20 @@ class Schedule:
         return found
 
 
-def waiting(f: Step) -> Step:
+def waiting(step: Step) -> Step:
     """Returns the function of an instruction before which a path waits for others."""
-    def g(s: State, pc: int) -> int:
-        if s.head == pc:
-            to = f(s, pc)
-            s.head = None
+    def execute(state: State, pc: int) -> int:
+        if state.head == pc:
+            to = step(state, pc)
+            state.head = None
             return to
-        if s.resumed == pc:
-            s.resumed = None
+        if state.resumed == pc:
+            state.resumed = None
         else:
-            s.meet(pc)
-        if s.search.loops_from:
-            s.meet_head(pc)
-        return f(s, pc)
-    return g
+            state.meet(pc)
+        state.meet_head(pc)
+        return step(state, pc)
+    return execute
 
 
 def passes_head(flows: Flows, state: State, head: int) -> None:

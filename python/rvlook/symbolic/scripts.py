@@ -4,42 +4,42 @@ from __future__ import annotations
 import os
 from typing import List, Sequence, TYPE_CHECKING
 
-from rvlook.errors import RvlookError
+from rvlook.errors import Unfinished
 from rvlook.finders.races.replay import comment
 from rvlook.output.files import replace_file
 from rvlook.protocol.bench_line import ended
 
 if TYPE_CHECKING:
     from rvlook.protocol.run import Run
-    from rvlook.symbolic.record import Finding
+    from rvlook.symbolic.record import Counterexample
 
 STEP = "step 1"
 
 
-def write(folder: str, run: Run, findings: Sequence[Finding], headings: Sequence[str]) -> None:
-    """Writes a file for each finding. Raises RvlookError."""
+def write(folder: str, run: Run, findings: Sequence[Counterexample], headings: Sequence[str]) -> None:
+    """Writes a file for each finding. Raises Unfinished."""
     try:
         os.makedirs(folder, exist_ok=True)
-        for number, (it, heading) in enumerate(zip(findings, headings), 1):
-            replace_file(os.path.join(folder, "finding_%d" % number), input_of(run, it, heading))
+        for number, (example, heading) in enumerate(zip(findings, headings), 1):
+            replace_file(os.path.join(folder, "finding_%d" % number), input_of(run, example, heading))
     except OSError as error:
-        raise RvlookError("cannot write to '%s': %s" % (folder, error.strerror)) from None
+        raise Unfinished("cannot write to '%s': %s" % (folder, error.strerror)) from None
 
 
-def input_of(run: Run, it: Finding, heading: str) -> bytes:
+def input_of(run: Run, example: Counterexample, heading: str) -> bytes:
     """Returns a finding as an input of rvbench."""
     head = [comment(heading), comment("./rvbench %s < this file" % " ".join(run.setup.arguments())),
             comment("./rvlook page --monitor this file, or ./rvlook gdb --monitor this file")]
-    lines = [*head, *joined(it.log), "dis %x" % it.pc, "regs", STEP]
+    lines = [*head, *joined(example.log), "dis %x" % example.pc, "regs", STEP]
     return run.setup.image.text + b"--\n" + "".join(map(ended, lines)).encode("latin-1", "replace")
 
 
 def joined(commands: Sequence[str]) -> List[str]:
     """Returns commands with single steps put together."""
     found: List[str] = []
-    for it in commands:
-        if it == STEP and found and found[-1].startswith("step "):
+    for command in commands:
+        if command == STEP and found and found[-1].startswith("step "):
             found[-1] = "step %d" % (int(found[-1].split()[1]) + 1)
         else:
-            found.append(it)
+            found.append(command)
     return found

@@ -7,41 +7,51 @@ from __future__ import annotations
 import random
 import time
 from copy import copy
-from typing import Any, Dict, FrozenSet, List, Optional, Sequence, Set, Tuple
+from functools import partial
+from math import inf
+from typing import Any, Callable, Dict, FrozenSet, List, Optional, Sequence, Set, Tuple
 
 from rvlook.symbolic.domains import Domains, member_of
 from rvlook.symbolic.evaluation import Model, evaluate, reduced
+from rvlook.symbolic.fields import TimeIsOver
 from rvlook.symbolic.guess import Part, solutions
 from rvlook.symbolic.nodes import CHECK, HEAVY, SECRET, Condition, Node, Word, by_name, mask_of, names_of
-from rvlook.symbolic.opaque import Opaque
+from rvlook.symbolic.opaque import Opaque, is_large_lookup, is_none
 from rvlook.symbolic.translate import Primed, Translator
 
 CORNERS = (0, 1, 255, 128, 127, 65, 4, 16)
 OPAQUE_TIMEOUT = 500  # milliseconds
+LIGHT = 256  # operations of a node that is computed for both of two secrets, although it is taken to be equal
 MOST_PARTS = 12  # of a conjunction that is guessed
 MOST_NAMES, TRIES, REPAIRS = 64, 6, 4  # variables of a question that is guessed; guesses; repaired conditions of a guess
 Answer = Optional[bool]  # None if it is not decided
 Pair = Tuple[Answer, Optional[Part], Optional[Part]]
+Known = Tuple[FrozenSet[Node], List[Node]]  # nodes that are taken to be equal for two secrets, and those that are computed for both
 
 
 class Solver:
     """Answers questions: True with a model, False, or None if it is not decided. `proofs` has the conditions of each answer that nothing exists, if
-    it is a list."""
+    it is a list. `has_many`: the paths have many simple conditions, such as the facts of merged
+    states. `is_far`: guesses are of values that lead further."""
 
-    def __init__(self, timeout: int, seed: int = 0) -> None:
+    def __init__(self, timeout: int, seed: int = 0, is_rough: bool = False, has_many: bool = False, is_far: bool = False) -> None:
         self.timeout, self.rng, self.plain = timeout, random.Random(seed), Translator()
+        self.has_many, self.is_far = has_many, is_far
         self.z3, self.opaque, self.domains = self.plain.z3, Opaque(), Domains()
+        self.rough = Opaque(is_large_lookup if is_rough else is_none)
         self.cache: Dict[Any, Any] = {}
         self.primed: Dict[FrozenSet[Node], Primed] = {}
         self.queries = self.guesses = self.cached = 0
-        self.seconds = 0.0
+        self.seconds, self.until = 0.0, inf  # `until`: by time.perf_counter()
         self.proofs: Optional[List[List[Any]]] = None
+        self.declared: Set[Node] = set()  # nodes that came out at a place of --public
+        self.shown: Dict[FrozenSet[Node], Set[Condition]] = {}  # the conditions that were shown to follow from others
 
     def within(self, timeout: int) -> Solver:
         """Returns the same solver with at most so many milliseconds for a query."""
-        it = copy(self)
-        it.timeout, it.cache = min(timeout, self.timeout), {}
-        return it
+        limited = copy(self)
+        limited.timeout, limited.cache = min(timeout, self.timeout), {}
+        return limited
 
     # ---- one run
 
@@ -66,12 +76,20 @@ class Solver:
             return question, model
         relevant, mask = self.sliced(conditions, mask_of(question))
         key = question, frozenset(relevant)
-        if key not in self.cache:
-            self.cache[key] = self.answered(relevant, question, mask, model)
-        else:
+        if key in self.cache and self.fits(self.cache[key], relevant, question, model):
             self.cached += 1
+        else:
+            self.cache[key] = self.answered(relevant, question, mask, model)
         answer, part = self.cache[key]
         return answer, {**model, **part} if part else model
+
+    @staticmethod
+    def fits(known: Tuple[Answer, Optional[Part]], relevant: Sequence[Node], question: Node, model: Part) -> bool:
+        """Returns whether a known answer is one for a model too. The values that something exists for are those that differ from another model."""
+        answer, part = known
+        memo: Dict[Node, Any] = {}
+        whole = {**model, **(part or {})}
+        return not answer or all(evaluate(it, whole, memo) for it in (*relevant, question))
 
     def answered(self, relevant: List[Node], question: Node, mask: int, model: Part) -> Tuple[Answer, Optional[Part]]:
         """Returns whether conditions and a question hold, with the values that differ from a model: by the values of
@@ -85,7 +103,7 @@ class Solver:
         part = self.guessed(relevant, question, mask_of(question), model)
         if part is not None:
             self.guesses += 1
-            return True, part
+            return True, {**{n: model.get(n, 0) for n in names_of(mask)}, **part}  # it may be used for another model
         if self.is_impossible(relevant, question):
             return False, None
         left, values = reduced([*relevant, question])
@@ -94,7 +112,7 @@ class Solver:
             return False, None
         answer, part = (True, {}) if not left else self.solve([self.plain(it) for it in left], names_of(mask))
         if answer and part is not None:
-            part.update({k.args[0]: v for k, v in values.items()})
+            part.update({name.args[0]: value for name, value in values.items()})
             memo: Dict[Node, Any] = {}
             whole = {**model, **part}
             if not all(evaluate(it, whole, memo) for it in (*relevant, question)):
@@ -106,11 +124,8 @@ class Solver:
         asked = self.opaque.relevant(relevant, question)
         if asked is None:
             return False
-        self.queries += 1
-        began = time.perf_counter()
         asts = [self.opaque(it) for it in asked]
-        answer, _ = self.z3.checked(asts, min(self.timeout, OPAQUE_TIMEOUT))
-        self.seconds += time.perf_counter() - began
+        answer, _ = self.checked(asts, min(self.timeout, OPAQUE_TIMEOUT))
         if answer is False:
             self.note_proof(asts)
         return answer is False
@@ -120,7 +135,7 @@ class Solver:
         names, memo = names_of(mask), {}  # type: List[str], Dict[Node, Any]
         if len(names) > MOST_NAMES and question.weight > HEAVY or is_long(question):
             return None
-        parts = [it for it, _ in zip(solutions(question, model, memo), range(8))]
+        parts = [it for it, _ in zip(solutions(question, model, memo, self.is_far), range(8))]
         for turn in range(TRIES if len(names) <= MOST_NAMES else 0):
             parts.append({n: CORNERS[turn] if turn < 3 else self.rng.randrange(256) if turn < 5 else self.rng.choice(CORNERS) for n in names})
         for part in parts:
@@ -139,7 +154,7 @@ class Solver:
                 return None
             failing = next((it for it in conditions if not evaluate(it, other, memo)), None)
             if failing is None:
-                return {n: v for n, v in other.items() if n in part or v != model.get(n)}
+                return {n: value for n, value in other.items() if n in part or value != model.get(n)}
             change = next((it for it in solutions(failing, other, memo) if it and not part.keys() & it.keys()), None)
             if change is None:
                 return None
@@ -148,13 +163,27 @@ class Solver:
 
     def solve(self, asts: List[Any], names: Sequence[str]) -> Tuple[Answer, Optional[Part]]:
         """Asks z3. Returns True with the values of the variables, False, or None."""
-        began = time.perf_counter()
-        self.queries += 1
-        answer, values = self.z3.checked(asts, self.timeout)
-        self.seconds += time.perf_counter() - began
+        answer, values = self.checked(asts, self.timeout)
         if answer is False:
             self.note_proof(asts)
         return answer, {n: values.get(n, 0) for n in names} if answer else None
+
+    def checked(self, asts: List[Any], timeout: int) -> Tuple[Answer, Part]:
+        """Asks z3, for at most so many milliseconds. Raises TimeIsOver if the time of the whole run ends before an answer."""
+        return self.timed(partial(self.z3.checked_by_tactics if self.has_many else self.z3.checked, asts), timeout)
+
+    def timed(self, ask: Callable[[int], Tuple[Answer, Part]], timeout: int) -> Tuple[Answer, Part]:
+        """Asks z3 by a function of the milliseconds that are left. Raises TimeIsOver if the time of the whole run ends before an answer."""
+        began = time.perf_counter()
+        if began >= self.until:
+            raise TimeIsOver
+        self.queries += 1
+        answer, values = ask(max(1, int(min(timeout, 1000 * (self.until - began)))))
+        now = time.perf_counter()
+        self.seconds += now - began
+        if answer is None and now >= self.until:
+            raise TimeIsOver
+        return answer, values
 
     def note_proof(self, asts: List[Any]) -> None:
         """Keeps the conditions that cannot hold together, for a second solver."""
@@ -181,36 +210,45 @@ class Solver:
         if type(question) is not Node or not question.taint & SECRET or question in public:
             return False, None, None
         relevant, mask = self.sliced(conditions, mask_of(question))
+        equal = sorted((it for it in public & self.declared if it.weight <= LIGHT and mask_of(it) & mask), key=lambda it: it.number)
+        for it in equal:
+            mask |= mask_of(it)
+        relevant, mask = self.sliced(conditions, mask) if equal else (relevant, mask)
         key = "pair", question, frozenset(relevant), frozenset(public)
         if key in self.cache:
             self.cached += 1
             return self.cache[key]
         secret = [it for it in relevant if it.taint & SECRET]
-        found = self.different(question, mask, secret, public, model) or self.solved_pair(question, mask, relevant, key[3], model)
+        found = self.different(question, mask, secret, (key[3], equal), model) or self.solved_pair(question, mask, relevant, (key[3], equal), model)
         self.cache[key] = found
         return found
 
-    def solved_pair(self, question: Node, mask: int, relevant: List[Node], public: FrozenSet[Node], model: Part) -> Pair:
-        """Asks z3 whether a node can differ for two secrets."""
+    def solved_pair(self, question: Node, mask: int, relevant: List[Node], known: Known, model: Part) -> Pair:
+        """Asks z3 whether a node can differ for two secrets. `known` has the nodes that are taken to be equal, and those of them that are also
+        computed for the second secret."""
+        public = known[0].difference(known[1])
         primed = self.primed.setdefault(public, Primed(self.plain, public))
         asts = [self.plain(it) for it in relevant] + [primed(it) for it in relevant if it.taint & SECRET]
+        asts += [self.z3.equal(self.plain(it), primed(it)) for it in known[1]]
         names = names_of(mask)
         both = names + [n + "'" for n in names if by_name[n].taint & SECRET]
         answer, part = self.solve(asts + [self.z3.unequal(self.plain(question), primed(question))], both)
         if not answer or part is None:
             return answer, None, None
-        one = {**model, **{n: v for n, v in part.items() if not n.endswith("'")}}
-        return True, one, {**one, **{n[:-1]: v for n, v in part.items() if n.endswith("'")}}
+        one = {**model, **{n: value for n, value in part.items() if not n.endswith("'")}}
+        return True, one, {**one, **{n[:-1]: value for n, value in part.items() if n.endswith("'")}}
 
-    def different(self, question: Node, mask: int, conditions: Sequence[Node], public: Set[Node], model: Part) -> Optional[Pair]:
-        """Tries other secrets; returns the answer of `pair`, or None."""
+    def different(self, question: Node, mask: int, conditions: Sequence[Node], known: Known, model: Part) -> Optional[Pair]:
+        """Tries other secrets; returns the answer of `pair`, or None. `known` is that of `solved_pair`."""
         names = [n for n in names_of(mask) if by_name[n].taint & SECRET]
         memo: Dict[Node, Any] = {}
         own = evaluate(question, model, memo)
-        forced = {it: evaluate(it, model, memo) for it in public if it.taint & SECRET and mask_of(it) & mask}
+        equal = {it: evaluate(it, model, memo) for it in known[1]}
+        forced = {it: evaluate(it, model, memo) for it in known[0] if it.taint & SECRET and mask_of(it) & mask and it not in equal}
         for turn in range(TRIES if names else 0):
-            other, known = {**model, **self.other_secret(turn, names, model)}, dict(forced)
-            if evaluate(question, other, known) != own and all(evaluate(it, other, known) for it in conditions):
+            other, values = {**model, **self.other_secret(turn, names, model)}, dict(forced)
+            is_other = evaluate(question, other, values) != own and all(evaluate(it, other, values) for it in conditions)
+            if is_other and all(evaluate(it, other, values) == value for it, value in equal.items()):
                 self.guesses += 1
                 return True, dict(model), other
         return None
@@ -229,5 +267,5 @@ class Solver:
 
 def is_long(question: Node) -> bool:
     """Returns whether a question is one about many conditions at once."""
-    it = question.args[0] if question.op == "not" else question
-    return it.op == "and1" and len(it.args) > MOST_PARTS
+    compared = question.args[0] if question.op == "not" else question
+    return compared.op == "and1" and len(compared.args) > MOST_PARTS

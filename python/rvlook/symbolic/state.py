@@ -5,19 +5,18 @@ from typing import Optional
 
 from rvlook.symbolic.calls import FETCH, Traps
 from rvlook.symbolic.decode import decode
-from rvlook.symbolic.fields import STVEC, Ended
+from rvlook.symbolic.fields import CODE, LATE, MERGED, STVEC, Ended
 from rvlook.symbolic.instructions import Step, compiled
 from rvlook.symbolic.nodes import M32, Word
 from rvlook.symbolic.schedule import WAITS, passes_head, waiting
 from rvlook.symbolic.words import operation
 
-SLICE = 256  # steps between two looks at the time
-LONGEST = 2000  # steps of an endless loop that is noticed
+SLICE = 32  # steps between two looks at the time; each may ask z3 for seconds
 
 
-def fetch_fault(s: Traps, pc: int) -> int:
+def fetch_fault(state: Traps, pc: int) -> int:
     """Executes a step outside the region, which traps."""
-    return s.trap(FETCH, pc)
+    return state.trap(FETCH, pc)
 
 
 class State(Traps):
@@ -26,47 +25,50 @@ class State(Traps):
 
     def go(self) -> str:
         """Executes steps until the path ends; returns why."""
-        s = self.search
-        code, limit = s.code, s.options.path_steps
+        search = self.search
+        code, limit = search.code, search.options.path_steps
         try:
             while True:
                 for _ in range(SLICE):
                     pc = self.pc
-                    f = code.get(pc)
-                    if f is None:
-                        f = self.decoded(pc)
-                    self.pc = f(self, pc)
+                    step = code.get(pc)
+                    if step is None:
+                        step = self.decoded(pc)
+                    self.pc = step(self, pc)
                     self.pcs.append(pc)
-                if s.is_late():
-                    raise Ended("late")
+                if search.is_late():
+                    raise Ended(LATE)
                 if self.earlier + self.steps > limit:
                     raise Ended("steps")
-                if self.earlier + self.steps > s.patience and not self.is_base:
-                    self.repeats()
+                if self.earlier + self.steps > search.patience and not self.is_base:
+                    search.endless.at_end(self)
         except Ended as end:
-            if str(end) not in (WAITS, "late"):
+            if str(end) not in (WAITS, LATE):
                 self.pcs.append(self.pc)
             return str(end)
 
     def meet_head(self, pc: int) -> None:
-        """Merges paths at the head of a loop in which this one has divided several times. The next search merges them from the first round on."""
-        s, key = self.search, (pc, self.context)
-        flow = s.flows.known.get(self.entry)
-        if s.is_trial or flow is None or flow.heads.get(pc, ())[-1:] != (pc,):
+        """Merges paths at the head of a loop in which this one has divided several times. The next search merges them from the first round on. A
+        search that does not merge loops notes these heads."""
+        search, key = self.search, (pc, self.context)
+        flow = search.flows.known.get(self.entry)
+        if search.is_trial or flow is None or flow.heads.get(pc, ())[-1:] != (pc,) or key in search.divided:
             return
         if self.is_base:
-            if key in s.heads and not self.is_covered:
-                s.take_loop(self)
+            if key in search.heads and not self.is_covered:
+                search.take_loop(self)
                 self.is_covered = True
             return
         own = [n for (at, context), n in self.counts.items() if context == self.context and flow.heads.get(at, ())[-1:] == (pc,)]
-        if key in s.heads or max(own, default=0) >= s.loops_from:
-            if key not in s.heads:
-                s.heads.add(key)
-                s.is_outgrown = True
-                raise Ended("late")
-            s.take_loop(self)
-            raise Ended("merged")
+        if not search.loops_from:
+            search.divided |= {key} if own else set()
+        elif key in search.heads or max(own, default=0) >= search.loops_from:
+            if key not in search.heads:
+                search.heads.add(key)
+                search.is_outgrown = True
+                raise Ended(LATE)
+            search.take_loop(self)
+            raise Ended(MERGED)
 
     def step(self) -> None:
         """Executes one step."""
@@ -76,48 +78,36 @@ class State(Traps):
 
     def decoded(self, pc: int) -> Step:
         """Returns the function of the instruction at a pc, as the image has it."""
-        s = self.search
-        low, high = s.world.region
+        search = self.search
+        low, high = search.world.region
         if not (low <= pc and pc + 4 <= high):
             if not self.csr[STVEC]:
                 raise Ended("outside")
             return fetch_fault
-        if pc in s.written or any(pc + n in self.sym for n in range(4)):
-            s.changed_code.add(pc)
-            raise Ended("code")
-        it = compiled(decode(int.from_bytes(s.world.memory[pc - low:pc - low + 4], "little")))
-        s.code[pc] = waiting(it) if pc in s.meets else it
-        return s.code[pc]
+        if pc in search.written or any(pc + n in self.sym for n in range(4)):
+            search.changed_code.add(pc)
+            raise Ended(CODE)
+        step = compiled(decode(int.from_bytes(search.world.memory[pc - low:pc - low + 4], "little")))
+        search.code[pc] = waiting(step) if pc in search.meets else step
+        return search.code[pc]
 
     def meet(self, pc: int) -> None:
         """Waits at a place where paths meet, unless there is no other path."""
-        s = self.search
-        if len(s.queue) and not self.is_base and not s.is_trial and s.joins:
-            passes_head(s.flows, self, pc)
+        search = self.search
+        if len(search.queue) and not self.is_base and not search.is_trial and search.joins:
+            passes_head(search.flows, self, pc)
             raise Ended(WAITS)
-
-    def repeats(self) -> None:
-        """Reports the path if it is in a loop without inputs in which nothing changes."""
-        seen, loads, first = set(), len(self.loads), self.pc
-        for _ in range(LONGEST):
-            if self.pc == first:
-                key = tuple(self.regs), hash(bytes(self.mem)), hash(frozenset(self.sym.items())), self.mode, tuple(self.csr.values())
-                if key in seen and len(self.loads) == loads:
-                    self.search.report("stuck", self, "never returns", self.model)
-                    raise Ended("finding")
-                seen.add(key)
-            self.step()
 
     def has_origin(self) -> bool:
         """Returns whether the load or store at the pc goes to an address that the enclave has computed, not to a pointer of the host."""
         low = self.search.world.region[0]
-        it = decode(int.from_bytes(self.search.world.memory[self.pc - low:self.pc - low + 4], "little"))
-        return it.kind in ("load", "store") and self.tags[it.r1] is not None
+        instruction = decode(int.from_bytes(self.search.world.memory[self.pc - low:self.pc - low + 4], "little"))
+        return instruction.kind in ("load", "store") and self.tags[instruction.r1] is not None
 
     def access_address(self) -> Optional[Word]:
         """Returns the address of the load or store at the pc, or None."""
         low = self.search.world.region[0]
-        it = decode(int.from_bytes(self.search.world.memory[self.pc - low:self.pc - low + 4], "little"))
-        if it.kind not in ("load", "store"):
+        instruction = decode(int.from_bytes(self.search.world.memory[self.pc - low:self.pc - low + 4], "little"))
+        if instruction.kind not in ("load", "store"):
             return None
-        return operation("add", self.regs[it.r1], it.imm & M32)
+        return operation("add", self.regs[instruction.r1], instruction.imm & M32)

@@ -37,19 +37,23 @@ class Sweep(NamedTuple):
         lows, now = lows_of(facts), words_of(state)
         ends = self.ends if self.has_begun else tuple((x, behind(loads, now(x), state)) for x in sorted(lows, key=str, reverse=True))
         left = tuple((x, n) for x, n in ends if x in lows and implied(all_of(*conditions_of(loads, lows[x] + n & M32, *moved(n, before(x), now(x))))))
-        return Sweep(left, True, self.site if self.has_begun else (loads[0][2], loads[0][3]))
+        return Sweep(left, has_begun=True, site=self.site if self.has_begun else (loads[0].pc, loads[0].context))
 
     def entry(self, facts: Sequence[Fact], words: Words) -> List[FetchedAt]:
         """Returns the range as a load, if there is one and its end is an expression."""
         lows = lows_of(facts)
         ends = [(x, n) for x, n in self.ends if x in lows and type(words(x)) is Node]
-        return [(lows[x] + n & M32, operation("add", words(x), n), *self.site, ()) for x, n in ends[:1]]
+        return [FetchedAt(lows[x] + n & M32, operation("add", words(x), n), *self.site) for x, n in ends[:1]]
 
 
 def behind(loads: Sequence[FetchedAt], word: Word, state: State) -> int:
     """Returns how far behind a word the loads of a state end."""
-    ends = [state.value(width if type(width) is Node else operation("add", at, width)) for at, width, *_ in loads]
-    return max(ends) - state.value(word) & M32
+    return max(state.value(end_of(it)) for it in loads) - state.value(word) & M32
+
+
+def end_of(load: FetchedAt) -> Word:
+    """Returns the address behind a load."""
+    return load.width if type(load.width) is Node else operation("add", load.at, load.width)
 
 
 def moved(offset: int, *words: Word) -> List[Word]:
@@ -60,22 +64,21 @@ def moved(offset: int, *words: Word) -> List[Word]:
 def lows_of(facts: Sequence[Fact]) -> Dict[WordPlace, int]:
     """Returns the words that are at least a number, each with the greatest such number."""
     found: Dict[WordPlace, int] = {}
-    for it in facts:
-        if it.kind == LEAST and type(it.bound) is int:
-            found[it.x] = max(it.bound, found.get(it.x, 0))
+    for fact in facts:
+        if fact.kind == LEAST and type(fact.bound) is int:
+            found[fact.x] = max(fact.bound, found.get(fact.x, 0))
     return found
 
 
 def conditions_of(loads: Sequence[FetchedAt], low: int, before: Word, end: Word) -> List[Condition]:
     """Returns that all loads are from `low` up to before `end`, and that the end has not fallen."""
     found: List[Condition] = [not_(ult(end, before))]
-    for at, width, _, _, joined in loads:
-        last = width if type(width) is Node else operation("add", at, width)
-        inside = all_of(not_(ult(at, low)), not_(ult(end, last)))
-        found.append(any_of(not_(all_of(*joined)), inside))
+    for it in loads:
+        inside = all_of(not_(ult(it.at, low)), not_(ult(end, end_of(it))))
+        found.append(any_of(not_(all_of(*it.joined)), inside))
     return found
 
 
-def has_variables(it: FetchedAt, mask: int) -> bool:
+def has_variables(fetched: FetchedAt, mask: int) -> bool:
     """Returns whether a load depends on some variables."""
-    return any(mask_of(x) & mask for x in (it[0], it[1], *it[4]))
+    return any(mask_of(x) & mask for x in (fetched.at, fetched.width, *fetched.joined))

@@ -11,7 +11,7 @@ from rvlook.symbolic.counterexample import HINT, commands, input_lines, input_ob
 if TYPE_CHECKING:
     from rvlook.output.findings import ReportedCases
     from rvlook.output.printer import Printer
-    from rvlook.symbolic.record import Finding
+    from rvlook.symbolic.record import Counterexample
     from rvlook.symbolic.search import Search
 
 STYLES = {questions.PROVED: Style.good, questions.FOUND: Style.bad}
@@ -19,19 +19,19 @@ HEADINGS = {"pc": "the pc depends on the secret", "address": "the address depend
             "window": "the window depends on the secret", "answer": "the answer depends on the secret"}
 
 
-def heading_of(search: Search, it: Finding) -> str:
+def heading_of(search: Search, example: Counterexample) -> str:
     """Returns a finding in one line."""
-    return "%s, at %s" % (it.text if it.what not in HEADINGS else it.text or HEADINGS[it.what], search.world.place(it.pc))
+    return "%s, at %s" % (example.text if example.what not in HEADINGS else example.text or HEADINGS[example.what], search.world.place(example.pc))
 
 
-def details_of(search: Search, it: Finding) -> List[str]:
+def details_of(search: Search, example: Counterexample) -> List[str]:
     """Returns the further lines of a finding."""
-    times = ", %d times" % it.count if it.count > 1 else ""
-    lines = ["  step %d  %08x  %s  [%s%s]" % (len(it.pcs), it.pc, search.world.symbols.name(it.pc) or "", it.answer, times)]
-    if it.two:
-        texts = tuple("".join("%02x" % model["k_%08x" % at] for at in search.world.secret) for model in (it.one, it.two))
+    times = ", %d times" % example.count if example.count > 1 else ""
+    lines = ["  step %d  %08x  %s  [%s%s]" % (len(example.pcs), example.pc, search.world.symbols.name(example.pc) or "", example.answer, times)]
+    if example.two:
+        texts = tuple("".join("%02x" % model["k_%08x" % at] for at in search.world.secret) for model in (example.one, example.two))
         lines.append("  secrets %s and %s" % texts)
-    return lines + input_lines(search, it)
+    return lines + input_lines(search, example)
 
 
 def show(search: Search, printer: Printer, findings: ReportedCases) -> None:
@@ -51,9 +51,9 @@ def show(search: Search, printer: Printer, findings: ReportedCases) -> None:
         findings.leave_open(unfinished, bool(questions.untrusted(search)))
 
 
-def text_of(search: Search, it: Finding) -> str:
+def text_of(search: Search, example: Counterexample) -> str:
     """Returns a finding with its inputs."""
-    return "\n".join([heading_of(search, it), *details_of(search, it)])
+    return "\n".join([heading_of(search, example), *details_of(search, example)])
 
 
 def unfinished_text(search: Search) -> str:
@@ -68,10 +68,10 @@ def unfinished_text(search: Search) -> str:
 def print_text(search: Search, answers: Sequence[questions.Answer], printer: Printer) -> None:
     """Prints the findings, the answers, and what was covered."""
     number, reasons, wrong = 0, questions.open_texts(search), questions.untrusted(search)
-    for it in (it for answer in answers for it in answer.findings):
+    for example in (it for answer in answers for it in answer.findings):
         number += 1
-        printer.line(printer.styled("finding %d: %s" % (number, heading_of(search, it)), Style.bad))
-        for line in details_of(search, it):
+        printer.line(printer.styled("finding %d: %s" % (number, heading_of(search, example)), Style.bad))
+        for line in details_of(search, example):
             printer.line(line)
         for line in commands(search, number):
             printer.line(line)
@@ -97,9 +97,9 @@ def print_text(search: Search, answers: Sequence[questions.Answer], printer: Pri
 
 def covered_text(search: Search) -> str:
     """Returns how much was explored, in a line."""
-    s = search.solver
+    solver = search.solver
     return "Explored: %d paths, %d steps, %d instructions, %d merged states; %d queries to z3, %d answered by values; %d paths replayed; %.1f s" % (
-        search.paths, search.steps, len(search.code), len(search.merger.merged) if search.merger else 0, s.queries, s.guesses,
+        search.paths, search.steps, len(search.code), len(search.merger.merged) if search.merger else 0, solver.queries, solver.guesses,
         sum(search.replays.values()), time.perf_counter() - search.began)
 
 
@@ -107,11 +107,11 @@ def write_objects(search: Search, answers: Sequence[questions.Answer], printer: 
     """Writes the findings, the answers, and what was covered as objects."""
     number = 0
     for answer in answers:
-        for it in answer.findings:
+        for example in answer.findings:
             number += 1
-            printer.object("proof_finding", number=number, question=answer.name, what=it.what, text=heading_of(search, it), step=len(it.pcs),
-                           pc=hex8(it.pc), symbol=search.world.symbols.name(it.pc), source=search.world.symbols.source(it.pc),
-                           confirmed=it.answer, inputs=input_objects(search, it),
+            printer.object("proof_finding", number=number, question=answer.name, what=example.what, text=heading_of(search, example),
+                           step=len(example.pcs), pc=hex8(example.pc), symbol=search.world.symbols.name(example.pc),
+                           source=search.world.symbols.source(example.pc), confirmed=example.answer, inputs=input_objects(search, example),
                            script="%s/finding_%d" % (search.options.scripts, number) if search.options.scripts else None)
     for answer in answers:
         printer.object("question", name=answer.name, title=answer.title, verdict=answer.verdict, findings=len(answer.findings),

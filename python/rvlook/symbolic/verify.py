@@ -5,7 +5,6 @@ from typing import TYPE_CHECKING
 
 from rvlook.output.printer import run_object
 from rvlook.output.progress import Progress
-from rvlook.symbolic.confirm import confirm
 from rvlook.symbolic.strategy import Strategy
 from rvlook.symbolic.text import show
 from rvlook.symbolic.world import World
@@ -31,8 +30,8 @@ def find_verify(run: Run, symbols: Symbols, variables: Variables, options: Verif
         is_cut = True
     search = strategy.result()
     search.is_cut = is_cut
-    for it in search.found.values():
-        it.answer = confirm(search, it)
+    strategy.confirm(search)
+    search.not_confirmed = sum(not it.answer for it in search.found.values())
     return search
 
 

@@ -30,9 +30,9 @@ def word(b0: Byte, b1: Byte, b2: Byte, b3: Byte) -> Word:
     if type(b0) is int and type(b1) is int and type(b2) is int and type(b3) is int:
         return b0 | b1 << 8 | b2 << 16 | b3 << 24
     if type(b0) is Node and b0.op == "byte" and b0.args[1] == 0:
-        w = b0.args[0]
-        if byte(w, 1) == b1 and byte(w, 2) == b2 and byte(w, 3) == b3:
-            return w
+        whole = b0.args[0]
+        if byte(whole, 1) == b1 and byte(whole, 2) == b2 and byte(whole, 3) == b3:
+            return whole
     return make("word", (b0, b1, b2, b3), may_of(b0) | may_of(b1) << 8 | may_of(b2) << 16 | may_of(b3) << 24)
 
 
@@ -56,9 +56,9 @@ def parts_of(x: Node) -> Tuple[Any, ...]:
     return x.parts
 
 
-def plain(p: Any) -> Byte:
+def plain(part: Any) -> Byte:
     """Returns a byte that may be a pair."""
-    return byte(*p) if type(p) is tuple else p
+    return byte(*part) if type(part) is tuple else part
 
 
 def extended(b0: Byte, b1: Byte, width: int) -> Word:
@@ -79,15 +79,15 @@ def operation(op: str, x: Word, y: Word) -> Word:
             return concrete(op, x, y)
         if op in COMMUTES:
             x, y = y, x
-    if type(y) is int and x.op == "ite" and is_number_choice(x):
+    if type(y) is int and is_number_choice(x):
         return choice(x.args[0], concrete(op, x.args[1], y), concrete(op, x.args[2], y))
     rule = RULES.get(op)
     return rule(x, y) if rule else make(op, (x, y))
 
 
 def is_number_choice(x: Node) -> bool:
-    """Returns whether a choice is one of two numbers."""
-    return type(x.args[1]) is int and type(x.args[2]) is int
+    """Returns whether a node is a choice of two numbers."""
+    return x.op == "ite" and type(x.args[1]) is int and type(x.args[2]) is int
 
 
 def add(x: Word, y: Word) -> Word:
@@ -97,7 +97,7 @@ def add(x: Word, y: Word) -> Word:
             return x
         if x.op == "add" and type(x.args[1]) is int:
             return add(x.args[0], x.args[1] + y & M32)
-        if x.op == "ite" and is_number_choice(x):
+        if is_number_choice(x):
             return choice(x.args[0], x.args[1] + y & M32, x.args[2] + y & M32)
     else:
         if type(x) is Node and x.op == "add" and type(x.args[1]) is int:
@@ -128,7 +128,9 @@ def bytewise(op: str, a: Byte, b: Byte) -> Optional[Byte]:
     if type(b) is not int:
         return None
     neutral = 255 if op == "and" else 0
-    return a if b == neutral else 0 if op == "and" and b == 0 else None
+    if b == neutral:
+        return a
+    return 0 if op == "and" and b == 0 else None
 
 
 def merged(op: str, x: Word, y: Word) -> Optional[Word]:
@@ -153,8 +155,8 @@ def xor(x: Word, y: Word) -> Word:
             return bool_(not_(x.args[0]))
     elif x.number > y.number:
         x, y = y, x
-    it = merged("xor", x, y)
-    return make("xor", (x, y), below(x.may | may_of(y))) if it is None else it
+    joined = merged("xor", x, y)
+    return make("xor", (x, y), below(x.may | may_of(y))) if joined is None else joined
 
 
 def or_(x: Word, y: Word) -> Word:
@@ -167,8 +169,8 @@ def or_(x: Word, y: Word) -> Word:
         return x
     if type(y) is Node and x.number > y.number:
         x, y = y, x
-    it = merged("or", x, y)
-    return make("or", (x, y), x.may | may_of(y)) if it is None else it
+    joined = merged("or", x, y)
+    return make("or", (x, y), x.may | may_of(y)) if joined is None else joined
 
 
 def and_(x: Word, y: Word) -> Word:
@@ -188,8 +190,8 @@ def and_(x: Word, y: Word) -> Word:
             return word(byte(x, 0), byte(x, 1), 0, 0)
     elif x.number > y.number:
         x, y = y, x
-    it = merged("and", x, y)
-    return make("and", (x, y), x.may & may_of(y)) if it is None else it
+    joined = merged("and", x, y)
+    return make("and", (x, y), x.may & may_of(y)) if joined is None else joined
 
 
 def sll(x: Word, y: Word) -> Word:
@@ -258,35 +260,35 @@ def divu(x: Word, y: Word) -> Word:
     return make("divu", (x, y), below(may_of(x)) if type(y) is int and y else M32)
 
 
-def bool_(c: Condition) -> Word:
+def bool_(condition: Condition) -> Word:
     """Returns a condition as a word."""
-    return int(c) if type(c) is bool else make("bool", (c,), 1)
+    return int(condition) if type(condition) is bool else make("bool", (condition,), 1)
 
 
 # ---- conditions
 
-def not_(c: Condition) -> Condition:
+def not_(condition: Condition) -> Condition:
     """Returns the negation of a condition."""
-    if type(c) is bool:
-        return not c
-    return c.args[0] if c.op == "not" else make("not", (c,), 1)
+    if type(condition) is bool:
+        return not condition
+    return condition.args[0] if condition.op == "not" else make("not", (condition,), 1)
 
 
-def choice(c: Condition, x: Word, y: Word) -> Word:
+def choice(condition: Condition, x: Word, y: Word) -> Word:
     """Returns one word or another."""
-    if type(c) is bool:
-        return x if c else y
-    if c.op == "not":
-        c, x, y = c.args[0], y, x
-    if type(x) is Node and x.op == "ite" and x.args[0] is c:
+    if type(condition) is bool:
+        return x if condition else y
+    if condition.op == "not":
+        condition, x, y = condition.args[0], y, x
+    if type(x) is Node and x.op == "ite" and x.args[0] is condition:
         x = x.args[1]
-    if type(y) is Node and y.op == "ite" and y.args[0] is c:
+    if type(y) is Node and y.op == "ite" and y.args[0] is condition:
         y = y.args[2]
     if x is y or type(x) is int and type(y) is int and x == y:
         return x
     if type(x) is int and type(y) is int and x | y == 1:
-        return bool_(c if x else not_(c))
-    return make("ite", (c, x, y), may_of(x) | may_of(y))
+        return bool_(condition if x else not_(condition))
+    return make("ite", (condition, x, y), may_of(x) | may_of(y))
 
 
 RULES: Dict[str, Callable[[Word, Word], Word]] = {  # conditions.py adds the comparisons

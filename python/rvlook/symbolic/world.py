@@ -6,7 +6,7 @@ from functools import cached_property
 from typing import Dict, Iterator, List, Optional, Sequence, TYPE_CHECKING, Tuple
 
 from rvlook.access.activations import Activations
-from rvlook.access.fields import FieldReader, Fields
+from rvlook.access.fields import FieldReader, WindowFields
 from rvlook.errors import RvlookError, Unfinished
 from rvlook.finders.inputs.contexts import Contexts
 from rvlook.finders.inputs.objects import Objects
@@ -49,7 +49,8 @@ class World:
         self.contexts = Contexts()
         self.has_checks = any(self.memory[at:at + 4] == CHECK for at in range(0, len(self.memory), 4))
         self.objects = Objects(self.enclave, symbols, variables, self.contexts)
-        self.functions = {it.address for it in self.objects.own if it.is_function}
+        sizes = {it.address: it.size for it in self.objects.own if it.is_function}
+        self.functions, self.code = set(sizes), (self.memory, self.region[0], sizes)
         always, self.public_if = conditional(options.public, symbols)
         self.public = public_of(always, symbols)
         self.secret, self.check = self.bytes_of(options.at), self.bytes_of(options.must_know)
@@ -66,10 +67,10 @@ class World:
         """Returns the addresses of bytes of the region, each with its value at the first entry. Raises RvlookError."""
         found: Dict[int, int] = {}
         for text in places:
-            it = secret_of(text, self.symbols, self.run, self.slot)
-            if it.register or not self.region[0] <= it.at <= it.at + len(it.bytes) <= self.region[1]:
+            secret = secret_of(text, self.symbols, self.run, self.slot)
+            if secret.register or not self.region[0] <= secret.at <= secret.at + len(secret.bytes) <= self.region[1]:
                 raise RvlookError("verify needs bytes in the region of the enclave in slot %d, not '%s'; use PLACE[:BYTES]" % (self.slot, text))
-            found.update((it.at + n, self.memory[it.at + n - self.region[0]]) for n in range(len(it.bytes)))
+            found.update((secret.at + n, self.memory[secret.at + n - self.region[0]]) for n in range(len(secret.bytes)))
         return found
 
     def activations(self) -> Iterator[Visit]:
@@ -78,10 +79,10 @@ class World:
         inside: Dict[int, bool] = {}
         pcs: Dict[int, int] = {}
         current: Dict[int, Visit] = {}
-        for it in self.run.stretches():
-            for line in it.data.splitlines() if isinstance(it, Stretch) else ():
-                assert isinstance(it, Stretch)
-                hart, is_own = it.hart, own in line
+        for stretch in self.run.stretches():
+            for line in stretch.data.splitlines() if isinstance(stretch, Stretch) else ():
+                assert isinstance(stretch, Stretch)
+                hart, is_own = stretch.hart, own in line
                 if inside.get(hart):
                     current[hart].pcs.append(pcs[hart])
                 pcs[hart] = int(line[9:17], 16)
@@ -95,13 +96,13 @@ class World:
         """Reads region and registers at the first entry, and the window at each entry, after the lines of the script there; returns the enclave."""
         found: Optional[Enclave] = None
         with self.run.replay() as replay:
-            for it in self.visits:
-                replay.go(it.position)
+            for visit in self.visits:
+                replay.go(visit.position)
                 replay.bench.ask(*replay.lines_up_to_next())
                 if found is None:
-                    found = next(e for e in map(enclave_of, replay.bench.ask("enclaves")[0]) if e.slot == self.slot)
+                    found = next(enclave for enclave in map(enclave_of, replay.bench.ask("enclaves")[0]) if enclave.slot == self.slot)
                     self.region, self.window = (found.base, found.base + found.size), (found.window, found.window + found.window_size)
-                    self.read_hart(replay.bench, it.hart, replay.hart)
+                    self.read_hart(replay.bench, visit.hart, replay.hart)
                 self.windows.append(bytes_at(replay.bench, *self.window))
         assert found is not None
         return found
@@ -116,14 +117,14 @@ class World:
         self.memory = bytes_at(bench, *self.region)
 
     @cached_property
-    def fields(self) -> Fields:
+    def fields(self) -> WindowFields:
         """The names of the fields of the window, as far as calls in the run itself show them."""
-        found = Fields(self.symbols)
+        found = WindowFields(self.symbols)
         if self.objects.parameters:
             reader = FieldReader(self.run, self.objects.parameters, found)
-            for it in Activations(self.run).all():
-                if it.slot == self.slot:
-                    reader.read(it)
+            for activation in Activations(self.run).all():
+                if activation.slot == self.slot:
+                    reader.read(activation)
         return found
 
     def place(self, pc: int) -> str:
@@ -161,11 +162,11 @@ def conditional(texts: Sequence[str], symbols: Symbols) -> Tuple[List[str], List
     """Returns what --public names without a condition, and what is public only in activations with an answer: WHAT@answer=N."""
     always = [it for it in texts if ANSWER_IS not in it]
     found = []
-    for it in texts:
-        what, condition, value = it.partition(ANSWER_IS)
+    for text in texts:
+        what, condition, value = text.partition(ANSWER_IS)
         if condition:
             try:
                 found.append((public_of([what], symbols), int(value, 0) & 0xFFFFFFFF))
             except ValueError:
-                raise RvlookError("'%s' is no number in --public %s" % (value, it)) from None
+                raise RvlookError("'%s' is no number in --public %s" % (value, text)) from None
     return always, found

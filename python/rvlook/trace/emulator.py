@@ -1,25 +1,20 @@
 """The subcommand `run`: runs a program to its end as an emulator does, prints what it writes to its consoles, and says why it ended."""
 from __future__ import annotations
 
+from argparse import Namespace
 from dataclasses import dataclass
 from enum import Enum
-from typing import Iterator, Sequence, TYPE_CHECKING
+from typing import Iterator, Sequence
 
+from rvlook.access.failures import FailureReport, expectation_of, failures_of
 from rvlook.errors import UNFINISHED, note
-from rvlook.output.printer import place_text, run_object
+from rvlook.output.printer import Printer, place_text, run_object
 from rvlook.protocol import names
-from rvlook.protocol.console import ENDED, WRITTEN, consoles_of
+from rvlook.protocol.console import ENDED, WRITTEN, Console, consoles_of
 from rvlook.protocol.replies import Location, Ran, step_of
-from rvlook.protocol.run import EQUAL, MOST_STEPS
+from rvlook.protocol.run import EQUAL, Run
 from rvlook.protocol.schedule import turns_of
-from rvlook.access.expectations import FailureReport, expectation_of
-from rvlook.access.failures import failures_of
-
-if TYPE_CHECKING:
-    from argparse import Namespace
-    from rvlook.output.printer import Printer
-    from rvlook.protocol.console import Console
-    from rvlook.protocol.run import Run
+from rvlook.protocol.timeline import MOST_STEPS
 
 FIRST_PART, MORE = 1000, 4  # steps of the first `run`, and the factor for the next one
 BATCH, SINGLY = 1024, 128  # steps of two harts in one exchange, and those at its end that are done one by one
@@ -83,10 +78,7 @@ class Emulator:
     def print(self, console: Console, lines: Sequence[str]) -> None:
         """Prints lines of a console."""
         for line in lines:
-            if self.printer.as_json:
-                self.printer.object("console", step=None, writer=console.writer, text=line)
-            else:
-                self.printer.line(line)
+            self.printer.show(line, "console", step=None, writer=console.writer, text=line)
 
     def status(self) -> int | None:
         """Returns the exit status of the program, once it has ended by itself."""
@@ -98,7 +90,7 @@ class Emulator:
         """Runs the selected hart."""
         watches = ["watch %x" % (it.address + offset) for it in self.consoles for offset in (WRITTEN, ENDED)]
         self.bench.ask(AT_ZERO, *watches)
-        part, ran = FIRST_PART, Ran(0, self.run.pc, self.run.mode, self.run.world, "done", None)
+        part, ran = FIRST_PART, Ran(steps=0, pc=self.run.pc, mode=self.run.mode, world=self.run.world, why="done", trap=None)
         while self.left:
             ran = step_of(self.bench.one("run %d" % min(part, self.left, MOST_STEPS)))
             self.left -= ran.steps
@@ -123,7 +115,7 @@ class Emulator:
 
     def by_turns(self) -> ProgramEnd:
         """Runs both harts by the schedule."""
-        turns, ran = turns_of(self.schedule), Ran(0, self.run.pc, self.run.mode, self.run.world, "done", None)
+        turns, ran = turns_of(self.schedule), Ran(steps=0, pc=self.run.pc, mode=self.run.mode, world=self.run.world, why="done", trap=None)
         while self.left:
             batch = list(batch_of(turns, min(BATCH if self.consoles else LONG_BATCH, self.left)))
             self.left -= sum(count for _, count in batch)
@@ -133,7 +125,8 @@ class Emulator:
             if self.status() is not None:
                 return self.finished(ran)
             if len(last) > 1 and all(len(it) == EQUAL and len(set(it)) == 1 for it in last.values()):
-                return self.halted_harts([step_of(it[0]) for it in last.values()], ran)
+                harts = [step_of(it[0]) for it in last.values()]  # a hart which traps or hangs comes before one that ends
+                return self.halted(next((it for it in harts if it.trap), next((it for it in harts if self.hangs(it)), ran)))
         return self.cut(ran)
 
     def batch(self, turns: Sequence[tuple[int, int]]) -> dict[int, list[str]]:
@@ -165,10 +158,6 @@ class Emulator:
         """Returns the end of a program that called finish()."""
         status = self.status() or 0
         return self.ended(Why.end, ran, status, "the program ended with status %d at %s" % (status, self.place(ran)))
-
-    def halted_harts(self, harts: Sequence[Ran], last: Ran) -> ProgramEnd:
-        """Returns the end of a program both of whose harts do nothing more: that of a hart which traps or hangs, if there is one."""
-        return self.halted(next((it for it in harts if it.trap), next((it for it in harts if self.hangs(it)), last)))
 
     def halted(self, ran: Ran) -> ProgramEnd:
         """Returns the end of a program whose harts do nothing more: an instruction that jumps to itself, or one that traps again and again."""

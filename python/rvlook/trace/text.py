@@ -1,37 +1,26 @@
-"""The subcommand `trace`: prints the steps of a run as lines and as objects."""
+"""The subcommand `trace`: prints the steps of a run as lines, as objects, and in the format of Spike's --log-commits."""
 from __future__ import annotations
 
 from dataclasses import dataclass, field
-from typing import Iterable, Optional, Sequence, TYPE_CHECKING
+from typing import Iterable, Optional, Sequence
 
-from rvlook.protocol import names
-from rvlook.protocol.console import consoles_of, followed
 from rvlook.escapes import visible_line
-from rvlook.protocol.instructions import short_form
-from rvlook.protocol.run import End
-from rvlook.output.printer import Style, end_object, end_text, hex8, run_object
-from rvlook.trace.tracer import TracedStep, Tracer
-
-if TYPE_CHECKING:
-    from rvlook.output.printer import Json, Printer, ObjectWriter
-    from rvlook.protocol.console import Console
-    from rvlook.protocol.instructions import Instruction
-    from rvlook.protocol.replies import Trap
-    from rvlook.protocol.run import Run
-    from rvlook.protocol.symbols import Symbols
-    from rvlook.trace.tracer import CallMade, Touch
-    from rvlook.trace.tracer import TracedCommand
+from rvlook.output.printer import Json, ObjectWriter, Printer, Style, end_object, end_text, hex8, run_object
+from rvlook.protocol import names
+from rvlook.protocol.console import Console, consoles_of, followed
+from rvlook.protocol.instructions import Instruction, short_form
+from rvlook.protocol.replies import RanTrap
+from rvlook.protocol.run import End, Run
+from rvlook.protocol.symbols import Symbols
+from rvlook.protocol.timeline import Timeline
+from rvlook.trace.tracer import CallMade, RunTracer, Touch, TracedCommand, TracedStep
 
 SHOWN_REGISTERS = 2  # if more changed, as at a switch, a0 and the number of the others are shown
 SHOWN_REPLY = 60  # characters of a reply to a line of the script
 ARGUMENT_FORMS = {"base": "%x", "size": "%x", "window": " window %x", "window_size": "%x", "entry": " entry %x", "slot": "e%d",
                   "address": " to %x"}  # of the arguments of a call; every other one is printed with its name
 A0 = 10
-
-
-def worlds_of(step: TracedStep) -> tuple[str, ...]:
-    """Returns the names by which the world of a step can be selected. On the bare bench the mode is one."""
-    return (step.at.world, step.at.mode) if step.at.world == "bare" else (step.at.world,)
+PRIVILEGE = {"M": 3, "S": 1, "U": 0}  # of the log of Spike
 
 
 @dataclass(frozen=True)
@@ -44,8 +33,9 @@ class Filter:
     traps: bool = False
 
     def takes(self, step: TracedStep, symbols: Symbols) -> bool:
-        """Returns whether a step is wanted."""
-        if self.world and self.world not in worlds_of(step) or self.traps and step.trap is None:
+        """Returns whether a step is wanted. On the bare bench a mode selects a world, too."""
+        worlds = (step.at.world, step.at.mode) if step.at.world == "bare" else (step.at.world,)
+        if self.world and self.world not in worlds or self.traps and step.trap is None:
             return False
         return not self.function or symbols.function(int(step.at.pc, 16)) == self.function
 
@@ -61,7 +51,7 @@ def show_trace(run: Run, symbols: Symbols, printer: Printer, wanted: Filter, is_
         run_object(printer, run, symbols)
     writer: ObjectTrace | Lines = ObjectTrace(run, symbols, printer) if printer.as_json else Lines(run, symbols, printer, is_short)
     shown, consoles = 0, consoles_of(symbols)
-    for item in Tracer(run, wanted.first, wanted.last).events():
+    for item in RunTracer(run, wanted.first, wanted.last).events():
         if isinstance(item, TracedStep):
             if wanted.takes(item, symbols):
                 writer.step(item)
@@ -106,11 +96,10 @@ class ObjectTrace:
         """Returns what is the same each time at a pc and an instruction."""
         key = step.at.pc, step.instruction
         if key not in self.sites:
-            pc, it = int(step.at.pc, 16), step.instruction
+            pc, instruction = int(step.at.pc, 16), step.instruction
             self.sites[key] = {
                 "symbol": self.symbols.name(pc), "function": self.symbols.function(pc), "source": self.symbols.source(pc),
-                "caller": self.symbols.caller(pc), "word": it.word if it else None, "text": it.text if it else None, "abi": it.abi if it else None,
-                "short": it.short if it else None}
+                "caller": self.symbols.caller(pc), **{name: getattr(instruction, name, None) for name in ("word", "text", "abi", "short")}}
         return self.sites[key]
 
     def touch(self, touch: Touch | None) -> dict[str, Json] | None:
@@ -128,7 +117,7 @@ class ObjectTrace:
         return {"name": call.call.name, "arguments": {name: hex8(value) for name, value in call.arguments.items()}, "slot": call.slot}
 
     @staticmethod
-    def trap(trap: Trap | None) -> dict[str, Json] | None:
+    def trap(trap: RanTrap | None) -> dict[str, Json] | None:
         """Returns a trap as an object."""
         return None if trap is None else {"cause": trap.cause, "value": trap.value, "name": names.cause_name(trap.cause)}
 
@@ -192,10 +181,10 @@ class Lines:
 
     def site(self, step: TracedStep) -> Site:
         """Returns the text of an instruction, with the target of a branch or jump in place of its offset."""
-        pc, it = int(step.at.pc, 16), step.instruction
-        text = it.abi if it else "(not fetched)"
-        if it and it.offset is not None:
-            text = text[:text.rindex(" ") + 1] + self.address_text(step.target if step.target is not None else pc + it.offset)
+        pc, instruction = int(step.at.pc, 16), step.instruction
+        text = instruction.abi if instruction else "(not fetched)"
+        if instruction and instruction.offset is not None:
+            text = text[:text.rindex(" ") + 1] + self.address_text(step.target if step.target is not None else pc + instruction.offset)
         return Site(short_form(text) if self.is_short else text, self.symbols.function(pc), self.symbols.line(pc))
 
     def address_text(self, address: int) -> str:
@@ -263,3 +252,32 @@ def touch_text(touch: Touch, symbols: Symbols) -> str:
     name = symbols.name(touch.address)
     value = "=" + touch.value if touch.value else " %d" % touch.width
     return "%s %08x%s%s%s" % (touch.kind, touch.address, value, "  " + name if name else "", "" if touch.done else "  refused")
+
+
+def show_spike(run: Run, wanted: Filter, printer: Printer) -> None:
+    """Prints a log in the format of Spike: a line for each of the wanted instructions that did not trap. It has the register and the control register
+    that the instruction wrote, and its load or store."""
+    symbols = run.setup.symbols
+    with run.replay() as follower:
+        for item in RunTracer(run, wanted.first, wanted.last).events():
+            if isinstance(item, TracedStep) and item.trap is None and wanted.takes(item, symbols):
+                printer.line(commit_text(item, follower))
+            elif isinstance(item, End):
+                return
+
+
+def commit_text(step: TracedStep, follower: Timeline) -> str:
+    """Returns a commit as a line. Reads the value of a control and status register after the step."""
+    instruction = step.instruction
+    assert instruction is not None
+    text = "core%4d: %d 0x%s (0x%s)" % (step.hart, PRIVILEGE[step.at.mode], step.at.pc, instruction.word)
+    if instruction.writes:
+        text += " x%-2d 0x%s" % (instruction.writes, step.written)
+    if instruction.csr is not None:
+        follower.go(step.number)
+        reply = follower.bench.one("csr %x" % instruction.csr)
+        text += " c%d_%s 0x%s" % (instruction.csr, names.CSR_NAMES.get(instruction.csr, "unknown"), reply.split("=")[-1])
+    if step.touch:
+        text += " mem 0x%08x" % step.touch.address
+        text += " 0x" + (step.touch.value or "") if step.touch.kind == "w" else ""
+    return text

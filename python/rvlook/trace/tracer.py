@@ -2,19 +2,16 @@
 read. All registers are read after a trap and at the end of each part of the run, where the values so far must agree."""
 from __future__ import annotations
 
-from typing import Iterator, NamedTuple, Optional, Sequence, TYPE_CHECKING, Tuple
+from typing import Iterator, NamedTuple, Optional, Sequence, Tuple
 
-from rvlook.protocol import names
 from rvlook.errors import Unfinished
-from rvlook.protocol.instructions import Instruction, instruction_of
+from rvlook.protocol import names
+from rvlook.protocol.instructions import Instruction, MemoryOperand, instruction_of
 from rvlook.protocol.reader import Reader
-from rvlook.protocol.replies import NO_TRAP, Location, RanFields, Trap, step_fields
-from rvlook.protocol.run import End, Line
-
-if TYPE_CHECKING:
-    from rvlook.protocol.instructions import MemoryOperand
-    from rvlook.protocol.run import Replay, Run
-    from rvlook.protocol.stretch import Stretch
+from rvlook.protocol.replies import NO_TRAP, Location, RanFields, RanTrap, step_fields, trap_of
+from rvlook.protocol.run import End, Run
+from rvlook.protocol.stretch import Stretch
+from rvlook.protocol.timeline import Line, Timeline
 
 REGISTERS = 33  # lines of `regs`
 STEP = b"step 1\n"
@@ -48,19 +45,9 @@ class TracedStep(NamedTuple):
     changed: dict[int, str]
     touch: Optional[Touch]
     call: Optional[CallMade]
-    trap: Optional[Trap]
+    trap: Optional[RanTrap]
     next: Location
     written: Optional[str] = None  # what the register that it writes is after it
-
-    @property
-    def word(self) -> str | None:
-        """Returns the instruction in hexadecimal digits, or None."""
-        return self.instruction.word if self.instruction else None
-
-    @property
-    def text(self) -> str | None:
-        """Returns the text of the instruction, or None."""
-        return self.instruction.text if self.instruction else None
 
     @property
     def is_interrupt(self) -> bool:
@@ -98,19 +85,14 @@ Done = Tuple[RanFields, Optional[Instruction]]  # a step: the fields of its repl
 
 
 class Hart:
-    """A hart before its next step: where it is, and the digits of its registers, None if they must be read."""
+    """A hart before its next step: where it is, and the digits of x0 to x31, none if they must be read."""
 
     def __init__(self, location: Location) -> None:
         self.location = location
-        self.registers: list[str] | None = None
-
-    def known(self) -> list[str]:
-        """Returns the digits of x0 to x31, which must be known."""
-        assert self.registers is not None
-        return self.registers
+        self.registers: list[str] = []
 
 
-class Tracer:
+class RunTracer:
     """The steps from `first` to `last`, with the lines of the script between them."""
 
     def __init__(self, run: Run, first: int = 1, last: int | None = None) -> None:
@@ -119,7 +101,6 @@ class Tracer:
         self.harts = [Hart(start) for _ in range(run.setup.harts)]
         self.position = self.hart = 0
         self.locations: dict[tuple[bytes, bytes, bytes], Location] = {}
-        self.traps: dict[bytes, Trap | None] = {NO_TRAP: None}
 
     def events(self) -> Iterator[TracedCommand | TracedStep | End]:
         """Yields Command, Step and End in the order of the run. Two benches follow the first one, which reports each pc: one decodes the
@@ -128,10 +109,9 @@ class Tracer:
             for item in self.run.stretches():
                 if isinstance(item, Line):
                     if item.command == "setreg":
-                        self.harts[self.hart].registers = None
-                    self.hart = self.hart if item.hart is None else item.hart
+                        self.harts[item.hart].registers = []
                     if not item.hidden and self.position + 1 >= self.first:
-                        yield TracedCommand(self.position, self.hart, item.text, item.replies, item.given)
+                        yield TracedCommand(self.position, item.hart, item.text, item.replies, item.given)
                 elif isinstance(item, End):
                     yield item
                 else:
@@ -145,16 +125,16 @@ class Tracer:
         location = self.harts[self.hart].location
         return End(self.position if self.last is None else self.last, "limit", location.pc, location.mode, location.world)
 
-    def steps(self, decoder: Reader[None], reader: Replay, stretch: Stretch) -> Iterator[TracedStep]:
+    def steps(self, decoder: Reader[None], reader: Timeline, stretch: Stretch) -> Iterator[TracedStep]:
         """Yields the wanted steps of a stretch; raises Unfinished if the registers do not agree."""
-        hart, end = self.harts[stretch.hart], stretch.first + stretch.count - 1
+        self.hart, hart, end = stretch.hart, self.harts[stretch.hart], stretch.first + stretch.count - 1
         begin, stop = max(self.first, stretch.first), min(end, self.last or end)
         if begin > end:
-            hart.location, hart.registers, self.position = self.location_of(stretch.last), None, end
+            hart.location, hart.registers, self.position = self.location_of(stretch.last), [], end
             return
         rans = step_fields(stretch.data)
         if begin > stretch.first:
-            hart.location, hart.registers = self.location_of(rans[begin - stretch.first - 1]), None
+            hart.location, hart.registers = self.location_of(rans[begin - stretch.first - 1]), []
         part = slice(begin - stretch.first, stop - stretch.first + 1)
         rans, instructions = rans[part], list(map(instruction_of, decoder.read(stretch).lines[part]))
         replies = self.registers(reader, hart, begin, rans, instructions)
@@ -165,11 +145,11 @@ class Tracer:
             raise Unfinished("the registers after step %d differ from those derived from its steps" % stop)
         self.position = stop
 
-    def registers(self, reader: Replay, hart: Hart, begin: int, rans: Sequence[RanFields],
+    def registers(self, reader: Timeline, hart: Hart, begin: int, rans: Sequence[RanFields],
                   instructions: Sequence[Instruction | None]) -> Iterator[bytes]:
         """Returns the replies of these steps: each with what it may have changed, and all registers after the last."""
-        reader.bench.ask(*(reader.lines_to(begin - 1) + reader.lines_up_to_next() or ["reg 0"]))
-        if hart.registers is None:
+        reader.go_before(begin)
+        if not hart.registers:
             hart.registers = [line[-8:] for line in reader.bench.ask("regs")[0][:32]]
         queries, count = [], REGISTERS
         for ran, instruction in zip(rans, instructions):
@@ -194,7 +174,7 @@ class Tracer:
         if ran[3] == NO_TRAP:
             touch, changed, value = None, {}, None
             if instruction is not None:
-                registers, memory = hart.known(), instruction.memory
+                registers, memory = hart.registers, instruction.memory
                 address = (int(registers[memory.base], 16) + memory.offset) & 0xFFFFFFFF if memory else 0
                 if instruction.writes:
                     value = next(replies)[-8:].decode()
@@ -203,25 +183,27 @@ class Tracer:
                         changed = {instruction.writes: value}
                 if memory:
                     touch = self.touched(memory, address, registers[memory.register])
-            return TracedStep(number, hart_number, at, instruction, changed, touch, None, None, next_location, value)
-        return self.trapped(TracedStep(number, hart_number, at, instruction, {}, None, None, self.trap_of(ran[3]), next_location), hart, replies)
+            return TracedStep(number, hart_number, at, instruction, changed, touch, call=None, trap=None, next=next_location, written=value)
+        step = TracedStep(number, hart_number, at, instruction, changed={}, touch=None, call=None, trap=trap_of(ran[3].decode()), next=next_location)
+        return self.trapped(step, hart, replies)
 
     @staticmethod
     def touched(memory: MemoryOperand, address: int, value: str) -> Touch:
         """Returns a load or store that was done; `value` is its register after it."""
         has_value = memory.kind == "w" or memory.register
-        return Touch(memory.kind, address, memory.width, True, value[8 - 2 * memory.width:] if has_value else None)
+        return Touch(memory.kind, address, memory.width, done=True, value=value[8 - 2 * memory.width:] if has_value else None)
 
     @staticmethod
     def trapped(step: TracedStep, hart: Hart, replies: Iterator[bytes]) -> TracedStep:
         """Returns a step that trapped, with what it changed: any register may have another value after it, as another world may continue."""
-        before, trap, instruction, at = hart.known(), step.trap, step.instruction, step.at
+        before, trap, instruction, at = hart.registers, step.trap, step.instruction, step.at
         assert trap is not None
         after = [line[-8:].decode() for line in (next(replies) for _ in range(REGISTERS))][:32]
         hart.registers = after
         changed = {n: after[n] for n in range(1, 32) if after[n] != before[n]}
         memory = instruction.memory if instruction and trap.cause in names.ACCESS_FAULTS else None
-        touch = Touch(memory.kind, (int(before[memory.base], 16) + memory.offset) & 0xFFFFFFFF, memory.width, False, None) if memory else None
+        address = (int(before[memory.base], 16) + memory.offset) & 0xFFFFFFFF if memory else 0
+        touch = Touch(memory.kind, address, memory.width, done=False, value=None) if memory else None
         is_call = trap.cause == names.ECALL_FROM_S and at.world != "bare"
         call = call_of(at.world, [int(it, 16) for it in before], [int(it, 16) for it in after]) if is_call else None
         return step._replace(changed=changed, touch=touch, call=call)
@@ -229,12 +211,6 @@ class Tracer:
     def location_of(self, ran: RanFields) -> Location:
         """Returns where a hart is after a step."""
         return self.locations.setdefault(ran[:3], Location(*(it.decode() for it in ran[:3])))
-
-    def trap_of(self, text: bytes) -> Trap | None:
-        """Decodes a trap, or a hyphen."""
-        if text not in self.traps:
-            self.traps[text] = Trap(*text.decode().split(":"))
-        return self.traps[text]
 
 
 def call_of(world: str, registers: Sequence[int], after: Sequence[int]) -> CallMade | None:

@@ -8,7 +8,7 @@ from typing import NamedTuple, Tuple
 
 from rvlook.protocol.instructions import BRANCHES, Instruction, instruction_of
 
-RA, SP, A0, A1, A6 = 1, 2, 10, 11, 16
+SP, A0, A1, A6 = 2, 10, 11, 16
 LINKS = (1, 5)  # registers that hold a return address (Unprivileged ISA, section 2.5)
 SAVED = {1, 8, 9, *range(18, 28)}  # ra and the callee-saved registers
 SOURCES = re.compile(r"\bx(\d+)")
@@ -72,33 +72,36 @@ OUTSIDE = Code(Kind.OTHER, "")  # an address that cannot be fetched
 @lru_cache(maxsize=65536)
 def code_of(line: bytes) -> Code:
     """Decodes a reply of `dis`."""
-    it = instruction_of(line)
-    if it is None:
+    instruction = instruction_of(line)
+    if instruction is None:
         return OUTSIDE
-    if it.memory:
-        memory = it.memory
+    if instruction.memory:
+        memory = instruction.memory
         if memory.kind == "r":
-            return Code(Kind.LOAD, it.text, (memory.base,), memory.width, memory.offset, 0, memory.register, (memory.base,))
-        return Code(Kind.STORE, it.text, (memory.base, memory.register), memory.width, memory.offset, 0, 0, (memory.base, memory.register))
-    return transfer_of(it) or other_of(it)
+            sources: tuple[int, ...] = (memory.base,)
+            return Code(Kind.LOAD, instruction.text, sources, memory.width, memory.offset, link=0, writes=memory.register, sources=sources)
+        sources = memory.base, memory.register
+        return Code(Kind.STORE, instruction.text, sources, memory.width, memory.offset, link=0, writes=0, sources=sources)
+    return transfer_of(instruction) or other_of(instruction)
 
 
-def transfer_of(it: Instruction) -> Code | None:
+def transfer_of(instruction: Instruction) -> Code | None:
     """Decodes a branch, jump, call or return; returns None for any other instruction."""
-    if it.name in BRANCHES:
-        return Code(Kind.BRANCH, it.text, sources=it.operands[:2])
-    if it.name == "jal":
-        return Code(Kind.CALL if it.writes else Kind.OTHER, it.text, link=it.writes, writes=it.writes)
-    if it.name == "jalr":
-        base = it.operands[2]
-        return Code(Kind.RETURN if not it.writes and base in LINKS else Kind.INDIRECT, it.text, link=it.writes, writes=it.writes, sources=(base,))
-    if it.name == "ecall":
-        return Code(Kind.ECALL, it.text, (A6, A1))
-    return Code(Kind.TRAP_RETURN, it.text) if it.name == "sret" else None
+    if instruction.name in BRANCHES:
+        return Code(Kind.BRANCH, instruction.text, sources=instruction.operands[:2])
+    if instruction.name == "jal":
+        return Code(Kind.CALL if instruction.writes else Kind.OTHER, instruction.text, link=instruction.writes, writes=instruction.writes)
+    if instruction.name == "jalr":
+        base = instruction.operands[2]
+        kind = Kind.RETURN if not instruction.writes and base in LINKS else Kind.INDIRECT
+        return Code(kind, instruction.text, link=instruction.writes, writes=instruction.writes, sources=(base,))
+    if instruction.name == "ecall":
+        return Code(Kind.ECALL, instruction.text, (A6, A1))
+    return Code(Kind.TRAP_RETURN, instruction.text) if instruction.name == "sret" else None
 
 
-def other_of(it: Instruction) -> Code:
+def other_of(instruction: Instruction) -> Code:
     """Decodes an instruction that neither accesses memory nor jumps."""
-    moves_sp = it.operands[2] if it.name == "addi" and it.operands[:2] == (SP, SP) and it.operands[2] < 0 else 0
-    sources = tuple(int(number) for number in SOURCES.findall(it.text.partition(", ")[2]))
-    return Code(Kind.OTHER, it.text, writes=it.writes, sources=sources, moves_sp=moves_sp)
+    moves_sp = instruction.operands[2] if instruction.name == "addi" and instruction.operands[:2] == (SP, SP) and instruction.operands[2] < 0 else 0
+    sources = tuple(int(number) for number in SOURCES.findall(instruction.text.partition(", ")[2]))
+    return Code(Kind.OTHER, instruction.text, writes=instruction.writes, sources=sources, moves_sp=moves_sp)

@@ -23,9 +23,9 @@ class Contexts:
     def after(self, context: int, code: Code, pc: int, following: int, trap: tuple[int, int] | None) -> int:
         """Returns the context after a step. `trap` is the cause and value of its trap, unless the enclave left."""
         if trap and trap[0] != MONITOR_CALL:
-            return self.called(context, pc, True)
+            return self.called(context, pc, is_trap=True)
         if code.kind in (Kind.CALL, Kind.INDIRECT) and code.link in LINKS:
-            return self.called(context, pc, False)
+            return self.called(context, pc, is_trap=False)
         if code.kind is Kind.RETURN:
             return self.returned(context, following)
         if code.kind is Kind.TRAP_RETURN:

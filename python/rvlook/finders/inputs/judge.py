@@ -4,23 +4,19 @@ from __future__ import annotations
 from collections import defaultdict
 from dataclasses import dataclass, field
 from enum import Enum
-from typing import Iterator, Optional, TYPE_CHECKING, Tuple
+from typing import Iterator, Optional, Tuple
 
 from rvlook.finders.inputs.code import ENDS_BLOCK, Code, Kind
-from rvlook.finders.inputs.objects import Place
-from rvlook.finders.inputs.trace import LEFT
+from rvlook.finders.inputs.objects import ObjectPlace, Objects
+from rvlook.finders.inputs.trace import LEFT, Trace
+from rvlook.finders.inputs.tracer import Tracer
 from rvlook.protocol.names import MARKS
-
-if TYPE_CHECKING:
-    from rvlook.finders.inputs.objects import Objects
-    from rvlook.finders.inputs.trace import Trace
-    from rvlook.finders.inputs.tracer import Tracer
 
 MEASURE, DIGEST = 5, 32  # the number of the call, and the bytes that it stores
 NO_FAULTS = (3, 8, 9)  # causes: ebreak and ecall
 STRIDE = 64  # bytes between two accesses of a loop
 DISTINCT = 3  # addresses of an access, of which the host chooses one
-FAULT = Place("a fault")
+FAULT = ObjectPlace("a fault")
 JUMPS = (Kind.BRANCH, Kind.CALL, Kind.RETURN)  # whose findings do not depend on the changes of a trace
 Key = Tuple[int, int]  # a call context and a pc
 Way = Tuple[int, int, int]  # a pc, a call context, and an address
@@ -40,14 +36,14 @@ class What(Enum):
 
 
 @dataclass
-class Finding:
+class InputFinding:
     """A finding: its trace, the index of the step, the address of the access, the object there, and those that the access reaches in other runs.
     `is_walk` says that the access moves over the end of one of these. `note` is a further text."""
     what: What
     trace: Trace
     index: int
     pc: int
-    place: Place = Place("")
+    place: ObjectPlace = ObjectPlace("")
     address: int = 0
     usual: tuple[str, ...] = ()
     is_walk: bool = False
@@ -66,21 +62,21 @@ class Finding:
 class Seen:
     """Results of the traces up to now: pairs of pcs, branches, the objects and the addresses of each access, targets of jumps, and traps."""
     pairs: set[tuple[int, int]] = field(default_factory=set)
-    objects: dict[Key, set[Place]] = field(default_factory=dict)
-    first: dict[Key, set[Place]] = field(default_factory=dict)
+    objects: dict[Key, set[ObjectPlace]] = field(default_factory=dict)
+    first: dict[Key, set[ObjectPlace]] = field(default_factory=dict)
     addresses: dict[Key, set[int]] = field(default_factory=lambda: defaultdict(set))
-    reached: set[tuple[Key, Place]] = field(default_factory=set)
+    reached: set[tuple[Key, ObjectPlace]] = field(default_factory=set)
     targets: dict[Key, set[int]] = field(default_factory=lambda: defaultdict(set))
     traps: set[tuple[int, int]] = field(default_factory=set)
     pcs: set[int] = field(default_factory=set)
 
 
-class Judge:
+class TraceJudge:
     """Judges the traces of a search. `findings` has one for each access, object and kind."""
 
     def __init__(self, tracer: Tracer, objects: Objects, base: Trace) -> None:
         self.tracer, self.objects, self.base, self.seen = tracer, objects, base, Seen()
-        self.findings: dict[tuple[object, ...], Finding] = {}
+        self.findings: dict[tuple[object, ...], InputFinding] = {}
         self.usual: set[Way] = set()  # steps without a trap that are no finding
         self.version = 0  # of the contexts then
         for index in range(len(base)):
@@ -124,8 +120,8 @@ class Judge:
             return False
         if trace.end == "stuck":
             pc = trace.pcs[-1]
-            place = Place(self.objects.symbols.function(pc) or "")
-            self.add(Finding(What.STUCK, trace, len(trace) - 1, pc, place, after=tuple(unsure)))
+            place = ObjectPlace(self.objects.symbols.function(pc) or "")
+            self.add(InputFinding(What.STUCK, trace, len(trace) - 1, pc, place, after=tuple(unsure)))
             return False
         return is_new
 
@@ -148,7 +144,7 @@ class Judge:
         pc = trace.pcs[index]
         return pc, trace.contexts[index], trace.following(index) if self.tracer.code[pc].kind in JUMPS else trace.addresses[index]
 
-    def add(self, found: Finding) -> None:
+    def add(self, found: InputFinding) -> None:
         """Adds a finding, or replaces one that needs more changes or is not sure."""
         context = found.context if found.what in (What.LOAD, What.STORE) else 0
         key = (found.what, 0 if found.what is What.STUCK else found.pc, context, found.place)
@@ -168,7 +164,7 @@ class Judge:
             return trace.values[index] == MEASURE and trap is not None and trap[0] == 9
         return code.is_access
 
-    def places(self, trace: Trace, index: int) -> list[Place]:
+    def places(self, trace: Trace, index: int) -> list[ObjectPlace]:
         """Returns the objects that an access reaches: at its first and at its last byte."""
         width = DIGEST if self.code(trace, index).kind is Kind.ECALL else self.code(trace, index).width
         address, context, pc = trace.addresses[index], trace.contexts[index], trace.pcs[index]
@@ -186,14 +182,14 @@ class Judge:
             self.seen.pairs.add(pair)
         if self.is_access(trace, index) and index not in trace.traps:
             key = trace.contexts[index], pc
-            for it in self.places(trace, index):
-                is_new = is_new or (key, it) not in self.seen.reached
-                self.seen.reached.add((key, it))
+            for place in self.places(trace, index):
+                is_new = is_new or (key, place) not in self.seen.reached
+                self.seen.reached.add((key, place))
         return is_new
 
     # ---- what is a finding
 
-    def judged(self, trace: Trace, index: int) -> Finding | None:
+    def judged(self, trace: Trace, index: int) -> InputFinding | None:
         """Returns the finding of a step, or None."""
         code, pc = self.code(trace, index), trace.pcs[index]
         key, trap = (trace.contexts[index], pc), trace.traps.get(index)
@@ -205,10 +201,10 @@ class Judge:
             return self.jump(trace, index, key)
         if trap and trap[0] not in NO_FAULTS and (pc, trap[0]) not in self.seen.traps:
             note = "a %s" % MARKS["%08x" % trap[1]] if "%08x" % trap[1] in MARKS else "cause %d" % trap[0]
-            return Finding(What.FAULT, trace, index, pc, FAULT, trap[1], note=note, context=key[0])
+            return InputFinding(What.FAULT, trace, index, pc, FAULT, trap[1], note=note, context=key[0])
         return None
 
-    def access(self, trace: Trace, index: int, key: Key) -> Finding | None:
+    def access(self, trace: Trace, index: int, key: Key) -> InputFinding | None:
         """Returns the finding of an access that reaches an object which it usually does not reach, or that traps."""
         what = What.LOAD if self.code(trace, index).kind is Kind.LOAD else What.STORE
         address, trap = trace.addresses[index], trace.traps.get(index)
@@ -216,7 +212,7 @@ class Judge:
             if (key[1], trap[0]) in self.seen.traps:
                 return None
             usual = self.seen.objects.get(key) or self.seen.first.get(key) or set()
-            return Finding(what, trace, index, key[1], FAULT, address, names(usual), note="cause %d" % trap[0], context=key[0])
+            return InputFinding(what, trace, index, key[1], FAULT, address, names(usual), note="cause %d" % trap[0], context=key[0])
         places = self.places(trace, index)
         usual = self.seen.objects.get(key) or self.seen.first.setdefault(key, set(places))
         self.seen.addresses[key].add(address)
@@ -229,10 +225,10 @@ class Judge:
         if is_walk and self.is_inner(other, usual):
             return None
         is_sure = is_walk or len(self.seen.addresses[key]) >= DISTINCT or len(places) > 1
-        return Finding(what, trace, index, key[1], other, address, names(usual), is_walk, is_sure=is_sure, context=key[0])
+        return InputFinding(what, trace, index, key[1], other, address, names(usual), is_walk, is_sure=is_sure, context=key[0])
 
     @staticmethod
-    def is_inner(place: Place, usual: set[Place]) -> bool:
+    def is_inner(place: ObjectPlace, usual: set[ObjectPlace]) -> bool:
         """Returns whether an object is a member of the same variable as a usual one, which the access may reach too: no array ends between them."""
         return any(it.variable and it.variable == place.variable and not it.is_array for it in usual)
 
@@ -243,7 +239,7 @@ class Judge:
                 return at
         return None
 
-    def jump(self, trace: Trace, index: int, key: Key) -> Finding | None:
+    def jump(self, trace: Trace, index: int, key: Key) -> InputFinding | None:
         """Returns the finding of a jump to an address in a register: one that the host chooses, or a return to another address."""
         target, is_return = trace.following(index), self.code(trace, index).kind is Kind.RETURN
         if target == LEFT or target in self.seen.targets[key]:
@@ -256,20 +252,20 @@ class Judge:
             is_found = not self.objects.is_function(target) and not is_table or target in chosen
         if not is_found:
             return None
-        return Finding(What.RETURN if is_return else What.CALL, trace, index, key[1], self.objects.at(target, key[0], key[1]), target,
-                       tuple(sorted({self.objects.at(it, *key).name for it in self.seen.targets[key] if it != LEFT})), context=key[0])
+        return InputFinding(What.RETURN if is_return else What.CALL, trace, index, key[1], self.objects.at(target, key[0], key[1]), target,
+                            tuple(sorted({self.objects.at(it, *key).name for it in self.seen.targets[key] if it != LEFT})), context=key[0])
 
-    def sure(self) -> Iterator[Finding]:
+    def sure(self) -> Iterator[InputFinding]:
         """Yields the findings that are sure now: an access that is not a walk has at least three addresses. Leaves out consequences of others."""
-        for it in self.findings.values():
-            if (it.is_sure or self.is_chosen((it.context, it.pc))) and not any(map(self.is_chosen, it.after)):
-                yield it
+        for finding in self.findings.values():
+            if (finding.is_sure or self.is_chosen((finding.context, finding.pc))) and not any(map(self.is_chosen, finding.after)):
+                yield finding
 
     def is_chosen(self, key: Key) -> bool:
         """Returns whether an access has so many addresses that the host chooses them."""
         return len(self.seen.addresses[key]) >= DISTINCT
 
 
-def names(places: set[Place]) -> tuple[str, ...]:
+def names(places: set[ObjectPlace]) -> tuple[str, ...]:
     """Returns the names of objects in order."""
     return tuple(sorted(it.name for it in places))

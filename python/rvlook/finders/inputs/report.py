@@ -1,78 +1,179 @@
-"""The report of `inputs`: the findings, each with its input and its script, and what the search covered."""
+"""A search of `inputs` within its time limit, and its report: the findings, each with its input and its script, and what the search covered. Each
+finding is replayed before it is reported. Ctrl-C ends the search too, and its results so far are kept."""
 from __future__ import annotations
 
-from dataclasses import dataclass
-from typing import Callable, Optional, Sequence, TYPE_CHECKING
+from dataclasses import dataclass, field
+from typing import Callable, Iterator, Optional, Sequence
 
-from rvlook.access.expectations import FailureReport, expectation_of
-from rvlook.access.failures import failures_of
-from rvlook.finders.inputs import scripts
+from rvlook.access.failures import Failure, FailureReport, expectation_of, failures_of
+from rvlook.errors import Unfinished
 from rvlook.finders.inputs.code import Kind
-from rvlook.finders.inputs.judge import FAULT, What
-from rvlook.finders.inputs.session import GRACE, INTERRUPT, InputsOptions, Models, Session
+from rvlook.finders.inputs.judge import FAULT, InputFinding, What
+from rvlook.finders.inputs.search import InputSearch
+from rvlook.finders.inputs.secret_rules import SecretRules, replayed_states
+from rvlook.finders.inputs.trace import Change, Changes, Trace
+from rvlook.finders.inputs.tracer import access_of
+from rvlook.finders.inputs.values import Child
+from rvlook.finders.leak import public_of
+from rvlook.finders.races.replay import command_of, input_of
 from rvlook.finders.races.time_limit import OutOfTime, TimeLimit
-from rvlook.output.printer import Style, hex8, run_object
-from rvlook.protocol.run import End
+from rvlook.finders.secrets import secret_of
+from rvlook.image.variables import Variables
+from rvlook.output.files import write_files
+from rvlook.output.findings import ReportedCases
+from rvlook.output.printer import Json, Printer, Style, hex8, run_object
+from rvlook.output.progress import Progress
+from rvlook.protocol.replies import ROW, register_values
+from rvlook.protocol.run import End, Run
+from rvlook.protocol.symbols import Symbols
+from rvlook.protocol.timeline import Timeline
 
-if TYPE_CHECKING:
-    from rvlook.access.failures import Failure
-    from rvlook.finders.inputs.judge import Finding
-    from rvlook.finders.inputs.search import Search
-    from rvlook.finders.inputs.trace import Change, Changes
-    from rvlook.image.variables import Variables
-    from rvlook.output.findings import ReportedCases
-    from rvlook.output.printer import Json, Printer
-    from rvlook.protocol.run import Replay, Run
-
+Group = Sequence[InputFinding]  # of one instruction and kind; the first one has the fewest changes, and is replayed
+Models = Callable[[InputSearch, Trace], Iterator[Child]]
+SECONDS, INTERRUPT = "--seconds", "Ctrl-C"  # what ends a search early
+GRACE = 2.0  # seconds after the limit in which the findings are completed, and again in which they are replayed
 MOST_SHOWN = 4  # objects of one access; bytes of a value
 LONGEST = 16
 
 
+def replay_of(search: InputSearch, finding: InputFinding) -> Timeline:
+    """Starts the run with the changes of a finding."""
+    return search.tracer.with_changes(finding.trace.changes).replay()
+
+
+def lines_to_input(replay: Timeline, finding: InputFinding) -> list[str]:
+    """Returns the commands up to the last change."""
+    return replay.lines_to(max((it.step for it in finding.trace.changes), default=0)) + replay.lines_up_to_next()
+
+
+def lines_after(search: InputSearch, replay: Timeline, finding: InputFinding) -> list[str]:
+    """Returns the commands from the last change to the step of the finding, with its instruction and operands, and the step."""
+    trace, index = finding.trace, finding.index
+    commands = replay.lines_to(trace.steps[index] - 1) + ["dis %x" % trace.pcs[index]]
+    commands += ["reg %d" % it for it in search.tracer.code[trace.pcs[index]].probes] + ["step 1"]
+    if finding.what is What.SECRET and finding.address:
+        commands.append("mem %x %d" % (finding.address, min(ROW, len(search.rules.secret.bytes) if search.rules else ROW)))
+    return commands
+
+
+def check_replay(search: InputSearch, finding: InputFinding) -> None:
+    """Replays a finding; raises Unfinished if the simulator does not execute the same step with the same operands."""
+    trace, index = finding.trace, finding.index
+    with replay_of(search, finding) as replay:
+        before, after = lines_to_input(replay, finding), lines_after(search, replay, finding)
+        replies = replay.bench.ask(*before, *after)
+    shown = replies[len(before) + after.index("dis %x" % trace.pcs[index]):]
+    reached = [it[0] for it in replies if it and it[0].startswith("ran ")][-2]
+    probes = search.tracer.code[trace.pcs[index]].probes
+    values = register_values(it[0] for it in shown[1:1 + len(probes)])
+    is_same = not probes or access_of(search.tracer.code[trace.pcs[index]], values)[0] == trace.addresses[index]
+    if " pc=%08x " % trace.pcs[index] not in reached or not is_same:
+        raise Unfinished("a finding at step %d differs in its replay on rvbench" % trace.steps[index])
+
+
+def texts_of(search: InputSearch, finding: InputFinding, heading: str) -> tuple[bytes, bytes]:
+    """Returns two inputs of the bench: one that replays a finding, and one that ends after its last change."""
+    setup = search.run.setup
+    with replay_of(search, finding) as replay:
+        before = lines_to_input(replay, finding)
+        after = lines_after(search, replay, finding)
+    return input_of(setup, before + after, heading, command_of(setup)), input_of(setup, before, heading)
+
+
+def write_scripts(folder: str, search: InputSearch, findings: Sequence[InputFinding], headings: Sequence[str]) -> None:
+    """Writes two files for each finding: `finding_N` replays it, `finding_N.input` ends after its last change. Raises Unfinished."""
+    write_files(folder, ((name % number, text) for number, (finding, heading) in enumerate(zip(findings, headings), 1)
+                         for name, text in zip(("finding_%d", "finding_%d.input"), texts_of(search, finding, heading))))
+
+
 @dataclass(frozen=True)
-class Group:
-    """The findings of one instruction and kind; the first one has the fewest changes."""
-    findings: Sequence[Finding]
-
-    @property
-    def first(self) -> Finding:
-        """Returns the finding that is replayed."""
-        return self.findings[0]
-
-
-@dataclass(frozen=True)
-class Coverage:
-    """The coverage of a search: inputs, runs with another value, branches that were executed and that went both ways, and source lines."""
-    inputs: int
-    values: int
-    branches: int
-    both: int
-    lines: int
-    all_lines: int
+class InputsOptions:
+    """The options of a search: the slot of the enclave, the place of its secret (none without one), and the outputs that may depend on it. With
+    `entry` the search begins at the entry. `runs` are done with a seed, for at most `seconds`. `expected` names failures of the run itself that are
+    no findings. `scripts` is the folder for the inputs of findings. `jobs` processes do the runs."""
+    slot: int = 0
+    at: Optional[str] = None
+    public: Sequence[str] = ()
+    entry: bool = False
+    runs: int = 300
+    seed: int = 0
+    seconds: Optional[float] = None
+    expected: Sequence[str] = ()
+    scripts: Optional[str] = None
+    jobs: int = 1
 
 
 @dataclass
 class Inputs:
-    """The result of a search: the failures of the run itself, the groups of findings with their headings, and why a part was left out."""
-    session: Session
+    """A search and its result: the failures of the run itself, the groups of findings with their headings, what ended the search early, and why
+    findings were not replayed. There is no search if the run itself was not traced."""
+    options: InputsOptions
+    limit: TimeLimit
+    models: Optional[Models]  # proposes inputs
     failures: Sequence[Failure]
+    search: Optional[InputSearch] = None
+    states: list[InputFinding] = field(default_factory=list)  # findings about older states
     groups: Sequence[Group] = ()
     headings: Sequence[str] = ()
     cut: str = ""
+    not_replayed: str = ""
+
+    def work(self, run: Run, symbols: Symbols, variables: Variables) -> None:
+        """Searches to the end, to the limit or to Ctrl-C. Raises Unfinished if the enclave does not return in the run itself."""
+        try:
+            with self.limit.until(1.0), Progress() as progress:
+                search = InputSearch(run, symbols, variables, self.options.slot, self.options.seed)
+                search.models, search.jobs = self.models or search.models, self.options.jobs
+                self.prepare(search)
+                self.search = search
+                for state in replayed_states(search, search.base_details.loaded):
+                    self.states.append(state)
+                search.go(self.options.runs, progress)
+        except OutOfTime:
+            self.cut = SECONDS
+        except KeyboardInterrupt:
+            self.cut = INTERRUPT
+
+    def prepare(self, search: InputSearch) -> None:
+        """Prepares a search: the secret, if there is one, and the runs from the run itself."""
+        options = self.options
+        if options.at:
+            secret = secret_of(options.at, search.symbols, search.run, options.slot)
+            search.rules = SecretRules(search, secret.with_bytes(secret.bytes_in(search.run)), public_of(options.public, search.symbols))
+        search.start(search.rules.secret.at if search.rules else None, options.entry)
+
+    def findings(self) -> list[InputFinding]:
+        """Returns the findings of the search, those about its secret last."""
+        search = self.search
+        assert search is not None
+        found = [*search.judge.sure(), *self.states]
+        if search.rules:
+            found += search.rules.found
+            try:
+                with self.limit.until(1.0, GRACE):
+                    found += search.rules.unchecked()
+            except OutOfTime:
+                self.cut = SECONDS
+        return found
+
+    @property
+    def cut_text(self) -> str:
+        """Returns what ended the search early, and how many runs were done; empty if it was not ended early."""
+        runs = self.search.tracer.runs if self.search else 0
+        return "%s ended inputs after %d of %d runs" % (self.cut, runs, self.options.runs) if self.cut else ""
 
 
 def find_inputs(run: Run, variables: Variables, options: InputsOptions, heard: Callable[[Sequence[Failure]], None] = lambda it: None,
                 models: Optional[Models] = None) -> Inputs:
     """Searches the inputs of an enclave, and replays the findings. Calls `heard` with the failures of the run itself before the search. `models`
     proposes inputs."""
-    session = Session(options, TimeLimit(options.seconds), models=models)
-    found = Inputs(session, failures_in(run, options.slot))
+    found = Inputs(options, TimeLimit(options.seconds), models, failures_in(run, options.slot))
     heard(found.failures)
-    session.work(run, run.setup.symbols, variables)
-    search = session.search
-    if search:
-        found.groups = groups_of(search, session.findings())
-        found.cut = replay_all(session, search, found.groups)
-        found.headings = [heading_of(search, it) for it in found.groups]
+    found.work(run, run.setup.symbols, variables)
+    if found.search:
+        found.groups = groups_of(found.search, found.findings())
+        found.not_replayed = replay_all(found.limit, found.search, found.groups)
+        found.headings = [heading_of(found.search, it) for it in found.groups]
     return found
 
 
@@ -84,23 +185,22 @@ def show_inputs(run: Run, variables: Variables, printer: Printer, options: Input
         run_object(printer, run, symbols)
     report = FailureReport([expectation_of(it, symbols) for it in options.expected], symbols, printer, findings)
     found = find_inputs(run, variables, options, report.show, models)
-    session = found.session
+    if found.not_replayed:
+        findings.cut_short(found.not_replayed)
+    if found.search:
+        show_findings(found, found.search, printer, findings)
     if found.cut:
-        findings.cut_short(found.cut)
-    if session.search:
-        show_findings(found, session.search, printer, findings)
-    if session.cut:
         printer.stream.flush()
-        findings.cut_short(session.cut_text)
-    if session.cut == INTERRUPT:
+        findings.cut_short(found.cut_text)
+    if found.cut == INTERRUPT:
         raise KeyboardInterrupt
 
 
-def show_findings(found: Inputs, search: Search, printer: Printer, findings: ReportedCases) -> None:
+def show_findings(found: Inputs, search: InputSearch, printer: Printer, findings: ReportedCases) -> None:
     """Prints the findings of a search, and its coverage."""
-    options, groups = found.session.options, found.groups
+    options, groups = found.options, found.groups
     if options.scripts:
-        scripts.write(options.scripts, search, [it.first for it in groups], found.headings)
+        write_scripts(options.scripts, search, [it[0] for it in groups], found.headings)
     (write_objects if printer.as_json else print_text)(search, groups, printer, options)
     for number, (group, heading) in enumerate(zip(groups, found.headings), 1):
         findings.add("finding %d" % number, "\n".join([heading, *details_of(search, group)]))
@@ -108,16 +208,17 @@ def show_findings(found: Inputs, search: Search, printer: Printer, findings: Rep
         findings.add("e%d: inputs of the host" % options.slot)
 
 
-def replay_all(session: Session, search: Search, groups: Sequence[Group]) -> str:
+def replay_all(limit: TimeLimit, search: InputSearch, groups: Sequence[Group]) -> str:
     """Replays each finding, and reads the values that its changes replace. Returns why some were left out, if the time ended before that."""
     done = 0
     try:
-        with session.limit.until(1.0, 2 * GRACE):
-            for done, it in enumerate(groups, 1):
-                it.first.trace.changes = with_old_values(search.run, it.first.trace.changes)
-                scripts.check(search, it.first)
+        with limit.until(1.0, 2 * GRACE):
+            for done, group in enumerate(groups, 1):
+                group[0].trace.changes = with_old_values(search.run, group[0].trace.changes)
+                check_replay(search, group[0])
     except OutOfTime:
-        return "--seconds ended inputs before finding %d of %d was replayed" % (done, len(groups))
+        left = len(groups) - done + 1
+        return "--seconds ended inputs before rvbench replayed the last %d of %d findings; use a larger --seconds" % (left, len(groups))
     return ""
 
 
@@ -127,38 +228,38 @@ def failures_in(run: Run, slot: int) -> list[Failure]:
     return [it for it in failures_of(run, "", last) if it.at.world == "e%d" % slot]
 
 
-def groups_of(search: Search, findings: Sequence[Finding]) -> list[Group]:
+def groups_of(search: InputSearch, findings: Sequence[InputFinding]) -> list[Group]:
     """Returns the findings in groups: those of one kind at one source line, or at one instruction without source lines."""
-    found: dict[tuple[object, ...], list[Finding]] = {}
-    for it in findings:
-        where = search.symbols.line(it.pc) or it.pc
-        key = (it.what, it.note if it.what in (What.SECRET, What.CHECK, What.REPLAY) else where)
-        found.setdefault(key if it.what is not What.STUCK else (it.what, it.place), []).append(it)
+    found: dict[tuple[object, ...], list[InputFinding]] = {}
+    for finding in findings:
+        where = search.symbols.line(finding.pc) or finding.pc
+        key = (finding.what, finding.note if finding.what in (What.SECRET, What.CHECK, What.REPLAY) else where)
+        found.setdefault(key if finding.what is not What.STUCK else (finding.what, finding.place), []).append(finding)
     order = list(What)
-    groups = [Group(sorted(it, key=priority)) for it in found.values()]
-    return sorted(groups, key=lambda it: (order.index(it.first.what), it.first.pc, it.first.trace.steps[it.first.index]))
+    groups = [sorted(it, key=priority) for it in found.values()]
+    return sorted(groups, key=lambda it: (order.index(it[0].what), it[0].pc, it[0].trace.steps[it[0].index]))
 
 
-def priority(it: Finding) -> tuple[object, ...]:
+def priority(finding: InputFinding) -> tuple[object, ...]:
     """Returns the order of the findings of a group: objects before traps, few changes before many, early steps before late ones."""
-    return it.place is FAULT, it.cost, not it.is_walk, it.trace.steps[it.index]
+    return finding.place is FAULT, finding.cost, not finding.is_walk, finding.trace.steps[finding.index]
 
 
-def heading_of(search: Search, group: Group) -> str:
+def heading_of(search: InputSearch, group: Group) -> str:
     """Returns a finding in one line."""
-    it = group.first
-    where = search.symbols.line(it.pc) or search.symbols.name(it.pc) or "%08x" % it.pc
-    return "%s, at %s" % (TEXTS[it.what](it), where)
+    finding = group[0]
+    where = search.symbols.line(finding.pc) or search.symbols.name(finding.pc) or "%08x" % finding.pc
+    return "%s, at %s" % (TEXTS[finding.what](finding), where)
 
 
-def access_text(it: Finding) -> str:
+def access_text(finding: InputFinding) -> str:
     """Returns what an access does."""
-    usual = " or ".join(it.usual[:MOST_SHOWN]) or "nothing"
-    if it.place is FAULT:
-        return "%s traps at an address that the host chooses" % it.what.value
-    if it.is_walk:
-        return "%s moves over the end of %s into %s" % (it.what.value, usual, it.place.name)
-    return "%s reaches %s, where the run reaches %s" % (it.what.value, it.place.name, usual)
+    usual = " or ".join(finding.usual[:MOST_SHOWN]) or "nothing"
+    if finding.place is FAULT:
+        return "%s traps at an address that the host chooses" % finding.what.value
+    if finding.is_walk:
+        return "%s moves over the end of %s into %s" % (finding.what.value, usual, finding.place.name)
+    return "%s reaches %s, where the run reaches %s" % (finding.what.value, finding.place.name, usual)
 
 
 TEXTS = {
@@ -170,54 +271,56 @@ TEXTS = {
     What.SECRET: lambda it: it.note, What.CHECK: lambda it: it.note, What.REPLAY: lambda it: it.note}
 
 
-def details_of(search: Search, group: Group) -> list[str]:
+def details_of(search: InputSearch, group: Group) -> list[str]:
     """Returns the further lines of a finding."""
-    it = group.first
-    lines = ["  step %d  %08x  %s  %s" % (it.trace.steps[it.index], it.pc, search.symbols.name(it.pc) or "", search.tracer.code[it.pc].text)]
-    caller = search.tracer.contexts.calls[it.context] if it.context else 0
+    finding = group[0]
+    step, name = finding.trace.steps[finding.index], search.symbols.name(finding.pc) or ""
+    lines = ["  step %d  %08x  %s  %s" % (step, finding.pc, name, search.tracer.code[finding.pc].text)]
+    caller = search.tracer.contexts.calls[finding.context] if finding.context else 0
     if caller:
         lines.append("  called from %08x  %s" % (caller, search.symbols.line(caller) or search.symbols.name(caller) or ""))
-    if it.what in (What.LOAD, What.STORE):
-        for other in group.findings[:MOST_SHOWN]:
+    if finding.what in (What.LOAD, What.STORE):
+        for other in group[:MOST_SHOWN]:
             lines.append("  %08x  %s" % (other.address, other.place.name if other.place is not FAULT else "traps, " + other.note))
-    changes = ["  input  " + change_text(change) for change in it.trace.changes]
+    changes = ["  input  " + change_text(change) for change in finding.trace.changes]
     return [line.rstrip() for line in lines] + (changes or ["  input  none: the run itself"])
 
 
-def change_text(it: Change) -> str:
+def change_text(change: Change) -> str:
     """Returns a change in words."""
-    value = it.value.hex() if len(it.value) <= LONGEST else "%s... (%d bytes)" % (it.value[:LONGEST].hex(), len(it.value))
-    if len(it.value) in (1, 2, 4) and len(it.old) == 2 * len(it.value):
-        old = int.from_bytes(bytes.fromhex(it.old), "little")
-        return "%s = 0x%x instead of 0x%x, after step %d%s" % (it.name, int.from_bytes(it.value, "little"), old, it.step, place_of(it))
-    return "%s = bytes %s, after step %d%s" % (it.name, value, it.step, place_of(it))
+    value = change.value.hex() if len(change.value) <= LONGEST else "%s... (%d bytes)" % (change.value[:LONGEST].hex(), len(change.value))
+    if len(change.value) in (1, 2, 4) and len(change.old) == 2 * len(change.value):
+        new, old = (int.from_bytes(data, "little") for data in (change.value, bytes.fromhex(change.old)))
+        return "%s = 0x%x instead of 0x%x, after step %d%s" % (change.name, new, old, change.step, place_of(change))
+    return "%s = bytes %s, after step %d%s" % (change.name, value, change.step, place_of(change))
 
 
 def with_old_values(run: Run, changes: Changes) -> Changes:
     """Returns changes with the values that each of them replaces: those that a run with the earlier changes alone has at that step."""
     found: list[Change] = []
-    for it in changes:
+    for change in changes:
         with run.replay() as replay:
-            replay.go(it.step)
-            found.append(it._replace(old=value_in(replay, it).hex()))
-        run = run.with_lines(it.step, it.lines())
+            replay.go(change.step)
+            found.append(change._replace(old=value_in(replay, change).hex()))
+        run = run.with_lines(change.step, change.lines())
     return tuple(found)
 
 
-def value_in(replay: Replay, it: Change) -> bytes:
+def value_in(replay: Timeline, change: Change) -> bytes:
     """Reads the bytes or the register of a change."""
-    if it.register:
-        return replay.bench.register(it.register).to_bytes(len(it.value), "little")
-    return replay.bench.memory(it.at, len(it.value))
+    if change.register:
+        return replay.bench.register(change.register).to_bytes(len(change.value), "little")
+    return replay.bench.memory(change.at, len(change.value))
 
 
-def place_of(it: Change) -> str:
+def place_of(change: Change) -> str:
     """Returns the address of a change in memory."""
-    return "" if it.register else " (%08x, %d bytes)" % (it.at, len(it.value))
+    return "" if change.register else " (%08x, %d bytes)" % (change.at, len(change.value))
 
 
-def coverage_of(search: Search) -> Coverage:
-    """Counts what the search covered."""
+def coverage_of(search: InputSearch) -> dict[str, int]:
+    """Counts what the search covered: inputs, runs with another value, branches that were executed and that went both ways, source lines, and
+    instructions."""
     branches: dict[int, set[int]] = {}
     for pc, following in search.judge.seen.pairs:
         if search.tracer.code[pc].kind is Kind.BRANCH:
@@ -225,21 +328,23 @@ def coverage_of(search: Search) -> Coverage:
     enclave, symbols = search.objects.enclave, search.symbols
     lines = {symbols.source(pc) for pc in search.judge.seen.pcs} - {None}
     every = {it for it in symbols.sources_in(enclave.base, enclave.base + enclave.size) if it}
-    return Coverage(len(search.inputs), search.tracer.runs - 1, len(branches), sum(len(it) > 1 for it in branches.values()), len(lines), len(every))
+    return dict(inputs=len(search.inputs), values=search.tracer.runs - 1, branches=len(branches),
+                both_ways=sum(len(it) > 1 for it in branches.values()), lines=len(lines), all_lines=len(every),
+                instructions=len(search.judge.seen.pcs))
 
 
-def coverage_text(search: Search) -> str:
+def coverage_text(search: InputSearch) -> str:
     """Returns what the search covered, as a line."""
-    it = coverage_of(search)
-    lines = ", %d of %d lines" % (it.lines, it.all_lines) if it.all_lines else ", %d instructions" % len(search.judge.seen.pcs)
+    coverage = coverage_of(search)
+    lines = ", %(lines)d of %(all_lines)d lines" if coverage["all_lines"] else ", %(instructions)d instructions"
     cut = "; %d runs were cut after %d steps" % (search.tracer.cut, search.tracer.limit) if search.tracer.cut else ""
     waits = "; %d runs wait for the host to change the window" % search.tracer.waiting if search.tracer.waiting else ""
     rest = waits + ("; each value was tried" if search.is_exhausted else "")
-    return "Covered: %d inputs, %d runs with other values, %d of %d branches both ways%s%s%s" % (
-        it.inputs, it.values, it.both, it.branches, lines, cut, rest)
+    text = "Covered: %(inputs)d inputs, %(values)d runs with other values, %(both_ways)d of %(branches)d branches both ways" + lines
+    return text % coverage + cut + rest
 
 
-def print_text(search: Search, groups: Sequence[Group], printer: Printer, options: InputsOptions) -> None:
+def print_text(search: InputSearch, groups: Sequence[Group], printer: Printer, options: InputsOptions) -> None:
     """Prints the findings and the coverage."""
     for number, group in enumerate(groups, 1):
         printer.line(printer.styled("finding %d: %s" % (number, heading_of(search, group)), Style.bad))
@@ -253,12 +358,13 @@ def print_text(search: Search, groups: Sequence[Group], printer: Printer, option
     printer.line("%s, seed %d. %s" % (count, options.seed, coverage_text(search)))
 
 
-def inputs_text(search: Search) -> list[str]:
+def inputs_text(search: InputSearch) -> list[str]:
     """Returns the inputs of the run itself, one line for each instruction that loads any."""
     rows: dict[tuple[object, ...], list[str]] = {}
-    for it in search.inputs.values():
-        where = "activation %d" % (it.visit + 1) if it.register else search.symbols.line(it.pc) or search.symbols.name(it.pc) or "%08x" % it.pc
-        rows.setdefault(("again" if it.is_again else "", where), []).append("a%d" % (it.register - 10) if it.register else search.values.name(it.at))
+    for own in search.inputs.values():
+        where = "activation %d" % (own.visit + 1) if own.register else search.symbols.line(own.pc) or search.symbols.name(own.pc) or "%08x" % own.pc
+        name = "a%d" % (own.register - 10) if own.register else search.values.name(own.at)
+        rows.setdefault(("again" if own.is_again else "", where), []).append(name)
     found = []
     for (again, place), named in rows.items():
         several = list(dict.fromkeys(named))
@@ -267,22 +373,21 @@ def inputs_text(search: Search) -> list[str]:
     return found
 
 
-def write_objects(search: Search, groups: Sequence[Group], printer: Printer, options: InputsOptions) -> None:
+def write_objects(search: InputSearch, groups: Sequence[Group], printer: Printer, options: InputsOptions) -> None:
     """Writes the findings and the coverage as objects."""
     for number, group in enumerate(groups, 1):
-        it = group.first
-        printer.object("finding", number=number, what=it.what.value, text=heading_of(search, group), step=it.trace.steps[it.index], pc=hex8(it.pc),
-                       symbol=search.symbols.name(it.pc), source=search.symbols.source(it.pc),
-                       reached=[{"address": hex8(other.address), "name": other.place.name} for other in group.findings], usual=list(it.usual),
-                       inputs=[change_object(change) for change in it.trace.changes],
+        finding = group[0]
+        printer.object("finding", number=number, what=finding.what.value, text=heading_of(search, group),
+                       step=finding.trace.steps[finding.index], pc=hex8(finding.pc), symbol=search.symbols.name(finding.pc),
+                       source=search.symbols.source(finding.pc),
+                       reached=[{"address": hex8(other.address), "name": other.place.name} for other in group], usual=list(finding.usual),
+                       inputs=[change_object(change) for change in finding.trace.changes],
                        script="%s/finding_%d" % (options.scripts, number) if options.scripts else None)
-    covered = coverage_of(search)
     printer.object("inputs", slot=options.slot, seed=options.seed, findings=len(groups), runs=search.tracer.runs, cut=search.tracer.cut,
-                   exhausted=search.is_exhausted, inputs=covered.inputs, values=covered.values, branches=covered.branches, both_ways=covered.both,
-                   lines=covered.lines, all_lines=covered.all_lines, instructions=len(search.judge.seen.pcs))
+                   exhausted=search.is_exhausted, **coverage_of(search))
 
 
-def change_object(it: Change) -> dict[str, Json]:
+def change_object(change: Change) -> dict[str, Json]:
     """Returns a change as an object."""
-    return {"name": it.name, "step": it.step, "address": None if it.register else hex8(it.at),
-            "register": "a%d" % (it.register - 10) if it.register else None, "value": it.value.hex(), "instead_of": it.old}
+    return {"name": change.name, "step": change.step, "address": None if change.register else hex8(change.at),
+            "register": "a%d" % (change.register - 10) if change.register else None, "value": change.value.hex(), "instead_of": change.old}

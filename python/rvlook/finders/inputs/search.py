@@ -1,31 +1,109 @@
-"""The search of `inputs`: tries values, goes on from each trace that reaches something new, and combines changes."""
+"""The search of `inputs`: tries values, goes on from each trace that reaches something new, and combines changes.
+
+Several processes may trace runs. A process begins with all that the search knows: decoded instructions, call contexts and their stack frames. It
+returns each trace with all that is new to it. The search takes the traces in the order of the runs. A trace may depend on what an earlier one of them
+has found. The search then traces this run again, so that the result is that of one process."""
 from __future__ import annotations
 
+from array import array
 from collections import deque
 from dataclasses import dataclass
 from itertools import chain, islice
-from typing import Callable, Iterator, Optional, TYPE_CHECKING
+from typing import Callable, Iterator, Mapping, Optional, Sequence
 
-from rvlook.access.fields import Fields
-from rvlook.finders.inputs.details import Reader
-from rvlook.finders.inputs.judge import Judge
+from rvlook.access.fields import WindowFields
+from rvlook.finders.inputs.code import Code
+from rvlook.finders.inputs.contexts import Contexts
+from rvlook.finders.inputs.judge import TraceJudge
 from rvlook.finders.inputs.objects import Objects
-from rvlook.finders.inputs.tracer import Tracer
-from rvlook.finders.inputs.values import Child, Input, Values
-
-if TYPE_CHECKING:
-    from rvlook.finders.inputs.details import Details
-    from rvlook.finders.inputs.secret_rules import SecretRules
-    from rvlook.finders.inputs.trace import Trace
-    from rvlook.finders.inputs.tracer import Started
-    from rvlook.image.variables import Variables
-    from rvlook.output.progress import Progress
-    from rvlook.protocol.run import Run
-    from rvlook.protocol.symbols import Symbols
+from rvlook.finders.inputs.secret_rules import SecretRules
+from rvlook.finders.inputs.trace import Trace
+from rvlook.finders.inputs.tracer import Started, Tracer
+from rvlook.finders.inputs.values import Child, DetailReader, Details, HostRequest, Input, Values, reordered
+from rvlook.image.variables import Variables
+from rvlook.output.progress import Progress
+from rvlook.protocol.jobs import results_of
+from rvlook.protocol.run import Run
+from rvlook.protocol.symbols import Symbols
 
 MOST_CHANGES = 4  # of one run
 SHARE = 16  # runs from one trace before those of the next
 AHEAD = 2  # runs that are started before the one that is traced is complete
+
+
+@dataclass(frozen=True)
+class TracerKnowledge:
+    """The knowledge of a tracer before some runs: the pcs of decoded instructions, the number of contexts, and the stack frame of each."""
+    pcs: frozenset[int]
+    contexts: int
+    frames: Mapping[int, int]
+
+
+@dataclass(frozen=True)
+class News:
+    """The knowledge that a process has gained since then: instructions by pc, contexts, and stack frames by context. A context is that of its caller,
+    the pc of the call, and whether it is a trap. `saved` has the addresses at which contexts save registers."""
+    code: Mapping[int, Code]
+    contexts: Sequence[tuple[int, int, bool]]
+    frames: Mapping[int, int]
+    saved: Mapping[int, set[int]]
+
+
+def known_to(tracer: Tracer) -> TracerKnowledge:
+    """Returns what a tracer knows."""
+    return TracerKnowledge(frozenset(tracer.code), len(tracer.contexts.parents), dict(tracer.contexts.frames))
+
+
+def news_since(tracer: Tracer, known: TracerKnowledge) -> News:
+    """Returns the knowledge that a tracer has gained."""
+    contexts = tracer.contexts
+    return News({pc: code for pc, code in tracer.code.items() if pc not in known.pcs},
+                list(zip(contexts.parents, contexts.calls, contexts.traps))[known.contexts:], new_frames(contexts, known), contexts.saved)
+
+
+def new_frames(contexts: Contexts, known: TracerKnowledge) -> dict[int, int]:
+    """Returns the stack frames that differ from those that were known, by context."""
+    return {it: sp for it, sp in contexts.frames.items() if known.frames.get(it) != sp}
+
+
+def traces_of(tracer: Tracer, parent: Trace, children: Sequence[Child], jobs: int) -> Iterator[Trace]:
+    """Yields the traces of runs with changed inputs, in the order of the runs. Does `jobs` runs at the same time."""
+    known = known_to(tracer)
+    tracer.probes(parent)  # the processes inherit them
+
+    def traced(number: int) -> tuple[Trace, News]:
+        """Traces a run, by its number."""
+        return tracer.child(parent, children[number].index, children[number].changes), news_since(tracer, known)
+
+    for child, (trace, news) in zip(children, results_of(traced, len(children), jobs)):
+        if has_taken_over(tracer, known, trace, news):
+            yield trace
+        else:
+            yield tracer.child(parent, child.index, child.changes)
+
+
+def has_taken_over(tracer: Tracer, known: TracerKnowledge, trace: Trace, news: News) -> bool:
+    """Takes over a trace of another process, with its news. Returns whether that was possible: the process knew all that the trace could use, and its
+    news do not contradict this process."""
+    contexts, numbers = tracer.contexts, list(range(known.contexts))
+    for caller, pc, is_trap in news.contexts:
+        numbers.append(contexts.called(numbers[caller], pc, is_trap))
+    frames = {numbers[it]: sp for it, sp in news.frames.items()}
+    visited = {numbers[it] for it in {*trace.contexts, trace.context}}
+    used = {*frames, *visited, *(contexts.parents[it] for it in visited)}
+    if any(it in known.frames for it in frames) or any(tracer.code.get(pc, code) != code for pc, code in news.code.items()) or \
+            any(it in used and frames.get(it) != sp for it, sp in new_frames(contexts, known).items()):
+        return False
+    for pc, code in news.code.items():
+        tracer.learn(pc, code)
+    contexts.frames.update(frames)
+    for context, places in news.saved.items():
+        contexts.saved.setdefault(numbers[context], set()).update(places)
+    contexts.version += 1
+    trace.contexts, trace.context = array("I", [numbers[it] for it in trace.contexts]), numbers[trace.context]
+    tracer.runs += 1
+    tracer.count_end(trace)
+    return True
 
 
 @dataclass
@@ -37,13 +115,8 @@ class Parent:
     children: Iterator[Child]
 
 
-def no_models(_: Search, __: Trace) -> Iterator[Child]:
-    """Yields no inputs that a solver proposes."""
-    return iter(())
-
-
-class Search:
-    """A search over the inputs of an enclave."""
+class InputSearch:
+    """A search over the inputs of an enclave. `jobs` processes trace its runs."""
 
     def __init__(self, run: Run, symbols: Symbols, variables: Variables, slot: int, seed: int) -> None:
         self.run, self.symbols, self.variables = run, symbols, variables
@@ -51,18 +124,18 @@ class Search:
         self.base = self.tracer.base()
         assert self.tracer.enclave is not None
         self.objects = Objects(self.tracer.enclave, symbols, variables, self.tracer.contexts)
-        self.fields = Fields(symbols)
-        self.reader = Reader(self.tracer, self.objects, self.fields)
+        self.fields = WindowFields(symbols)
+        self.reader = DetailReader(self.tracer, self.objects, self.fields)
         self.values = Values(self.tracer, self.objects, self.fields, self.reader, seed)
-        self.judge = Judge(self.tracer, self.objects, self.base)
+        self.judge = TraceJudge(self.tracer, self.objects, self.base)
         self.rules: Optional[SecretRules] = None
-        self.models: Callable[[Search, Trace], Iterator[Child]] = no_models  # a solver proposes these inputs
+        self.models: Callable[[InputSearch, Trace], Iterator[Child]] = lambda *_: iter(())  # a solver proposes these inputs
         self.base_details: Details
         self.root: Optional[Parent] = None  # the run itself, until all its values were tried
         self.parents: deque[Parent] = deque()  # the others
         self.tried: set[tuple[object, ...]] = set()
         self.inputs: dict[tuple[object, ...], Input] = {}
-        self.kept = 0
+        self.kept, self.jobs = 0, 1
         self.is_exhausted = False
 
     def start(self, secret_at: int | None, has_entry: bool) -> None:
@@ -77,15 +150,22 @@ class Search:
         """Adds a trace to those that the search goes on from."""
         details = self.reader.read(trace)
         inputs = self.values.inputs(trace, details)
-        for it in inputs:
-            self.inputs.setdefault((it.visit, it.at, it.width, it.is_again, it.register), it)
+        for input_ in inputs:
+            self.inputs.setdefault((input_.visit, input_.at, input_.width, input_.is_again, input_.register), input_)
         own = self.values.children(trace, details, inputs)
-        parent = Parent(trace, details, inputs, chain(islice(own, SHARE), self.models(self, trace), own))
+        orders = reordered(trace, self.requests(trace, details), self.values.name) if trace is self.base else iter(())
+        parent = Parent(trace, details, inputs, chain(islice(own, SHARE), self.models(self, trace), islice(own, SHARE), orders, own))
         if trace is self.base:
             self.root, self.base_details = parent, details
         else:
             self.parents.appendleft(parent)
         self.kept += 1
+
+    def requests(self, trace: Trace, details: Details) -> list[HostRequest]:
+        """Returns what each activation of a trace loads from the window. A byte that is loaded twice counts as it was first."""
+        loads = [reversed(list(self.values.loads(trace, details, it))) for it in trace.visits]
+        contents = [{at + n: value for _, at, data in several for n, value in enumerate(data)} for several in loads]
+        return [HostRequest(trace.steps[it.first] - 1, it.first, content) for it, content in zip(trace.visits, contents)]
 
     def go(self, runs: int, progress: Progress) -> None:
         """Tries values up to a number of runs. Ends the runs that were started if an exception stops it."""
@@ -102,11 +182,9 @@ class Search:
         while self.root or self.parents:
             parent = self.next_parent(parent)
             several = self.share(parent, runs)
-            for child in [*several, *[None] * AHEAD]:
-                if child is not None:
-                    started.append(self.tracer.start(parent.trace, child.index, child.changes))
-                if started and (child is None or len(started) > AHEAD):
-                    self.take(self.tracer.finish(started.popleft()))
+            is_parallel = self.jobs > 1 and len(several) > 1
+            for trace in traces_of(self.tracer, parent.trace, several, self.jobs) if is_parallel else self.traced(parent.trace, several, started):
+                self.take(trace)
                 progress.show("%d of %d runs, %d reached something new, %d findings", self.tracer.runs, runs, self.kept, len(self.judge.findings))
             if parent is self.root:
                 self.root = parent if len(several) == SHARE else None
@@ -115,6 +193,14 @@ class Search:
             if self.tracer.runs >= runs:
                 return
         self.is_exhausted = True
+
+    def traced(self, parent: Trace, children: Sequence[Child], started: deque[Started]) -> Iterator[Trace]:
+        """Yields the traces of runs. Starts each run before the AHEAD runs before it are complete."""
+        for child in [*children, *[None] * AHEAD]:
+            if child is not None:
+                started.append(self.tracer.start(parent, child.index, child.changes))
+            if started and (child is None or len(started) > AHEAD):
+                yield self.tracer.finish(started.popleft())
 
     def next_parent(self, last: Parent | None) -> Parent:
         """Returns the trace of the next runs: every second time the run itself."""

@@ -5,16 +5,14 @@ from dataclasses import dataclass
 from typing import Iterator, NamedTuple, Sequence, TYPE_CHECKING
 
 from rvlook.finders.inputs.code import ENDS_BLOCK, Kind
-from rvlook.finders.inputs.judge import Finding, What
-from rvlook.finders.inputs.objects import Place
-from rvlook.finders.inputs.trace import Change
-from rvlook.finders.secret_copies import LEAST, copies_in
+from rvlook.finders.inputs.judge import InputFinding, What
+from rvlook.finders.inputs.objects import ObjectPlace
+from rvlook.finders.inputs.trace import Change, Trace, TraceVisit, runs_of
+from rvlook.finders.leak import Public, equal_length
+from rvlook.finders.secrets import LEAST, Secret, copies_in
 
 if TYPE_CHECKING:
-    from rvlook.finders.inputs.search import Search
-    from rvlook.finders.inputs.trace import Trace, Visit
-    from rvlook.finders.leak import Public
-    from rvlook.finders.secrets import Secret
+    from rvlook.finders.inputs.search import InputSearch
 
 ANSWER = 4  # bytes of a1
 DISTINCT = 3  # bytes that are not 0 in a state that the host has moved
@@ -32,7 +30,7 @@ class Output:
     is_public: bool
 
 
-def steps_of(trace: Trace, visit: Visit) -> range:
+def steps_of(trace: Trace, visit: TraceVisit) -> range:
     """Returns the indices of an activation."""
     return range(visit.first, (len(trace) - 1 if visit.last is None else visit.last) + 1)
 
@@ -40,10 +38,10 @@ def steps_of(trace: Trace, visit: Visit) -> range:
 class SecretRules:
     """Compares what of a secret comes out of each trace."""
 
-    def __init__(self, search: Search, secret: Secret, public: Public) -> None:
+    def __init__(self, search: InputSearch, secret: Secret, public: Public) -> None:
         self.search, self.secret, self.public = search, secret, public
         self.known: set[int] = set()  # bytes of the secret that come out, and are not public
-        self.found: list[Finding] = []
+        self.found: list[InputFinding] = []
         self.open: list[tuple[Trace, list[Output]]] = []
         self.checks: dict[int, int] = {}  # of each branch whose other direction keeps the secret inside, where it goes then
         self.usual = list(self.outputs(search.base))
@@ -60,17 +58,17 @@ class SecretRules:
 
     def report(self, trace: Trace, outputs: Sequence[Output]) -> None:
         """Reports the bytes of the secret that come out and are not public, once each."""
-        for it in outputs:
-            places = range(it.offset, it.offset + it.size)
-            if not it.is_public and not self.known.issuperset(places) and self.depends(trace, it):
+        for output in outputs:
+            places = range(output.offset, output.offset + output.size)
+            if not output.is_public and not self.known.issuperset(places) and self.depends(trace, output):
                 self.known.update(places)
-                self.add(trace, it)
+                self.add(trace, output)
 
-    def add(self, trace: Trace, it: Output) -> None:
+    def add(self, trace: Trace, output: Output) -> None:
         """Adds the finding that a part of the secret comes out."""
-        where = "the answer" if it.at is None else "%s (%08x)" % (self.search.values.name(it.at), it.at)
-        note = "%d bytes of the secret, from offset %d, in %s" % (it.size, it.offset, where)
-        self.found.append(Finding(What.SECRET, trace, it.index, trace.pcs[it.index], Place(where), it.at or 0, note=note))
+        where = "the answer" if output.at is None else "%s (%08x)" % (self.search.values.name(output.at), output.at)
+        note = "%d bytes of the secret, from offset %d, in %s" % (output.size, output.offset, where)
+        self.found.append(InputFinding(What.SECRET, trace, output.index, trace.pcs[output.index], ObjectPlace(where), output.at or 0, note=note))
 
     def outputs(self, trace: Trace) -> Iterator[Output]:
         """Yields the parts of the secret that each activation stores to the window or answers."""
@@ -79,7 +77,7 @@ class SecretRules:
             for index in steps_of(trace, visit):
                 code = self.search.tracer.code[trace.pcs[index]]
                 at = trace.addresses[index]
-                if code.kind is Kind.STORE and self.search.objects.is_window(at) and index not in trace.traps:
+                if code.kind is Kind.STORE and self.search.objects.enclave.shares(at) and index not in trace.traps:
                     content.update((at + n, (trace.values[index] >> 8 * n & 0xFF, index)) for n in range(code.width))
             last = steps_of(trace, visit)[-1]
             yield from self.stored(trace, content, last)
@@ -91,24 +89,24 @@ class SecretRules:
     def stored(self, trace: Trace, content: dict[int, tuple[int, int]], last: int) -> Iterator[Output]:
         """Yields the copies of parts of the secret among stored bytes."""
         for first, data in runs_of({at: value for at, (value, _) in content.items()}):
-            for it in copies_in(data, self.secret.bytes):
-                places = range(first + it.at, first + it.at + it.size)
+            for copy in copies_in(data, self.secret.bytes):
+                places = range(first + copy.at, first + copy.at + copy.size)
                 writers = [content[at][1] for at in places]
                 is_public = all(self.public.has(at) or self.public.has(trace.pcs[index]) for at, index in zip(places, writers))
-                yield Output(it.offset, it.size, places[0], max(writers), last, is_public)
+                yield Output(copy.offset, copy.size, places[0], max(writers), last, is_public)
 
-    def depends(self, trace: Trace, it: Output) -> bool:
+    def depends(self, trace: Trace, output: Output) -> bool:
         """Returns whether an output is another one if the secret is its complement. Else the host gave the bytes itself."""
         run, secret = self.search.run, self.secret
         run = run.with_lines(secret.step, secret.with_bytes(bytes(n ^ 0xFF for n in secret.bytes)).lines())
         for change in trace.changes:
             run = run.with_lines(change.step, change.lines())
         with run.replay() as replay:
-            replay.go(trace.steps[it.end])
-            if it.at is None:
-                return replay.bench.register(11) != trace.visits[trace.visit_at(it.end)].answer[1]
-            size = min(it.size, 64)
-            return replay.bench.memory(it.at, size) != self.secret.bytes[it.offset:it.offset + size]
+            replay.go(trace.steps[output.end])
+            if output.at is None:
+                return replay.bench.register(11) != trace.visits[trace.visit_at(output.end)].answer[1]
+            size = min(output.size, 64)
+            return replay.bench.memory(output.at, size) != self.secret.bytes[output.offset:output.offset + size]
 
     # ---- checks
 
@@ -129,7 +127,7 @@ class SecretRules:
         base = self.search.base
         return any(self.search.reader.is_private(base, index, it) for it in self.search.tracer.code[base.pcs[index]].sources)
 
-    def unchecked(self) -> Iterator[Finding]:
+    def unchecked(self) -> Iterator[InputFinding]:
         """Yields the findings that the secret came out although a check failed, or without it."""
         reported: set[int] = set()
         base = self.search.base
@@ -143,7 +141,7 @@ class SecretRules:
                     reported.add(pc)
                     where = self.search.symbols.line(pc) or self.search.symbols.name(pc) or "%08x" % pc
                     note = "the secret comes out %s %s" % ("without the check at" if is_skipped else "although the check fails at", where)
-                    yield Finding(What.CHECK, trace, output.index, trace.pcs[output.index], Place(where), output.at or 0, note=note)
+                    yield InputFinding(What.CHECK, trace, output.index, trace.pcs[output.index], ObjectPlace(where), output.at or 0, note=note)
 
     def has_passed(self, trace: Trace, pc: int, target: int, output: Output) -> bool:
         """Returns whether a check passed in an activation before that of an output: it may count for the later ones, as a session does."""
@@ -156,13 +154,13 @@ class SecretRules:
         base = self.search.base
         for trace, outputs in traces:
             same, first = 0 if trace is base else first_difference(base, trace), 0
-            for it in outputs:
-                if it.end > same and it.end >= first:
-                    yield trace, it, branches_of(self.search, trace, range(first, it.end))
-                first = max(first, it.end + 1)
+            for output in outputs:
+                if output.end > same and output.end >= first:
+                    yield trace, output, branches_of(self.search, trace, range(first, output.end))
+                first = max(first, output.end + 1)
 
 
-def branches_of(search: Search, trace: Trace, indices: range) -> dict[int, set[int]]:
+def branches_of(search: InputSearch, trace: Trace, indices: range) -> dict[int, set[int]]:
     """Returns where each branch goes in a range of steps."""
     found: dict[int, set[int]] = {}
     for index in indices:
@@ -173,24 +171,7 @@ def branches_of(search: Search, trace: Trace, indices: range) -> dict[int, set[i
 
 def first_difference(one: Trace, two: Trace) -> int:
     """Returns the index of the first step at which two traces have different pcs."""
-    low, high = 0, min(len(one), len(two))
-    while low < high:
-        middle = (low + high + 1) // 2
-        if one.pcs[:middle] == two.pcs[:middle]:
-            low = middle
-        else:
-            high = middle - 1
-    return low
-
-
-def runs_of(content: dict[int, int]) -> Iterator[tuple[int, bytes]]:
-    """Yields the address and the bytes of each range without gaps."""
-    places = sorted(content)
-    start = 0
-    for n in range(1, len(places) + 1):
-        if n == len(places) or places[n] != places[n - 1] + 1:
-            yield places[start], bytes(content[at] for at in places[start:n])
-            start = n
+    return equal_length(one.pcs, 0, two.pcs, 0)
 
 
 # ---- states that are given again
@@ -204,7 +185,7 @@ class Older:
     stored_in: int | None
 
 
-def older_states(search: Search, loaded: dict[int, bytes]) -> Iterator[Older]:
+def older_states(search: InputSearch, loaded: dict[int, bytes]) -> Iterator[Older]:
     """Yields older states for each activation of the run itself. `loaded` has the bytes of each load from the window. A state is a range of bytes
     that the enclave stored in an earlier activation and loads now, at any address: the host may have kept it. An older one is one from which the
     enclave made the present one. Values that exist side by side, such as handles, are none."""
@@ -233,10 +214,10 @@ def known_states(first: int, data: bytes, stores: list[dict[int, int]]) -> Itera
     At another address a few small numbers are equal by chance, so a state there has several bytes that are not 0."""
     for content in reversed(stores):
         for at, value in runs_of(content):
-            for it in copies_in(data, value):
-                is_there = first + it.at == at + it.offset
-                if it.size >= LEAST and (is_there or it.size - data[it.at:it.at + it.size].count(0) >= DISTINCT):
-                    yield Known(it.at, at + it.offset), it.size
+            for copy in copies_in(data, value):
+                is_there = first + copy.at == at + copy.offset
+                if copy.size >= LEAST and (is_there or copy.size - data[copy.at:copy.at + copy.size].count(0) >= DISTINCT):
+                    yield Known(copy.at, at + copy.offset), copy.size
 
 
 def versions(stores: list[dict[int, int]], loads: list[dict[int, int]], known: Known, at: int, size: int) -> Iterator[tuple[bytes, int | None]]:
@@ -260,12 +241,12 @@ def successors(stores: list[dict[int, int]], loads: list[dict[int, int]], at: in
     return made
 
 
-def window_bytes(search: Search, trace: Trace, visit: Visit, kind: Kind, loaded: dict[int, bytes]) -> Iterator[tuple[int, int]]:
+def window_bytes(search: InputSearch, trace: Trace, visit: TraceVisit, kind: Kind, loaded: dict[int, bytes]) -> Iterator[tuple[int, int]]:
     """Yields the address and the value of each byte of the window that an activation stores, or that it loads before it stores to it."""
     own: set[int] = set()
     for index in steps_of(trace, visit):
         code, at = search.tracer.code[trace.pcs[index]], trace.addresses[index]
-        if code.kind is Kind.STORE and search.objects.is_window(at):
+        if code.kind is Kind.STORE and search.objects.enclave.shares(at):
             own.update(range(at, at + code.width))
             if kind is Kind.STORE:
                 yield from ((at + n, trace.values[index] >> 8 * n & 0xFF) for n in range(code.width))
@@ -273,29 +254,29 @@ def window_bytes(search: Search, trace: Trace, visit: Visit, kind: Kind, loaded:
             yield from ((at + n, value) for n, value in enumerate(loaded[index]) if at + n not in own)
 
 
-def replayed_states(search: Search, loaded: dict[int, bytes]) -> Iterator[Finding]:
+def replayed_states(search: InputSearch, loaded: dict[int, bytes]) -> Iterator[InputFinding]:
     """Yields the findings that an activation accepts an older state: it takes no branch that the run itself does not take, and it answers or
     stores something else."""
     base, tried = search.base, set()
     usual = {(base.pcs[n], base.following(n)) for n in range(len(base)) if search.tracer.code[base.pcs[n]].kind in ENDS_BLOCK}
-    for it in older_states(search, loaded):
-        key = it.change.step, it.change.at, it.change.value
+    for state in older_states(search, loaded):
+        key = state.change.step, state.change.at, state.change.value
         if key in tried:
             continue
         tried.add(key)
-        trace = search.tracer.child(base, base.visits[it.visit].first, (it.change,))
+        trace = search.tracer.child(base, base.visits[state.visit].first, (state.change,))
         search.judge.take(trace)
-        if len(trace.visits) <= it.visit or trace.visits[it.visit].last is None:
+        if len(trace.visits) <= state.visit or trace.visits[state.visit].last is None:
             continue
-        steps = steps_of(trace, trace.visits[it.visit])
+        steps = steps_of(trace, trace.visits[state.visit])
         pairs = {(trace.pcs[n], trace.following(n)) for n in steps if search.tracer.code[trace.pcs[n]].kind in ENDS_BLOCK}
-        if pairs <= usual and shown(search, trace, it.visit) != shown(search, base, it.visit):
-            origin = "that the host gave it before" if it.stored_in is None else "that activation %d stored" % (it.stored_in + 1)
-            note = "activation %d accepts the state %s in %s" % (it.visit + 1, origin, it.change.name)
-            yield Finding(What.REPLAY, trace, steps[-1], trace.pcs[steps[-1]], Place(it.change.name), it.change.at, note=note)
+        if pairs <= usual and shown(search, trace, state.visit) != shown(search, base, state.visit):
+            origin = "that the host gave it before" if state.stored_in is None else "that activation %d stored" % (state.stored_in + 1)
+            note = "activation %d accepts the state %s in %s" % (state.visit + 1, origin, state.change.name)
+            yield InputFinding(What.REPLAY, trace, steps[-1], trace.pcs[steps[-1]], ObjectPlace(state.change.name), state.change.at, note=note)
 
 
-def shown(search: Search, trace: Trace, number: int) -> tuple[object, ...]:
+def shown(search: InputSearch, trace: Trace, number: int) -> tuple[object, ...]:
     """Returns what an activation stores to the window, and how it ends."""
     visit = trace.visits[number]
     return visit.ended_by, visit.answer, tuple(window_bytes(search, trace, visit, Kind.STORE, {}))

@@ -1,15 +1,17 @@
-"""A trace of an enclave: each of its steps with the address and the value of its access, and each of its activations."""
+"""A trace of an enclave: each of its steps with the address and the value of its access, and each of its activations. The probes of a trace are
+commands that show whether another run takes the same steps, and which of its accesses differ."""
 from __future__ import annotations
 
 from array import array
 from dataclasses import dataclass, field
-from typing import NamedTuple, Optional, TYPE_CHECKING, Tuple
+from typing import Iterator, Mapping, NamedTuple, Optional, Sequence, Tuple
 
-if TYPE_CHECKING:
-    from rvlook.finders.inputs.probes import Probes
+from rvlook.finders.inputs.code import ENDS_BLOCK, Code, Kind
+from rvlook.protocol.replies import Enclave, poke_commands
 
 ROOT = 0  # the context outside every call
 LEFT = -1  # in place of a pc: the enclave does not run
+RESULT = b"reg 10\nreg 11\n"  # of the host, after an activation
 
 
 class Change(NamedTuple):
@@ -26,14 +28,14 @@ class Change(NamedTuple):
         """Returns the commands that make the change."""
         if self.register:
             return ["setreg %d %x" % (self.register, int.from_bytes(self.value, "little"))]
-        return ["poke %x %02x" % (self.at + n, it) for n, it in enumerate(self.value)]
+        return poke_commands(self.at, self.value)
 
 
 Changes = Tuple[Change, ...]
 
 
 @dataclass(frozen=True)
-class Visit:
+class TraceVisit:
     """An activation in a trace: the indices of its first step and of its last one, how it ended, and a0 and a1 of the host after it. `last` is
     None, and `ended_by` is empty, if the trace ends inside."""
     first: int
@@ -59,7 +61,7 @@ class Trace:
     values: array[int] = field(default_factory=lambda: array("I"))
     contexts: array[int] = field(default_factory=lambda: array("I"))
     traps: dict[int, tuple[int, int]] = field(default_factory=dict)
-    visits: list[Visit] = field(default_factory=list)
+    visits: list[TraceVisit] = field(default_factory=list)
     end: str = ""
     changed: list[int] = field(default_factory=list)
     new: list[tuple[int, int]] = field(default_factory=list)
@@ -77,7 +79,7 @@ class Trace:
         if visits:
             last = visits[-1].last
             if last is None or last >= count:
-                visits[-1] = Visit(visits[-1].first)
+                visits[-1] = TraceVisit(visits[-1].first)
         return Trace(changes, self.steps[:count], self.pcs[:count], self.addresses[:count], self.values[:count], self.contexts[:count],
                      {n: it for n, it in self.traps.items() if n < count}, visits,
                      context=self.contexts[count] if count < len(self) else self.context)
@@ -100,19 +102,12 @@ class Trace:
         self.traps.update((n + shift, it) for n, it in parent.traps.items() if first <= n < end)
         self.context = parent.contexts[end] if end < len(parent) else parent.context
         is_open = bool(self.visits) and self.visits[-1].last is None
-        for it in parent.visits:
-            last = it.last + shift if it.last is not None and it.last < end else None
-            ended = (it.ended_by, it.answer) if last is not None else ("", (0, 0))
-            if it.first < first <= (end if it.last is None else it.last) and first < end:
-                if is_open:
-                    self.visits[-1] = Visit(self.visits[-1].first, last, *ended)
-                else:
-                    self.visits.append(Visit(first + shift, last, *ended))
-            elif first <= it.first < end:
-                if is_open and it.first == first:
-                    self.visits[-1] = Visit(self.visits[-1].first, last, *ended)
-                else:
-                    self.visits.append(Visit(it.first + shift, last, *ended))
+        for visit in parent.visits:
+            begin, is_whole = max(first, visit.first), visit.last is not None and visit.last < end
+            if begin < end and (visit.last is None or first <= visit.last):
+                begin_here = self.visits.pop().first if is_open and begin == first else begin + shift
+                last = visit.last + shift if visit.last is not None and is_whole else None
+                self.visits.append(TraceVisit(begin_here, last, visit.ended_by, visit.answer) if is_whole else TraceVisit(begin_here))
 
     def differences(self) -> list[int]:
         """Returns the indices of the steps that differ from those of the parent, or that come right before such steps."""
@@ -136,3 +131,110 @@ class Trace:
     def shown(self) -> list[tuple[str, int, int]]:
         """Returns how each activation ended, with a0 and a1 of the host."""
         return [(it.ended_by, *it.answer) for it in self.visits]
+
+
+def runs_of(content: Mapping[int, int]) -> Iterator[tuple[int, bytes]]:
+    """Yields the address and the bytes of each range without gaps."""
+    places = sorted(content)
+    start = 0
+    for n in range(1, len(places) + 1):
+        if n == len(places) or places[n] != places[n - 1] + 1:
+            yield places[start], bytes(content[at] for at in places[start:n])
+            start = n
+
+
+@dataclass(frozen=True)
+class TraceProbe:
+    """Commands at a position of the run, which is the number of steps before it: before the step with an index, or after it if `is_end`."""
+    at: int
+    position: int
+    question: bytes = b""
+    is_end: bool = False
+
+
+@dataclass
+class ProbeComparison:
+    """The result of a comparison, by indices of the parent. Up to `end` the steps are the same, or all are if it is None. `changed` has the registers
+    of each access that differs, and `answers` the results of each activation that do."""
+    end: Optional[int] = None
+    changed: dict[int, list[int]] = field(default_factory=dict)
+    answers: dict[int, tuple[int, int]] = field(default_factory=dict)
+
+
+class Probes:
+    """The probes of a trace, in order, and the replies to them: a line for each position, and one for each register.
+
+    `indices` are those of the probes. `lines` is the number of lines before each probe, and `owners` has the probe of each line."""
+
+    def __init__(self, probes: Sequence[TraceProbe]) -> None:
+        self.probes = probes
+        self.indices = [it.at for it in probes]
+        self.texts = [b""] * len(probes)
+        self.lines, self.owners = [0], []
+        for number, probe in enumerate(probes):
+            count = probe.position - probes[number - 1].position if number else 0
+            self.texts[number] = (b"step %d\n" % count if count else b"reg 0\n") + probe.question
+            self.owners += [number] * (1 + probe.question.count(b"\n"))
+            self.lines.append(len(self.owners))
+        self.expected: list[bytes] = []
+
+    def text_from(self, first: int, position: int) -> tuple[bytes, int]:
+        """Returns the commands of the probes from one on, for a run at a position, and the number of replies."""
+        if first >= len(self.probes):
+            return b"", 0
+        probe = self.probes[first]
+        count = probe.position - position
+        head = (b"step %d\n" % count if count else b"reg 0\n") + probe.question
+        return head + b"".join(self.texts[first + 1:]), len(self.owners) - self.lines[first]
+
+    def compare(self, first: int, replies: Sequence[bytes]) -> ProbeComparison:
+        """Compares the replies to the probes from one on with those of the trace."""
+        found = ProbeComparison()
+        start = self.lines[first]
+        expected = self.expected[start:]
+        if first >= len(self.probes) or replies == expected:
+            return found
+        for number, (reply, line) in enumerate(zip(replies, expected)):
+            if reply == line or not number and same_place(reply, line):
+                continue
+            owner = self.owners[start + number]
+            probe, offset = self.probes[owner], start + number - self.lines[owner]
+            if not offset:
+                before = self.probes[owner - 1] if owner > first else None
+                found.end = probe.at if before is None else before.at + before.is_end
+                return found
+            place = number - offset + 1
+            values = [int(value[-8:], 16) for value in replies[place:place + probe.question.count(b"\n")]]
+            if probe.is_end:
+                found.answers[probe.at] = values[0], values[1]
+            else:
+                found.changed[probe.at] = values
+        return found
+
+
+def same_place(reply: bytes, line: bytes) -> bool:
+    """Returns whether a first reply, after another number of steps, is at the expected pc. A reply to `reg` has no pc: no step was done."""
+    at, other = reply.find(b" pc="), line.find(b" pc=")
+    return at < 0 or other < 0 or reply[at:at + 25] == line[other:other + 25]
+
+
+def each_probe(trace: Trace, code: Mapping[int, Code], enclave: Enclave) -> Iterator[TraceProbe]:
+    """Yields the probes of a trace: before each access whose address may change, after each branch, and at the end of each activation."""
+    ends, was = {it.last for it in trace.visits}, Kind.BRANCH
+    for at, pc in enumerate(trace.pcs):
+        instruction = code[pc]
+        question = question_of(instruction, enclave.shares(trace.addresses[at]))
+        if question or was in ENDS_BLOCK or at in trace.traps or at - 1 in trace.traps:
+            yield TraceProbe(at, trace.steps[at] - 1, question)
+        was = instruction.kind
+        if at in ends:
+            yield TraceProbe(at, trace.steps[at], RESULT, is_end=True)
+            was = Kind.BRANCH
+
+
+def question_of(code: Code, is_window: bool) -> bytes:
+    """Returns the commands that read the registers of an access. A stored value is read only if it goes to the window."""
+    if not code.probes or code.is_sp_relative:
+        return b""
+    registers = code.probes if is_window or code.kind is Kind.ECALL else code.probes[:1]
+    return b"".join(b"reg %d\n" % it for it in registers)

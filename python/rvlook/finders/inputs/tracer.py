@@ -10,21 +10,17 @@ from bisect import bisect_left
 from collections import Counter
 from dataclasses import dataclass
 from functools import lru_cache
-from typing import Iterator, Mapping, Optional, Sequence, Set, TYPE_CHECKING, Tuple
+from typing import Iterator, Mapping, Optional, Sequence, Set, Tuple
 
 from rvlook.errors import Unfinished
 from rvlook.finders.inputs.code import Code, Kind, code_of
 from rvlook.finders.inputs.contexts import Contexts
-from rvlook.finders.inputs.probes import RESULT, Compared, Probes, each_probe
-from rvlook.finders.inputs.trace import Changes, Trace, Visit
+from rvlook.finders.inputs.trace import RESULT, Changes, ProbeComparison, Probes, Trace, TraceVisit, each_probe
 from rvlook.protocol.reader import step_command, values_of
-from rvlook.protocol.replies import enclave_of, register_values
-from rvlook.protocol.run import EQUAL, equal_at_end
+from rvlook.protocol.replies import Enclave, enclave_of, register_values
+from rvlook.protocol.run import EQUAL, Run, equal_at_end
 from rvlook.protocol.stretch import SHARED
-
-if TYPE_CHECKING:
-    from rvlook.protocol.replies import Enclave
-    from rvlook.protocol.run import Replay, Run
+from rvlook.protocol.timeline import Timeline
 
 FIRST_CHUNK, LAST_CHUNK = 256, 8192  # single steps in one exchange
 MORE = 8000  # steps of a run beyond twice those up to the last one of the enclave in the run itself
@@ -40,7 +36,7 @@ Joined = Tuple[int, int]  # an index of the parent, and the position of the run
 
 
 @dataclass
-class Part:
+class TracePart:
     """Single steps: the pc before each, and whether the enclave runs after it; and those of the enclave, by index, with the ends of their replies.
     `marked` has more than the pc of some steps: the instruction, whether the step does more than an access, and whether that is relative to
     sp. `text` reads their registers. Both are known once the instructions are decoded."""
@@ -56,7 +52,7 @@ class Part:
     text: bytes = b""
 
 
-def part_of(block: bytes, own: bytes, pc: int, is_own: bool) -> Part:
+def part_of(block: bytes, own: bytes, pc: int, is_own: bool) -> TracePart:
     """Decodes the replies to single steps."""
     lines = block.split(b"\n")[:-1]
     pcs = [int(line[9:17], 16) for line in lines]
@@ -64,7 +60,7 @@ def part_of(block: bytes, own: bytes, pc: int, is_own: bool) -> Part:
     next_pc, pcs = pcs[-1], [pc, *pcs[:-1]]
     inside = [n for n, it in enumerate([is_own, *after[:-1]]) if it]
     starts = {0, *(at + 1 for at, n in enumerate(inside) if not after[n])}
-    return Part(lines, pcs, after, next_pc, inside, array("I", [pcs[n] for n in inside]), [lines[n][31:] for n in inside], starts)
+    return TracePart(lines, pcs, after, next_pc, inside, array("I", [pcs[n] for n in inside]), [lines[n][31:] for n in inside], starts)
 
 
 @dataclass(frozen=True)
@@ -75,7 +71,7 @@ class Started:
     parent: Trace
     joined: Joined
     changes: Changes
-    replay: Replay
+    replay: Timeline
     first: Optional[int] = None
     before: int = 0
     count: int = 0
@@ -111,8 +107,8 @@ class Tracer:
     def with_changes(self, changes: Changes) -> Run:
         """Returns the run with changed inputs."""
         run = self.run
-        for it in changes:
-            run = run.with_lines(it.step, it.lines())
+        for change in changes:
+            run = run.with_lines(change.step, change.lines())
         return run
 
     def start(self, parent: Trace, index: int, changes: Changes) -> Started:
@@ -129,9 +125,13 @@ class Tracer:
             if joined is None:
                 break
             started = self.started(run, parent, joined, started.changes)
+        self.count_end(trace)
+        return trace
+
+    def count_end(self, trace: Trace) -> None:
+        """Counts a run whose trace ends early."""
         self.cut += trace.end == "limit"
         self.waiting += trace.end == "waits"
-        return trace
 
     def child(self, parent: Trace, index: int, changes: Changes) -> Trace:
         """Returns the trace with other changes. Up to a step they change nothing of the parent's trace."""
@@ -144,14 +144,14 @@ class Tracer:
         index, position = joined
         replay = run.replay()
         before = replay.lines_to(position) + replay.lines_up_to_next()
-        if replay.index < len(run.plan):  # more lines follow
+        if replay.future:  # more lines follow
             return Started(run, parent, joined, changes, replay)
         probes = self.probes(parent)
         first = bisect_left(probes.indices, index)
         text, count = probes.text_from(first, parent.steps[index] - 1)
         replay.bench.send("".join(it + "\n" for it in before).encode() + text)
         replay.bench.begin()
-        return Started(run, parent, joined, changes, replay, first, len(before), count)
+        return Started(run, parent, joined, changes, replay, first=first, before=len(before), count=count)
 
     def follow(self, started: Started, trace: Trace) -> Joined | None:
         """Adds the steps that a run has in common with its parent. Returns the index of the parent and the position from which the run must be
@@ -172,7 +172,7 @@ class Tracer:
         trace.total = parent.total + trace.steps[-1] - parent.steps[-1]
         return (end, trace.steps[-1]) if is_other and parent.end == "halted" else None
 
-    def update(self, trace: Trace, parent: Trace, shift: int, found: Compared) -> bool:
+    def update(self, trace: Trace, parent: Trace, shift: int, found: ProbeComparison) -> bool:
         """Changes the accesses and the answers of a trace that differ from its parent's; returns whether there are any."""
         is_other = False
         for at, values in found.changed.items():
@@ -181,10 +181,10 @@ class Tracer:
                 trace.values[at + shift] = trace.values[at + shift] if value is None else value
                 trace.changed.append(at + shift)
                 is_other = True
-        for number, it in enumerate(trace.visits):
-            answer = found.answers.get(it.last - shift) if it.last is not None else None
-            if answer is not None and answer != it.answer:
-                trace.visits[number] = Visit(it.first, it.last, ENDED_BY.get(answer[0], "?"), answer)
+        for number, visit in enumerate(trace.visits):
+            answer = found.answers.get(visit.last - shift) if visit.last is not None else None
+            if answer is not None and answer != visit.answer:
+                trace.visits[number] = TraceVisit(visit.first, visit.last, ENDED_BY.get(answer[0], "?"), answer)
                 is_other = True
         return is_other
 
@@ -200,11 +200,11 @@ class Tracer:
                     counts.append(lines.count(b"\n"))
                     text += [lines, it.question]
                 block = iter(replay.bench.block(b"".join(text), sum(counts) + len(probes.owners) - len(counts)).split(b"\n"))
-            for number, (it, count) in enumerate(zip(probes.probes, counts)):
+            for number, (probe, count) in enumerate(zip(probes.probes, counts)):
                 place = [next(block) for _ in range(count)][-1]
                 if count > 1 and number:
-                    place = b"ran %d" % (it.position - probes.probes[number - 1].position) + place[place.find(b" pc="):]
-                probes.expected += [place, *(next(block) for _ in range(it.question.count(b"\n")))]
+                    place = b"ran %d" % (probe.position - probes.probes[number - 1].position) + place[place.find(b" pc="):]
+                probes.expected += [place, *(next(block) for _ in range(probe.question.count(b"\n")))]
             parent.probes = probes
         return parent.probes
 
@@ -216,7 +216,7 @@ class Tracer:
         begin = at = len(trace)
         with run.replay() as leader, run.replay() as reader:
             pc, is_own = self.go(leader, position)
-            go_to(reader, position)
+            reader.bench.replies_to(reader.lines_to(position))
             chunk, trace.end = FIRST_CHUNK, ""
             ways = ways_of(*other) if other else {}
             while not trace.end:
@@ -248,7 +248,7 @@ class Tracer:
                     return other, position
         return None
 
-    def go(self, replay: Replay, position: int) -> tuple[int, bool]:
+    def go(self, replay: Timeline, position: int) -> tuple[int, bool]:
         """Goes to a position; returns the pc there, and whether the enclave runs."""
         commands = replay.lines_to(position)
         replies = [it[0] for it in replay.bench.ask(*commands) if it[0].startswith("ran ")] if commands else []
@@ -256,7 +256,7 @@ class Tracer:
             return int(self.run.pc, 16), False
         return int(replies[-1].partition("pc=")[2][:8], 16), (" world=%s" % self.own.decode()) in replies[-1]
 
-    def end_of(self, leader: Replay, lines: Sequence[bytes], is_own: bool) -> str:
+    def end_of(self, leader: Timeline, lines: Sequence[bytes], is_own: bool) -> str:
         """Returns why a trace ends after these steps; empty if it goes on."""
         if equal_at_end(lines) >= EQUAL:
             return "stuck" if is_own else "halted"
@@ -268,7 +268,7 @@ class Tracer:
                 return "waits" if self.is_waiting(leader) else "stuck"
         return "limit"
 
-    def is_waiting(self, leader: Replay) -> bool:
+    def is_waiting(self, leader: Timeline) -> bool:
         """Returns whether the enclave waits for the host, as in a spin lock: it repeats steps without any change of a register, and each round loads
         from its window."""
         assert self.enclave is not None
@@ -279,16 +279,16 @@ class Tracer:
             values = register_values(state)
             code = self.code.get(values[-1])
             address = (values[code.probes[0]] + code.offset) & MASK if code and code.kind is Kind.LOAD else 0
-            if 0 <= address - self.enclave.window < self.enclave.window_size:
+            if self.enclave.shares(address):
                 return True
         return False
 
-    def add(self, trace: Trace, part: Part, first: int, reader: Replay) -> None:
+    def add(self, trace: Trace, part: TracePart, first: int, reader: Timeline) -> None:
         """Adds the steps of the enclave in a part to a trace. `first` is the number of the first step of the part."""
         inside, pcs, tails, starts, plain, begin = part.inside, part.own, part.tails, part.starts, self.own + PLAIN, len(trace)
         if not inside:
             return
-        go_to(reader, first + inside[0] - 1)
+        reader.bench.replies_to(reader.lines_to(first + inside[0] - 1))
         if self.enclave is None:
             self.enclave = next(it for it in map(enclave_of, reader.bench.ask("enclaves")[0]) if it.slot == self.slot)
         if part.marked is None:
@@ -307,7 +307,7 @@ class Tracer:
         for at, code, is_more, is_sp in part.marked:
             index, address = begin + at, 0
             if at in starts and (not trace.visits or trace.visits[-1].last is not None):
-                trace.visits.append(Visit(index))
+                trace.visits.append(TraceVisit(index))
             if code.kind is Kind.LOAD:
                 address = addresses[index] = next(values) + code.offset & MASK
             elif code.probes:
@@ -318,36 +318,40 @@ class Tracer:
                 self.add_step(trace, part, index, at, values)
         trace.contexts.extend([trace.context] * (len(trace) - len(trace.contexts)))
 
-    def decode(self, reader: Replay, pcs: set[int]) -> None:
+    def decode(self, reader: Timeline, pcs: set[int]) -> None:
         """Decodes instructions that are not yet known."""
         new = sorted(pcs)
         replies = reader.bench.block(b"".join(b"dis %x\n" % it for it in new), len(new)).split(b"\n") if new else []
         for pc, code in zip(new, map(code_of, replies)):
-            self.code[pc] = code
-            if code.probes:
-                self.questions[pc] = b"".join([b"reg %d\n" % it for it in code.probes])
-            if code.is_plain:
-                self.plain.add(pc)
+            self.learn(pc, code)
 
-    def registers(self, reader: Replay, part: Part, first: int) -> Sequence[int]:
+    def learn(self, pc: int, code: Code) -> None:
+        """Adds a decoded instruction."""
+        self.code[pc] = code
+        if code.probes:
+            self.questions[pc] = b"".join([b"reg %d\n" % it for it in code.probes])
+        if code.is_plain:
+            self.plain.add(pc)
+
+    def registers(self, reader: Timeline, part: TracePart, first: int) -> Sequence[int]:
         """Reads the registers of each step that needs any, and a0 and a1 after each step that leaves."""
         text = part.text
-        if not text or reader.index < len(reader.run.plan):
+        if not text or reader.future:
             asked = []
             for n in part.inside:
                 if part.pcs[n] in self.questions:
                     asked.append((first + n - 1, self.questions[part.pcs[n]]))
                 if not part.after[n]:
                     asked.append((first + n, RESULT))
-            if reader.index < len(reader.run.plan):
+            if reader.future:
                 text = b"".join([advance(reader, position) + it for position, it in asked])
                 return values_of(reader.bench.block(text, text.count(b"\n")))
             at = [reader.position, *(position for position, _ in asked), first + part.inside[-1]]
             text = part.text = b"".join([step_command(now - before) + it for before, now, (_, it) in zip(at, at[1:], [*asked, (0, b"")])])
-        reader.position = first + part.inside[-1]
+        reader.lines_to(first + part.inside[-1])
         return values_of(reader.bench.block(text, text.count(b"\n")))
 
-    def add_step(self, trace: Trace, part: Part, index: int, at: int, values: Iterator[int]) -> None:
+    def add_step(self, trace: Trace, part: TracePart, index: int, at: int, values: Iterator[int]) -> None:
         """Adds the trap of a step of the enclave, and where it ends an activation or changes the context."""
         pc, address, n = part.own[at], trace.addresses[index], part.inside[at]
         code = self.code[pc]
@@ -357,7 +361,7 @@ class Tracer:
                 trace.traps[index] = int(cause, 16), int(number, 16)
         if not part.after[n]:
             a0, a1 = next(values), next(values)
-            trace.visits[-1] = Visit(trace.visits[-1].first, index, ENDED_BY.get(a0, "?"), (a0, a1))
+            trace.visits[-1] = TraceVisit(trace.visits[-1].first, index, ENDED_BY.get(a0, "?"), (a0, a1))
         context, following = trace.context, part.pcs[n + 1] if n + 1 < len(part.pcs) else part.next_pc
         trace.context = self.contexts.after(context, code, pc, following, trace.traps.get(index) if part.after[n] else None)
         if code.is_sp_relative or code.moves_sp:
@@ -385,29 +389,19 @@ def access_of(code: Code, values: Sequence[int]) -> tuple[int, int | None]:
     return address, values[1] & (1 << 8 * code.width) - 1 if len(values) > 1 else None
 
 
-def advance(replay: Replay, position: int) -> bytes:
+def advance(replay: Timeline, position: int) -> bytes:
     """Returns the commands that bring a replay to a position."""
-    if replay.index >= len(replay.run.plan) and position >= replay.position:
-        count, replay.position = position - replay.position, position
-        return b"step %d\n" % count if count else b""
     return "".join(it + "\n" for it in replay.lines_to(position)).encode()
 
 
-def go_to(replay: Replay, position: int) -> None:
-    """Brings a replay to a position."""
-    lines = advance(replay, position)
-    if lines:
-        replay.bench.block(lines, lines.count(b"\n"))
-
-
-def single_steps(replay: Replay, count: int) -> bytes:
+def single_steps(replay: Timeline, count: int) -> bytes:
     """Does single steps; returns the replies to them."""
     commands: list[str] = []
     done = 0
-    while done < count and replay.index < len(replay.run.plan):
+    while done < count and replay.future:
         commands += replay.lines_to(replay.position + 1)
         done += 1
-    replay.position += count - done
+    replay.lines_to(replay.position + count - done)
     text = "".join(it + "\n" for it in commands).encode() + b"step 1\n" * (count - done)
     block = replay.bench.block(text, len(commands) + count - done)
-    return b"".join([it for it in block.splitlines(True) if it.startswith(b"ran ")]) if commands else block
+    return b"".join([it for it in block.splitlines(keepends=True) if it.startswith(b"ran ")]) if commands else block

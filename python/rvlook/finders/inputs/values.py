@@ -1,24 +1,25 @@
-"""The inputs that the host gives in a trace, and the values that a search tries for each of them."""
+"""The inputs that the host gives in a trace, and the values that a search tries for each of them. For both, the bytes that the enclave loads from its
+window, the operands of branches, and the fields of the window are read.
+
+Also requests of the run in another order. A *request* is what one activation loads from the window. An activation gets the request of another one,
+or a part of it, so that a check over the whole request may still pass."""
 from __future__ import annotations
 
 import random
 import re
 from collections import defaultdict
-from dataclasses import dataclass, replace
-from typing import Iterable, Iterator, TYPE_CHECKING
+from dataclasses import dataclass, field, replace
+from itertools import chain, combinations, islice
+from typing import Callable, Iterable, Iterator, Mapping, NamedTuple, Sequence
 
-from rvlook.finders.inputs.code import A0, Kind
-from rvlook.finders.inputs.trace import Change, Changes
-
+from rvlook.access.fields import WindowFields
+from rvlook.finders.inputs.code import A0, Code, Kind
+from rvlook.finders.inputs.objects import Objects
+from rvlook.finders.inputs.trace import Change, Changes, Trace, TraceVisit, runs_of
+from rvlook.finders.inputs.tracer import Tracer, advance
 from rvlook.protocol.memory_map import RAM_BASE
 
-if TYPE_CHECKING:
-    from rvlook.finders.inputs.details import Details, Reader
-    from rvlook.access.fields import Fields
-    from rvlook.finders.inputs.objects import Objects
-    from rvlook.finders.inputs.trace import Trace, Visit
-    from rvlook.finders.inputs.tracer import Tracer
-
+SOURCES_BACK, DEEPEST = 64, 4  # steps and instructions that are followed back to where a register comes from
 WORD = 4  # bytes
 AHEAD = 400  # steps after a load in which branches and accesses are considered
 MOST_VALUES, MOST_ACCESSES, MOST_OBJECTS = 64, 6, 6
@@ -28,6 +29,78 @@ PER_PART = 3
 IMMEDIATE = re.compile(r"(?:lui|addi|xori|slti|sltiu) x(\d+), (?:x(\d+), )?(-?(?:0x)?[0-9a-f]+)\Z")
 FILLS = ((0x41, 20), (0x41, 40), (0x41, 512), (0xFF, 512), (0x00, 512))  # values, and the most bytes that are filled with them
 MASK = 0xFFFFFFFF
+MOST_ORDERS = 48  # runs with requests in another order
+Content = Mapping[int, int]  # bytes by address
+
+
+@dataclass
+class Details:
+    """The bytes of each load from the window, and the operands of each branch, by index."""
+    loaded: dict[int, bytes] = field(default_factory=dict)
+    operands: dict[int, tuple[int, int]] = field(default_factory=dict)
+
+
+class DetailReader:
+    """Reads the details of traces."""
+
+    def __init__(self, tracer: Tracer, objects: Objects, fields: WindowFields) -> None:
+        self.tracer, self.objects, self.fields = tracer, objects, fields
+        self.functions: dict[int, list[tuple[int, object]]] = {}
+        for parameter in objects.parameters:
+            self.functions.setdefault(parameter.function, []).append((parameter.number, parameter.members))
+
+    def read(self, trace: Trace) -> Details:
+        """Returns the details of a trace. Adds the fields of the window that its calls show."""
+        questions = list(self.questions(trace))
+        with self.tracer.with_changes(trace.changes).replay() as replay:
+            text, count = [], 0
+            for index, lines in questions:
+                step = advance(replay, trace.steps[index] - 1)
+                ahead = "".join(it + "\n" for it in replay.lines_up_to_next()).encode()
+                text += [step, ahead, lines]
+                count += step.count(b"\n") + ahead.count(b"\n") + lines.count(b"\n")
+            replies = [it for it in replay.bench.block(b"".join(text), count).split(b"\n") if it[:1] in (b"x", b"8") or it[8:9] == b":"]
+        return self.details(trace, questions, replies)
+
+    def questions(self, trace: Trace) -> Iterator[tuple[int, bytes]]:
+        """Yields the steps that need more, with the commands to read it."""
+        for index in range(len(trace)):
+            code, pc = self.tracer.code[trace.pcs[index]], trace.pcs[index]
+            if pc in self.functions:
+                yield index, b"".join(b"reg %d\n" % (A0 + number) for number, _ in self.functions[pc])
+            if code.kind is Kind.BRANCH:
+                yield index, b"reg %d\nreg %d\n" % code.sources
+            elif code.kind is Kind.LOAD and self.objects.enclave.shares(trace.addresses[index]) and index not in trace.traps:
+                yield index, b"mem %x %d\n" % (trace.addresses[index], code.width)
+
+    def details(self, trace: Trace, questions: list[tuple[int, bytes]], replies: list[bytes]) -> Details:
+        """Decodes the replies."""
+        found, values = Details(), iter(replies)
+        for index, lines in questions:
+            if lines.startswith(b"mem"):
+                found.loaded[index] = bytes.fromhex(next(values).split(b":")[1].decode())
+                continue
+            numbers = [int(next(values)[-8:], 16) for _ in range(lines.count(b"\n"))]
+            if self.tracer.code[trace.pcs[index]].kind is Kind.BRANCH and lines == b"reg %d\nreg %d\n" % self.tracer.code[trace.pcs[index]].sources:
+                found.operands[index] = numbers[0], numbers[1]
+            else:
+                for (_, members), at in zip(self.functions[trace.pcs[index]], numbers):
+                    if self.objects.enclave.shares(at):
+                        self.fields.add(at, members)  # type: ignore[arg-type]
+        return found
+
+    def is_private(self, trace: Trace, index: int, register: int, depth: int = 0) -> bool:
+        """Returns whether the value of a register before a step comes from memory of the region, so that the host does not know it."""
+        if not register or depth > DEEPEST:
+            return False
+        for at in range(index - 1, max(-1, index - SOURCES_BACK), -1):
+            code: Code = self.tracer.code[trace.pcs[at]]
+            if code.writes != register:
+                continue
+            if code.kind is Kind.LOAD:
+                return self.objects.enclave.has(trace.addresses[at]) and trace.addresses[at] < self.objects.stack
+            return any(self.is_private(trace, at, it, depth + 1) for it in code.sources)
+        return False
 
 
 @dataclass(frozen=True)
@@ -69,7 +142,7 @@ class Child:
 class Values:
     """Finds the inputs of a trace and the values to try."""
 
-    def __init__(self, tracer: Tracer, objects: Objects, fields: Fields, reader: Reader, seed: int) -> None:
+    def __init__(self, tracer: Tracer, objects: Objects, fields: WindowFields, reader: DetailReader, seed: int) -> None:
         self.tracer, self.objects, self.fields, self.reader, self.rng = tracer, objects, fields, reader, random.Random(seed)
         self.targets: list[int] = []  # addresses of objects
         self.has_entry = False
@@ -81,47 +154,51 @@ class Values:
         found = [it for number, visit in enumerate(trace.visits) for it in self.of_visit(trace, details, number, visit)]
         return sorted(found, key=lambda it: (it.index, it.at, it.width, it.register))
 
-    def of_visit(self, trace: Trace, details: Details, number: int, visit: Visit) -> Iterator[Input]:
-        """Yields the inputs of one activation."""
+    def loads(self, trace: Trace, details: Details, visit: TraceVisit) -> Iterator[tuple[int, int, bytes]]:
+        """Yields the loads of an activation from the window, without those of bytes that it has stored: the index, the address and the bytes."""
         own: set[int] = set()
-        first: dict[int, int] = {}  # the index of the first load of each byte
-        groups: dict[tuple[int, bool], list[Input]] = defaultdict(list)
-        content: dict[int, int] = {}
-        entry = trace.steps[visit.first] - 1
         for index in range(visit.first, (len(trace) - 1 if visit.last is None else visit.last) + 1):
             at, code = trace.addresses[index], self.tracer.code[trace.pcs[index]]
-            if not code.is_access or code.kind is Kind.ECALL or not self.objects.is_window(at):
+            if not code.is_access or code.kind is Kind.ECALL or not self.objects.enclave.shares(at):
                 continue
             places = range(at, at + code.width)
             if code.kind is Kind.STORE:
                 own.update(places)
             elif own.isdisjoint(places) and index in details.loaded:
-                is_again = any(place in first for place in places)
-                for place, value in zip(places, details.loaded[index]):
-                    first.setdefault(place, index)
-                    content.setdefault(place, value)
-                start = index if is_again else min(first[place] for place in places)
-                groups[trace.pcs[index], is_again].append(
-                    Input(number, index, start, trace.steps[index] - 1 if is_again else entry, at, details.loaded[index], is_again, 0,
-                          trace.pcs[index]))
+                yield index, at, details.loaded[index]
+
+    def of_visit(self, trace: Trace, details: Details, number: int, visit: TraceVisit) -> Iterator[Input]:
+        """Yields the inputs of one activation."""
+        first: dict[int, int] = {}  # the index of the first load of each byte
+        groups: dict[tuple[int, bool], list[Input]] = defaultdict(list)
+        content: dict[int, int] = {}
+        entry = trace.steps[visit.first] - 1
+        for index, at, data in self.loads(trace, details, visit):
+            is_again = any(place in first for place in range(at, at + len(data)))
+            for place, value in enumerate(data, at):
+                first.setdefault(place, index)
+                content.setdefault(place, value)
+            start = index if is_again else min(first[place] for place in range(at, at + len(data)))
+            groups[trace.pcs[index], is_again].append(
+                Input(number, index, start, trace.steps[index] - 1 if is_again else entry, at, data, is_again, 0, trace.pcs[index]))
         for (_, is_again), several in groups.items():
             is_part = len({it.at for it in several}) > 1
             yield from (replace(it, is_first=n == 0, is_part=is_part) for n, it in enumerate(chosen(several)))
-        for it in words_of(content, first, number, entry):
-            yield replace(it, pc=trace.pcs[it.index], is_part=True)
+        for word in words_of(content, first, number, entry):
+            yield replace(word, pc=trace.pcs[word.index], is_part=True)
         yield from self.registers(trace, number, visit)
 
-    def registers(self, trace: Trace, number: int, visit: Visit) -> Iterator[Input]:
+    def registers(self, trace: Trace, number: int, visit: TraceVisit) -> Iterator[Input]:
         """With --entry, yields a0 after the resume of a stop, and a0 to a3 at the entry. The monitor sets them, so no host can choose them."""
         if not self.has_entry:
             return
         entry, before = trace.steps[visit.first] - 1, trace.visits[number - 1].ended_by if number else ""
         if before == "stop":
-            yield Input(number, visit.first, visit.first, entry, 0, bytes(WORD), False, A0)
+            yield Input(number, visit.first, visit.first, entry, 0, bytes(WORD), is_again=False, register=A0)
         elif before != "timer":
             own = self.objects.enclave
             for register, value in enumerate((own.base, own.size, own.window, own.window_size), A0):
-                yield Input(number, visit.first, visit.first, entry, 0, value.to_bytes(WORD, "little"), False, register)
+                yield Input(number, visit.first, visit.first, entry, 0, value.to_bytes(WORD, "little"), is_again=False, register=register)
 
     # ---- values
 
@@ -129,9 +206,9 @@ class Values:
         """Yields the trace with one input changed more. Inputs that an earlier activation loads in the same way come last."""
         known: set[tuple[int, bytes, bool]] = set()
         parts: tuple[list[Input], list[Input]] = ([], [])
-        for it in inputs:
-            key = it.pc + it.at, it.value, it.is_again
-            parts[key in known].append(it)
+        for own in inputs:
+            key = own.pc + own.at, own.value, own.is_again
+            parts[key in known].append(own)
             known.add(key)
         for part in parts:
             yield from self.round_robin(trace, details, part)
@@ -141,51 +218,51 @@ class Values:
         value of a part of a buffer: branches and addresses more often depend on them."""
         every = [(it, list(self.values(trace, details, it))) for it in inputs]
         for turn in range(PER_PART * max((len(values) for _, values in every), default=0)):
-            for it, values in every:
-                number, is_turn = (1 + turn // PER_PART, turn % PER_PART == 0) if it.is_part and turn > 1 else (turn, True)
+            for own, values in every:
+                number, is_turn = (1 + turn // PER_PART, turn % PER_PART == 0) if own.is_part and turn > 1 else (turn, True)
                 if number < len(values) and is_turn:
-                    yield self.child(trace, it, values[number])
-                if turn == 1 and it.is_first:
-                    yield from self.fills(trace, it)
+                    yield self.child(trace, own, values[number])
+                if turn == 1 and own.is_first:
+                    yield from self.fills(trace, own)
 
-    def child(self, trace: Trace, it: Input, value: bytes) -> Child:
+    def child(self, trace: Trace, input_: Input, value: bytes) -> Child:
         """Returns a trace with an input changed more."""
-        name = "a%d" % (it.register - A0) if it.register else self.name(it.at)
-        change = Change(it.step, it.at, value, it.register, name, it.value.hex())
-        return Child(with_change(trace.changes, change), it.start)
+        name = "a%d" % (input_.register - A0) if input_.register else self.name(input_.at)
+        change = Change(input_.step, input_.at, value, input_.register, name, input_.value.hex())
+        return Child(with_change(trace.changes, change), input_.start)
 
     def name(self, address: int) -> str:
         """Returns the name of a field of the window, a symbol or the address."""
         return self.fields.name(address) or "%08x" % address
 
-    def fills(self, trace: Trace, it: Input) -> Iterator[Child]:
+    def fills(self, trace: Trace, input_: Input) -> Iterator[Child]:
         """Yields the trace with the bytes from an input on filled."""
         for value, most in FILLS:
-            count = min(most, self.objects.enclave.window + self.objects.enclave.window_size - it.at)
-            name = self.name(it.at)
-            change = Change(it.step, it.at, bytes([value]) * count, 0, "%s and the following bytes" % name, it.value.hex())
-            yield Child(with_change(trace.changes, change), it.start if it.is_again else min(it.start, trace.visits[it.visit].first))
+            count = min(most, self.objects.enclave.window + self.objects.enclave.window_size - input_.at)
+            name = self.name(input_.at)
+            change = Change(input_.step, input_.at, bytes([value]) * count, 0, "%s and the following bytes" % name, input_.value.hex())
+            yield Child(with_change(trace.changes, change), input_.start if input_.is_again else min(input_.start, trace.visits[input_.visit].first))
 
-    def values(self, trace: Trace, details: Details, it: Input) -> Iterator[bytes]:
+    def values(self, trace: Trace, details: Details, input_: Input) -> Iterator[bytes]:
         """Yields the values to try for an input, without its own."""
-        most, own = (1 << 8 * it.width) - 1, it.number
-        wrapping = [own + (1 << 30)] if it.width == WORD else []  # a product with a size of 4 or more wraps around to the same value
-        compared = list(self.compared(trace, details, it))
-        wanted = [most, 0, *compared[:1], own + 0x100, *wrapping, *compared[1:], *self.constants(trace, it), own + 1, own - 1, 1]
+        most, own = (1 << 8 * input_.width) - 1, input_.number
+        wrapping = [own + (1 << 30)] if input_.width == WORD else []  # a product with a size of 4 or more wraps around to the same value
+        compared = list(self.compared(trace, details, input_))
+        wanted = [most, 0, *compared[:1], own + 0x100, *wrapping, *compared[1:], *self.constants(trace, input_), own + 1, own - 1, 1]
         wanted += [most >> 1, (most >> 1) + 1]
-        if it.width == WORD:
+        if input_.width == WORD:
             enclave = self.objects.enclave
-            wanted += [*self.targets[:MOST_OBJECTS], *self.relative(trace, it), own + 0x10000, own + (1 << 31), 0xFF, 0x100]
+            wanted += [*self.targets[:MOST_OBJECTS], *self.relative(trace, input_), own + 0x10000, own + (1 << 31), 0xFF, 0x100]
             wanted += [enclave.window + enclave.window_size - WORD, enclave.base, RAM_BASE + self.rng.getrandbits(16)]
-        wanted += [self.rng.getrandbits(8 * it.width), 2, 3, 4]
+        wanted += [self.rng.getrandbits(8 * input_.width), 2, 3, 4]
         found = list(dict.fromkeys(value & most for value in wanted if value & most != own))
-        return iter([value.to_bytes(it.width, "little") for value in found[:MOST_VALUES]])
+        return iter([value.to_bytes(input_.width, "little") for value in found[:MOST_VALUES]])
 
-    def compared(self, trace: Trace, details: Details, it: Input) -> Iterator[int]:
+    def compared(self, trace: Trace, details: Details, input_: Input) -> Iterator[int]:
         """Yields values at which branches after the load go another way. If one operand is the input, it becomes the other operand. If an operand
         is near the other one, the input moves it there."""
-        own = it.number
-        for index in range(it.start, min(len(trace), it.start + AHEAD)):
+        own = input_.number
+        for index in range(input_.start, min(len(trace), input_.start + AHEAD)):
             pair = details.operands.get(index)
             if pair is None or pair[0] == pair[1] and own not in pair:
                 continue
@@ -198,10 +275,10 @@ class Values:
             elif abs(apart) < 1 << 12:
                 yield from (own + sign * apart + n for sign in (1, -1) for n in (0, 1, -1))
 
-    def constants(self, trace: Trace, it: Input) -> list[int]:
+    def constants(self, trace: Trace, input_: Input) -> list[int]:
         """Returns the constants of the instructions after the load, without addresses."""
         known, found = {0: 0}, []
-        for index in range(it.start, min(len(trace), it.start + AHEAD // 2)):
+        for index in range(input_.start, min(len(trace), input_.start + AHEAD // 2)):
             code = self.tracer.code[trace.pcs[index]]
             match = IMMEDIATE.match(code.text)
             base = known.get(int(match[2] or 0)) if match else None
@@ -215,17 +292,17 @@ class Values:
                 found.append(int(match[3], 0) & MASK)
         return list(dict.fromkeys(value for value in found if value < RAM_BASE))[:MOST_CONSTANTS]
 
-    def relative(self, trace: Trace, it: Input) -> Iterator[int]:
+    def relative(self, trace: Trace, input_: Input) -> Iterator[int]:
         """Yields values that move an access after the load to an object, if its address moves with the input, by bytes or by words."""
         accesses: dict[int, int] = {}
-        for index in range(it.start, min(len(trace), it.start + AHEAD)):
+        for index in range(input_.start, min(len(trace), input_.start + AHEAD)):
             code = self.tracer.code[trace.pcs[index]]
             if code.kind in (Kind.LOAD, Kind.STORE) and not code.is_sp_relative:
                 accesses.setdefault(trace.pcs[index], trace.addresses[index])
         for address in list(accesses.values())[:MOST_ACCESSES]:
             for target in self.targets[:2]:
-                yield it.number + target - address
-                yield it.number + ((target - address) >> 2)
+                yield input_.number + target - address
+                yield input_.number + ((target - address) >> 2)
 
 
 def chosen(several: list[Input]) -> Iterable[Input]:
@@ -243,8 +320,8 @@ def words_of(content: dict[int, int], first: dict[int, int], visit: int, entry: 
             buffers[-1].append(at)
         else:
             buffers.append([at])
-    for it in buffers:
-        for at in dict.fromkeys(it[:MOST_WORDS] + it[-1:]):
+    for buffer in buffers:
+        for at in dict.fromkeys(buffer[:MOST_WORDS] + buffer[-1:]):
             start = min(first[at + n] for n in range(WORD))
             yield Input(visit, start, start, entry, at, bytes(content[at + n] for n in range(WORD)))
 
@@ -253,3 +330,38 @@ def with_change(changes: Changes, change: Change) -> Changes:
     """Returns changes with one more, in the order of their steps; it replaces one of the same bytes at the same step."""
     kept = [it for it in changes if (it.step, it.at, it.register, len(it.value)) != (change.step, change.at, change.register, len(change.value))]
     return tuple(sorted([*kept, change], key=lambda it: it.step))
+
+
+class HostRequest(NamedTuple):
+    """The bytes that an activation loads, by address. `step` is the last step before the activation, and `first` is its first one in the trace."""
+    step: int
+    first: int
+    content: Content
+
+
+def reordered(trace: Trace, requests: Sequence[HostRequest], name: Callable[[int], str]) -> Iterator[Child]:
+    """Yields a trace with two requests exchanged, then with one in place of another, and then with a part of one in another. Activations that follow
+    each other come first. `name` returns the name of an address."""
+    pairs = [it for it in combinations(requests, 2) if it[0].content != it[1].content]
+    pairs.sort(key=lambda it: requests.index(it[1]) - requests.index(it[0]))
+    both = [(one, other) for pair in pairs for one, other in (pair, pair[::-1])]
+    orders = chain((((one, other.content), (other, one.content)) for one, other in pairs), (((one, other.content),) for one, other in both),
+                   (((one, part),) for one, other in both for part in halves(one, other)))
+    return (with_requests(trace, it, name) for it in islice(orders, MOST_ORDERS))
+
+
+def halves(one: HostRequest, other: HostRequest) -> Iterator[Content]:
+    """Yields the first half and the second half of the words in which a request differs from another."""
+    words = sorted({at // WORD for at, value in other.content.items() if one.content.get(at) != value})
+    for part in (words[:len(words) // 2], words[len(words) // 2:]):
+        if 0 < len(part) < len(words):
+            yield {at: value for at, value in other.content.items() if at // WORD in part}
+
+
+def with_requests(trace: Trace, given: Sequence[tuple[HostRequest, Content]], name: Callable[[int], str]) -> Child:
+    """Returns a trace in which activations get other bytes."""
+    changes = trace.changes
+    for request, content in given:
+        for at, data in runs_of(content):
+            changes = with_change(changes, Change(request.step, at, data, 0, name(at)))
+    return Child(changes, min(request.first for request, _ in given))

@@ -5,26 +5,30 @@ from __future__ import annotations
 
 from collections import defaultdict, deque
 from dataclasses import dataclass
-from typing import Any, Callable, Iterable, Iterator, Mapping, Optional, Sequence, Set, TYPE_CHECKING, Tuple
+from typing import Any, Callable, Iterable, Iterator, Mapping, NamedTuple, Optional, Sequence, Set, Tuple
 
 from rvlook.errors import RvlookError
-from rvlook.finders.races.search import Graph, Vertex, schedule_of
-from rvlook.finders.races.loop import do_steps
-from rvlook.finders.races.machine import Segment, CachedState, Work
+from rvlook.finders.outcomes import Observed, Value, value_in
+from rvlook.finders.races.loop import Loop, do_steps
+from rvlook.finders.races.machine import CachedState, RaceMachine, Segment, Work
+from rvlook.finders.races.search import Edge, Graph, Move, ScheduleSearch, SearchNode, Vertex, schedule_of
 from rvlook.finders.races.time_limit import OutOfTime
-
-if TYPE_CHECKING:
-    from rvlook.finders.outcomes import Observed, Value
-    from rvlook.finders.races.loop import Loop
-    from rvlook.finders.races.machine import RaceMachine
-    from rvlook.finders.races.search import Edge, Move, SearchNode, Search
 
 ENDED, HALTS, WAITS, RUNS_ON, UNFINISHED, NOT_SEARCHED = "ended", "halts", "waits", "runs on", "unfinished", "not searched"
 GRACE, SLACK = 0.01, 0.3  # beyond the time limit for the analysis and the replays: a share of it, and seconds
 
 
-HartEnd = Tuple[str, Optional[int]]  # how a hart ended, and the address at which
-Found = Tuple[Vertex, CachedState, Tuple[Segment, ...]]  # a vertex, a state after it, and the schedule from the vertex to the state
+class HartEnd(NamedTuple):
+    """How a hart ended, and the address at which."""
+    how: str
+    pc: Optional[int]
+
+
+class Found(NamedTuple):
+    """A vertex, a state after it, and the schedule from the vertex to the state."""
+    vertex: Vertex
+    state: CachedState
+    tail: Tuple[Segment, ...] = ()
 
 
 @dataclass
@@ -48,7 +52,7 @@ class FinalState:
     @property
     def steps(self) -> int:
         """Returns the number of steps of the schedule."""
-        return self.node.cost[3] + sum(steps for _, steps, _ in self.tail)
+        return self.node.cost.steps + sum(it.steps for it in self.tail)
 
     def schedule(self) -> list[Segment]:
         """Returns the schedule that leads to the final state."""
@@ -59,7 +63,7 @@ class FinalStates:
     """All final states of a search. `orders` is the number of all orders. `are_hidden` says that values may be missing, as harts run on that
     change the outcome by independent steps; `is_cut` says that the time limit was reached."""
 
-    def __init__(self, search: Search, outcome: Sequence[Observed]) -> None:
+    def __init__(self, search: ScheduleSearch, outcome: Sequence[Observed]) -> None:
         self.search, self.machine, self.outcome, self.orders = search, search.machine, outcome, 0
         self.found: dict[tuple[tuple[HartEnd, ...], tuple[Value, ...]], FinalState] = {}
         self.are_hidden = self.is_cut = False
@@ -96,7 +100,7 @@ class FinalStates:
     def of_graph(self, graph: Graph) -> Iterator[FinalState]:
         """Yields the final states of one round of the search."""
         if self.search.bounds.preemptions is not None:
-            graph = counted(graph, self.search.bounds.preemptions)
+            graph = with_preemptions(graph, self.search.bounds.preemptions)
         found = Components(graph)
         parts, component_of = found.parts, found.component_of
         paths = paths_of(graph, parts, component_of)
@@ -109,9 +113,9 @@ class FinalStates:
 
     def of_component(self, part: Component, harts: Sequence[str], orders: int) -> Iterator[FinalState]:
         """Yields the final states of a component: one for each set of values, or one if the values are not known."""
-        over = tuple(part.over(hart) if how == ENDED else (how, None) for hart, how in enumerate(harts))
+        over = tuple(part.over(hart) if how == ENDED else HartEnd(how, None) for hart, how in enumerate(harts))
         vertex = part.vertices[0]
-        found: dict[tuple[Value, ...], Found] = {(): (vertex, part.graph.nodes[vertex].point.state, ())}
+        found = {(): Found(vertex, part.graph.nodes[vertex].point.state)}  # type: dict[tuple[Value, ...], Found]
         if NOT_SEARCHED not in harts and (UNFINISHED not in harts or ENDED in harts):
             found, is_hidden = part.values(self.outcome)
             self.are_hidden = self.are_hidden or is_hidden
@@ -123,7 +127,7 @@ class FinalStates:
 class Component:
     """A strongly connected component of the graph of orders, its vertices by cost."""
 
-    def __init__(self, search: Search, graph: Graph, vertices: Iterable[Vertex], component_of: Mapping[Vertex, int]) -> None:
+    def __init__(self, search: ScheduleSearch, graph: Graph, vertices: Iterable[Vertex], component_of: Mapping[Vertex, int]) -> None:
         self.search, self.machine, self.graph = search, search.machine, graph
         self.vertices = sorted((it for it in vertices if it in graph.nodes), key=lambda it: graph.nodes[it].cost)
         self.all = set(vertices)
@@ -166,14 +170,14 @@ class Component:
         pc = min(machine.pc(nodes[it].point.state, hart) for it in self.vertices)
         if hart in self.moves:
             pc = min(pc, *(work.pc for work in self.alone(hart)))
-        return (HALTS if machine.ends and not machine.limit and pc not in machine.ends else ENDED), pc
+        return HartEnd(HALTS if machine.ends and not machine.limit and pc not in machine.ends else ENDED, pc)
 
     def alone(self, hart: int) -> Iterator[Work]:
         """Runs a hart alone from the first state of the component until it returns there; yields it after each step."""
         work, loop = Work(self.machine, self.state, hart), self.loop(hart)
         start = full_state(work)
         most = loop.length if loop and hart not in self.moves else sum(move.steps for move in self.moves[hart])
-        for _ in do_steps(self.machine, work, most, lambda: self.graph.nodes[self.vertices[0]].schedule() + [(hart, work.done, "")]):
+        for _ in do_steps(self.machine, work, most, lambda: self.graph.nodes[self.vertices[0]].schedule() + [Segment(hart, work.done)]):
             yield work
             if full_state(work) == start:
                 return
@@ -186,20 +190,20 @@ class Component:
         found: dict[tuple[Value, ...], Found] = {}
         for vertex in self.vertices:
             state = self.graph.nodes[vertex].point.state
-            found.setdefault(values_in(machine, outcome, state), (vertex, state, ()))
+            found.setdefault(values_in(machine, outcome, state), Found(vertex, state))
         if self.search.is_outcome_visible:
             return found, False
         loops = [it for it in range(machine.count) if it not in self.moves and self.loop(it) and len(self.values_alone(it, outcome)) > 1]
         going = [*self.moves, *loops]
         if len(going) == 1:
-            for values, index in self.values_alone(going[0], outcome).items():
-                found.setdefault(values, index)
+            for values, state_alone in self.values_alone(going[0], outcome).items():
+                found.setdefault(values, state_alone)
         return found, len(going) > 1 and any(self.search.is_hidden(hart) for hart in going)
 
     def values_alone(self, hart: int, outcome: Sequence[Observed]) -> dict[tuple[Value, ...], Found]:
         """Returns the sets of values while a hart runs alone, as `values` does."""
         watched, first = self.search.outcome, self.vertices[0]
-        found: dict[tuple[Value, ...], Found] = {values_in(self.machine, outcome, self.state): (first, self.state, ())}
+        found: dict[tuple[Value, ...], Found] = {values_in(self.machine, outcome, self.state): Found(first, self.state)}
         if not watched.registers and not watched.addresses:
             return found  # all of it is shared, so each value has a node
         last: object = None
@@ -207,23 +211,22 @@ class Component:
             now = work.digest, work.table, [work.registers[number] for of, number in watched.registers if of == hart]
             if now != last:
                 state, last = work.kept(), now
-                found.setdefault(values_in(self.machine, outcome, state), (first, state, ((hart, work.done, ""),)))
+                found.setdefault(values_in(self.machine, outcome, state), Found(first, state, (Segment(hart, work.done),)))
         return found
 
     def round(self, vertex: Vertex, state: CachedState, harts: Sequence[int], tail: Sequence[Segment]) -> tuple[Segment, ...]:
         """Returns the schedule from a state back to it in which each of these harts moves."""
         moving = [it for it in harts if it in self.moves]
         if len(moving) == 1 and tail:
-            return ((moving[0], sum(1 for _ in self.alone(moving[0])), ""),)
+            return (Segment(moving[0], sum(1 for _ in self.alone(moving[0]))),)
         if not moving and tail:
-            return ((tail[0][0], sum(1 for _ in self.alone(tail[0][0])), ""),)
+            return (Segment(tail[0].hart, sum(1 for _ in self.alone(tail[0].hart))),)
         return tuple(schedule_of((hart, move, False) for hart, move in round_of(self.graph, vertex, moving, self.all)))
 
 
 def values_in(machine: RaceMachine, outcome: Sequence[Observed], state: CachedState) -> tuple[Value, ...]:
     """Returns the values of an outcome in a state."""
-    memory = machine.memories[state.memory]
-    return tuple(it.value_in(machine, state, memory) for it in outcome)
+    return tuple(value_in(it, machine, state) for it in outcome)
 
 
 def full_state(work: Work) -> tuple[Any, ...]:
@@ -231,7 +234,7 @@ def full_state(work: Work) -> tuple[Any, ...]:
     return work.pc, work.context, work.digest, work.table, work.host, tuple(work.registers)
 
 
-def find_final_states(search: Search, outcome_of: Callable[[Search], Sequence[Observed]]) -> FinalStates:
+def find_final_states(search: ScheduleSearch, outcome_of: Callable[[ScheduleSearch], Sequence[Observed]]) -> FinalStates:
     """Searches, and returns the final states; `outcome_of` gives the outcome after a search. If two harts go on, and change the outcome by
     independent steps, these steps become dependent ones, and it is searched again."""
     search.run()
@@ -248,13 +251,13 @@ def moves_inside(graph: Graph, part: Iterable[Vertex], component_of: Mapping[Ver
     """Returns the moves of each hart that stay in a component."""
     found = defaultdict(list)
     for vertex in part:
-        for target, hart, move, _ in graph.edges.get(vertex, ()):
-            if component_of.get(target) == component_of[vertex]:
-                found[hart].append(move)
+        for edge in graph.edges.get(vertex, ()):
+            if component_of.get(edge.target) == component_of[vertex]:
+                found[edge.hart].append(edge.move)
     return found
 
 
-def counted(graph: Graph, bound: int) -> Graph:
+def with_preemptions(graph: Graph, bound: int) -> Graph:
     """Returns a graph whose vertices include the number of preemptions so far, at most `bound`."""
     new, start = Graph(), (next(iter(graph.nodes)), 0)
     new.moves, new.loops, new.unended, new.alone = graph.moves, graph.loops, graph.unended, graph.alone
@@ -264,9 +267,9 @@ def counted(graph: Graph, bound: int) -> Graph:
         index, came = vertex
         if index in graph.nodes and vertex not in new.nodes:
             new.nodes[vertex] = graph.nodes[index]
-            new.edges[vertex] = [((target, came + more), hart, move, more) for target, hart, move, more in graph.edges.get(index, ())
-                                 if came + more <= bound]
-            waiting += [target for target, *_ in new.edges[vertex]]
+            new.edges[vertex] = [it._replace(target=(it.target, came + it.preemptions)) for it in graph.edges.get(index, ())
+                                 if came + it.preemptions <= bound]
+            waiting += [it.target for it in new.edges[vertex]]
     return new
 
 
@@ -275,10 +278,10 @@ def round_of(graph: Graph, vertex: Vertex, moving: Sequence[int], part: Set[Vert
     here = start = vertex
     found: list[tuple[int, Move]] = []
     for hart in moving:
-        here, path = path_to(graph, here, part, lambda edge: edge[1] == hart)
+        here, path = path_to(graph, here, part, lambda edge: edge.hart == hart)
         found += path
     if found and here != start:
-        found += path_to(graph, here, part, lambda edge: edge[0] == start)[1]
+        found += path_to(graph, here, part, lambda edge: edge.target == start)[1]
     return tuple(found)
 
 
@@ -289,13 +292,12 @@ def path_to(graph: Graph, here: Vertex, part: Set[Vertex], is_wanted: Callable[[
     while True:
         vertex, path = waiting.popleft()
         for edge in graph.edges.get(vertex, ()):
-            target, hart, move, _ = edge
-            if target in part:
-                if is_wanted(edge):
-                    return target, (*path, (hart, move))
-                if target not in seen:
-                    seen.add(target)
-                    waiting.append((target, (*path, (hart, move))))
+            longer = (*path, (edge.hart, edge.move))
+            if edge.target in part and is_wanted(edge):
+                return edge.target, longer
+            if edge.target in part and edge.target not in seen:
+                seen.add(edge.target)
+                waiting.append((edge.target, longer))
 
 
 class Components:

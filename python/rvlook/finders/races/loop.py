@@ -1,13 +1,10 @@
 """Endless loops in which no other hart can affect a hart: how they are detected, and which of their states represents them."""
 from __future__ import annotations
 
-from typing import Iterator, NamedTuple, TYPE_CHECKING
+from typing import Iterator, NamedTuple
 
 from rvlook.errors import RvlookError
-from rvlook.finders.races.machine import Work, digest_of
-
-if TYPE_CHECKING:
-    from rvlook.finders.races.machine import Look, RaceMachine, CachedState, Schedule
+from rvlook.finders.races.machine import CachedState, Look, RaceMachine, Schedule, Work, digest_of
 
 
 class Loop(NamedTuple):

@@ -3,22 +3,19 @@ table, and each byte of RAM. Also writes its schedule as an input of rvbench."""
 from __future__ import annotations
 
 import os
-from typing import Mapping, Sequence, TYPE_CHECKING
+from typing import Iterable, Iterator, Sequence
 
-from rvlook.protocol.bench_line import ended
-from rvlook.escapes import visible
-from rvlook.output.files import replace_file
 from rvlook.errors import RvlookError
-from rvlook.finders.outcomes import Bytes, Register
-from rvlook.finders.races.machine import commands_of
-from rvlook.protocol.replies import ROW, memory_commands, register_values, step_of
+from rvlook.escapes import visible
+from rvlook.finders.outcomes import Bytes, Observed, Register
+from rvlook.finders.races.final_states import FinalState
+from rvlook.finders.races.machine import CachedState, Memory, RaceMachine, commands_of
+from rvlook.protocol.bench import Bench
+from rvlook.protocol.bench_line import ended
+from rvlook.protocol.jobs import results_of
 from rvlook.protocol.memory_map import RAM_BASE
-
-if TYPE_CHECKING:
-    from rvlook.finders.outcomes import Observed
-    from rvlook.finders.races.final_states import FinalState
-    from rvlook.finders.races.machine import RaceMachine, Memory, CachedState
-    from rvlook.protocol.bench import Bench
+from rvlook.protocol.replies import ROW, memory_commands, step_of
+from rvlook.protocol.run import Setup
 
 LONGEST_COMMENT = 118  # characters after `# `
 
@@ -27,21 +24,35 @@ class Replays:
     """Replays schedules, and compares their states. `rows` are the replies of `mem` for all RAM after the script."""
 
     def __init__(self, machine: RaceMachine) -> None:
-        self.machine = machine
-        self.rows: list[str] | None = None
-        commands = memory_commands(RAM_BASE, machine.setup.ram)
-        self.question, self.count = "\n".join([*commands, ""]).encode(), len(commands)
+        self.machine, self.process = machine, os.getpid()
+        self.rows: list[str] = []
+        self.commands = memory_commands(RAM_BASE, machine.setup.ram)
 
     def ram(self, bench: Bench) -> list[str]:
         """Reads all rows of RAM."""
-        return bench.block(self.question, self.count).decode().splitlines()
+        return [it.decode() for it in bench.replies_to(self.commands)]
+
+    def check_all(self, ends: Sequence[FinalState], jobs: int) -> Iterator[int]:
+        """Replays final states in `jobs` processes; yields the index of each after its replay. Raises RvlookError if the bench comes to another
+        state."""
+        if jobs > 1 and len(ends) > 1:
+            with self.machine.at_start() as bench:
+                self.rows = self.ram(bench)  # once, for all processes
+
+        def check(index: int) -> int:
+            if self.process != os.getpid():
+                self.process = os.getpid()
+                self.machine.reopen()
+            self.check(ends[index])
+            return index
+
+        return results_of(check, len(ends), jobs)
 
     def check(self, end: FinalState) -> None:
         """Replays a final state, and its round twice; raises RvlookError if the bench comes to another state."""
         machine, state = self.machine, end.state
         with machine.at_start() as bench:
-            if self.rows is None:
-                self.rows = self.ram(bench)
+            self.rows = self.rows or self.ram(bench)
             self.done(bench, end, commands_of(end.schedule(), machine.count), state)
             for _ in range(2 if end.round else 0):
                 self.done(bench, end, commands_of(end.round, machine.count), state)
@@ -55,18 +66,16 @@ class Replays:
                 ran = step_of(lines[0])
                 reached[chosen] = ran.mode, ran.world
         for hart in range(machine.count):
-            replies = bench.ask(*machine.choose(hart), "regs", *machine.rest)[1:]
-            registers = tuple(register_values(replies[0]))
             own, (_, pc, kept) = machine.own(state, hart), machine.harts[state.harts[hart]]
-            rest = tuple(it.encode() for reply in replies[1:] for it in reply)
-            self.expect(end, (registers, rest), ((*kept, pc), own.csrs))
+            found = machine.registers_and_rest(bench.ask(*machine.setup.choice(hart), "regs", *machine.rest))
+            self.expect(end, found, ((*kept, pc), own.csrs))
             self.expect(end, reached.get(hart, (own.mode, own.world)), (own.mode, own.world))
         self.expect(end, tuple(bench.ask("enclaves")[0]), machine.tables[state.table][0])
         self.expect(end, self.ram(bench), self.wanted(machine.memories[state.memory]))
 
     def wanted(self, memory: Memory) -> list[str]:
         """Returns the expected rows of RAM."""
-        rows = list(self.rows or ())
+        rows = list(self.rows)
         for row in {(at - RAM_BASE) // ROW for at in memory}:
             at = RAM_BASE + ROW * row
             rows[row] = "%08x: %s" % (at, " ".join("%02x" % it for it in self.machine.bytes_at(memory, at, ROW) or ()))
@@ -79,12 +88,12 @@ class Replays:
             raise RvlookError("the replay of final state %d on rvbench differs from the search: a dependency was missed" % end.number)
 
 
-def questions_of(outcome: Observed, count: int) -> list[str]:
+def questions_of(outcome: Observed, setup: Setup) -> list[str]:
     """Returns the commands that show an outcome."""
     if isinstance(outcome, Bytes):
         return memory_commands(outcome.at, outcome.count)
     if isinstance(outcome, Register):
-        return (["hart %d" % outcome.hart] if count > 1 else []) + ["reg %d" % outcome.number]
+        return [*setup.choice(outcome.hart), "reg %d" % outcome.number]
     return ["enclaves"]
 
 
@@ -93,23 +102,23 @@ def comment(text: str) -> str:
     return "# " + visible(text).encode("ascii", "backslashreplace").decode("ascii")[:LONGEST_COMMENT]
 
 
+def input_of(setup: Setup, lines: Iterable[str], heading: str, *more: str) -> bytes:
+    """Returns an input of the bench: the image, a heading and further comments, and the lines of a script."""
+    every = [*map(comment, (heading, *more)), *lines]
+    return setup.image.text + b"--\n" + "".join(map(ended, every)).encode("latin-1", "replace")
+
+
+def command_of(setup: Setup) -> str:
+    """Returns the command that runs an input of the bench."""
+    return "./rvbench %s < this file" % " ".join(setup.arguments())
+
+
 def script_of(machine: RaceMachine, end: FinalState, outcome: Sequence[Observed], heading: str) -> bytes:
     """Returns an input of the bench that replays the schedule of a final state, and shows its outcome."""
     setup = machine.setup
-    lines = [comment(heading), comment("./rvbench %s < this file" % " ".join(setup.arguments()))]
-    lines += machine.lines_of_script() + commands_of(end.schedule(), machine.count)
+    lines = machine.lines_of_script() + commands_of(end.schedule(), machine.count)
     if end.round:
         lines += ["# the loop that may repeat forever, twice"] + 2 * commands_of(end.round, machine.count)
-    for it in outcome:
-        lines += questions_of(it, machine.count)
-    return setup.image.text + b"--\n" + "".join(map(ended, lines)).encode("latin-1", "replace")
-
-
-def write_scripts(folder: str, scripts: Mapping[int, bytes]) -> None:
-    """Writes a file for each final state, by its number; raises RvlookError if that fails."""
-    try:
-        os.makedirs(folder, exist_ok=True)
-        for number, text in scripts.items():
-            replace_file(os.path.join(folder, "final_state_%d" % number), text)
-    except OSError as error:
-        raise RvlookError("cannot write to '%s': %s" % (folder, error.strerror)) from None
+    for observed in outcome:
+        lines += questions_of(observed, setup)
+    return input_of(setup, lines, heading, command_of(setup))

@@ -7,17 +7,13 @@ from __future__ import annotations
 import heapq
 import itertools
 from collections import defaultdict
-from typing import Any, Callable, Iterable, Iterator, NamedTuple, Optional, TYPE_CHECKING, Tuple, Union
+from typing import Any, Callable, Iterable, Iterator, List, NamedTuple, Optional, Tuple, Union
 
-from rvlook.protocol import names
 from rvlook.finders.outcomes import Watched
-from rvlook.finders.races.loop import LoopDetector, first_arrival, loop_of
-from rvlook.finders.races.machine import Called, CachedState, Work
+from rvlook.finders.races.loop import Loop, LoopDetector, first_arrival, loop_of
+from rvlook.finders.races.machine import CachedState, Called, HartContext, Look, Outcome, RaceMachine, Schedule, Segment, Work
 from rvlook.finders.races.time_limit import OutOfTime, TimeLimit
-
-if TYPE_CHECKING:
-    from rvlook.finders.races.machine import HartContext, Look, RaceMachine, Outcome, Segment, Schedule
-    from rvlook.finders.races.loop import Loop
+from rvlook.protocol import names
 
 MOST_STATES = 500000  # states with the hart that stepped last; the search ends there, and is not whole
 MOST_ALONE = 10000  # moves of one hart in succession; then it is reported as not ended, and the search is not whole
@@ -52,27 +48,43 @@ class SearchPoint(NamedTuple):
     begun: bool
 
 
-class Reached(NamedTuple):
-    """How a node was reached: from which node, by which move, and whether the timer came before it. The start has none."""
+Vertex = Tuple[Any, ...]  # a point, or a part of one
+MoveKey = Tuple[CachedState, int, bool]  # a state, the hart that moves, and whether the timer interrupt comes before the move
+Agent = Union[int, Tuple[int, str]]  # a hart, or a hart in a world
+Heap = List[Tuple["Cost", int, "SearchNode"]]  # the nodes that wait, by their cost and then by their number
+
+
+class Cost(NamedTuple):
+    """The cost of a schedule, the most important part first: its preemptions, timer interrupts, switches and steps."""
+    preemptions: int = 0
+    timers: int = 0
+    switches: int = 0
+    steps: int = 0
+
+    @property
+    def level(self) -> tuple[int, int]:
+        """Returns what the bounds of a search limit."""
+        return self.preemptions, self.timers
+
+
+class Edge(NamedTuple):
+    """A move of a hart in the graph of orders: the vertex to which it leads, and 1 for a preemption."""
+    target: Vertex
+    hart: int
+    move: Move
+    preemptions: int
+
+
+class SearchNode(NamedTuple):
+    """A point with the simplest schedule that leads to it, whose cost is `cost`. It was reached from a node by a move, perhaps after the timer; the
+    start has neither. `alone` counts the moves of its hart in succession; `low` is the first step that the next switch may be attributed to."""
+    point: SearchPoint
+    cost: Cost = Cost()
     parent: Optional[SearchNode] = None
     move: Optional[Move] = None
     is_timer: bool = False
-
-
-Vertex = Tuple[Any, ...]  # a point, or a part of one
-Edge = Tuple[Vertex, int, Move, int]  # where it leads, the hart, its move, and 1 for a preemption
-Agent = Union[int, Tuple[int, str]]  # a hart, or a hart in a world
-Cost = Tuple[int, int, int, int]  # preemptions, timers, switches and steps
-
-
-class SearchNode:
-    """A point with the simplest schedule that leads to it, whose cost is `cost`. `alone` counts the moves of its hart in succession; `low` is the
-    first step that the next switch may be attributed to."""
-    __slots__ = ("point", "parent", "move", "is_timer", "alone", "cost", "low")
-
-    def __init__(self, point: SearchPoint, cost: Cost = (0, 0, 0, 0), origin: Reached = Reached(), alone: int = 0, low: int = 0) -> None:
-        self.point, self.cost, self.alone, self.low = point, cost, alone, low
-        self.parent, self.move, self.is_timer = origin
+    alone: int = 0
+    low: int = 0
 
     @property
     def hart(self) -> int:
@@ -105,15 +117,15 @@ def schedule_of(moves: Iterable[tuple[int, Move, bool]]) -> list[Segment]:
     clears = False
     for hart, move, is_timer in moves:
         if clears:
-            joined.append((hart, 0, "off"))
+            joined.append(Segment(hart, 0, "off"))
         if is_timer:
-            joined.append((hart, 0, "on"))
-        if joined and joined[-1][0] == hart:
-            joined[-1] = (hart, joined[-1][1] + move.steps, joined[-1][2])
+            joined.append(Segment(hart, 0, "on"))
+        if joined and joined[-1].hart == hart:
+            joined[-1] = joined[-1]._replace(steps=joined[-1].steps + move.steps)
         else:
-            joined.append((hart, move.steps, ""))
+            joined.append(Segment(hart, move.steps))
         clears = move.dependent.timed and move.dependent.world == "bare"
-    return joined + ([(joined[-1][0], 0, "off")] if clears else [])
+    return joined + ([Segment(joined[-1].hart, 0, "off")] if clears else [])
 
 
 class TouchedBytes:
@@ -142,7 +154,7 @@ class Graph:
     def __init__(self) -> None:
         self.nodes: dict[Vertex, SearchNode] = {}
         self.edges: dict[Vertex, list[Edge]] = {}
-        self.moves: dict[tuple[CachedState, int, bool], Move | None] = {}
+        self.moves: dict[MoveKey, Move | None] = {}
         self.loops: dict[tuple[CachedState, int], Loop] = {}
         self.unended: set[tuple[CachedState, int]] = set()
         self.alone: set[tuple[CachedState, int]] = set()
@@ -163,14 +175,17 @@ class SearchBounds(NamedTuple):
         return self.first > 0 or self.last is not None
 
 
-class Search:
-    """All orders within bounds. `plain` switches harts before each step; `outcome` is what distinguishes final states; `progress`, which may
-    be set, is called with the search at each point."""
+class ScheduleSearch:
+    """All orders within bounds. `plain` switches harts before each step; `outcome` is what distinguishes final states.
+
+    These may be set: `progress` is called with the search at each point, `prepare` with the nodes that wait; `new_move` returns a move."""
 
     def __init__(self, machine: RaceMachine, bounds: SearchBounds = SearchBounds(), plain: bool = False, outcome: Watched = Watched(),
                  limit: TimeLimit = TimeLimit()) -> None:
         self.machine, self.bounds, self.outcome, self.limit = machine, bounds, outcome, limit
-        self.progress: Callable[[Search], None] | None = None
+        self.progress: Callable[[ScheduleSearch], None] | None = None
+        self.prepare: Callable[[Heap], None] | None = None
+        self.new_move: Callable[[MoveKey, Schedule], Move | None] = self.compute_move
         self.watched = frozenset((*outcome.addresses, -1)) if bounds.timers else frozenset()
         self.plain = plain or not machine.monitor  # a handler of the bare bench shares its registers with what it stops
         self.is_outcome_visible = self.plain
@@ -190,7 +205,7 @@ class Search:
         self.graph = Graph()
         self.count, self.level, self.waiting = 0, (0, 0), 0
 
-    def run(self) -> Search:
+    def run(self) -> ScheduleSearch:
         """Repeats the search until a round finds no new shared bytes, or until the time limit."""
         try:
             with self.limit.until(SEARCH_SHARE):
@@ -240,23 +255,25 @@ class Search:
     def search(self) -> bool:
         """Searches one round; returns False if more bytes turned out to be shared."""
         order, self.regions = itertools.count(), len(self.machine.regions)
-        start = SearchNode(SearchPoint(self.machine.start, None, 0, not self.bounds.is_part))
-        heap = [(start.cost, next(order), start)]
+        start = SearchNode(SearchPoint(self.machine.start, last=None, timers=0, begun=not self.bounds.is_part))
+        heap: Heap = [(start.cost, next(order), start)]
         while heap:
             cost, _, node = heapq.heappop(heap)
             if node.point in self.done:
                 continue
-            if cost[:2] > self.level:
+            if cost.level > self.level:
                 if self.grows():
                     return False
                 if self.whole is None or self.level >= self.whole:
                     self.whole, self.earlier = self.level, self.graph
-                self.level = cost[:2]
+                self.level = cost.level
             self.done.add(node.point)
             self.graph.nodes.setdefault(self.vertex(node), node)
             self.waiting = len(heap)
             if self.progress:
                 self.progress(self)
+            if self.prepare:
+                self.prepare(heap)
             if len(self.done) >= MOST_STATES:
                 self.why_cut = "the limit of %d states" % MOST_STATES
                 return True
@@ -288,7 +305,7 @@ class Search:
         free = last is None or all(it == last for it in harts) or self.is_free(state, last, node.schedule)
         for hart in harts:
             is_switch = last is not None and hart != last
-            preemptions = cost[0] + (is_switch and not free)
+            preemptions = cost.preemptions + (is_switch and not free)
             if self.bounds.preemptions is not None and preemptions > self.bounds.preemptions:
                 continue
             for is_timer in (False, True)[:1 + (timers < self.bounds.timers)]:
@@ -298,9 +315,9 @@ class Search:
                 self.count += 1
                 comes = is_switch or is_timer
                 new = SearchNode(SearchPoint(move.state, hart, timers + is_timer, begun or comes),
-                                 (preemptions, cost[1] + is_timer, cost[2] + is_switch, cost[3] + move.steps), Reached(node, move, is_timer),
-                                 1 if comes else node.alone + 1, cost[3] + move.dependent.before + 1)
-                edges.append((self.vertex(new), hart, move, preemptions - cost[0]))
+                                 Cost(preemptions, cost.timers + is_timer, cost.switches + is_switch, cost.steps + move.steps),
+                                 node, move, is_timer, 1 if comes else node.alone + 1, cost.steps + move.dependent.before + 1)
+                edges.append(Edge(self.vertex(new), hart, move, preemptions - cost.preemptions))
                 yield new
 
     def is_in_part(self, node: SearchNode, hart: int) -> bool:
@@ -308,7 +325,7 @@ class Search:
         any of the independent steps around here, and in an endless loop in each round."""
         state, last = node.point.state, node.point.last
         following = self.move(state, hart if last is None else last, node.schedule)
-        low, high = node.low, node.cost[3] + (following.dependent.before if following else 0)
+        low, high = node.low, node.cost.steps + (following.dependent.before if following else 0)
         is_late = following is None or high >= self.bounds.first
         if not is_late and last is not None and self.is_in_loop(state, last, node.schedule):
             length = self.cycles[state, last]
@@ -323,8 +340,13 @@ class Search:
         key = (state, hart, is_timer)
         moves = self.graph.moves
         if key not in moves:
-            moves[key] = self.timer_move(state, hart, schedule) if is_timer else self.hart_move(state, hart, schedule)
+            moves[key] = self.new_move(key, schedule)
         return moves[key]
+
+    def compute_move(self, key: MoveKey, schedule: Schedule) -> Move | None:
+        """Computes a move, or None if the hart stops."""
+        state, hart, is_timer = key
+        return self.timer_move(state, hart, schedule) if is_timer else self.hart_move(state, hart, schedule)
 
     def timer_move(self, state: CachedState, hart: int, schedule: Schedule) -> Move | None:
         """Sets the timer interrupt pending; returns the move, or None. Under the monitor this matters only to enclaves, and stops one before its
@@ -345,7 +367,7 @@ class Search:
     def kept(work: Work, done: Outcome | None) -> CachedState:
         """Returns the state after a step. On the bare bench the timer interrupt is cleared after it was taken."""
         if is_taken(done) and work.own.world == "bare":
-            work.raise_line(False)
+            work.raise_line(is_on=False)
         return work.kept()
 
     def hart_move(self, state: CachedState, hart: int, schedule: Schedule) -> Move | None:
@@ -354,7 +376,7 @@ class Search:
         dependent: DependentStep | None = None
 
         def schedule_to_here() -> list[Segment]:
-            return schedule() + ([(hart, work.done, "")] if work.done else [])
+            return schedule() + ([Segment(hart, work.done)] if work.done else [])
 
         done, changes, before, skipped = None, False, (work.digest, work.table), 0
         while not machine.is_over(work):
@@ -384,7 +406,7 @@ class Search:
         found = self.kept(work, done if dependent and dependent.timed else None)
         if not work.done or not dependent and found._replace(steps=()) == state._replace(steps=()):
             return None
-        return Move(found, work.done, dependent or DependentStep(work.done, None, None, work.own.world, False), changes)
+        return Move(found, work.done, dependent or DependentStep(work.done, pc=None, look=None, world=work.own.world, timed=False), changes)
 
     def looped(self, state: CachedState, work: Work, length: int, first: int, schedule: Schedule) -> Work:
         """Runs a hart in an endless loop to the state that represents the loop, and records the loop. The search then treats all states of the loop
@@ -440,7 +462,7 @@ class Search:
         passed, runs, move = [0], state, None
         while (state, hart) not in self.cycles and state not in chain and len(chain) <= MOST_ALONE:
             chain[state] = len(chain)
-            move = self.move(state, hart, lambda: schedule() + ([(hart, passed[-1], "")] if passed[-1] else []))
+            move = self.move(state, hart, lambda: schedule() + ([Segment(hart, passed[-1])] if passed[-1] else []))
             if move is None:
                 break
             state = move.state

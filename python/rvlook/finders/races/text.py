@@ -2,41 +2,35 @@
 from __future__ import annotations
 
 from dataclasses import dataclass, field
-from typing import Callable, Dict, Iterator, List, Optional, Sequence, Set, TYPE_CHECKING, Tuple
+from typing import Dict, Iterator, List, Optional, Sequence, Set, Tuple
 
-from rvlook.finders.outcomes import Forbidden, EnclaveStates, condition_of, number_of, outcomes_of, ranges_of, value_text, watched_of
 from rvlook.errors import RvlookError, Unfinished, warn
-from rvlook.output.progress import Progress
-from rvlook.finders.races.search import MOST_ALONE, SearchBounds, Search
+from rvlook.finders.outcomes import EnclaveStates, Forbidden, Observed, Value, condition_of, number_of, outcomes_of, ranges_of, value_text, watched_of
 from rvlook.finders.races.final_states import (ENDED, GRACE, HALTS, NOT_SEARCHED, RUNS_ON, SLACK, UNFINISHED, WAITS, FinalState, FinalStates,
                                                find_final_states)
 from rvlook.finders.races.machine import RaceMachine, commands_of
-from rvlook.finders.races.replay import Replays, script_of, write_scripts
-from rvlook.output.printer import Style, hex8, place_text, run_object
+from rvlook.finders.races.parallel import MovesAhead
+from rvlook.finders.races.replay import Replays, script_of
+from rvlook.finders.races.search import MOST_ALONE, DependentStep, ScheduleSearch, SearchBounds, SearchNode
+from rvlook.finders.races.time_limit import OutOfTime, TimeLimit
+from rvlook.output.files import write_files
+from rvlook.output.findings import ReportedCases
+from rvlook.output.printer import Json, Printer, Style, counted, hex8, place_text, run_object
+from rvlook.output.progress import Progress
 from rvlook.protocol.run import Run
 from rvlook.protocol.symbols import Symbols
-from rvlook.finders.races.time_limit import OutOfTime, TimeLimit
-
-if TYPE_CHECKING:
-    from rvlook.finders.outcomes import Observed, Value
-    from rvlook.finders.races.search import DependentStep, SearchNode
-    from rvlook.output.findings import ReportedCases
-    from rvlook.output.printer import Json, Printer
 
 INTERRUPT = "Ctrl-C"
 SHOWN = 3  # accesses at the beginning and at the end of a hart's turn
+PROGRESS = "round %d: %d states, %d queued, %d preemptions, %d timers, %d runs of rvbench"
 HOW_TEXT = {WAITS: "waits forever", RUNS_ON: "runs forever", NOT_SEARCHED: "not searched further"}
-
-
-def counted(count: int, name: str) -> str:
-    """Returns a number and a noun, in the plural if needed."""
-    return "%d %s%s" % (count, name, "" if count == 1 else "s")
 
 
 class Story:
     """A final state with its text."""
 
-    def __init__(self, end: FinalState, outcome: Sequence[Observed], search: Search, symbols: Symbols, end_pcs: Sequence[Set[int | None]]) -> None:
+    def __init__(self, end: FinalState, outcome: Sequence[Observed], search: ScheduleSearch, symbols: Symbols,
+                 end_pcs: Sequence[Set[int | None]]) -> None:
         self.end, self.outcome, self.search, self.symbols, self.end_pcs = end, outcome, search, symbols, end_pcs
 
     def heading(self) -> str:
@@ -62,16 +56,16 @@ class Story:
     def location(self, pc: int | None) -> str:
         """Returns the source line of a pc, its symbol or its address; the pc must be known."""
         assert pc is not None
-        return self.symbols.source(pc) or self.symbols.name(pc) or hex8(pc)
+        return self.symbols.place(pc)
 
     def turns(self) -> list[list[SearchNode]]:
         """Returns the moves that lead to the final state, grouped by hart; a timer interrupt begins a group."""
         turns: list[list[SearchNode]] = []
-        for it in self.end.node.path():
-            if turns and turns[-1][0].point.last == it.point.last and not it.is_timer:
-                turns[-1].append(it)
+        for node in self.end.node.path():
+            if turns and turns[-1][0].point.last == node.point.last and not node.is_timer:
+                turns[-1].append(node)
             else:
-                turns.append([it])
+                turns.append([node])
         return turns
 
     def sentences(self) -> Iterator[str]:
@@ -95,7 +89,8 @@ class Story:
 
     def access(self, node: SearchNode) -> str:
         """Returns a move as a line: its access, and its place."""
-        _, pc, look, _, _ = dependent = node.last_move.dependent
+        dependent = node.last_move.dependent
+        pc, look = dependent.pc, dependent.look
         assert pc is not None and look is not None
         if node.is_timer:
             what = timer_text(dependent)
@@ -103,35 +98,36 @@ class Story:
             what = "%s %08x %d  %s" % (look.kind, look.at, look.width, self.symbols.name(look.at) or "")
         else:
             what = "monitor call" if look.kind == "call" else "x"
-        return "      %-34s %s" % (what.rstrip(), place_text(hex8(pc), self.symbols))
+        return "      %-34s %s" % (what.rstrip(), place_text("%08x" % pc, self.symbols))
 
     def lines(self, total: int) -> Iterator[str]:
         """Yields the lines of a final state after its heading."""
-        preemptions, timers, switches, _ = self.end.node.cost
-        parts = [counted(preemptions, "preemption")] + ([counted(timers, "timer")] if self.search.bounds.timers else [])
-        yield "  %d of %s; simplest: %s, %s, %s" % (self.end.orders, counted(total, "schedule"), ", ".join(parts),
-                                                    counted(switches, "switch").replace("switchs", "switches"), counted(self.end.steps, "step"))
+        cost = self.end.node.cost
+        parts = [counted(cost.preemptions, "preemption")] + ([counted(cost.timers, "timer")] if self.search.bounds.timers else [])
+        switches = counted(cost.switches, "switch").replace("switchs", "switches")
+        yield "  %d of %s; simplest: %s, %s, %s" % (self.end.orders, counted(total, "schedule"), ", ".join(parts), switches,
+                                                    counted(self.end.steps, "step"))
         yield from ("  " + it for it in self.sentences())
         for turn in self.turns():
             yield "    hart %d, %s" % (turn[0].hart, counted(sum(it.last_move.steps for it in turn), "step"))
             lines = [self.access(it) for it in turn if it.last_move.dependent.pc is not None]
             yield from lines if len(lines) <= 2 * SHOWN + 1 else \
                 [*lines[:SHOWN], "      ... %d more" % (len(lines) - 2 * SHOWN), *lines[-SHOWN:]]
-        for hart, steps, _ in self.end.tail:
-            yield "    then hart %d, %s" % (hart, counted(steps, "step"))
+        for part in self.end.tail:
+            yield "    then hart %d, %s" % (part.hart, counted(part.steps, "step"))
         if self.end.round:
-            segments = ["%s of hart %d" % (counted(steps, "step"), hart) for hart, steps, _ in self.end.round]
+            segments = ["%s of hart %d" % (counted(part.steps, "step"), part.hart) for part in self.end.round]
             yield "    then repeats " + ", ".join(segments)
 
     def object(self, printer: Printer) -> None:
         """Writes the final state as an object."""
         end, count = self.end, self.search.machine.count
-        preemptions, timers, switches, _ = end.node.cost
+        cost = end.node.cost
         turns = [dict(hart=turn[0].hart, steps=sum(it.last_move.steps for it in turn),
                       accesses=[self.access_object(it) for it in turn if it.last_move.dependent.pc is not None]) for turn in self.turns()]
         printer.object("final_state", number=end.number, values={it.name: shown(value) for it, value in zip(self.outcome, end.values)},
                        harts=[dict(hart=hart, how=how, pc=hex8(pc)) for hart, (how, pc) in enumerate(end.harts)], schedules=end.orders,
-                       preemptions=preemptions, timers=timers, switches=switches, steps=end.steps, summary=list(self.sentences()),
+                       preemptions=cost.preemptions, timers=cost.timers, switches=cost.switches, steps=end.steps, summary=list(self.sentences()),
                        schedule=commands_of(end.schedule(), count), loop=commands_of(end.round, count) if end.round else [],
                        turns=turns)
 
@@ -168,12 +164,13 @@ def bound_text(bounds: SearchBounds) -> str:
     return what
 
 
-def covered_text(search: Search, found: FinalStates) -> str:
+def covered_text(search: ScheduleSearch, found: FinalStates) -> str:
     """Returns what was searched in words. `all` is used only if no order is missing."""
     what, graph = bound_text(search.bounds), search.graph
     given_up = len(graph.alone) + len(graph.unended)
     if search.why_cut:
         text = "stopped by %s after %s%s; completely searched: %s" % (search.why_cut, counted(found.orders, "schedule"), what, level_text(search))
+        text += "; not every final state was replayed" if found.is_cut else ""
     elif found.is_cut:
         text = "stopped by --seconds before every final state was replayed; %s%s" % (counted(found.orders, "schedule"), what)
     elif given_up:
@@ -183,7 +180,7 @@ def covered_text(search: Search, found: FinalStates) -> str:
     return text + ("; not beyond %s in which a hart did not finish" % counted(given_up, "state") if given_up else "")
 
 
-def level_text(search: Search) -> str:
+def level_text(search: ScheduleSearch) -> str:
     """Returns the orders that were completely searched before the search was cut."""
     if search.whole is None:
         return "none"
@@ -197,7 +194,8 @@ def level_text(search: Search) -> str:
 class RacesOptions:
     """The options of a search: the forbidden final states, what distinguishes them, and the places at which a hart may end. It has at most so many
     preemptions, timer interrupts and seconds. The first switch comes after step `first`, and not after `last`. `limit` is that of a hart that runs
-    alone, `plain` switches before each step, `symbols` is the file of variables, and `scripts` the folder for the inputs of final states."""
+    alone, `plain` switches before each step, `symbols` is the file of variables, and `scripts` the folder for the inputs of final states. `jobs`
+    processes search and replay."""
     forbid: Sequence[str] = ()
     outcome: Sequence[str] = ()
     end: Sequence[str] = ()
@@ -210,6 +208,7 @@ class RacesOptions:
     seconds: Optional[float] = None
     symbols: Optional[str] = None
     scripts: Optional[str] = None
+    jobs: int = 1
 
 
 def find_races(run: Run, options: RacesOptions) -> RacesReport:
@@ -224,10 +223,12 @@ def find_races(run: Run, options: RacesOptions) -> RacesReport:
     machine = RaceMachine(run, ends, options.limit)
     try:
         with Progress() as progress:
-            search = Search(machine, bounds, options.plain, watched_of(outcome), limit)
-            search.progress = progress_of(progress)
+            search = ScheduleSearch(machine, bounds, options.plain, watched_of(outcome), limit)
+            if options.jobs > 1:
+                MovesAhead(search, options.jobs)
+            search.progress = lambda it: progress.show(PROGRESS, it.rounds, len(it.done), it.waiting, *it.level, it.machine.runs)
             found = find_final_states(search, lambda it: outcome or [*ranges_of(it.shared, symbols), EnclaveStates()])
-        return completed(RacesReport(run, symbols, search, found, conditions), options.scripts)
+        return completed(RacesReport(run, symbols, search, found, conditions), options)
     except RvlookError as fault:  # the arguments are right, but the program cannot be searched
         raise Unfinished(str(fault)) from None
     finally:
@@ -239,8 +240,8 @@ def show_races(run: Run, printer: Printer, options: RacesOptions, findings: Repo
     report = find_races(run, options)
     (objects if printer.as_json else texts)(report, printer)
     note(findings, report)
-    if not report.bad:
-        note_cut(findings, report)
+    if report.cut_text() and not report.bad:
+        findings.cut_short(report.cut_text())
     if report.search.why_cut == INTERRUPT:
         raise KeyboardInterrupt
 
@@ -253,23 +254,13 @@ def address_of(text: str, symbols: Symbols) -> int:
     return at
 
 
-def progress_of(progress: Progress) -> Callable[[Search], None]:
-    """Returns a function that shows the progress of a search."""
-    def show(search: Search) -> None:
-        """Shows the progress of a search."""
-        if progress.is_shown:
-            progress.show("round %d: %d states, %d queued, %d preemptions, %d timers, %d runs of rvbench", search.rounds,
-                          len(search.done), search.waiting, *search.level, search.machine.runs)
-    return show
-
-
 @dataclass
 class RacesReport:
     """A search and its final states. After the replay, `stories` describes them, `bad` has those that are forbidden with their conditions, and
     `scripts` the input of the bench for each number."""
     run: Run
     symbols: Symbols
-    search: Search
+    search: ScheduleSearch
     found: FinalStates
     conditions: List[Forbidden]
     stories: List[Story] = field(default_factory=list)
@@ -294,56 +285,44 @@ class RacesReport:
         return "the search is incomplete: " + (long[0].heading() if long else "it was stopped by %s" % (self.search.why_cut or "--seconds"))
 
 
-def completed(report: RacesReport, folder: str | None) -> RacesReport:
+def completed(report: RacesReport, options: RacesOptions) -> RacesReport:
     """Replays the final states, describes them, and writes their inputs if there is a folder; returns the report."""
     search, found = report.search, report.found
-    replay(search, found, report.conditions)
+    replay(search, found, report.conditions, options.jobs)
     end_pcs = [{pc for it in found.ends for how, pc in it.harts[hart:hart + 1]} for hart in range(search.machine.count)]
     report.stories = [Story(it, found.outcome, search, report.symbols, end_pcs) for it in found.ends]
     report.bad = forbidden(report.conditions, found)
     report.scripts = {it.number: script_of(search.machine, it, found.outcome, report.title(it)) for it in found.ends}
-    if folder:
-        write_scripts(folder, report.scripts)
+    if options.scripts:
+        write_files(options.scripts, (("final_state_%d" % number, text) for number, text in report.scripts.items()))
     return report
 
 
 def note(findings: ReportedCases, report: RacesReport) -> None:
     """Notes what counts as found: with --forbid the ends that are forbidden, else each end but the first, and each in which a hart does
     not come to its end."""
-    if report.conditions:
-        note_forbidden(findings, report)
-        return
-    for story in report.stories:
+    for story in report.stories if not report.conditions else ():
         findings.add("final state %d" % story.end.number, story.heading() if report.is_finding(story) else "")
-
-
-def note_cut(findings: ReportedCases, report: RacesReport) -> None:
-    """Notes whether a part of the orders was not searched: by --seconds, or because a hart was given up."""
-    text = report.cut_text()
-    if text:
-        findings.cut_short(text)
-
-
-def note_forbidden(findings: ReportedCases, report: RacesReport) -> None:
-    """Notes the ends that --forbid names; no other counts as found."""
     for condition, end in report.bad:
         warn("--forbid %s: final state %d matches" % (condition.text, end.number))
     for condition in report.conditions:
         findings.add("--forbid " + condition.text, "\n".join(report.title(it.end) for it in report.stories if (condition, it.end) in report.bad))
 
 
-def replay(search: Search, found: FinalStates, conditions: Sequence[Forbidden]) -> None:
-    """Replays the final states on the bench, forbidden ones first. Leaves out those for which no time is left."""
-    replayed, is_forbidden = [], {id(end) for _, end in forbidden(conditions, found)}
+def replay(search: ScheduleSearch, found: FinalStates, conditions: Sequence[Forbidden], jobs: int) -> None:
+    """Replays the final states on the bench in `jobs` processes, forbidden ones first. Leaves out those for which no time is left."""
+    replayed: list[FinalState] = []
+    is_forbidden = {id(end) for _, end in forbidden(conditions, found)}
     try:
         with search.limit.until(1 + GRACE, SLACK):
             if search.why_cut or found.is_cut:
                 search.machine.renew()
-            replays = Replays(search.machine)
-            for end in sorted(found.ends, key=lambda it: id(it) not in is_forbidden):
-                replays.check(end)
-                replayed.append(end)
+            ends = sorted(found.ends, key=lambda it: id(it) not in is_forbidden)
+            for index in Replays(search.machine).check_all(ends, jobs):
+                replayed.append(ends[index])
     except OutOfTime:
+        pass
+    if len(replayed) < len(found.ends):
         found.keep(replayed)
 
 
@@ -353,7 +332,7 @@ def forbidden(conditions: Sequence[Forbidden], found: FinalStates) -> list[tuple
     return [(condition, end) for condition in conditions for end in found.ends if condition.holds(end, named)]
 
 
-def is_whole(search: Search, found: FinalStates) -> bool:
+def is_whole(search: ScheduleSearch, found: FinalStates) -> bool:
     """Returns whether all orders within the bounds were searched, and all final states reported."""
     return search.is_whole() and not found.is_cut
 
@@ -374,8 +353,8 @@ def objects(report: RacesReport, printer: Printer) -> None:
 def texts(report: RacesReport, printer: Printer) -> None:
     """Writes a report as lines."""
     search, found, stories, bad = report.search, report.found, report.stories, report.bad
-    for it in ranges_of(search.shared, report.symbols):
-        printer.line("shared memory  %08x %d  %s" % (it.at, it.count, it.name))
+    for shared in ranges_of(search.shared, report.symbols):
+        printer.line("shared memory  %08x %d  %s" % (shared.at, shared.count, shared.name))
     forbidden = {end.number for _, end in bad}
     for story in stories:
         printer.line()

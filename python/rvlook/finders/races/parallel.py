@@ -1,0 +1,210 @@
+"""Computes moves of `races` ahead of the search, in several processes.
+
+The search itself has one process and one order. After some moves it gives the nodes that wait to other processes. They follow these nodes as the
+search would, and return the moves, with all that the search records for a move. The search then takes a move where it would compute it. A lost move
+is therefore computed by the search. The other processes never run rvbench: they leave out a move that has a step which is not cached. The search
+therefore runs rvbench as it would alone. Its result does not depend on the number of processes."""
+from __future__ import annotations
+
+import gc
+import time
+from collections import defaultdict
+from dataclasses import dataclass
+from typing import Dict, FrozenSet, List, NamedTuple, Optional, Sequence, Set, Tuple
+
+from rvlook.finders.races.loop import Loop
+from rvlook.finders.races.machine import CachedState, Memory, Schedule, UnknownStep
+from rvlook.finders.races.search import Agent, DependentStep, Heap, Move, MoveKey, ScheduleSearch, SearchNode, TouchedBytes
+from rvlook.protocol.jobs import results_of
+
+PAUSE = 0.1  # seconds that the search computes moves before it gives nodes to other processes
+LEAST = 0.00015  # seconds to compute a move on average, so that it is worth to send it
+TASKS_PER_JOB = 4  # so that the processes end at about the same time
+MOST_MOVES = 20000  # of a task; its result is sent through a pipe
+
+
+@dataclass(frozen=True, eq=False)
+class Touched:
+    """The bytes that an agent accessed in a move. Moves share an object."""
+    agent: Agent
+    read: FrozenSet[int]
+    written: FrozenSet[int]
+    executed: FrozenSet[int]
+
+
+class AheadMove(NamedTuple):
+    """A move with all that the search records for it: the bytes, the endless loop with the state that represents it, and whether the hart was given
+    up."""
+    move: Optional[Move]
+    touched: Sequence[Touched]
+    loop: Optional[Tuple[CachedState, Loop]]
+    is_unended: bool
+
+
+class MemoryChange(NamedTuple):
+    """A memory: its hash, that of the memory before it, the bytes that differ, and those that are again as after the script."""
+    digest: int
+    before: int
+    changed: Memory
+    restored: Set[int]
+
+
+@dataclass
+class MoveNews:
+    """The moves of a task, with what is new in their states: the values of harts by number, and memories. `written` has all addresses that are ever
+    written."""
+    moves: List[Tuple[MoveKey, AheadMove]]
+    memories: List[MemoryChange]
+    harts: Dict[int, Tuple[int, int, Tuple[int, ...]]]
+    written: Set[int]
+
+
+class MoveRecorder:
+    """Computes moves in another process, and records them. `search` is the copy that the process has inherited."""
+
+    def __init__(self, search: ScheduleSearch) -> None:
+        self.search, self.machine, self.inherited = search, search.machine, len(search.machine.harts)
+        self.memories = set(search.machine.memories)
+        self.touched: dict[tuple[Agent, FrozenSet[int], FrozenSet[int], FrozenSet[int]], Touched] = {}
+        self.steps: dict[DependentStep, DependentStep] = {}
+        self.news = MoveNews(moves=[], memories=[], harts={}, written=set())
+
+    def follow(self, nodes: Sequence[SearchNode]) -> MoveNews:
+        """Follows nodes of one level to all nodes of this level, and returns the moves. Leaves out what needs rvbench."""
+        search, waiting, level = self.search, list(nodes), nodes[0].cost.level
+        self.machine.go_offline()
+        search.new_move = self.new_move
+        self.news = MoveNews(moves=[], memories=[], harts={}, written=self.machine.written)
+        while waiting and len(self.news.moves) < MOST_MOVES:
+            node = waiting.pop()
+            if node.point in search.done:
+                continue
+            search.done.add(node.point)
+            try:
+                waiting.extend(it for it in search.next_nodes(node) if it.cost.level == level)
+            except UnknownStep:
+                pass
+        return self.news
+
+    def new_move(self, key: MoveKey, _schedule: object) -> Move | None:
+        """Computes a move, and records it."""
+        search, graph = self.search, self.search.graph
+        search.touches, graph.loops, graph.unended = TouchedBytes(), {}, set()
+        move = search.compute_move(key, list)
+        if move:
+            move = move._replace(dependent=self.steps.setdefault(move.dependent, move.dependent))  # one object is sent once
+        loop = next(((state, loop) for (state, _), loop in graph.loops.items()), None)
+        self.news.moves.append((key, AheadMove(move, self.all_touched(), loop, bool(graph.unended))))
+        for state in (key[0], *([move.state] if move else ())):
+            self.note_state(key[0], state)
+        return move
+
+    def all_touched(self) -> list[Touched]:
+        """Returns the bytes that were accessed in a move."""
+        found, touches = [], self.search.touches
+        for agent in list(touches.executed):
+            bytes_of = (agent, frozenset(touches.read[agent]), frozenset(touches.written[agent]), frozenset(touches.executed[agent]))
+            found.append(self.touched.setdefault(bytes_of, Touched(*bytes_of)))
+        return found
+
+    def note_state(self, before: CachedState, state: CachedState) -> None:
+        """Notes what is new in a state after another one."""
+        self.news.harts.update((it, self.machine.harts[it]) for it in state.harts if it >= self.inherited)
+        if state.memory not in self.memories:
+            self.memories.add(state.memory)
+            old, new = self.machine.memories[before.memory], self.machine.memories[state.memory]
+            self.news.memories.append(MemoryChange(state.memory, before.memory, dict(new.items() - old.items()), old.keys() - new.keys()))
+
+
+class MovesAhead:
+    """The moves that other processes have computed for a search. They hold for one round, as long as no region is new."""
+
+    def __init__(self, search: ScheduleSearch, jobs: int) -> None:
+        self.search, self.machine, self.jobs = search, search.machine, jobs
+        self.moves: dict[MoveKey, AheadMove] = {}
+        self.merged: set[Touched] = set()
+        self.valid_for = (0, 0)  # the round, and the number of regions
+        self.taken = self.computed = 0
+        self.seconds, self.pause = 0.0, PAUSE
+        search.prepare, search.new_move = self.prepare, self.new_move
+
+    def prepare(self, heap: Heap) -> None:
+        """Has the moves of the next level of waiting nodes computed, if the search has long computed moves since the last time."""
+        if not heap or self.seconds < max(self.pause, LEAST * self.computed):
+            return
+        level = heap[0][0].level
+        tasks = self.tasks_of([node for cost, _, node in heap if cost.level == level])
+        if len(tasks) < 2 or self.compute_ahead(tasks) < 2 * self.computed:
+            self.pause *= 2
+        self.seconds, self.computed = 0.0, 0
+
+    def tasks_of(self, nodes: Sequence[SearchNode]) -> list[list[SearchNode]]:
+        """Divides nodes into tasks. Nodes in which the same hart moves on from the same states of the others often lead to the same nodes."""
+        tasks: dict[int, list[SearchNode]] = defaultdict(list)
+        for node in nodes:
+            harts, last = node.point.state.harts, node.point.last
+            others = tuple(it for hart, it in enumerate(harts) if hart != last) or harts
+            tasks[hash((last, others)) % (TASKS_PER_JOB * self.jobs)].append(node)
+        return list(tasks.values())
+
+    def compute_ahead(self, tasks: Sequence[Sequence[SearchNode]]) -> int:
+        """Has moves computed by other processes; returns their number."""
+        self.moves, self.valid_for = {}, (self.search.rounds, len(self.machine.regions))
+        recorder, count = MoveRecorder(self.search), 0
+        gc.freeze()  # the processes share the objects as long as nothing writes to them
+        try:
+            for news in results_of(lambda number: recorder.follow(tasks[number]), len(tasks), self.jobs):
+                self.take_over(news)
+                count += len(news.moves)
+        finally:
+            gc.unfreeze()
+        return count
+
+    def take_over(self, news: MoveNews) -> None:
+        """Takes over the moves of a task, with the numbers that their states have in this process."""
+        machine = self.machine
+        numbers = {number: machine.harts.number(values) for number, values in news.harts.items()}
+        machine.written |= news.written
+        for change in news.memories:
+            if change.before in machine.memories and change.digest not in machine.memories:
+                memory = {**machine.memories[change.before], **change.changed}
+                for at in change.restored:
+                    del memory[at]
+                machine.memories[change.digest] = memory
+
+        def own(state: CachedState) -> CachedState:
+            return state._replace(harts=tuple(numbers.get(it, it) for it in state.harts))
+
+        for (state, hart, is_timer), ahead in news.moves:
+            move = ahead.move and ahead.move._replace(state=own(ahead.move.state))
+            if not move or move.state.memory in machine.memories:
+                loop = ahead.loop and (own(ahead.loop[0]), ahead.loop[1])
+                self.moves[own(state), hart, is_timer] = ahead._replace(move=move, loop=loop)
+
+    def compute(self, key: MoveKey, schedule: Schedule) -> Move | None:
+        """Computes a move in this process. Measures the time, if it does not run rvbench."""
+        runs, start = self.machine.runs, time.thread_time()
+        move = self.search.compute_move(key, schedule)
+        if self.machine.runs == runs:
+            self.computed += 1
+            self.seconds += time.thread_time() - start
+        return move
+
+    def new_move(self, key: MoveKey, schedule: Schedule) -> Move | None:
+        """Returns a move that another process has computed, and records what belongs to it; computes it if there is none."""
+        found = self.moves.pop(key, None)
+        if found is None or self.valid_for != (self.search.rounds, len(self.machine.regions)):
+            return self.compute(key, schedule)
+        self.taken += 1
+        touches, graph = self.search.touches, self.search.graph
+        for touched in found.touched:
+            if touched not in self.merged:
+                self.merged.add(touched)
+                touches.read[touched.agent] |= touched.read
+                touches.written[touched.agent] |= touched.written
+                touches.executed[touched.agent] |= touched.executed
+        if found.loop:
+            graph.loops[found.loop[0], key[1]] = found.loop[1]
+        if found.is_unended:
+            graph.unended.add(key[:2])
+        return found.move

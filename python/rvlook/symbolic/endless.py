@@ -1,0 +1,104 @@
+"""Endless loops: the state of a path repeats without an input in between. It then repeats for all inputs for which the conditions of the path hold.
+
+Expressions are compared as they are. A loop whose state repeats only as numbers is found by a trial with the values of one model."""
+from __future__ import annotations
+
+from hashlib import blake2b
+from typing import Any, Dict, List, NamedTuple, Tuple, TYPE_CHECKING
+
+from rvlook.symbolic.fields import FINDING, Ended
+from rvlook.symbolic.words import plain
+
+if TYPE_CHECKING:
+    from rvlook.symbolic.fields import AnyState
+    from rvlook.symbolic.search import Search
+
+TRIALS, TRIAL_STEPS = 8, 20000  # of a loop with numbers, to see whether it ends
+TRIED_AT = (8, 16, 32)  # rounds after which the first trials are made; the last one is made at the bound
+LONGEST = 2000  # steps of an endless loop that is noticed at the end of a long path
+
+
+class Mark(NamedTuple):
+    """The state of a path at a branch: its registers, the numbers of its inputs and activations, and the rest, or None if the registers were other
+    ones before."""
+    regs: List[Any]
+    counts: Tuple[int, int]
+    rest: Any
+
+
+def rest_of(state: AnyState) -> Tuple[Any, ...]:
+    """Returns what a path has beside its registers: a digest of memory, the window as it is known, the mode, and the registers of mode S."""
+    digest = blake2b(state.mem).digest()
+    return digest, frozenset(state.sym.items()), frozenset(state.win.items()), state.mode, tuple(state.csr.values()), state.context
+
+
+class Endless:
+    """Notices endless loops of a search."""
+
+    def __init__(self, search: Search) -> None:
+        self.search = search
+
+    def at_branch(self, state: AnyState) -> None:
+        """Takes a path at a branch whose condition is an expression: reports it, and ends it, if its state is that of the last time. The memory is
+        compared only if the registers are the same."""
+        key, counts = (state.pc, state.context), (state.inputs, state.visit)
+        old = state.marks.get(key)
+        if old is None or old.counts != counts or old.regs != state.regs:
+            state.marks[key] = Mark(state.regs[:], counts, None)
+            return
+        rest = rest_of(state)
+        if old.rest == rest and not state.is_merged and not self.search.is_trial:
+            self.found(state)
+        state.marks[key] = Mark(old.regs, counts, rest)
+
+    def found(self, state: AnyState) -> None:
+        """Reports a path whose state repeats, and ends it."""
+        self.search.report("stuck", state, "never returns", state.model)
+        raise Ended(FINDING)
+
+    def at_end(self, state: AnyState) -> None:
+        """Follows a long path for some steps: reports it if its state repeats."""
+        seen, counts, first = set(), (len(state.loads), len(state.answers)), state.pc
+        for _ in range(LONGEST):
+            if state.pc == first:
+                key = tuple(state.regs), rest_of(state)
+                if key in seen and (len(state.loads), len(state.answers)) == counts:
+                    self.found(state)
+                seen.add(key)
+            state.step()
+
+    def try_numbers(self, state: AnyState, tries: Dict[int, int]) -> None:
+        """Follows a loop with the values of one model: reports it if the state repeats without an input."""
+        search = self.search
+        if state.is_merged or search.is_trial or tries.get(state.pc, 0) >= TRIALS or ("stuck", state.pc) in search.found:
+            return
+        tries[state.pc] = tries.get(state.pc, 0) + 1
+        trial: Any = state.fork(state.pc, is_again=True)
+        trial.regs, trial.csr = [state.value(x) for x in state.regs], {n: state.value(x) for n, x in state.csr.items()}
+        for at in list(trial.sym):
+            trial.put(at, state.value(plain(trial.sym[at])))
+        search.is_trial = True
+        try:
+            is_endless = self.repeats(trial)
+        except Ended:
+            return
+        finally:
+            search.is_trial = False
+        if is_endless:
+            search.report("stuck", state, "never returns", state.model)
+
+    def repeats(self, trial: AnyState) -> bool:
+        """Returns whether a state of numbers repeats without an input."""
+        seen, loads, first = set(), len(trial.loads), trial.pc
+        for _ in range(TRIAL_STEPS):
+            if trial.pc == first:
+                if self.search.is_late():
+                    return False
+                key = tuple(trial.regs), rest_of(trial)
+                if key in seen:
+                    return True
+                seen.add(key)
+            trial.step()
+            if len(trial.loads) != loads or trial.pc in self.search.changed_code:
+                return False
+        return False
