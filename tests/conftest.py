@@ -7,6 +7,7 @@ a folder of `tests/rvlook/programs`: its C sources, and the image and the symbol
 import atexit
 import json
 import os
+import resource
 import shutil
 import subprocess
 import tempfile
@@ -18,13 +19,14 @@ from pathlib import Path
 import pytest
 
 pytest.register_assert_rewrite("support")
+from support.clock import processor_clock as clock  # noqa: E402
+from support.limits import HANG, wait_until  # noqa: E402
 
 ROOT = Path(__file__).resolve().parents[1]
 RVLOOK = Path(os.environ.get("RVLOOK") or ROOT / "rvlook")
 PROGRAMS = ROOT / "tests" / "rvlook" / "programs"
 EXAMPLES = ROOT / "examples"
 BUILD = EXAMPLES / "build"
-SECONDS = 120
 JOINED = Path(tempfile.mkdtemp(prefix="rvlook-inputs-"))
 atexit.register(shutil.rmtree, JOINED, ignore_errors=True)
 
@@ -46,6 +48,7 @@ def pytest_addoption(parser):
     parser.addoption("--all-mutants", action="store_true", help="compare every mutant of own_monitor, those without an effect over all scripts")
     parser.addoption("--pairs", type=int, default=100, help="run this many pairs of unlike hosts and clocks (default: 100)")
     parser.addoption("--verify-programs", type=int, default=0, help="compare verify with rvbench on N random programs of some 100 steps (default: 500)")
+    parser.addoption("--long-verify", action="store_true", help="verify hmac with all lengths, and parsers of 64 bytes, which takes minutes")
     parser.addoption("--prove-twice", action="store_true", help="prove and build the program in two clones and compare, which takes half an hour")
     parser.addoption("--fuzz-seconds", type=float, default=0, help="run each fuzzer of tests/rvlook/fuzz for this long (default: a few examples)")
 
@@ -61,9 +64,7 @@ def pytest_configure(config):
 def pytest_xdist_newgateway(gateway):
     """Waits until a worker of xdist has answered what its reporter asks, so that its main thread runs the tests. Otherwise another thread of the
     worker may run them, in which no signal can be set."""
-    until = time.monotonic() + SECONDS
-    while gateway.remote_status().numexecuting and time.monotonic() < until:
-        time.sleep(0.01)
+    wait_until(lambda: not gateway.remote_status().numexecuting, 0.01)
     time.sleep(0.1)
 
 
@@ -84,12 +85,18 @@ def bench():
 
 @pytest.fixture(scope="session")
 def rvlook(bench):
-    """Runs `./rvlook` with these arguments in the root of the repository; returns its `CompletedProcess`, with text."""
-    def run(*arguments, timeout=SECONDS, stdin="", env=None, cwd=ROOT):
-        environment = {**os.environ, "RVBENCH": bench, "TERM": "dumb", **(env or {})}
+    """Runs `./rvlook` with these arguments in the root of the repository; returns its `CompletedProcess`, with text. The limits of `verify` count
+    processor time. A process that takes more than `most` seconds of it is killed."""
+    def run(*arguments, most=None, stdin="", env=None, cwd=ROOT):
+        environment = {**os.environ, **clock.ENVIRONMENT, "RVBENCH": bench, "TERM": "dumb", **(env or {})}
         return subprocess.run([str(RVLOOK), *map(str, arguments)], cwd=cwd, input=stdin, capture_output=True, text=True, errors="replace",
-                              timeout=timeout, env=environment, check=False)
+                              timeout=HANG, env=environment, check=False, preexec_fn=limited_to(most))
     return run
+
+
+def limited_to(most):
+    """Returns a function that sets the processor time of each process that follows, in seconds, or None without a limit."""
+    return most and (lambda: resource.setrlimit(resource.RLIMIT_CPU, (most, most)))
 
 
 @pytest.fixture(scope="session")
@@ -116,7 +123,7 @@ def replies(bench):
     """Runs the lines of a script directly on the program, after the image of an input; returns the reply lines."""
     def run(image, words, script):
         text = Path(ROOT, image).read_text(encoding="ascii").split("--\n")[0] + "--\n" + "\n".join(script) + "\n"
-        done = subprocess.run([bench, "run", *words], input=text, capture_output=True, text=True, check=True, timeout=SECONDS)
+        done = subprocess.run([bench, "run", *words], input=text, capture_output=True, text=True, check=True, timeout=HANG)
         return done.stdout.splitlines()
     return run
 
@@ -159,6 +166,47 @@ def built(tmp_path_factory):
     return path
 
 
+@pytest.fixture
+def processor_clock(monkeypatch):
+    """Counts processor time in this process, as the fixture `rvlook` does in its processes."""
+    monkeypatch.setattr(time, "perf_counter", time.process_time)
+    clock.limit_questions(pytest.importorskip("z3"), monkeypatch.setattr)
+
+
+@pytest.fixture
+def verified(bench, monkeypatch, capsys, processor_clock):
+    """Runs `verify` with `--json` in this process, which saves the start of another one; returns its status and its objects."""
+    from rvlook.__main__ import main
+    monkeypatch.setenv("RVBENCH", bench)
+
+    def run(*arguments):
+        status = main(["verify", *map(str, arguments), "--json"])
+        return status, [json.loads(line) for line in capsys.readouterr().out.splitlines()]
+    return run
+
+
+@pytest.fixture
+def up_to_a_finding(monkeypatch, processor_clock):
+    """Ends all searches of `verify` in this process at the first finding, which is replayed. The verdict of its question is final."""
+    from rvlook.symbolic.search import Search
+    report, late = Search.report, Search.is_late
+
+    def report_and_end(self, *those):
+        report(self, *those)
+        if self.found:
+            self.solver.until = 0
+    monkeypatch.setattr(Search, "report", report_and_end)
+    monkeypatch.setattr(Search, "is_late", lambda self: bool(self.found) or late(self))
+
+
+@pytest.fixture(scope="session")
+def no_z3(tmp_path_factory):
+    """Returns an environment in which z3 is not installed."""
+    folder = tmp_path_factory.mktemp("no_z3")
+    (folder / "z3.py").write_text("raise ImportError\n")
+    return {"PYTHONPATH": str(folder)}
+
+
 @pytest.fixture(scope="session")
 def final_states(bench):
     """Searches all schedules of two harts in this process; returns the search and its final states. The arguments are the bytes of a raw image, the
@@ -175,7 +223,7 @@ def final_states(bench):
         outcome = [outcomes.outcome_of(it, symbols.Symbols(), 2) for it in names]
         machine = machines.RaceMachine(types.SimpleNamespace(setup=setup), (), limit)
         try:
-            search = searches.Search(machine, searches.SearchBounds(**bounds), plain, outcomes.watched_of(outcome), time_limit.TimeLimit(seconds))
+            search = searches.ScheduleSearch(machine, searches.SearchBounds(**bounds), plain, outcomes.watched_of(outcome), time_limit.TimeLimit(seconds))
             return search, states.find_final_states(search, lambda _: outcome)
         finally:
             machine.close()

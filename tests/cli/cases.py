@@ -10,6 +10,7 @@ from functools import lru_cache
 from pathlib import Path
 
 from models.case_format import Case, read
+from models.example_arguments import arguments_of
 
 TESTS = Path(__file__).resolve().parents[1]
 CASES = TESTS / "cases"
@@ -78,11 +79,11 @@ def example_input(folder):
 
 
 def examples():
-    """Returns the examples with an input and an output as cases; a file has their arguments, one per line."""
+    """Returns the examples with an input and an output as cases."""
     found = {}
     for stdout in sorted(EXAMPLES.glob("**/stdout")):
         folder = stdout.parent
-        words = (folder / "words").read_bytes().split() if (folder / "words").exists() else []
+        words = [it.encode() for it in arguments_of(folder)]
         name = "examples/%s" % folder.relative_to(EXAMPLES)
         found[name] = Case(name, words, example_input(folder), stdout.read_bytes(), 0)
     return found

@@ -6,6 +6,7 @@ from pathlib import Path
 import pytest
 
 from cli.cases import case
+from support.limits import HANG
 
 REFUSED = Path(__file__).with_name("refused_texts")
 ESCAPES = {"n": "\n", "r": "\r", "t": "\t", "v": "\v", "f": "\f", "\\": "\\"}
@@ -15,7 +16,7 @@ LETTERS = "abcdefghijklmnopqrstuvwxyz0123456789"
 
 def answer(program, subcommand, data):
     """Runs the program for at most 20 seconds; returns the output and the status."""
-    done = subprocess.run([program, subcommand], input=data, stdout=subprocess.PIPE, timeout=20, check=False)
+    done = subprocess.run([program, subcommand], input=data, stdout=subprocess.PIPE, timeout=HANG, check=False)
     return done.stdout, done.returncode
 
 

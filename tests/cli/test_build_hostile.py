@@ -3,12 +3,12 @@ import os
 import shutil
 import signal
 import subprocess
-import time
 
 import pytest
 
 from conftest import BUILD, EXAMPLES, ROOT
 from support.builds import COMPILERS, build, with_clang
+from support.limits import HANG, wait_until
 
 ESCAPE = "\x1b[2J"
 
@@ -131,12 +131,9 @@ def test_build_that_is_ended_leaves_no_temporary_folder(folder, tmp_path):
     (folder / "host_slow.c").write_text("".join("int slow_%d(int a) { return a * %d; }\n" % (it, it) for it in range(60000)))
     with subprocess.Popen([BUILD, "--clang", folder], env={**os.environ, "TMPDIR": str(temporary)}, stdout=subprocess.PIPE,
                           stderr=subprocess.PIPE) as process:
-        end = time.monotonic() + 30
-        while not list(temporary.iterdir()) and time.monotonic() < end:
-            time.sleep(0.02)
-        assert list(temporary.iterdir())
+        assert wait_until(lambda: list(temporary.glob("*/*")))
         process.send_signal(signal.SIGTERM)
-        process.communicate(timeout=60)
+        process.communicate(timeout=HANG)
     assert process.returncode == 143
     assert not list(temporary.iterdir())
 

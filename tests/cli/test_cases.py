@@ -4,14 +4,14 @@ import subprocess
 import pytest
 
 from cli.cases import all_cases, with_second_hart
+from support.limits import HANG
 
-SECONDS = 60
 CASES = all_cases()
 CONCURRENT = with_second_hart(CASES)
 
 
 def check(program, case):
-    done = subprocess.run([program, *case.words], input=case.stdin, stdout=subprocess.PIPE, timeout=SECONDS, check=False)
+    done = subprocess.run([program, *case.words], input=case.stdin, stdout=subprocess.PIPE, timeout=HANG, check=False)
     if done.stdout != case.stdout:
         pairs = enumerate(zip(done.stdout, case.stdout))
         at = next((i for i, (one, other) in pairs if one != other), min(len(done.stdout), len(case.stdout)))

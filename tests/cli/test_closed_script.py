@@ -5,6 +5,7 @@ import subprocess
 import pytest
 
 from conftest import ROOT
+from support.limits import HANG
 
 SPEC = ROOT / "crates/rv_bench/specs/SecretScript.antt"
 SECRETS = ["41", "5a"]
@@ -20,7 +21,7 @@ def output(bench, secret, *shown):
     """Returns the output for an input with a secret, with further lines before the step of the interrupt."""
     lines = text_of("secret_script").format(secret).replace("timer on\n", "timer on\n" + "".join(it + "\n" for it in shown))
     ran = subprocess.run([bench, "run", "--monitor", "--ram", "131072", "--kind", "raw"], input=(text_of("secret_prefix") + lines).encode(),
-                         stdout=subprocess.PIPE, timeout=100, check=True)
+                         stdout=subprocess.PIPE, timeout=HANG, check=True)
     return ran.stdout.decode()
 
 

@@ -13,13 +13,15 @@ from cli.test_enclave_life import PAGE, REGION, SECRET, WINDOW, call, image_of, 
 from conftest import EXAMPLES
 from generators.attacks import complement, parts_of_secret
 from generators.monitor_case import input_of
+from models.example_arguments import argument_table, arguments_of
 from models.monitor_model import CREATE, DESTROY, EXIT, HOST_ENTRY, RUN, STOP
+from support.limits import HANG
 
 MARK = "error command"  # the reply to a line that separates the replies of the lines
 HIDDEN = {"300", "341", "342", "343", "b00", "b80", "b02", "b82", "c00", "c80", "c02", "c82"}  # registers that no world reads, and mstatus
 NEVER_ENTERED = ["enclaves/at_rest"]
 SHOWN = 400  # of the steps of an enclave, those after which its registers are compared
-SCRIPTS = sorted(it.parent.relative_to(EXAMPLES).as_posix() for it in EXAMPLES.glob("*/*/words"))
+SCRIPTS = sorted(argument_table())
 ENCLAVES = [it for it in SCRIPTS if it.startswith(("enclaves/", "attacks/"))]
 WORLD = "e0"
 
@@ -47,7 +49,7 @@ class Script:
     def replies(self, lines):
         """Returns the reply lines of each line."""
         text = input_of(self.image, [it + "\n?" for it in lines])
-        ran = subprocess.run([self.program, *self.words], input=text.encode(), stdout=subprocess.PIPE, timeout=100, check=True)
+        ran = subprocess.run([self.program, *self.words], input=text.encode(), stdout=subprocess.PIPE, timeout=HANG, check=True)
         parts = ran.stdout.decode().split(MARK + "\n")
         assert len(parts) == len(lines) + 1 and not parts[-1]
         return [it.splitlines() for it in parts[:-1]]
@@ -56,7 +58,7 @@ class Script:
 def example(program, name):
     """Returns the script of an example."""
     folder = EXAMPLES / name
-    words = (folder / "words").read_text().split()
+    words = arguments_of(name)
     options = words[words.index("--harts"):] if "--harts" in words else []
     return Script(program, (folder / "image").read_text().replace("\n", ""), options, lines_of((folder / "script").read_text()))
 

@@ -5,6 +5,7 @@ import subprocess
 import pytest
 
 from cli.cases import case
+from support.limits import HANG
 
 FAULT, REFUSED = 1, 2
 SUBCOMMANDS = ("", "run", "twin", "asm", "dis")
@@ -17,7 +18,7 @@ def run(program, words, stdin=subprocess.DEVNULL, stdout=subprocess.PIPE, data=N
         for number in closes:
             os.close(number)
     streams = {"input": data} if data is not None else {"stdin": stdin}
-    return subprocess.run([program, *words], **streams, stdout=stdout, stderr=subprocess.PIPE, timeout=60, check=False,
+    return subprocess.run([program, *words], **streams, stdout=stdout, stderr=subprocess.PIPE, timeout=HANG, check=False,
                           preexec_fn=close if closes else None)
 
 

@@ -11,6 +11,7 @@ import pytest
 from generators.monitor_case import input_of
 from models.instruction_words import assemble
 from models.monitor_model import CREATE, DESTROY, EXIT, EXITED, HOST_ENTRY, KEY, MEASURE, RESUME, RUN, STOP, STOPPED
+from support.limits import HANG
 
 PAGE = 0x1000
 REGION, WINDOW, OTHER, FREE = (HOST_ENTRY + n * PAGE for n in (1, 2, 3, 4))
@@ -52,7 +53,7 @@ def call(function, *arguments):
 def replies(program, enclave, lines):
     """Returns the lines of the output of a script."""
     text = input_of(image_of(enclave), lines)
-    ran = subprocess.run([program, "run", "--monitor", "--ram", "131072"], input=text.encode(), stdout=subprocess.PIPE, timeout=60, check=True)
+    ran = subprocess.run([program, "run", "--monitor", "--ram", "131072"], input=text.encode(), stdout=subprocess.PIPE, timeout=HANG, check=True)
     return ran.stdout.decode().splitlines()
 
 

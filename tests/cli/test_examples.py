@@ -5,14 +5,16 @@ import pytest
 
 from cli.cases import EXAMPLES, example_input
 from models import monitor_bench
+from models.example_arguments import argument_table, arguments_of
+from support.limits import HANG
 
-MONITORED = sorted(it.parent for it in EXAMPLES.glob("**/words"))
+MONITORED = sorted(EXAMPLES / it for it in argument_table())
 ATTACKS = sorted(it.parent for it in EXAMPLES.glob("attacks/*/attack.s"))
 NAMED = {"ids": lambda it: str(it.relative_to(EXAMPLES))}
 
 
 def output(program, *words, data):
-    return subprocess.run([program, *words], input=data, stdout=subprocess.PIPE, timeout=60, check=True).stdout
+    return subprocess.run([program, *words], input=data, stdout=subprocess.PIPE, timeout=HANG, check=True).stdout
 
 
 def test_the_assembly_example_goes_there_and_back(bench):
@@ -32,14 +34,13 @@ def test_the_elf_example_is_one_where_an_elf_file_is_required(bench):
 
 @pytest.mark.parametrize("folder", MONITORED, **NAMED)
 def test_the_model_gives_the_output(folder):
-    words = (folder / "words").read_text().split()
-    text, status = monitor_bench.wanted(example_input(folder).decode("latin-1"), words)
+    text, status = monitor_bench.wanted(example_input(folder).decode("latin-1"), arguments_of(folder))
     assert (text.encode("latin-1"), status) == ((folder / "stdout").read_bytes(), 0)
 
 
 @pytest.mark.parametrize("folder", ATTACKS, **NAMED)
 def test_the_sources_of_an_attack_give_its_image(bench, folder):
-    start = "victim.s" if (folder / "words").read_text().startswith("twin") else "runner.s"
+    start = "victim.s" if arguments_of(folder)[0] == "twin" else "runner.s"
     text = (folder.parent / start).read_bytes() + (folder / "attack.s").read_bytes()
     assert b"".join(output(bench, "asm", data=text).split()) == b"".join((folder / "image").read_bytes().split())
 

@@ -9,11 +9,12 @@ from pathlib import Path
 
 import pytest
 
+from support.limits import HANG
+from support.processes import end_soon
+
 ROOT = Path(__file__).resolve().parents[2]
 # The line of each script after which its work has begun.
 BEGUN = {"prove": "prove: the first run takes", "check": "check: rt ci: begins"}
-# The seconds within which a script must end after Ctrl-C; a proof of a crate takes longer.
-PROMPT = 30
 INTERRUPTED = 130
 
 
@@ -30,7 +31,7 @@ def copy(tmp_path):
 
 def ran(script, *arguments):
     """Runs a script of this repository, which must end soon."""
-    return subprocess.run([str(ROOT / script), *arguments], capture_output=True, text=True, timeout=PROMPT, check=False)
+    return subprocess.run([str(ROOT / script), *arguments], capture_output=True, text=True, timeout=HANG, check=False)
 
 
 @contextlib.contextmanager
@@ -46,14 +47,12 @@ def started(folder, script):
 
 
 def working_in(folder):
-    """Returns the command lines of the processes that work in a folder."""
+    """Returns the numbers of the processes that work in a folder."""
     found = []
     for process in Path("/proc").glob("[0-9]*"):
-        try:
+        with contextlib.suppress(OSError):
             if Path(os.readlink(process / "cwd")).is_relative_to(folder):
-                found.append((process / "cmdline").read_bytes().replace(b"\0", b" ").decode(errors="replace"))
-        except OSError:
-            continue
+                found.append(int(process.name))
     return found
 
 
@@ -79,12 +78,10 @@ def test_ctrl_c_ends_the_script_and_its_processes(copy, script):
         begun = any(BEGUN[script] in line for line in process.stdout)
         time.sleep(1)
         process.send_signal(signal.SIGINT)
-        output, _ = process.communicate(timeout=PROMPT)
+        output, _ = process.communicate(timeout=HANG)
     assert begun and process.returncode == INTERRUPTED
     assert output.strip().split("\n")[-1].startswith(f"{script}: interrupted") and "Traceback" not in output
-    deadline = time.monotonic() + PROMPT
-    while working_in(copy) and time.monotonic() < deadline:
-        time.sleep(0.1)
+    assert end_soon(working_in(copy))  # a proof of a crate takes longer
     assert working_in(copy) == []
 
 

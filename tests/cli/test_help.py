@@ -4,6 +4,8 @@ import subprocess
 
 import pytest
 
+from support.limits import HANG
+
 SUBCOMMANDS = ("run", "twin", "asm", "dis")
 OPTIONS = {"run": ("--ram <BYTES>", "--kind <", "--monitor ", "--harts <HARTS>"),
            "twin": ("--slot <K>", "--kind <", "--ram <BYTES>", "--harts <HARTS>")}
@@ -16,7 +18,7 @@ ENTRIES = ("step", "run", "break", "watch", "reg", "csr", "mem", "dis", "pmp,", 
 def help_of(bench):
     """Returns the help for these arguments; nothing else is written."""
     def text(*words):
-        done = subprocess.run([bench, *words], stdin=subprocess.DEVNULL, capture_output=True, text=True, timeout=60, check=False)
+        done = subprocess.run([bench, *words], stdin=subprocess.DEVNULL, capture_output=True, text=True, timeout=HANG, check=False)
         assert (done.returncode, done.stderr) == (0, "")
         return done.stdout
     return text
@@ -55,7 +57,7 @@ def test_help_before_a_mistake_is_printed(help_of, words):
 
 @pytest.mark.parametrize("words", ["run --bad --help", "--bad --help", "run --ram x --help", "help bogus"])
 def test_a_mistake_before_help_is_refused(bench, words):
-    done = subprocess.run([bench, *words.split()], stdin=subprocess.DEVNULL, capture_output=True, text=True, timeout=60, check=False)
+    done = subprocess.run([bench, *words.split()], stdin=subprocess.DEVNULL, capture_output=True, text=True, timeout=HANG, check=False)
     assert (done.returncode, done.stdout, done.stderr) == (2, "rvbench: command line\n", "")
 
 
@@ -69,5 +71,5 @@ def test_the_example_in_the_help_runs(bench, help_of, subcommand):
     text = help_of(*subcommand.split(), "--help")
     assert has_line(text, "Example: ")
     given, words = EXAMPLE.search(text).groups()
-    done = subprocess.run(["bash", "-c", '%s | "$0"%s' % (given, words), bench], capture_output=True, text=True, timeout=60, check=True)
+    done = subprocess.run(["bash", "-c", '%s | "$0"%s' % (given, words), bench], capture_output=True, text=True, timeout=HANG, check=True)
     assert done.stdout.splitlines()[-1].startswith(LAST_LINE[subcommand])

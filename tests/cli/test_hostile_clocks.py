@@ -15,6 +15,7 @@ import pytest
 from cli.test_enclave_life import OTHER, PAGE, REGION, WINDOW, call, constant, leave, word
 from generators.monitor_case import input_of
 from models.monitor_model import CREATE, DESTROY, EXIT, HOST_ENTRY, MEASURE, RESUME, RUN, STOP, STOPPED
+from support.limits import HANG
 
 SPARE = HOST_ENTRY + 5 * PAGE
 STEPS = 48  # of the enclave, in each run
@@ -135,7 +136,7 @@ def image_of(enclave):
 def replies(program, enclave, harts, lines):
     """Returns the reply lines of each line of a script."""
     text = input_of(image_of(enclave), [it + "\nmark" for it in lines])
-    ran = subprocess.run([program, "run", "--monitor", "--harts", str(harts)], input=text.encode(), stdout=subprocess.PIPE, timeout=60, check=True)
+    ran = subprocess.run([program, "run", "--monitor", "--harts", str(harts)], input=text.encode(), stdout=subprocess.PIPE, timeout=HANG, check=True)
     parts = ran.stdout.decode().split(MARK + "\n")
     assert len(parts) == len(lines) + 1 and not parts[-1]
     return [it.splitlines() for it in parts[:-1]]

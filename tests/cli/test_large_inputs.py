@@ -3,11 +3,11 @@ import os
 import random
 import resource
 import subprocess
-import time
 
 import pytest
 
 from models.monitor_bench import Fault, lines_of, parsed
+from support.limits import HANG, processor_time
 
 BYTES = int(os.environ.get("HOSTILE_BYTES", 8 << 20))  # of each long input
 MOST_IMAGE = 33554432
@@ -40,7 +40,7 @@ def replies(kind, length):
 def run(program, words, data, most=None):
     """Runs the program; returns the output and the status. `most` limits its address space, in bytes."""
     limit = (lambda: resource.setrlimit(resource.RLIMIT_AS, (most, most))) if most else None
-    done = subprocess.run([program, *words.split()], input=data, stdout=subprocess.PIPE, timeout=60, check=False, preexec_fn=limit)
+    done = subprocess.run([program, *words.split()], input=data, stdout=subprocess.PIPE, timeout=HANG, check=False, preexec_fn=limit)
     return done.stdout, done.returncode
 
 
@@ -94,12 +94,9 @@ def test_a_long_script_takes_little_time_and_memory(bench):
     script = b"6f000000\n--\n" + b"step 1\n" * 200000
     wanted = b"ran 1 pc=80000000 mode=M world=bare why=done trap=-\n" * 200000
     assert run(bench, "run", script, 16 * MEBIBYTE) == (wanted, 0)
-    seconds = []
-    for _ in range(5):  # the best of five, since the machine may be busy
-        begin = time.monotonic()
-        run(bench, "run", script)
-        seconds.append(time.monotonic() - begin)
-    assert min(seconds) < 1
+    before = processor_time()
+    run(bench, "run", script)
+    assert processor_time() - before < 10  # seconds; work that grows with the square of the lines takes minutes
 
 
 @pytest.mark.parametrize("words, data, wanted", [

@@ -9,6 +9,7 @@ from pathlib import Path
 import pytest
 
 from cli.cases import EXAMPLES, case, example_input
+from support.limits import HANG
 
 LIBRARY = Path(__file__).with_name("refuse_allocation.c")
 IN_A_ROW = 50  # runs with the correct output, after which no further allocation is refused
@@ -32,7 +33,7 @@ def library(tmp_path_factory):
 
 
 def run(program, words, data, **environment):
-    done = subprocess.run([program, *words.split()], input=data, stdout=subprocess.PIPE, timeout=60, check=False, env={**os.environ, **environment})
+    done = subprocess.run([program, *words.split()], input=data, stdout=subprocess.PIPE, timeout=HANG, check=False, env={**os.environ, **environment})
     return done.stdout, done.returncode
 
 

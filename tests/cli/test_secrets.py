@@ -10,14 +10,16 @@ import subprocess
 import pytest
 
 from generators.attacks import folders, has_secret, input_of, is_twin, other_of, parts_of_secret, text_of
+from models.example_arguments import arguments_of
 from models.monitor_bench import Bench, Twins, cut_at, image_of, lines_of, setup_of
+from support.limits import HANG
 
 SEED, SECRETS, POKES = 7, 6, 16
 
 
 def parts_of(name):
     """Returns the first part of the input, the lines after it that do not access the enclave, its region, and the arguments."""
-    words = text_of(name, "words").split()
+    words = arguments_of(name)
     image, scripts = cut_at(lines_of(input_of(name)))
     first, second = cut_at(scripts)
     setup = setup_of(words)
@@ -42,7 +44,8 @@ def pokes(chance, region):
 
 
 def output(program, words, lines):
-    return subprocess.run([program, *words], input="".join(it + "\n" for it in lines).encode(), stdout=subprocess.PIPE, timeout=60, check=True).stdout
+    text = "".join(it + "\n" for it in lines)
+    return subprocess.run([program, *words], input=text.encode(), stdout=subprocess.PIPE, timeout=HANG, check=True).stdout
 
 
 def outputs_of_twin(program, name, chance):
@@ -64,7 +67,7 @@ def another(chance, line):
 def outputs_of_secret(program, name, chance):
     """Returns the same for an attack on an enclave that runs on the other hart."""
     front, secret, behind = (it if isinstance(it, list) else it.splitlines() for it in parts_of_secret(input_of(name)))
-    words = text_of(name, "words").split()
+    words = arguments_of(name)
     secrets = [[another(chance, line) for line in secret] for _ in range(SECRETS)]
     hidden = {output(program, words, [*front, *it, *behind]) for it in secrets}
     hidden |= {output(program, words, text.splitlines()) for text in (input_of(name), other_of(input_of(name)))}

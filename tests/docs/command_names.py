@@ -32,9 +32,9 @@ def of_page(part):
 def faults():
     """Returns for each list the missing and the extra commands."""
     read = set(re.findall(r'\("(\w+)", Keyword::', text(READ)))
-    rows = re.search(r"^\| command \| operands \| reply \|\n\|[-|]+\n((?:\|.*\n)+)", text(PAGE), re.M)[1]
+    rows = re.search(r"^\| command \| operands \| effect and reply \|\n\|[-|]+\n((?:\|.*\n)+)", text(PAGE), re.M)[1]
     page = of_page("".join(row.split("|")[1] for row in rows.splitlines()))
-    meant = of_page(re.search(r"^\| of the selected hart \|.*\n\|[-|]+\n(.*)", text(PAGE), re.M)[1])
+    meant = of_page(re.search(r"^\| acts on the selected hart \|.*\n\|[-|]+\n(.*)", text(PAGE), re.M)[1])
     listed = re.search(r'const FIRST_SCRIPT: &str =.*?Commands of a script(.*?)";', text(HELP), re.S)[1]
     helped = {word for line in listed.splitlines()[1:] for word in re.findall(r"(?:^|, )([a-z]+)", re.split(" {2}", line.strip())[0])}
     has = {PAGE: set(page), PAGE + ": the selected hart": set(meant) | {"hart"}, HELP: helped,

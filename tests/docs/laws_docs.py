@@ -1,12 +1,14 @@
 #!/usr/bin/env python3
-"""python3 -m docs.laws_docs --check: checks that the names in docs/LAWS.md, docs/CALLS.md and docs/PROMISES.md exist where the pages say.
+"""python3 -m docs.laws_docs --check: checks that the names in LAWS, CALLS, LIMITS, PROMISES and the page of the attacks exist where the pages say.
 
 In LAWS and CALLS, each theorem has premises, a definition, a contract and limits. Its files, definitions, functions and clauses exist, and a name
 before a file is in that file. A clause belongs to the functions before it, also in the index. Each definition is part of the contract of one of the
-functions of its theorem. Section Limits of LAWS has each function that the laws which determine a step use.
+functions of its theorem. LIMITS has each function that the laws which determine a step use.
 
 In PROMISES, the definitions in parentheses are part of the contract of some function. In the table of refusals, each clause and definition
 belongs to each call of its row.
+
+In the page of the attacks, each theorem of the table is a law, or a clause of `MonitoredMachine::step`.
 """
 import os
 import re
@@ -98,18 +100,18 @@ def check_table(sources, page):
         sources.ask_clauses("LAWS, table", calls, names[len(calls):])
 
 
-def check_limits(sources, section):
-    """Checks that the table in section Limits of LAWS has each function that the laws which determine a step use, and no other. Types, and the
-    functions of the texts of these laws, are left out."""
+def check_limits(sources, page):
+    """Checks that the table of LIMITS has each function that the laws which determine a step use, and no other. Types, and the functions of the
+    texts of these laws, are left out."""
     used = {name for module, name in Scopes().used_by(DETERMINED, ENDS)
             if not module.startswith("std.") and ".declared." not in module and module not in TEXTS and name[0].islower()}
     found = set()
-    for names, files in re.findall(r"^\| (.*?) \| (.*?) \|", section, re.M):
+    for names, files in re.findall(r"^\| (.*?) \| (.*?) \|", page, re.M):
         there = {it for path in names_in(files) for it in defined_in(os.path.join(ROOT, "crates", path))}
         found |= {it for it in names_in(names) if it in there or not names_in(files)}
     for name in sorted(used ^ found):
-        sources.ask(name not in used, f"LAWS, Limits: {name} is not in the table, or its file is another")
-        sources.ask(name not in found, f"LAWS, Limits: the laws that determine a step do not use {name}")
+        sources.ask(name not in used, f"LIMITS: {name} is not in the table, or its file is another")
+        sources.ask(name not in found, f"LIMITS: the laws that determine a step do not use {name}")
 
 
 def check_refusals(sources, page):
@@ -126,6 +128,15 @@ def check_refusals(sources, page):
                 sources.ask(any(clause in it.clauses for it in found), f"PROMISES, table: no clause {clause} of {name}")
 
 
+def check_attacks(sources, page):
+    """Checks the table of theorems in the page of the attacks: each contract is a law, or a clause of a step."""
+    for contract in re.findall(r"^\| [^|]* \| [^|]* \| (`.*`) \|$", page, re.M):
+        names = names_in(contract)
+        laws = [it for it in names if "::" in it]
+        sources.ask_clauses("attacks", ["MonitoredMachine::step"], [it for it in names if it not in laws])
+        sources.ask_clauses("attacks", laws, [])
+
+
 def check_promises(sources, page):
     """The definitions that PROMISES names in parentheses are part of some contract."""
     part = rests_on("\n".join(it.contract for it in sources.functions), sources.definitions)
@@ -139,13 +150,14 @@ def main(arguments):
         print(__doc__)
         return 2
     sources = Sources()
-    laws, calls, promises = (text_of(os.path.join(ROOT, "docs", name)) for name in ("LAWS.md", "CALLS.md", "PROMISES.md"))
+    laws, calls, limits, promises = (text_of(os.path.join(ROOT, "docs", name)) for name in ("LAWS.md", "CALLS.md", "LIMITS.md", "PROMISES.md"))
     for section in re.split(r"^(?=\*\*)", laws + calls, flags=re.M):
         check_law(sources, section)
     check_table(sources, laws)
-    check_limits(sources, laws.split("\n## Limits of the theorems\n")[1].split("\n## ")[0])
+    check_limits(sources, limits)
     check_refusals(sources, promises)
     check_promises(sources, promises)
+    check_attacks(sources, text_of(os.path.join(ROOT, "examples", "attacks", "README.md")))
     print("\n".join([*sources.wrong, f"{sources.count} asked, {len(sources.wrong)} wrong"]))
     return 1 if sources.wrong or not sources.count else 0
 

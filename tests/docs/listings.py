@@ -98,8 +98,8 @@ def of_registers():
 
 
 def operations():
-    """Returns the number of fast operations of rv_hart."""
-    variants = text_of("crates/rv_hart/src/decoded.rt").split("enum Operation {\n", 1)[1].split("\n}", 1)[0]
+    """Returns the number of fast operations of rv_fast_path."""
+    variants = text_of("crates/rv_fast_path/src/decoded.rt").split("enum Operation {\n", 1)[1].split("\n}", 1)[0]
     return len(set(re.findall(r"^    (\w+),$", variants, re.M)) - {"Invalid", "Other"})
 
 
@@ -113,7 +113,7 @@ def of_instructions():
     yield from (f"tests/models/instruction_words.py has {it}, which is no instruction" for it in sorted(model - known))
     yield from (f"the table of docs/ISA.md lacks {it}" for it in sorted(known - page))
     yield from (f"docs/ASSEMBLER.md lacks {it}" for it in sorted(known) if not re.search(rf"`{re.escape(it)}\b", assembler))
-    for name, begins in (("tests/cli/refused_texts", r"^\d+ \d+ "), ("crates/rv_input_tests/src/disassembler_tests.rt", '"')):
+    for name, begins in (("tests/cli/refused_texts", r"^\d+ \d+ "), ("crates/rv_bench_tests/src/disassembler_tests.rt", '"')):
         text = text_of(name)
         yield from (f"{name} lacks {it}" for it in sorted(known) if not re.search(rf'{begins}{re.escape(it)}(?:[ "]|$)', text, re.M))
     for name, form, what, count in (

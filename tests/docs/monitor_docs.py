@@ -8,6 +8,7 @@ import os
 import re
 import sys
 
+from models.example_arguments import arguments_of
 from models.monitor_bench import FORMS, Bench, Twins, cut_at, image_of, lines_of, setup_of
 
 ROOT = os.path.dirname(os.path.dirname(os.path.dirname(os.path.abspath(__file__))))
@@ -23,7 +24,7 @@ def session_of(name):
     """Returns each command of the example's script with the quoted form of its reply, from both benches if there are two."""
     image, script = cut_at(lines_of(text_of(name, "image") + text_of(name, "script")))
     first, second = cut_at(script)
-    words = text_of(name, "words").split()
+    words = arguments_of(os.path.join(ROOT, name))
     setup = setup_of(words)
     slot = setup.pop("slot", 0)
     bench = Bench(image_of(image), **setup)

@@ -12,13 +12,14 @@ import subprocess
 import pytest
 
 from conftest import ROOT
+from support.clock import processor_clock as clock
+from support.limits import HANG
 
 PAGES = ("README.md", "docs/TUTORIAL.md", "docs/OWN_MONITOR.md", "docs/TESTS.md")
 FINDS = re.compile(r"^\./rvlook (?:leak|races|timer|window|inputs|verify|conform|guard) .*$", re.M)  # status 1 is a finding
 LEFT_OUT = ("./check", "./prove", "apt-get")
 BLOCK = re.compile(r"(?:^    .*\n|^\n(?=    ))+", re.M)
 SESSION = "(gdb) "
-SECONDS = 900  # for a block: the unproved program is slow, and a machine may have other work
 
 
 def blocks(text):
@@ -63,12 +64,12 @@ def clone(tmp_path):
 
 def check_page(clone, page):
     """Runs the blocks of a page in order."""
-    environment = {name: value for name, value in os.environ.items() if name != "RVBENCH"}
+    environment = {name: value for name, value in {**os.environ, **clock.ENVIRONMENT}.items() if name != "RVBENCH"}
     count = 0
     for script, wanted in blocks((clone / page).read_text(encoding="utf-8")):
         count += 1
         script = FINDS.sub(r"{ \g<0>\n} || [ $? = 1 ]", script)
-        done = subprocess.run(["bash", "-e", "-c", script], cwd=clone, capture_output=True, text=True, env=environment, timeout=SECONDS,
+        done = subprocess.run(["bash", "-e", "-c", script], cwd=clone, capture_output=True, text=True, env=environment, timeout=HANG,
                               check=False)
         assert done.returncode == 0, (script, done.stderr[-400:])
         assert wanted is None or matches(done.stdout.rstrip("\n").split("\n"), wanted), (script, done.stdout)

@@ -4,6 +4,8 @@ from pathlib import Path
 
 import pytest
 
+from models.example_arguments import arguments_of
+
 ROOT = Path(__file__).resolve().parents[2]
 PAGES = sorted([ROOT / "README.md", *ROOT.glob("docs/**/*.md"), *ROOT.glob("examples/**/*.md"), *ROOT.glob("tests/**/*.md")])
 NUMBERS = {name: number for number, name in enumerate((
@@ -52,7 +54,7 @@ def test_links_lead_to_a_file_and_a_heading(page):
 
 def test_the_number_of_attacks_is_right():
     folders = [it for it in (ROOT / "examples" / "attacks").iterdir() if it.is_dir()]
-    twins = [it for it in folders if (it / "words").read_text().startswith("twin")]
+    twins = [it for it in folders if arguments_of(it)[0] == "twin"]
     found = [(page.name, NUMBERS[(match[1] or match[2]).lower()]) for page in PAGES for match in COUNTED.finditer("\n".join(prose(page)))]
     assert {number for _, number in found} <= {len(folders), len(twins)}, found
     assert sum(number == len(folders) for _, number in found) >= 3, found

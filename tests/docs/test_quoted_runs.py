@@ -10,9 +10,11 @@ from pathlib import Path
 
 import pytest
 
+from support.clock import processor_clock as clock
+from support.limits import HANG
+
 ROOT = Path(__file__).resolve().parents[2]
 PAGES = [ROOT / "README.md", *sorted(ROOT.glob("docs/**/*.md"))]
-SECONDS = 60
 BUILT = ("../my_enclave", "../pin_enclave", "../tested_enclave")  # by a page
 
 
@@ -33,8 +35,8 @@ def runs_of(text):
 def is_quoted(program, command, wanted):
     """Returns whether a command prints these lines."""
     words = command.replace("./rvbench", '"$RVBENCH"')
-    ran = subprocess.run(["bash", "-c", words], cwd=ROOT, capture_output=True, text=True, timeout=SECONDS, check=False,
-                         env={**os.environ, "RVBENCH": program, "TERM": "dumb"})
+    ran = subprocess.run(["bash", "-c", words], cwd=ROOT, capture_output=True, text=True, timeout=HANG, check=False,
+                         env={**os.environ, **clock.ENVIRONMENT, "RVBENCH": program, "TERM": "dumb"})
     lines = ran.stdout.rstrip("\n").split("\n")
     if not command.startswith("./rvlook"):
         return lines == wanted

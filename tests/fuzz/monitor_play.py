@@ -25,6 +25,7 @@ from models.monitor_bench import Bench, Twins, parsed, wanted
 from generators.monitor_case import input_of
 from models.monitor_model import CREATE, DESTROY, EXIT, HOST_ENTRY, KEY, MEASURE, RESUME, RUN, STOP
 from models.privileged_hart import NUMBER, ONES, S, START
+from support.limits import HANG
 
 MEMORY = 0x40000
 PAST = START + MEMORY
@@ -352,7 +353,7 @@ class OtherHartPlay(Play):
 
 def answered(program, play, lines):
     """Returns the output of the program."""
-    ran = subprocess.run([program, *play.words], input=input_of(play.image.hex(), lines).encode(), stdout=subprocess.PIPE, timeout=600)
+    ran = subprocess.run([program, *play.words], input=input_of(play.image.hex(), lines).encode(), stdout=subprocess.PIPE, timeout=HANG)
     return ran.stdout.decode("latin-1")
 
 

@@ -18,16 +18,17 @@ import sys
 from models import case_format
 from models import fuzz_model
 from fuzz.inputs import KINDS, LONG, drawn
+from support.limits import HANG
 
-SECONDS, TRIES = 30, 2000
+TRIES = 2000
 
 
 def written(program, words, data):
     """Runs the program; returns its output and its status, which is not a number if it did not end."""
     try:
-        ran = subprocess.run([program, *words], input=data, stdout=subprocess.PIPE, timeout=SECONDS)
+        ran = subprocess.run([program, *words], input=data, stdout=subprocess.PIPE, timeout=HANG)
     except subprocess.TimeoutExpired:
-        return b"", "none after %d seconds" % SECONDS
+        return b"", "none after %d seconds" % HANG
     return ran.stdout, ran.returncode
 
 

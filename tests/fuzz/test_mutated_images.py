@@ -2,6 +2,8 @@
 import subprocess
 from pathlib import Path
 
+from support.limits import HANG
+
 ROWS = Path(__file__).with_name("mutated_images")
 
 
@@ -28,7 +30,7 @@ def test_each_mutated_image_has_its_error(bench):
             wanted = (b"", 0) if fault == "0" else (b"rvbench: image %s\n" % fault.encode(), 1)
             digits = mutated(whole, edits)
             text = "".join(digits[at:at + 120] + "\n" for at in range(0, len(digits), 120)) or "\n"
-            done = subprocess.run([bench, "run", "--kind", "elf"], input=text.encode(), stdout=subprocess.PIPE, timeout=60, check=False)
+            done = subprocess.run([bench, "run", "--kind", "elf"], input=text.encode(), stdout=subprocess.PIPE, timeout=HANG, check=False)
             if (done.stdout, done.returncode) != wanted:
                 wrong.append(line)
     assert wrong == []

@@ -23,7 +23,7 @@ def test_random_inputs(bench, capsys, arguments):
 
 
 def test_superinstructions_are_those_of_the_decode_cache():
-    table = re.findall(r"\(Operation::(\w+), Operation::(\w+)\) =>", (ROOT / "crates/rv_hart/src/fused.rt").read_text(encoding="utf-8"))
+    table = re.findall(r"\(Operation::(\w+), Operation::(\w+)\) =>", (ROOT / "crates/rv_fast_path/src/fused.rt").read_text(encoding="utf-8"))
     assert sorted((first.lower(), second.lower()) for first, second in table) == sorted(inputs.SUPERINSTRUCTIONS)
 
 

@@ -15,6 +15,7 @@ import os
 import sys
 
 from models.assembly_model import assembled, disassembled, lines_of, read_line, words_of
+from models.example_arguments import arguments_of
 from models.monitor_bench import cut_at, wanted
 from models.monitor_model import HOST_ENTRY
 
@@ -39,7 +40,7 @@ def folders():
 
 
 def is_twin(name):
-    return text_of(name, "words").split()[:1] == ["twin"]
+    return arguments_of(name)[:1] == ["twin"]
 
 
 def source_of(name):
@@ -86,7 +87,7 @@ def built(name):
     words = assembled(source_of(name))
     assert isinstance(words, list), (name, words)
     image = image_of_words(words)
-    stdout, status = wanted(image + text_of(name, "script"), text_of(name, "words").split())
+    stdout, status = wanted(image + text_of(name, "script"), arguments_of(name))
     assert status == 0, (name, stdout)
     return {"image": image, "stdout": stdout}
 
@@ -108,7 +109,7 @@ def fault_of(name):
     if name == RACE:
         return ""
     if has_secret(name):
-        other = wanted(other_of(input_of(name)), text_of(name, "words").split())[0]
+        other = wanted(other_of(input_of(name)), arguments_of(name))[0]
         return "" if other == stdout != "" else "its secret changes the output"
     if is_twin(name):
         return "" if are_alike(stdout) else "the benches differ"

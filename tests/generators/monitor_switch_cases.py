@@ -331,7 +331,7 @@ ALLOWED_IN_S = (("wfi",), ("sfence.vma", 0, 0), ("sfence.vma", 5, 6), ("fence io
                 ("csrrw", 5, 0x180, 6), ("csrrw", 5, 0x104, 6), ("csrrs", 5, 0x144, 6))
 
 
-def forwarded(case, code):
+def redirected(case, code):
     """Each exception in S and in U, with every combination of SIE and SPIE; the handler is at `code`."""
     case.set(6, 0x8000FFFC)
     case.set(7, PAST)
@@ -354,14 +354,14 @@ def forwarded(case, code):
     case.say("regs", "enclaves", "csr b00", "csr b02")
 
 
-def forwarding():
+def redirection():
     for world in ("host", "enclave"):
-        case = Case("forwarding", "of_the_" + world)
+        case = Case("redirection", "of_the_" + world)
         case.create(BASE, 0x2000, window=(WINDOW, PAGE))
         if world == "enclave":
             case.enter(0)
-        forwarded(case, case.machine.pc + 0x800 & ~0x1F)
-    case = Case("forwarding", "allowed_in_s_and_not_in_u")
+        redirected(case, case.machine.pc + 0x800 & ~0x1F)
+    case = Case("redirection", "allowed_in_s_and_not_in_u")
     for instruction in ALLOWED_IN_S:
         assert case.do(instruction).endswith("trap=-")
     for instruction in ALLOWED_IN_S:
@@ -374,7 +374,7 @@ def forwarding():
             case.do(ECALL)
     for world in ("host", "e0"):
         for low in range(4):
-            case = Case("forwarding", "stvec_with_low_bits_%d_in_%s" % (low, world))
+            case = Case("redirection", "stvec_with_low_bits_%d_in_%s" % (low, world))
             case.create(BASE)
             if world == "e0":
                 case.enter(0)
@@ -387,7 +387,7 @@ def forwarding():
             case.is_now(pc=handler)
             case.supervisor()
     for world in ("host", "e0"):
-        case = Case("forwarding", "one_fault_in_the_handler_of_another_in_" + world)
+        case = Case("redirection", "one_fault_in_the_handler_of_another_in_" + world)
         if world == "e0":
             case.create(BASE)
             case.enter(0)
@@ -402,7 +402,7 @@ def forwarding():
             case.is_now(pc=handler, mode="S", world=world)
         case.say("step 5")
         case.supervisor()
-    case = Case("forwarding", "a_handler_outside_memory")
+    case = Case("redirection", "a_handler_outside_memory")
     case.create(BASE)
     case.enter(0)
     case.do((".word", 0))
@@ -423,7 +423,7 @@ def forwarding():
     case.do((".word", 0))
     case.say("step 3")
     case.supervisor()
-    case = Case("forwarding", "sret")
+    case = Case("redirection", "sret")
     for spp in (0, 0x100):
         for flags in (0, 2, 0x20, 0x22, 0x80022):
             case.write(stvec=case.machine.pc + 0x80, sstatus=spp | flags, sepc=case.machine.pc + 16)
@@ -433,7 +433,7 @@ def forwarding():
             if not spp:
                 case.do(ECALL)
                 case.supervisor()
-    case = Case("forwarding", "calls_of_the_handler")
+    case = Case("redirection", "calls_of_the_handler")
     # a runtime in S serves its application in U: it handles each ecall of U, and stops
     case.create(BASE, window=(WINDOW, PAGE))
     case.enter(0)
@@ -457,7 +457,7 @@ def forwarding():
 
 def after_each_kind():
     """mepc, mcause, mtval and mstatus after each kind of trap, in the host and in an enclave."""
-    case = Case("forwarding", "what_every_trap_leaves")
+    case = Case("redirection", "what_every_trap_leaves")
     case.trapped()
     for function, arguments in ((CREATE, (BASE, PAGE, WINDOW, PAGE, BASE)), (CREATE, (BASE, 1)), (MEASURE, (0, WINDOW)),
                                 (MEASURE, (0, 0)), (DESTROY, (1,)), (99, ())):
@@ -490,5 +490,5 @@ def after_each_kind():
 
 
 def parts():
-    for part in (layouts, switches, timers, forwarding, after_each_kind):
+    for part in (layouts, switches, timers, redirection, after_each_kind):
         part()

@@ -10,12 +10,12 @@ from conftest import ROOT
 from peers.planted import errors
 from peers.qemu.deviations import DEVIATIONS
 from peers.qemu.stops import STOPS
+from support.limits import HANG
 
 PAGE = (ROOT / "docs" / "PEERS.md").read_text(encoding="utf-8")
 COMMANDS = re.findall(r"^    (tests/peers/run .*)$", PAGE, re.M)
 NEEDED = {"qemu": "qemu-system-riscv32", "harts": "qemu-system-riscv32", "assemblers": "llvm-mc", "gcc": "riscv64-unknown-elf-gcc",
           "arch-test": "riscv64-unknown-elf-gcc"}
-SECONDS = 600
 
 
 @pytest.mark.parametrize("command", COMMANDS)
@@ -23,7 +23,7 @@ def test_a_command_of_the_page_finds_no_difference(bench, command):
     tool = NEEDED[command.split()[1]]
     if not shutil.which(tool):
         pytest.skip("%s is not installed" % tool)
-    done = subprocess.run(["bash", "-c", command], cwd=ROOT, env={**os.environ, "RVBENCH": bench}, capture_output=True, text=True, timeout=SECONDS,
+    done = subprocess.run(["bash", "-c", command], cwd=ROOT, env={**os.environ, "RVBENCH": bench}, capture_output=True, text=True, timeout=HANG,
                           check=False)
     if "gcc-12-source" in done.stderr:
         pytest.skip("the sources of GCC's tests (Debian: gcc-12-source) are not installed")
@@ -36,7 +36,7 @@ def test_a_comparison_of_nothing_does_not_succeed(bench, words, status):
     if not shutil.which(NEEDED["arch-test"]):
         pytest.skip("%s is not installed" % NEEDED["arch-test"])
     command = [ROOT / "tests" / "peers" / "run", "--program", bench, *words]
-    done = subprocess.run(command, capture_output=True, text=True, timeout=SECONDS, check=False)
+    done = subprocess.run(command, capture_output=True, text=True, timeout=HANG, check=False)
     assert done.returncode == status, done.stdout + done.stderr
 
 
@@ -46,7 +46,7 @@ def test_the_page_has_a_command_for_each_comparison():
 
 @pytest.mark.parametrize("row", [*DEVIATIONS, *STOPS], ids=lambda it: it.name)
 def test_the_page_has_each_deviation(row):
-    assert "| %s | %s | %s | %s |\n" % (row.name, row.section, row.text, "choice" if row.is_choice else "against it") in PAGE
+    assert "| %s | %s | %s | %s |\n" % (row.name, row.section, row.text, "left open" if row.is_choice else "against the manual") in PAGE
 
 
 def test_the_page_has_each_planted_error_and_who_noticed_it():

@@ -350,6 +350,7 @@ def test_inputs_have_scripts_and_failures_of_the_run(built, tmp_path):
     assert not found.unfinished and "Covered:" in found.report
 
 
+@pytest.mark.usefixtures("processor_clock")
 def test_verify_has_scripts_and_says_what_is_open(built, tmp_path):
     pytest.importorskip("z3", reason="python3-z3 is not installed")
     store = load(build(EXAMPLES / "enclaves" / "store", tmp_path / "store.elf"))

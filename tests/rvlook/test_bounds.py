@@ -1,8 +1,10 @@
 """Endless and large inputs end with one line, soon and in little memory."""
+import os
+import subprocess
 import time
 
 import pytest
-from support.hostile import check, run
+from support.hostile import ROOT, check, run
 
 LITTLE = 400 << 20  # bytes
 SUM = "examples/programs/sum/stdin"
@@ -13,6 +15,22 @@ def image(tmp_path):
     path = tmp_path / "image"
     path.write_text("6f000000\n--\nstep 1\n")
     return path
+
+
+FRESH = """
+import mmap, sys
+from support.hostile import SLACK, run
+with mmap.mmap(-1, 4 << 30, flags=mmap.MAP_PRIVATE | mmap.MAP_ANONYMOUS, prot=mmap.PROT_READ):
+    for more in ({}, {"memory": (1 << 20) - SLACK}):
+        done = run(sys.argv[1], "map", sys.argv[2], **more)
+        print(done.status, "out of memory" in done.errors.decode())
+"""
+
+
+def test_limit_of_memory_counts_from_the_addresses_of_the_process(bench, image):
+    done = subprocess.run(["/usr/bin/python3", "-c", FRESH, bench, image], env={**os.environ, "PYTHONPATH": str(ROOT / "tests")},
+                          capture_output=True, text=True, check=True)
+    assert done.stdout.split("\n") == ["0 False", "3 True", ""]
 
 
 def test_image_without_end_is_refused(bench):

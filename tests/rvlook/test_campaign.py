@@ -1,13 +1,15 @@
 """Long work in parts with GNU parallel, as in docs/ASK.md. Work that is killed and resumed loses nothing, repeats nothing, and has the results of
 one run."""
+import contextlib
 import json
 import os
 import shutil
 import signal
 import subprocess
-import time
 
 import pytest
+from support.limits import wait_until
+from support.processes import of_session
 
 from conftest import EXAMPLES, PROGRAMS, RVLOOK
 
@@ -32,12 +34,13 @@ class Campaign:
         assert (done.returncode, done.stderr) == (0, "")
 
     def kill_after(self, count):
-        """Starts the work, and kills it with its jobs after this many have ended."""
+        """Starts the work, and kills it with its jobs after this many have ended. GNU parallel gives each job a process group of its own."""
         process = subprocess.Popen(self.command, stdout=subprocess.DEVNULL, stderr=subprocess.DEVNULL, env=self.environment, start_new_session=True)
-        end = time.monotonic() + 60
-        while time.monotonic() < end and len(self.ended()) < count:
-            time.sleep(0.05)
-        os.killpg(process.pid, signal.SIGKILL)
+        wait_until(lambda: len(self.ended()) >= count)
+        while found := of_session(process.pid):
+            for it in found:
+                with contextlib.suppress(ProcessLookupError):
+                    os.kill(it, signal.SIGKILL)
         process.wait()
 
     def ended(self):
@@ -57,10 +60,14 @@ def job_of(words, rest):
 
 
 def test_killed_campaign_is_resumed_without_loss(results, bench, tmp_path):
+    """The last jobs wait for a file, so that the work is killed before its end."""
+    resumed = tmp_path / "resumed"
     job = job_of(LEAK, "--tries %d --from {} --to $(({} + %d))" % (TRIES, PART - 1))
-    campaign = Campaign(tmp_path, bench, job, range(1, TRIES, PART))
+    waiting = "[ {} -lt %d ] || until [ -e %s ]; do sleep 0.1; done; " % (TRIES - 2 * PART, resumed)
+    campaign = Campaign(tmp_path, bench, waiting + job, range(1, TRIES, PART))
     campaign.kill_after(2)
     assert 0 < len(campaign.ended()) < TRIES // PART, "it was not killed between two jobs"
+    resumed.touch()
     campaign.run()
     assert sorted(campaign.ended()) == list(range(1, TRIES // PART + 1)), "a job is missing, or was done twice"
     key = lambda it: (it["number"], it["bytes"], it["channels"])

@@ -28,7 +28,7 @@ def wrong_order(tmp_path_factory):
 # ---- the example
 
 def test_example_is_alike_and_covers_every_cell(rvlook):
-    done = rvlook("conform", IMAGE, "--symbols", OWN / "symbols", "--jobs", "2", "--tries", "8", timeout=400)
+    done = rvlook("conform", IMAGE, "--symbols", OWN / "symbols", "--jobs", "2", "--tries", "8")
     assert (done.returncode, done.stderr) == (0, "")
     assert done.stdout.startswith("alike: ") and "\ncoverage: 66 of 66 cells\n" in done.stdout
 
@@ -41,6 +41,11 @@ def test_jobs_give_the_same_result(rvlook):
     one = rvlook("conform", IMAGE, "--only", "measured", "--tries", "0")
     assert one.stdout == rvlook("conform", IMAGE, "--only", "measured", "--tries", "0", "--jobs", "3").stdout
     assert one.returncode == 0 and one.stdout.startswith("alike: 11 scripts")
+
+
+def test_time_limit_counts_with_only_too(rvlook):
+    done = rvlook("conform", IMAGE, "--only", "measured", "--tries", "0", "--seconds", "0")
+    assert done.returncode == 3 and "the time limit of 0 seconds left out 10 scripts" in done.stderr
 
 
 # ---- comparison
@@ -140,7 +145,7 @@ def test_byte_that_m_writes_at_a_redirected_trap_is_found(tmp_path):
 
 def shrunk_of(items, is_different, name="x1"):
     """Shrinks a list of numbers in place of items; a run differs if `is_different` accepts the numbers."""
-    from rvlook.monitors import shrink
+    from rvlook.monitors import conform
     from rvlook.monitors.comparison import MonitorDifference, DifferenceKind
     from rvlook.monitors.pair import Played, PairStep
 
@@ -148,12 +153,12 @@ def shrunk_of(items, is_different, name="x1"):
         different = [MonitorDifference(DifferenceKind.register, is_different(numbers), "0", "1")] if is_different(numbers) else []
         return Played("test", [PairStep(it, "host", "") for it in numbers], different)
 
-    original = shrink.play
-    shrink.play = lambda setup, script, numbers, memory: played(numbers)
+    original = conform.play
+    conform.play = lambda setup, script, numbers, memory: played(numbers)
     try:
-        return shrink.Shrinker(None, played(items)).shrink()
+        return conform.Shrinker(None, played(items)).shrink()
     finally:
-        shrink.play = original
+        conform.play = original
 
 
 def test_shrinker_keeps_exactly_what_is_needed():
@@ -254,7 +259,7 @@ def test_boot_file_replaces_the_lines(rvlook, tmp_path):
     assert done.returncode == 1 and "\n  pc\n    own monitor        80010004\n" in done.stdout
     boot.write_text("setrg 10 80010004\n")
     done = rvlook("conform", IMAGE, "--boot", boot)
-    assert (done.returncode, done.stderr) == (2, "rvlook: error: boot line 'setrg 10 80010004': error command\n")
+    assert (done.returncode, done.stderr) == (2, "rvlook: error: boot line 'setrg 10 80010004': unknown command 'setrg'; did you mean 'setreg'?\n")
 
 
 def test_stored_boot_has_the_default_ram():

@@ -64,7 +64,7 @@ def test_bug_is_found(bug, tmp_path):
 
 
 def test_names_of_large_scripts_have_each_power_of_two():
-    from rvlook.monitors.directed_large import large_scripts
+    from rvlook.monitors.directed import large_scripts
     names = {name for name, _ in large_scripts(0x400000)}
     for kind in ("block: region of %x bytes", "block: window of %x bytes", "block: regions of %x bytes at other bases", "block: beside a region of %x bytes"):
         assert {kind % (1 << n) for n in range(12, 22)} <= names
@@ -92,6 +92,6 @@ def test_report_of_a_long_script_shows_its_ends():
 
 
 def test_default_is_within_32_kib_and_deep_is_alike_for_the_example(rvlook):
-    done = rvlook("conform", OWN / "image", "--deep", "--only", "block: region of 200000", "--jobs", "2", timeout=300)
+    done = rvlook("conform", OWN / "image", "--deep", "--only", "block: region of 200000", "--jobs", "2")
     assert done.returncode == 0 and done.stdout.startswith("alike: 3 scripts")
     assert "no script has" in rvlook("conform", OWN / "image", "--only", "block: region of 200000").stderr

@@ -43,7 +43,7 @@ def larger(folder):
 
 
 def test_second_monitor_is_alike(rvlook, tmp_path):
-    done = rvlook("conform", made(tmp_path), "--jobs", "2", "--tries", "10", timeout=300)
+    done = rvlook("conform", made(tmp_path), "--jobs", "2", "--tries", "10")
     assert done.returncode in (0, 3) and done.stdout.startswith("alike: "), done.stdout
 
 
@@ -60,7 +60,7 @@ def test_sixty_bugs_beyond_small_scripts_are_planted():
 
 
 def test_monitor_at_another_base_with_more_memory_is_alike(rvlook, tmp_path):
-    done = rvlook("conform", larger(tmp_path), *ELSEWHERE, "--tries", "6", "--jobs", "2", timeout=300)
+    done = rvlook("conform", larger(tmp_path), *ELSEWHERE, "--tries", "6", "--jobs", "2")
     assert done.returncode in (0, 3) and done.stdout.startswith("alike: "), done.stdout
 
 

@@ -4,6 +4,7 @@ import subprocess
 
 import pytest
 from support.hostile import ROOT, check, named, run
+from support.limits import HANG
 
 ASCII = {"LC_ALL": "C", "PYTHONUTF8": "0", "PYTHONCOERCECLOCALE": "0", "PYTHONIOENCODING": ""}
 LOCALES = {"ascii": ASCII, "utf-8": {"LC_ALL": "C.UTF-8"}, "forced": {"PYTHONIOENCODING": "ascii"}}
@@ -21,7 +22,7 @@ def elf(tmp_path):
 
 def ended(bench, environment, *words, stdin=b""):
     """The status, the output and the errors under a locale."""
-    done = subprocess.run([os.fsencode(ROOT / "rvlook"), *map(os.fsencode, words)], input=stdin, capture_output=True, check=False, timeout=120,
+    done = subprocess.run([os.fsencode(ROOT / "rvlook"), *map(os.fsencode, words)], input=stdin, capture_output=True, check=False, timeout=HANG,
                           env={**os.environ, "RVBENCH": bench, "TERM": "dumb", **environment})
     assert b"Traceback" not in done.stderr, done.stderr.decode("latin-1")
     return done.returncode, done.stdout, done.stderr

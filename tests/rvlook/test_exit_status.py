@@ -4,6 +4,7 @@ import subprocess
 import xml.etree.ElementTree as ElementTree
 
 import pytest
+from support.limits import HANG
 
 from conftest import ROOT, RVLOOK
 
@@ -109,7 +110,7 @@ def test_interrupt_keeps_its_status(bench, short_program):
     with process:
         process.stdout.readline()
         process.send_signal(signal.SIGINT)
-        process.communicate(timeout=60)
+        process.communicate(timeout=HANG)
     assert process.returncode == 130
 
 

@@ -4,6 +4,7 @@ import subprocess
 import xml.etree.ElementTree as tree
 
 import pytest
+from support.limits import HANG
 
 from conftest import EXAMPLES, ROOT, RVLOOK
 
@@ -29,7 +30,7 @@ LONG = {
 def run_shell(bench, line, *words):
     """Runs a shell line that contains rvlook with these arguments as `"$0" "$@"`; returns its `CompletedProcess`."""
     return subprocess.run(["bash", "-c", line, RVLOOK, *map(str, words)], env={**os.environ, "RVBENCH": bench, "TERM": "dumb"}, cwd=ROOT,
-                          capture_output=True, text=True, timeout=120, check=False)
+                          capture_output=True, text=True, timeout=HANG, check=False)
 
 
 def check(done, statuses):
@@ -105,7 +106,7 @@ def test_report_replaces_a_link_and_not_its_target(rvlook, tmp_path):
 
 def test_report_of_a_fault_of_rvlook_has_an_error(bench, tmp_path):
     report = tmp_path / "report.xml"
-    code = ("import sys; sys.path[0] = %r; import rvlook.trace.tracer as it; it.Tracer.events = lambda self: 1 // 0; "
+    code = ("import sys; sys.path[0] = %r; import rvlook.trace.tracer as it; it.RunTracer.events = lambda self: 1 // 0; "
             "from rvlook.__main__ import main; sys.exit(main(sys.argv[1:]))" % str(ROOT / "python"))
     done = subprocess.run(["/usr/bin/python3", "-c", code, "trace", *map(str, ADDS), "--junit", report], env={**os.environ, "RVBENCH": bench},
                           capture_output=True, text=True, check=False)

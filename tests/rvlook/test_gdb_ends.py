@@ -9,13 +9,15 @@ import sys
 import time
 
 import pytest
+from support.limits import HANG, wait_until
 from support.packets import packet
+from support.processes import children_of, end_soon, processor_time_of
 
 from conftest import EXAMPLES, ROOT, RVLOOK
 
 IMAGE, MONITOR = EXAMPLES / "enclaves" / "timer" / "image", ("--monitor",)
 ENDLESS = "1303130013031300\n6ff09fff\n"  # a loop that never halts
-SOON = 0.05  # seconds within which Ctrl-C halts
+SOON = 0.05  # seconds of processor time within which Ctrl-C halts
 GONE = "rvlook: note: the debugger disconnected\n"
 KILLED = "rvlook: error: %s: rvbench exited with status -9\n" % IMAGE
 PARENT = "import subprocess, sys, time\nit = subprocess.Popen(%r, stdin=subprocess.PIPE)\nprint(it.pid, flush=True)\n" \
@@ -52,27 +54,11 @@ def server(environment):
         it.stderr.close()
 
 
-def children_of(number):
-    """The processes that a process has started, by their numbers."""
-    shown = subprocess.run(["ps", "-o", "pid=,args=", "--ppid", str(number)], capture_output=True, text=True, check=False).stdout
-    return [int(line.split()[0]) for line in shown.splitlines() if "ps -o" not in line]
-
-
-def are_gone(numbers):
-    """Whether all of these processes end soon."""
-    end = time.monotonic() + 10
-    while time.monotonic() < end:
-        if not any(os.path.exists("/proc/%d" % it) for it in numbers):
-            return True
-        time.sleep(0.02)
-    return False
-
-
 def check_end(process, numbers, status, message):
     """Checks the status of a server, its line, and that none of its processes is left."""
-    assert process.wait(10) == status
+    assert process.wait(HANG) == status
     assert process.stderr.read().decode() == message
-    assert numbers and are_gone(numbers)
+    assert numbers and end_soon(numbers)
 
 
 @pytest.mark.parametrize("text, message", [("D", ""), ("vKill;1", ""), ("k", ""), ("", GONE)], ids=["detach", "kill", "k", "nothing"])
@@ -98,11 +84,12 @@ def test_server_ends_if_the_debugger_is_killed_meanwhile(environment, endless, p
     code = PARENT % ([str(RVLOOK), "gdb", endless], data)
     parent = subprocess.Popen([sys.executable, "-c", code], cwd=ROOT, env=environment, stdout=subprocess.PIPE, stderr=subprocess.PIPE)
     number = int(parent.stdout.readline())
+    assert wait_until(lambda: children_of(number))
     time.sleep(0.7)
     numbers = [number, *children_of(number)]
     parent.kill()
-    parent.wait(10)
-    assert are_gone(numbers)
+    parent.wait(HANG)
+    assert end_soon(numbers)
     assert parent.stderr.read().decode() == GONE
     parent.stdout.close()
     parent.stderr.close()
@@ -163,7 +150,7 @@ def test_number_that_is_no_port_is_refused(rvlook):
 def test_interrupt_before_a_debugger_comes_ends_the_server(server):
     process, _ = server()
     process.send_signal(signal.SIGINT)
-    assert (process.wait(10), process.stderr.read().decode()) == (130, "rvlook: error: interrupted\n")
+    assert (process.wait(HANG), process.stderr.read().decode()) == (130, "rvlook: error: interrupted\n")
 
 
 def test_terminal_gets_the_command_for_a_debugger(environment):
@@ -179,17 +166,18 @@ def test_terminal_gets_the_command_for_a_debugger(environment):
     (MONITOR, ()), ((*MONITOR, "--harts", "2"), ()), (MONITOR, ("Z2,80020000,4",)), (MONITOR, ("qRcmd," + b"catch trap".hex(),))],
     ids=["one hart", "two harts", "watchpoint", "catchpoint"])
 def test_interrupt_halts_soon(debugger, endless, words, before):
-    """The best of three times counts, since the machine may be busy."""
+    """The processor time of the server and of rvbench counts, since the machine may be busy, and the best of three times."""
     with debugger(endless, words) as client:
         for text in before:
             client.ask(text)
-        times = []
+        pid, times = client.process.pid, []
+        processes = [pid, *children_of(pid)]
         for _ in range(3):
             client.give(packet("vCont;c"))
             time.sleep(0.3)
-            began = time.monotonic()
+            began = sum(map(processor_time_of, processes))
             client.give(b"\x03")
             answer = client.answer()
-            times.append(time.monotonic() - began)
+            times.append(sum(map(processor_time_of, processes)) - began)
             assert answer[:3] == "T02"
     assert min(times) < SOON

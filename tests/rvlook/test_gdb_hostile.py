@@ -7,6 +7,7 @@ import subprocess
 
 import pytest
 from support.hostile import HELLO, ROOT
+from support.limits import HANG
 from support.packets import REPLY, monitor, packet, replies, shown
 
 REGISTERS = re.compile(rb"[0-9a-f]{264}\Z")
@@ -120,7 +121,7 @@ class Port:
                                         stderr=subprocess.PIPE, env={**os.environ, "RVBENCH": bench, "TERM": "dumb"})
         line = next(it for it in self.process.stderr if b"localhost:" in it)
         self.connection = socket.create_connection(("localhost", int(line.rsplit(b":")[-1])))
-        self.connection.settimeout(60)
+        self.connection.settimeout(HANG)
 
     def __enter__(self):
         return self
@@ -128,7 +129,7 @@ class Port:
     def __exit__(self, *_):
         self.connection.close()
         self.process.stderr.close()
-        self.process.wait(60)
+        self.process.wait(HANG)
 
     def monitor(self, line):
         """Returns the output of a line of `monitor`."""
@@ -172,7 +173,7 @@ def test_debugger_makes_no_folder(bench, elf, tmp_path, words):
 def test_acknowledgement_does_not_hide_an_interrupt(bench, tmp_path, before):
     path = tmp_path / "image"
     path.write_text("6f000000\n")
-    found, _ = replies(bench, path, packet("vCont;c"), before + b"\x03", timeout=30)
+    found, _ = replies(bench, path, packet("vCont;c"), before + b"\x03")
     assert [it for it in found if it[:1] in b"ST"][-1].startswith(b"T")
 
 
@@ -195,14 +196,14 @@ def test_monitor_of_lldb_acts_on_the_hart_that_halted_and_advises_for_lldb(bench
 
 
 def test_impatient_debugger_is_shown_that_there_is_still_work(monkeypatch):
-    import time
+    import select
     from rvlook.gdb import link as gdb_link
     monkeypatch.setattr(gdb_link, "PATIENCE", 0.1)
     monkeypatch.setattr(gdb_link, "OFTEN", 0.05)
     reading, writing = os.pipe()
     out, sink = os.pipe()
     with gdb_link.Link(reading, sink).watched(is_impatient=True):
-        time.sleep(0.5)
+        assert select.select([out], [], [], HANG)[0]
     assert packet("O2e") in os.read(out, 4096)
     for it in (reading, writing, out, sink):
         os.close(it)

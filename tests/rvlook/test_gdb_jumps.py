@@ -6,13 +6,14 @@ import subprocess
 
 import pytest
 from support.gdb_client import PC
+from support.limits import HANG
 
-from rvlook.gdb.jumps import REACH, jump_word
+from rvlook.gdb.moves import REACH, jump_word
 
 from conftest import EXAMPLES, ROOT
 
 TIMER, MONITOR = EXAMPLES / "enclaves" / "timer" / "image", ("--monitor",)
-START, SECONDS = 0x80010000, 120
+START = 0x80010000
 
 
 def little(address):
@@ -63,7 +64,7 @@ def test_continue_at_an_address_jumps_there(debugger):
 def test_jump_words_are_those_of_the_assembler(bench):
     places = (-REACH, -4, 0, 4, 2048, 4096, 0x7FE, 0xFF000, REACH - 4)
     text = "".join("jal x0, %d\n" % it for it in places)
-    done = subprocess.run([bench, "asm"], input=text, capture_output=True, text=True, timeout=SECONDS, check=True)
+    done = subprocess.run([bench, "asm"], input=text, capture_output=True, text=True, timeout=HANG, check=True)
     words = struct.unpack("<%dI" % len(places), bytes.fromhex(done.stdout.replace("\n", "")))
     assert [jump_word(it) for it in places] == list(words)
 
@@ -74,7 +75,7 @@ def test_gdb_calls_a_function_and_jumps(bench, built):
     commands = ["target remote | %s gdb --monitor %s" % (ROOT / "rvlook", elf), "break main", "continue", "call print_number(4711)",
                 "print host_console.written", "jump *main", "delete", "continue"]
     words = [it for line in commands for it in ("-ex", line)]
-    done = subprocess.run(["gdb-multiarch", "-q", "-nx", "-batch", "-iex", "set confirm off", "-iex", "set remotetimeout 60", *words, elf],
-                          capture_output=True, text=True, env={**os.environ, "RVBENCH": bench}, timeout=SECONDS, check=False)
+    done = subprocess.run(["gdb-multiarch", "-q", "-nx", "-batch", "-iex", "set confirm off", "-iex", "set remotetimeout %d" % HANG, *words, elf],
+                          capture_output=True, text=True, env={**os.environ, "RVBENCH": bench}, timeout=HANG, check=False)
     assert "$1 = 4\n" in done.stdout and done.stdout.count("Breakpoint 1, main") == 2, done.stdout + done.stderr
     assert "host console: red: ^[[31m" in done.stderr and done.stderr.count("[pc is set to ") >= 2

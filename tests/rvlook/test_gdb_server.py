@@ -4,6 +4,7 @@ from xml.etree import ElementTree
 
 import pytest
 from support.gdb_client import states_of
+from support.limits import HANG
 from support.packets import packet
 
 from conftest import EXAMPLES
@@ -114,7 +115,7 @@ def test_bytes_and_registers_are_written_and_a_new_run_is_as_before(debugger):
         assert client.halt("?")[1][32] == "pc=80010000"
         client.give(b"$k#6b")
         client.process.stdin.close()
-        assert client.process.wait(10) == 0
+        assert client.process.wait(HANG) == 0
 
 
 def test_monitor_takes_a_line_of_the_bench(debugger, replies):

@@ -7,17 +7,19 @@ import shutil
 import subprocess
 
 import pytest
+from support.limits import HANG
 
 from conftest import EXAMPLES, ROOT
 
 PAGE = (ROOT / "docs" / "DEBUGGER.md").read_text(encoding="utf-8")
 GDB, LLDB, ADAPTER = "gdb-multiarch", "lldb-14", "lldb-vscode-14"
+# The settings with which the debuggers wait for a reply of the server.
+GDB_WAITS, LLDB_WAITS = "remotetimeout %d" % HANG, "settings set plugin.process.gdb-remote.packet-timeout %d" % HANG
 PLAIN = [it for words in ("style enabled off", "width 0", "height 0", "confirm off", "filename-display basename")
          for it in ("-iex", "set " + words)]
 BUILT = {"hmac.elf": "enclaves/hmac", "two_harts.elf": "enclaves/two_harts"}
 HEAD = re.compile(r"^    (?!\().*\./rvlook gdb (?:--port \d+ )?((?:--\S+ (?:\d+ )?)*)(\S+\.elf).*\n", re.M)
 STEP = re.compile(r"    \((gdb|lldb)\) (.*)\n((?:    (?!\((?:gdb|lldb)\) ).*\n|\n(?=    (?!\((?:gdb|lldb)\) )))*)")
-LIMIT = 60  # seconds of a session
 
 
 def sessions_of(text):
@@ -79,24 +81,24 @@ def need(tool):
 def printed(words, folder, environment, lines):
     """Returns the output of a program for these lines of input."""
     return subprocess.run(words, cwd=folder, env=environment, text=True, input="".join(it + "\n" for it in lines), stdout=subprocess.PIPE,
-                          stderr=subprocess.STDOUT, timeout=LIMIT, check=False).stdout
+                          stderr=subprocess.STDOUT, timeout=HANG, check=False).stdout
 
 
 def printed_by_gdb(folder, environment, file, words, commands):
     """Returns the output of gdb for each command."""
     target = "target remote | ./rvlook gdb %s %s" % (words, file)
-    command = [GDB, "-q", "-nx", *PLAIN, "-x", "python/rvlook/gdb/client.py", file, "-ex", target]
+    command = [GDB, "-q", "-nx", *PLAIN, "-x", "python/rvlook/gdb/client.py", file, "-ex", "set %s" % GDB_WAITS, "-ex", target]
     return printed(command, folder, environment, commands).split("(gdb) ")[1:len(commands) + 1]
 
 
 def printed_by_lldb(folder, server, file, words, commands):
     """Returns the output of lldb for each command; the server ends with it."""
     process, port = server(file, words)
-    asked = [it for command in ("gdb-remote localhost:" + port, *commands) for it in ("-o", command)]
+    asked = [it for command in (LLDB_WAITS, "gdb-remote localhost:" + port, *commands) for it in ("-o", command)]
     done = subprocess.run([LLDB, "--no-lldbinit", "--no-use-colors", "--batch", *asked, file], cwd=folder, text=True, stdout=subprocess.PIPE,
-                          stderr=subprocess.DEVNULL, timeout=LIMIT, check=False)
-    assert process.wait(10) == 0
-    return [it.partition("\n")[2] for it in done.stdout.split("(lldb) ")[3:]]
+                          stderr=subprocess.DEVNULL, timeout=HANG, check=False)
+    assert process.wait(HANG) == 0
+    return [it.partition("\n")[2] for it in done.stdout.split("(lldb) ")[4:]]
 
 
 def lines_of(text):
@@ -178,7 +180,7 @@ def test_editor_debugs_by_the_debug_adapter_protocol(folder, server):
     process, port = server("hmac.elf", "--monitor")
     adapter = Adapter(folder)
     adapter.ask("initialize", adapterID="lldb", linesStartAt1=True, columnsStartAt1=True, pathFormat="path")
-    adapter.send("attach", program="hmac.elf", attachCommands=["gdb-remote localhost:" + port], stopOnEntry=True)
+    adapter.send("attach", program="hmac.elf", attachCommands=[LLDB_WAITS, "gdb-remote localhost:" + port], stopOnEntry=True)
     adapter.until(lambda it: it.get("event") == "initialized")
     source = str(folder / "examples" / "enclaves" / "hmac" / "application.c")
     found = adapter.ask("setBreakpoints", source={"path": source}, breakpoints=[{"line": 24}])
@@ -192,16 +194,16 @@ def test_editor_debugs_by_the_debug_adapter_protocol(folder, server):
     adapter.ask("disconnect")
     adapter.process.stdin.close()
     adapter.process.stdout.close()
-    assert adapter.process.wait(10) is not None
-    assert process.wait(10) == 0
+    assert adapter.process.wait(HANG) is not None
+    assert process.wait(HANG) == 0
 
 
 def test_editor_debugs_by_the_machine_interface(folder, environment, server):
     need(GDB)
     process, port = server("hmac.elf", "--monitor")
-    asked = ["-target-select remote localhost:" + port, "-break-insert authenticate", "-exec-continue", "-stack-list-frames",
-             "-data-evaluate-expression length", "-exec-next", "-exec-step-instruction --reverse", "-gdb-exit"]
+    asked = ["-gdb-set %s" % GDB_WAITS, "-target-select remote localhost:" + port, "-break-insert authenticate", "-exec-continue",
+             "-stack-list-frames", "-data-evaluate-expression length", "-exec-next", "-exec-step-instruction --reverse", "-gdb-exit"]
     done = printed([GDB, "-q", "-nx", "-i=mi", "-x", "python/rvlook/gdb/client.py", "hmac.elf"], folder, environment, asked)
     for text in ('reason="breakpoint-hit"', 'func="authenticate"', 'func="main"', 'value="14"', 'reason="end-stepping-range"', "^exit"):
         assert text in done
-    assert process.wait(10) == 0
+    assert process.wait(HANG) == 0

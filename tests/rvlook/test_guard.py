@@ -75,7 +75,7 @@ def violation_of(image, runs=("", "1-1", "1-2")):
 # ---- no false alarm
 
 def test_example_with_two_enclaves_has_no_violation(rvlook):
-    done = rvlook("guard", "--timers", "3", IMAGE, RANGES, timeout=400)
+    done = rvlook("guard", "--timers", "3", IMAGE, RANGES)
     lines = done.stdout.splitlines()
     assert (done.returncode, done.stderr) == (0, "")
     assert all(int(re.search(r"(\d+) switches", it)[1]) >= 6 for it in lines[:4])
@@ -86,7 +86,7 @@ def test_example_with_two_enclaves_has_no_violation(rvlook):
 def test_example_with_another_host_has_no_violation(rvlook, tmp_path, name):
     elf, ranges = variant(tmp_path, [], EXAMPLES / "enclaves" / name), tmp_path / "ranges"
     ranges.write_text(ADDS_RANGES)
-    done = rvlook("guard", "--ram", "262144", "--timers", "2", "--steps", "3000", elf, ranges, timeout=400)
+    done = rvlook("guard", "--ram", "262144", "--timers", "2", "--steps", "3000", elf, ranges)
     assert (done.returncode, done.stderr) == (0, "")
     assert ", 2 switches" in done.stdout
 

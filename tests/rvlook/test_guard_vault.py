@@ -114,7 +114,7 @@ def built(folder, edits=()):
 def check_of(elf):
     """Returns the check of the first violation, in one run without and four with timer interrupts and in all pairs; an empty text without one."""
     from rvlook.image.files import image_of
-    from rvlook.monitors.guard_runs import GuardPlan, do_runs
+    from rvlook.monitors.guard import GuardPlan, do_runs
     from rvlook.monitors.ranges_file import ownership_of
     from rvlook.monitors.sides import MonitorSetup, return_addresses
     from rvlook.output.progress import Progress

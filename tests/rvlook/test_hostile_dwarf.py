@@ -4,9 +4,10 @@ from support import dwarf_files as files
 from support.hostile import check, run
 
 from conftest import EXAMPLES
+from rvlook.image.budget import Budget, BudgetExceeded, budget_of, spend
 
 ADDS = bytes.fromhex((EXAMPLES / "enclaves" / "adds" / "image").read_text())
-SECONDS, MEMORY = 45, 500 << 20
+SECONDS, MEMORY = 45, 500 << 20  # of processor time, and bytes
 MILLION = 1 << 20
 EXCEEDED = b"its symbols and debugging information take more than 500000 entries, 5 seconds or 256 MiB\n"
 LARGE = {
@@ -24,7 +25,7 @@ LARGE = {
     "long names": files.long_string(ADDS, 10 * MILLION, 100000)}
 OTHER = {"deeply nested blocks": files.deep(ADDS, 60000)}
 READERS = {"trace": ["trace", "--to", "30"], "page": ["page"], "window": ["window"], "touch --lcov": ["touch", "--lcov"],
-           "inputs": ["inputs", "--seconds", "5", "--runs", "3"]}
+           "inputs": ["inputs", "--runs", "3"]}
 OF_VARIABLES, OF_LINES = ("page", "window", "inputs"), ("trace", "touch --lcov")
 TRIED = {  # the readers of each file, which need what it has too much of
     "a structure with members of its own type": ("window", "inputs"), "the same in DWARF 5": ("window",),
@@ -107,7 +108,6 @@ def test_variables_within_the_budget_are_read(tmp_path):
 
 
 def test_budget_is_shared_by_all_readers_of_a_file():
-    from rvlook.image.budget import BudgetExceeded, budget_of, spend
     data = b"a file of this test"
     with budget_of(data).limits():
         spend(300000)
@@ -117,8 +117,18 @@ def test_budget_is_shared_by_all_readers_of_a_file():
         spend(300000)
 
 
+def test_file_that_is_opened_again_has_a_new_budget(tmp_path):
+    """A process, such as that of pytest, may open one file many times."""
+    from rvlook.image.files import image_of
+    path = tmp_path / "small.elf"
+    path.write_bytes(files.of_number(ADDS, files.LOCATION, files.EXPRESSION, b"\2\x91\x70"))
+    for _ in range(3):
+        data = image_of(str(path)).data
+        assert budget_of(data).entries > 0
+        budget_of(data).entries = -1
+
+
 def test_budget_bounds_time_and_memory():
-    from rvlook.image.budget import Budget, BudgetExceeded
     budget = Budget()
     budget.seconds = 0.2
     with pytest.raises(BudgetExceeded), budget.limits():
@@ -126,6 +136,26 @@ def test_budget_bounds_time_and_memory():
             pass
     with pytest.raises(BudgetExceeded), Budget().limits():
         bytearray(1 << 30)
+
+
+@pytest.mark.parametrize("cause", [BudgetExceeded, MemoryError])
+def test_budget_that_a_parser_hides_behind_an_error_of_its_own_is_exceeded(cause):
+    budget = Budget()
+    with pytest.raises(BudgetExceeded), budget.limits():
+        try:
+            raise cause
+        except Exception as error:
+            raise ValueError(str(error))
+    with pytest.raises(BudgetExceeded), budget.limits():
+        pass
+
+
+def test_other_error_in_a_budget_stays_what_it_is():
+    budget = Budget()
+    with pytest.raises(ValueError, match="^damaged$"), budget.limits():
+        raise ValueError("damaged")
+    with budget.limits():
+        spend()
 
 
 @pytest.mark.parametrize("segments", [60000])

@@ -4,6 +4,7 @@ import re
 import subprocess
 
 import pytest
+from support.limits import HANG
 
 from conftest import EXAMPLES
 
@@ -48,7 +49,7 @@ def check_script(bench, it):
     """Runs the script of a finding on the program: it executes the instruction at the pc of the finding, with the address that was reported."""
     text = open(it["script"], "rb").read()
     words = re.search(rb"# \./rvbench (.*) < this file", text)[1].decode().split()
-    lines = subprocess.run([bench, *words], input=text, capture_output=True, check=True, timeout=60).stdout.decode().splitlines()
+    lines = subprocess.run([bench, *words], input=text, capture_output=True, check=True, timeout=HANG).stdout.decode().splitlines()
     at = max(n for n, line in enumerate(lines) if line.startswith(it["pc"] + ": "))
     reached = [line for line in lines[:at] if line.startswith("ran ")][-1]
     assert " pc=%s " % it["pc"] in reached

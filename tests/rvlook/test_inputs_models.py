@@ -11,14 +11,6 @@ def elf(built):
     return built("inputs_magic", "--clang")
 
 
-@pytest.fixture(scope="module")
-def no_z3(tmp_path_factory):
-    """Returns an environment in which z3 is not installed."""
-    folder = tmp_path_factory.mktemp("no_z3")
-    (folder / "z3.py").write_text("raise ImportError\n")
-    return {"PYTHONPATH": str(folder)}
-
-
 def findings(found):
     return [it for it in found if it["object"] == "finding"]
 

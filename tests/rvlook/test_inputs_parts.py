@@ -9,24 +9,26 @@ import pytest
 from conftest import BUILD, EXAMPLES, ROOT
 
 sys.path.insert(0, str(ROOT / "python"))
-from rvlook.access.fields import Fields  # noqa: E402
+from rvlook.access.fields import WindowFields  # noqa: E402
 from rvlook.cli.opening import opened  # noqa: E402
 from rvlook.cli.parser import read  # noqa: E402
 from rvlook.finders.inputs.code import Kind, code_of  # noqa: E402
 from rvlook.finders.inputs.contexts import Contexts  # noqa: E402
-from rvlook.finders.inputs.details import Reader  # noqa: E402
-from rvlook.finders.inputs.judge import Judge  # noqa: E402
-from rvlook.finders.inputs.objects import NOTHING, OUTSIDE, UNUSED, WINDOW, Objects, Place  # noqa: E402
-from rvlook.finders.inputs.probes import Probe, Probes  # noqa: E402
-from rvlook.finders.inputs.search import Search  # noqa: E402
-from rvlook.finders.inputs.secret_rules import known_states, runs_of, versions  # noqa: E402
-from rvlook.finders.inputs.trace import LEFT, Change, Trace, Visit  # noqa: E402
+from rvlook.finders.inputs.values import DetailReader  # noqa: E402
+from rvlook.finders.inputs.judge import TraceJudge  # noqa: E402
+from rvlook.finders.inputs.objects import NOTHING, OUTSIDE, UNUSED, WINDOW, Objects, ObjectPlace  # noqa: E402
+from rvlook.finders.inputs.trace import TraceProbe, Probes  # noqa: E402
+from rvlook.finders.inputs.values import HostRequest, reordered  # noqa: E402
+from rvlook.finders.inputs.search import InputSearch  # noqa: E402
+from rvlook.finders.inputs.secret_rules import known_states, versions  # noqa: E402
+from rvlook.finders.inputs.trace import LEFT, Change, Trace, TraceVisit, runs_of  # noqa: E402
 from rvlook.finders.inputs.values import with_change, words_of  # noqa: E402
-from rvlook.image.variables import Local, Member, Variables, signed, variables_of  # noqa: E402
+from rvlook.image.variables import Local, Member, Variables, places_of, signed, variables_of  # noqa: E402
+from rvlook.protocol.replies import Enclave  # noqa: E402
 from rvlook.protocol.symbols import Symbol, Symbols  # noqa: E402
 
 FOLDER = EXAMPLES / "enclaves" / "host_inputs"
-ENCLAVE = types.SimpleNamespace(base=0x80020000, size=0x1000, window=0x80030000, window_size=0x1000)
+ENCLAVE = Enclave(0, "Stopped", 0x80020000, 0x1000, 0x80030000, 0x1000, entry=0x80020000, measurement="")
 
 
 @pytest.fixture
@@ -37,7 +39,7 @@ def search(bench, monkeypatch, tmp_path):
         script = tmp_path / "script"
         script.write_text("poke task %02x\n" % task)
         run, symbols, _ = opened(read(["inputs", "--monitor", str(FOLDER / "image"), "--symbols", str(FOLDER / "symbols"), "--script", str(script)]))
-        found = Search(run, symbols, variables_of(None, run.setup.image), 0, 0)
+        found = InputSearch(run, symbols, variables_of(None, run.setup.image), 0, 0)
         found.start(None, False)
         return found
     return of
@@ -59,7 +61,7 @@ def test_trace_along_its_parent_is_that_of_single_steps(search, task):
 def stored(search, trace):
     """The values that a trace stores to the window."""
     return [(at, value) for at, value, pc in zip(trace.addresses, trace.values, trace.pcs)
-            if search.tracer.code[pc].kind is Kind.STORE and search.objects.is_window(at)]
+            if search.tracer.code[pc].kind is Kind.STORE and search.objects.enclave.shares(at)]
 
 
 def code(text):
@@ -117,7 +119,7 @@ def test_place_knows_its_variable_and_whether_it_is_an_array(objects):
 
 
 def test_probes_show_the_first_difference_of_the_path_and_each_of_an_access():
-    it = Probes([Probe(0, 10, b"reg 5\n"), Probe(3, 14), Probe(5, 16, b"reg 6\nreg 7\n"), Probe(7, 19, b"reg 10\nreg 11\n", True)])
+    it = Probes([TraceProbe(0, 10, b"reg 5\n"), TraceProbe(3, 14), TraceProbe(5, 16, b"reg 6\nreg 7\n"), TraceProbe(7, 19, b"reg 10\nreg 11\n", True)])
     it.expected = [b"x0=00000000", b"x5=00000001", b"ran 4 pc=80020010 mode=U", b"ran 2 pc=80020018 mode=U", b"x6=00000002", b"x7=00000003",
                    b"ran 3 pc=80010000 mode=S", b"x10=00000001", b"x11=00000002"]
     assert it.text_from(1, 12) == (b"step 2\nstep 2\nreg 6\nreg 7\nstep 3\nreg 10\nreg 11\n", 7)
@@ -127,7 +129,7 @@ def test_probes_show_the_first_difference_of_the_path_and_each_of_an_access():
     assert (other.end, other.changed, other.answers) == (None, {5: [9, 3]}, {7: (1, 7)})
     left = it.compare(0, [*it.expected[:3], b"ran 2 pc=80020020 mode=U", *it.expected[4:]])
     assert (left.end, left.changed) == (3, {})
-    it = Probes([Probe(3, 14, b"reg 10\nreg 11\n", True), Probe(4, 20)])
+    it = Probes([TraceProbe(3, 14, b"reg 10\nreg 11\n", True), TraceProbe(4, 20)])
     it.expected = [b"x0=00000000", b"x10=00000001", b"x11=00000002", b"ran 6 pc=80020018 mode=U"]
     assert it.compare(0, [*it.expected[:3], b"ran 6 pc=8001001c mode=S"]).end == 4
 
@@ -135,7 +137,7 @@ def test_probes_show_the_first_difference_of_the_path_and_each_of_an_access():
 def test_trace_knows_where_the_enclave_leaves():
     trace = Trace()
     trace.pcs.extend([4, 8, 12])
-    trace.visits = [Visit(0, 1, "stop", (1, 2)), Visit(2)]
+    trace.visits = [TraceVisit(0, 1, "stop", (1, 2)), TraceVisit(2)]
     trace.next_pc = 16
     assert [trace.following(n) for n in range(3)] == [8, LEFT, 16] and [trace.visit_at(n) for n in range(3)] == [0, 0, 1]
 
@@ -165,13 +167,13 @@ def test_ranges_have_no_gaps():
 
 
 def test_only_members_after_an_array_are_other_objects():
-    name, header, body, other = Place("u.name", "u", True), Place("u.header", "u"), Place("u.body", "u", True), Place("v", "v")
-    assert Judge.is_inner(body, {header}) and not Judge.is_inner(header, {name}) and not Judge.is_inner(other, {header})
+    name, header, body, other = ObjectPlace("u.name", "u", True), ObjectPlace("u.header", "u"), ObjectPlace("u.body", "u", True), ObjectPlace("v", "v")
+    assert TraceJudge.is_inner(body, {header}) and not TraceJudge.is_inner(header, {name}) and not TraceJudge.is_inner(other, {header})
 
 
 def test_value_that_is_compared_with_private_memory_is_not_tried():
-    reader = object.__new__(Reader)
-    reader.objects = types.SimpleNamespace(has=lambda at: 0x80020000 <= at < 0x80021000, stack=0x80020900)
+    reader = object.__new__(DetailReader)
+    reader.objects = types.SimpleNamespace(enclave=ENCLAVE, stack=0x80020900)
     reader.tracer = types.SimpleNamespace(code={4: code("lw x10, 0(x5)"), 8: code("xor x11, x10, x12"), 12: code("beq x11, x0, 8")})
     trace = Trace()
     trace.pcs.extend([4, 8, 12])
@@ -185,8 +187,15 @@ def test_signed_leb128():
     assert [signed(it) for it in (b"\x02", b"\x7e", b"\x80\x01", b"\x80\x7f")] == [2, -2, 128, -128]
 
 
+def test_variable_in_a_frame_may_be_split():
+    assert places_of(b"\x91\x10") == [(16, 0)] and places_of(b"\x91\x80\x7f") == [(-128, 0)]
+    assert places_of(b"\x91\x0c\x93\x04\x91\x08\x93\x80\x01") == [(12, 4), (8, 128)]
+    assert places_of(b"\x5a\x93\x04\x91\x08\x93\x04\x93\x02") == [(8, 4)]
+    assert places_of(b"") == places_of(b"\x91\x10\x06") == places_of(b"\x03\x00\x00\x02\x80") == places_of(b"\x91\x80") == []
+
+
 def test_fields_of_structures_come_before_single_values():
-    it = Fields(Symbols([Symbol(0x80030000, 0, "window_base", False)]))
+    it = WindowFields(Symbols([Symbol(0x80030000, 0, "window_base", False)]))
     assert it.name(0x80030004) == "window_base+4"
     it.add(0x80030000, (Member(0, 0, "words", 4),))
     assert it.name(0x80030008) == "words[2]"
@@ -258,3 +267,14 @@ def test_state_with_several_distinct_bytes_may_be_moved():
     state = bytes.fromhex("03000000" "9a4c7781")
     assert known_parts(0x80030000, state, 0x80030060, state) == [(0, 0x80030060, 8)]
     assert known_parts(0x80030000, b"....." + state[4:], 0x80030060, state) == [(5, 0x80030064, 4)]
+
+
+def test_requests_are_exchanged_copied_and_joined_in_halves():
+    one, other, third = (HostRequest(step, step, {0x80030000 + n: value for n, value in enumerate(data)})
+                         for step, data in ((10, b"AAAAaaaa"), (20, b"BBBBbbbb"), (30, b"BBBBbbbb")))
+    trace = Trace()
+    found = [[(it.step, it.at, it.value) for it in child.changes] for child in reordered(trace, (one, other, third), lambda at: "%x" % at)]
+    swapped = [(10, 0x80030000, b"BBBBbbbb"), (20, 0x80030000, b"AAAAaaaa")]
+    assert found[0] == swapped and swapped[:1] in found and swapped[1:] in found
+    assert [(10, 0x80030000, b"BBBB")] in found and [(10, 0x80030004, b"bbbb")] in found and [(20, 0x80030004, b"aaaa")] in found
+    assert len(found) == 14 and all((30, 0x80030000, b"BBBBbbbb") not in it for it in found)

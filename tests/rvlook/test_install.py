@@ -6,10 +6,10 @@ import subprocess
 import sys
 
 import pytest
+from support.limits import HANG
 
 from conftest import ROOT
 
-SECONDS = 300
 FILES = ("pyproject.toml", "README.md")
 OTHER = 12345  # a user that owns nothing else
 
@@ -26,9 +26,9 @@ def installed(tmp_path_factory):
     for name in FILES:
         shutil.copy(ROOT / name, source / name)
     environment = {name: value for name, value in os.environ.items() if name not in ("PYTHONPATH", "PYTHONHOME")}
-    subprocess.run([sys.executable, "-m", "venv", "--system-site-packages", venv], env=environment, check=True, capture_output=True, timeout=SECONDS)
+    subprocess.run([sys.executable, "-m", "venv", "--system-site-packages", venv], env=environment, check=True, capture_output=True, timeout=HANG)
     done = subprocess.run([venv / "bin" / "python", "-m", "pip", "install", "--no-index", "--no-deps", "--no-build-isolation", source],
-                          env=environment, capture_output=True, text=True, timeout=SECONDS, check=False)
+                          env=environment, capture_output=True, text=True, timeout=HANG, check=False)
     assert done.returncode == 0, done.stdout + done.stderr
     return venv / "bin" / "rvlook"
 
@@ -37,7 +37,7 @@ def run(installed, bench, folder, *words):
     """Runs the installed command in another folder."""
     environment = {**os.environ, "RVBENCH": bench, "TERM": "dumb"}
     environment.pop("PYTHONPATH", None)
-    return subprocess.run([installed, *words], cwd=folder, env=environment, capture_output=True, text=True, timeout=SECONDS, check=False)
+    return subprocess.run([installed, *words], cwd=folder, env=environment, capture_output=True, text=True, timeout=HANG, check=False)
 
 
 def test_installed_map_is_the_same(installed, bench, tmp_path, rvlook):
@@ -67,7 +67,7 @@ def test_bytecode_is_written_only_for_the_owner_of_the_clone(tmp_path, is_own):
             pytest.skip("only root can give files to another user")
         os.chown(tmp_path / "python" / "rvlook", OTHER, OTHER)
     environment = {name: value for name, value in os.environ.items() if name != "PYTHONDONTWRITEBYTECODE"}
-    helps = [subprocess.run([tmp_path / "rvlook", "map", "--help"], env=environment, capture_output=True, text=True, timeout=SECONDS, check=True)
+    helps = [subprocess.run([tmp_path / "rvlook", "map", "--help"], env=environment, capture_output=True, text=True, timeout=HANG, check=True)
              for _ in range(2)]
     assert helps[0].stdout.startswith("usage: rvlook map") and helps[0].stdout == helps[1].stdout
     assert bool(list(tmp_path.rglob("*.pyc"))) == is_own

@@ -18,12 +18,12 @@ void main(void) { flush(); while (take()) ; }
 
 
 def extension(word):
-    from rvlook.image.lacking import extension_of
+    from rvlook.image.detect import extension_of
     return extension_of(word)
 
 
 def texts_of(data):
-    from rvlook.image.lacking import lacking_texts
+    from rvlook.image.detect import lacking_texts
     from rvlook.protocol.inputs import Image
     return lacking_texts(Image("a.elf", b"", data))
 

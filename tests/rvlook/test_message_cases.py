@@ -5,7 +5,7 @@ from pathlib import Path
 
 import pytest
 from support.message_files import IMAGES, Files
-from support.message_runs import ACCESS, CUT_PAIR, FULL, LATE_REPLAY, MANY_VECTORS, MORE, NEVER_BACK, ONE_SCRIPT, ORDER, OTHERWISE, REGISTERS, Runs
+from support.message_runs import ACCESS, CUT_PAIR, FULL, KILLED, LATE_REPLAY, MANY_VECTORS, MORE, NEVER_BACK, ONE_SCRIPT, ORDER, OTHERWISE, REGISTERS, Runs
 
 from conftest import EXAMPLES, PROGRAMS, ROOT, RVLOOK
 
@@ -47,11 +47,11 @@ class Cases:
         return {
             "running FILE with --monitor because its": ("map", ADDS), "running FILE with --monitor because it calls": ("map", files.key),
             "FILE is built for compressed": ("map", "--monitor", files.compressed),
-            "FILE:LINE: COMMAND: error command": self.scripted("unknown"),
-            "FILE:LINE: COMMAND: error operand: no symbol 'NAME'; did": self.scripted("man"),
-            "FILE:LINE: COMMAND: error operand: no symbol 'NAME': no": ("map", SUM, "--script", files.script),
-            "FILE:LINE: COMMAND: error operand: no symbol 'NAME' at": self.scripted("behind"),
-            "FILE:LINE: COMMAND: error operand: symbol": self.scripted("twice"),
+            "FILE:LINE: COMMAND: unknown command": self.scripted("unknown"),
+            "FILE:LINE: COMMAND: no symbol 'NAME'; did": self.scripted("man"),
+            "FILE:LINE: COMMAND: no symbol 'NAME': no": ("map", SUM, "--script", files.script),
+            "FILE:LINE: COMMAND: no symbol 'NAME' at": self.scripted("behind"),
+            "FILE:LINE: COMMAND: symbol": self.scripted("twice"),
             "cannot open": ("map", SUM, "--script", "/none"), "'FILE' is a text file,": ("map", files.text),
             "'FILE' is a text file with": ("map", files.marked), "'FILE' is too large": ("map", "/dev/zero"),
             "script": ("map", SUM, "--script", files.lines_of_script), "cannot load 'FILE': rvbench: too": ("map", "--kind", "raw", files.large),
@@ -155,7 +155,7 @@ class Cases:
         return {
             "page does": ("page", SUM, "--json"), "no subcommand": ("mpa", SUM), "unrecognized": ("map", SUM, "--fly"),
             "argument --seconds": ("races", "--seconds", "nan", SUM),
-            "SUBCOMMAND has no schedule": ("timer", "--monitor", "--harts", "2", ADDS),
+            "SUBCOMMAND --harts 2 requires": ("timer", "--monitor", "--harts", "2", ADDS),
             "argument --world": ("trace", SUM, "--world", "foo"), "argument --every": ("timer", SUM, "--every", "0"),
             "--to NUMBER": ("trace", SUM, "--from", "9", "--to", "3"), "--from NUMBER": self.tries("80020800:4", "--from", "3"),
             "cannot listen": ("gdb", SUM, "--port", "99999"), "--schedule and": ("map", ADDS, "--schedule", "4"),
@@ -169,20 +169,21 @@ class Cases:
             "running the unproved": lambda: runs.unproved(self.folder, SUM), "cannot build rvbench": lambda: runs.unbuilt(self.folder, SUM),
             "cannot find rvbench": lambda: runs.installed(self.folder, "map", SUM),
             "out of memory": lambda: runs.run(("measure", "/dev/zero", *NUMBERS), 'ulimit -v 100000; exec "$0" "$@"'),
-            "internal error": lambda: runs.patched("trace.Tracer.events = lambda self: 1 // 0", ("trace", SUM)),
+            "internal error": lambda: runs.patched("trace.RunTracer.events = lambda self: 1 // 0", ("trace", SUM)),
             "explain stopped": lambda: runs.run(("explain", files.write("wrong", "6f000000\n--\n" + 10001 * "fly\n"))),
-            "the path 'PATH'": lambda: runs.in_folder(self.folder / "it's", "new", str(self.folder / "new")),
+            "cannot write the path": lambda: runs.in_folder(self.folder / "it's", "new", str(self.folder / "new")),
             "cannot find the examples": lambda: runs.installed(self.folder, "new", str(self.folder / "new")),
             "MODULE is not installed, so WHAT 0": lambda: runs.run(("map", "--monitor", ADDS), PYTHONPATH=files.without("elftools")),
             "MODULE is not installed, so WHAT 3": lambda: runs.run(("page", SUM), PYTHONPATH=files.without("jinja2")),
             "the step at ADDRESS had": lambda: runs.patched(OTHERWISE, races), "the step at ADDRESS changed": lambda: runs.patched(MORE, races),
             "a finding at": lambda: runs.patched(ACCESS, ("inputs", "--monitor", EXAMPLES / "enclaves" / "bug" / "image", "--runs", "40")),
             "the replay": lambda: runs.patched(ORDER, races), "the registers": lambda: runs.patched(REGISTERS, ("trace", SUM)),
-            "the two runs": lambda: runs.patched(CUT_PAIR, self.guarded("1", "4000")),
+            "a process of": lambda: runs.patched(KILLED, ("timer", "--monitor", LEAKS, "--jobs", "2")),
+            "guard compared only": lambda: runs.patched(CUT_PAIR, self.guarded("1", "4000")),
             "the monitor has": lambda: runs.patched(MANY_VECTORS, self.guarded("2", "99")),
-            "--seconds ended inputs before": lambda: runs.patched(LATE_REPLAY, (*inputs, "--runs", "40", "--seconds", "4")),
+            "--seconds ended inputs before": lambda: runs.patched(LATE_REPLAY, (*inputs, "--runs", "40", "--seconds", "600")),
             "Ctrl-C ended inputs": lambda: runs.stopped((*inputs, "--runs", "1000000"), "Ctrl-C"),
-            "no script covered": lambda: runs.patched(ONE_SCRIPT, ("conform", MONITORS / "own_monitor" / "image")),
+            "these cells of the coverage table": lambda: runs.patched(ONE_SCRIPT, ("conform", MONITORS / "own_monitor" / "image")),
             "hart NUMBER does not": lambda: runs.patched(NEVER_BACK, ("races", "--monitor", "--harts", "2", "--ram", "131072", files.spin)),
             "cannot run": lambda: runs.run(("map", SUM), RVBENCH=files.text), "RVBENCH": lambda: runs.run(("map", SUM), RVBENCH="/none"),
             "FILE: rvbench exited": lambda: runs.run(("map", SUM), RVBENCH="/bin/true"), "cannot write the output": lambda: runs.run(("map", SUM), FULL),

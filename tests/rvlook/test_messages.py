@@ -13,10 +13,10 @@ ROW = re.compile(r"^\| (\d+) \| `(?:error|warning|note): (.*)` \| .*\|$", re.M)
 PLACEHOLDER = re.compile(r"%(?:0?\d*[sdx])")
 CAPITALS = re.compile(r"\b[A-Z]{3,}\b")
 KEPT = ("RVBENCH",)  # in capitals, but no placeholder
-PREFIX = "error operand: "  # in the message for a script line, before the error of a name
+PREFIX = "FILE:LINE: COMMAND: "  # in the message for a script line, before the error of a name
 SHORT = 8  # the fewest letters of a pattern that identifies a message
 ELSEWHERE = {  # files whose texts have no prefix `rvlook: `: they are printed by the prompt or sent to a debugger
-    "prompt/session.py", "prompt/prompt.py", "gdb/server.py", "gdb/reverse.py", "gdb/moves.py", "gdb/monitor.py", "gdb/link.py"}
+    "prompt/prompt.py", "gdb/server.py", "gdb/reverse.py", "gdb/moves.py", "gdb/monitor.py", "gdb/link.py"}
 
 
 OF_API = ("api/", "image/types.py")
@@ -59,7 +59,7 @@ def texts_of(node, functions):
 CONSTANTS = {}
 INTERNAL = ("a command must be a single line",)  # a check of rvlook's own callers
 OF_THE_SERVER = ("listening on localhost:%d", "rejected a second connection to the port", "the debugger disconnected")  # in docs/DEBUGGER.md
-IN_A_DEBUGGER = ("gdb/monitor.py", "gdb/jumps.py")  # its messages are printed in the debugger
+IN_A_DEBUGGER = ("gdb/monitor.py", "gdb/moves.py")  # its messages are printed in the debugger
 
 
 def messages():

@@ -5,6 +5,8 @@ import subprocess
 import sys
 
 import pytest
+from support.clock.processor_clock import environment_with
+from support.limits import HANG
 from rvlook.api.find import Finding, Findings
 
 from conftest import EXAMPLES, ROOT
@@ -21,9 +23,10 @@ def executed(bench, folder, path):
     """Executes a notebook; returns its `CompletedProcess`, and the executed cells."""
     for name in ("nbconvert", "ipykernel"):
         pytest.importorskip(name)
-    environment = {**os.environ, "RVBENCH": bench, "PYTHONPATH": str(ROOT / "python"), "PYTHONDONTWRITEBYTECODE": "1", "HOME": str(folder)}
+    environment = {**os.environ, **environment_with(ROOT / "python"), "RVBENCH": bench, "PYTHONDONTWRITEBYTECODE": "1", "HOME": str(folder)}
     words = ["--to", "notebook", "--execute", "--output-dir", str(folder), "--output", "executed", str(path)]
-    done = subprocess.run([sys.executable, "-m", "nbconvert", *words], env=environment, capture_output=True, text=True, timeout=300, check=False)
+    words += ["--ExecutePreprocessor.%s=%d" % (it, HANG) for it in ("startup_timeout", "iopub_timeout", "timeout")]
+    done = subprocess.run([sys.executable, "-m", "nbconvert", *words], env=environment, capture_output=True, text=True, timeout=HANG, check=False)
     made = folder / "executed.ipynb"
     return done, json.loads(made.read_text(encoding="utf-8"))["cells"] if made.exists() else []
 

@@ -46,7 +46,7 @@ def source():
 
 
 def guard(rvlook, program):
-    return rvlook("guard", *RAM, "--timers", "0", "--boot", BOOT, program, FOLDER / "guarded", timeout=300)
+    return rvlook("guard", *RAM, "--timers", "0", "--boot", BOOT, program, FOLDER / "guarded")
 
 
 def test_opensbi_boots_and_is_guarded(rvlook, bench, source, port, tmp_path):

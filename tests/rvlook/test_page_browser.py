@@ -2,10 +2,9 @@
 chromium, chromedriver and python3-selenium."""
 import re
 import shutil
-import time
-from statistics import median
 
 import pytest
+from support.limits import HANG, wait_until
 from support.page_data import data_of
 
 from conftest import EXAMPLES, input_of
@@ -17,8 +16,9 @@ TIMER = EXAMPLES / "enclaves" / "timer"
 STEPS = (0, 1, 21, 30, 60, 100, 390, 420)  # at which the registers are compared
 WIDTHS = (1600, 390)
 CHANGING = ("timer", "setreg", "poke")  # commands of the script of TIMER that change the state
-MOST_BYTES, MOST_SECONDS, MOST_MILLISECONDS = 10_000_000, 10, 30  # of a page of a million steps: to open, and to another step
-SECONDS = 300  # to write a page
+# A page of a million steps has at most these bytes. The browser takes at most these seconds of processor time to open it, and these milliseconds to
+# show another step. Both are more than ten times what it takes now.
+MOST_BYTES, MOST_SECONDS, MOST_MILLISECONDS = 10_000_000, 10, 30
 MILLION = "37110080\n23201100\n93801000\n83210100\n13f2f00f\nb3024100\n23801210\ne39400fe\n"  # a loop that stores and loads
 SMALL = {"two_harts": (input_of(EXAMPLES / "enclaves" / "two_harts"), "--monitor", "--harts", "2"), "pmp": (EXAMPLES / "programs" / "pmp" / "stdin",),
          "outside": ("--\nstep 3\n",), "none": ("1300\n", "--kind", "raw", "--steps", "0")}
@@ -31,8 +31,10 @@ HOVER = """
             texts.push(document.getElementById('hover').textContent);
         }
     return texts"""
-TAKEN = """return [10, run.steps / 2 | 0, run.steps - 20].flatMap(first =>
-    Array.from({length: 10}, (_, at) => { const was = performance.now(); show(first + at); return performance.now() - was; }))"""
+SHOWN = 30
+SHOW = """for (const first of [10, run.steps / 2 | 0, run.steps - 20])
+    for (let at = 0; at < %d; at++)
+        show(first + at);""" % (SHOWN // 3)
 
 
 class Page:
@@ -45,9 +47,7 @@ class Page:
 
     def wait(self):
         """Waits until the page shows a step: its data are unpacked meanwhile."""
-        end = time.monotonic() + 20
-        while not self.text("where") and time.monotonic() < end:
-            time.sleep(0.02)
+        wait_until(lambda: self.text("where"))
 
     def text(self, name):
         return self.driver.find_element("id", name).text
@@ -74,13 +74,17 @@ def driver():
         options.add_argument(word)
     options.set_capability("goog:loggingPrefs", {"browser": "ALL"})
     it = webdriver.Chrome(options=options)
+    it.command_executor.set_timeout(HANG)
+    it.set_page_load_timeout(HANG)
+    it.set_script_timeout(HANG)
+    it.execute_cdp_cmd("Performance.enable", {})
     yield it
     it.quit()
 
 
 def written(rvlook, folder, *words):
     """Writes the page of an image."""
-    done = rvlook("page", *words, timeout=SECONDS)
+    done = rvlook("page", *words)
     assert (done.returncode, done.stderr) == (0, "")
     path = folder / "page.html"
     path.write_text(done.stdout, encoding="utf-8")
@@ -131,8 +135,7 @@ def test_step_is_kept_in_the_address(page):
     page.wait()
     assert page.text("where").startswith("Step 60:")
     page.run("show(61)")
-    time.sleep(0.4)
-    assert page.driver.current_url.endswith("#61")
+    assert wait_until(lambda: page.driver.current_url.endswith("#61"))
 
 
 def test_keys_and_clicks_go_to_steps(page):
@@ -166,8 +169,7 @@ def test_memory_is_zoomed_and_dragged(page):
     page.type("+")
     before = page.run("return view.from")
     ActionChains(page.driver).click_and_hold(chart).move_by_offset(-40, 0).release().perform()
-    time.sleep(0.2)
-    assert page.run("return view.from") > before
+    assert wait_until(lambda: page.run("return view.from") > before)
 
 
 def test_pointer_names_a_store(page):
@@ -194,25 +196,30 @@ def test_page_shows_each_step_without_an_error(rvlook, driver, tmp_path, name):
     page.check_errors()
 
 
+def spent(driver, name):
+    """Returns the processor time of the page in seconds: `ThreadTime` of its scripts and their layout, `ProcessTime` of all threads."""
+    return next(it["value"] for it in driver.execute_cdp_cmd("Performance.getMetrics", {})["metrics"] if it["name"] == name)
+
+
 def test_page_of_a_million_steps_is_fast(rvlook, driver, tmp_path):
     (tmp_path / "loop").write_text(MILLION)
     path = written(rvlook, tmp_path, tmp_path / "loop", "--kind", "raw")
     assert path.stat().st_size < MOST_BYTES
-    began = time.monotonic()
+    before = spent(driver, "ProcessTime")
     driver.get(path.as_uri())
-    while not driver.find_element("id", "where").text and time.monotonic() < began + 2 * MOST_SECONDS:
-        time.sleep(0.02)
-    seconds = time.monotonic() - began
+    assert wait_until(lambda: driver.find_element("id", "where").text)
     assert driver.execute_script("return run.steps") >= 1000000
-    assert seconds < MOST_SECONDS
-    assert median(driver.execute_script(TAKEN)) < MOST_MILLISECONDS
+    assert 0 < spent(driver, "ProcessTime") - before < MOST_SECONDS
+    before = spent(driver, "ThreadTime")
+    driver.execute_script(SHOW)
+    assert 0 < spent(driver, "ThreadTime") - before < SHOWN * MOST_MILLISECONDS / 1000
 
 
 @pytest.fixture(scope="module")
 def calls(driver, rvlook, built, tmp_path_factory):
     """The page of a program with calls, variables and a console."""
     elf = built("console")
-    done = rvlook("page", "--monitor", elf, timeout=SECONDS)
+    done = rvlook("page", "--monitor", elf)
     path = tmp_path_factory.mktemp("calls") / "page.html"
     path.write_text(done.stdout, encoding="utf-8")
     driver.set_window_size(1366, 768)

@@ -5,6 +5,7 @@ import subprocess
 
 import pytest
 from support.hostile import ROOT, named, run
+from support.limits import HANG
 
 PANEL = ROOT / "python" / "rvlook" / "page" / "panel.js"
 NAMES = ["__proto__", "constructor", "toString", "a:b:7.c", ":", "plain.c"]
@@ -27,7 +28,7 @@ def test_source_is_found_by_its_own_name_alone():
     part = text[start:end].replace('const pre = element("pre", "");', "const pre = { append() {} };")
     constants = "const SOURCE_BEFORE = 6, SOURCE_AFTER = 8;\n"
     script = SHOWN % (constants + part, NAMES)
-    done = subprocess.run(["node", "-e", script], capture_output=True, text=True, check=False, timeout=60)
+    done = subprocess.run(["node", "-e", script], capture_output=True, text=True, check=False, timeout=HANG)
     assert done.returncode == 0, done.stderr
     found = [it == "true" for it in re.findall("true|false", done.stdout)]
     has_text = dict(zip(NAMES, found))
@@ -42,5 +43,5 @@ def test_page_shows_its_step_in_a_browser(bench, tmp_path, name):
     page.write_bytes(run(bench, "page", elf, "--steps", "20").output)
     done = subprocess.run(["chromium", "--headless", "--no-sandbox", "--disable-gpu", "--user-data-dir=%s" % (tmp_path / "profile"),
                            "--virtual-time-budget=5000", "--dump-dom", "%s#5" % page.as_uri()], capture_output=True, text=True, check=False,
-                          timeout=120)
+                          timeout=HANG)
     assert '<h2 id="where">Step 5: bare in M</h2>' in done.stdout, done.stderr[-500:]

@@ -6,10 +6,10 @@ import subprocess
 import sys
 
 import pytest
+from support.limits import HANG
 
 from conftest import EXAMPLES, ROOT
 
-SECONDS = 300
 HELLO = ["host: creating an enclave", "runtime: the region begins at 80020000", "application: hello from U-mode", "host: the enclave answered 42"]
 PAGES = {"rvbench.1": "twin", "rvlook.1": ".SH CONFORM"}
 
@@ -18,7 +18,7 @@ PAGES = {"rvbench.1": "twin", "rvlook.1": ".SH CONFORM"}
 def prefix(bench, tmp_path_factory):
     """Installs into a new prefix; returns it."""
     folder = tmp_path_factory.mktemp("prefix") / "a prefix"
-    done = subprocess.run([ROOT / "install", folder], env={**os.environ, "RVBENCH": bench}, capture_output=True, text=True, timeout=SECONDS, check=False)
+    done = subprocess.run([ROOT / "install", folder], env={**os.environ, "RVBENCH": bench}, capture_output=True, text=True, timeout=HANG, check=False)
     assert done.returncode == 0, done.stdout + done.stderr
     return folder
 
@@ -29,7 +29,7 @@ def run(prefix, tmp_path):
     def command(name, *words, stdin=""):
         environment = {"PATH": "%s:%s" % (prefix / "bin", os.environ["PATH"]), "HOME": str(tmp_path), "TERM": "dumb"}
         return subprocess.run([prefix / "bin" / name, *map(str, words)], cwd=tmp_path, env=environment, input=stdin, capture_output=True, text=True,
-                              timeout=SECONDS, check=False)
+                              timeout=HANG, check=False)
     return command
 
 
@@ -43,7 +43,7 @@ def test_installed_simulator_replies(run):
 def test_version_has_the_commit_and_the_kit(run, name):
     done = run(name, "--version")
     assert done.returncode == 0 and done.stdout.startswith(name + " 0.1 (commit ") and "rattle-kit-" in done.stdout
-    clone = subprocess.run([ROOT / name, "--version"], capture_output=True, text=True, timeout=SECONDS, check=False)
+    clone = subprocess.run([ROOT / name, "--version"], capture_output=True, text=True, timeout=HANG, check=False)
     assert clone.stdout == done.stdout
 
 
@@ -69,7 +69,7 @@ def test_man_pages_and_completion(prefix):
     for typed, completed in {"rvlook wi": "window", "rvlook map --sch": "--schedule"}.items() if shutil.which("register-python-argcomplete") else ():
         asked = ("PATH=%r:$PATH; source %r; COMP_LINE=%r; COMP_POINT=${#COMP_LINE}; COMP_TYPE=9; _python_argcomplete rvlook; echo ${COMPREPLY[@]}"
                  % (str(prefix / "bin"), str(prefix / "share" / "bash-completion" / "completions" / "rvlook"), typed))
-        done = subprocess.run(["bash", "-c", asked], capture_output=True, text=True, timeout=SECONDS, check=False)
+        done = subprocess.run(["bash", "-c", asked], capture_output=True, text=True, timeout=HANG, check=False)
         assert done.stdout.strip() == completed, done.stderr
 
 
@@ -77,9 +77,9 @@ def test_man_pages_and_completion(prefix):
 def test_new_enclave_is_built_run_and_checked_outside_the_clone(run, tmp_path):
     done = run("rvlook", "new", "mine")
     assert (done.returncode, done.stdout) == (0, "made mine; next: cd mine && make run\n")
-    made = subprocess.run(["make", "-s", "-C", tmp_path / "mine", "run"], capture_output=True, text=True, timeout=SECONDS, check=False)
+    made = subprocess.run(["make", "-s", "-C", tmp_path / "mine", "run"], capture_output=True, text=True, timeout=HANG, check=False)
     assert made.returncode == 0 and made.stdout.splitlines()[-4:] == HELLO, made.stderr
-    assert subprocess.run(["make", "-s", "-C", tmp_path / "mine", "map", "page"], capture_output=True, timeout=SECONDS, check=False).returncode == 0
+    assert subprocess.run(["make", "-s", "-C", tmp_path / "mine", "map", "page"], capture_output=True, timeout=HANG, check=False).returncode == 0
     assert (tmp_path / "mine" / "page.html").read_text(encoding="utf-8").startswith("<!DOCTYPE html>")
 
 
@@ -87,14 +87,15 @@ def test_new_enclave_is_built_run_and_checked_outside_the_clone(run, tmp_path):
 def test_tests_of_a_new_enclave_pass_and_pytest_finds_the_plugin(run, prefix, tmp_path):
     assert run("rvlook", "new", "mine").returncode == 0
     environment = {"PATH": os.environ["PATH"], "HOME": str(tmp_path), "TERM": "dumb"}
-    made = subprocess.run(["make", "-s", "-C", tmp_path / "mine", "test"], env=environment, capture_output=True, text=True, timeout=SECONDS, check=False)
+    made = subprocess.run(["make", "-s", "-C", tmp_path / "mine", "test"], env=environment, capture_output=True, text=True, timeout=HANG, check=False)
     assert made.returncode == 0 and re.search(r" (10 passed|9 passed, 1 skipped) in ", made.stdout), made.stdout + made.stderr
     environment["PYTHONPATH"] = str(prefix / "lib" / "rvbench" / "python")
     found = subprocess.run([sys.executable, "-m", "pytest", "-p", "no:cacheprovider", "-k", "answers"], cwd=tmp_path / "mine", env=environment,
-                           capture_output=True, text=True, timeout=SECONDS, check=False)
+                           capture_output=True, text=True, timeout=HANG, check=False)
     assert found.returncode == 0 and " 1 passed" in found.stdout and "plugins: " in found.stdout, found.stdout + found.stderr
     (tmp_path / "mine" / "application.c").write_text("unsigned application(volatile unsigned *window) { return *window; }\n")
-    failing = subprocess.run(["make", "-s", "-C", tmp_path / "mine", "test"], env=environment, capture_output=True, text=True, timeout=SECONDS, check=False)
+    failing = subprocess.run(["make", "-s", "-C", tmp_path / "mine", "test"], env=environment, capture_output=True, text=True, timeout=HANG,
+                             check=False)
     assert failing.returncode == 2 and "assert exited with 0 == exited with 42" in failing.stdout, failing.stdout
 
 
@@ -107,7 +108,8 @@ def test_new_folder_must_be_empty(run, tmp_path):
 
 def test_install_refuses_options_and_a_missing_program(bench, tmp_path):
     def done(*words, **environment):
-        return subprocess.run([ROOT / "install", *words], env={**os.environ, **environment}, capture_output=True, text=True, timeout=SECONDS, check=False)
+        return subprocess.run([ROOT / "install", *words], env={**os.environ, **environment}, capture_output=True, text=True, timeout=HANG,
+                              check=False)
     assert done("--fast").returncode == 2 and done("one", "two").returncode == 2 and done("--help").returncode == 0
     missing = done(tmp_path / "x", RVBENCH="/none")
     assert (missing.returncode, missing.stderr) == (1, "install: error: no program at '/none'\n")
@@ -140,7 +142,7 @@ def test_new_refuses_a_clone_whose_path_a_makefile_cannot_hold(tmp_path, name):
     shutil.copy(ROOT / "rvlook", clone)
     done = subprocess.run([clone / "rvlook", "new", tmp_path / "mine"], capture_output=True, text=True, check=False)
     assert done.returncode == 3
-    assert "which a Makefile cannot hold; move the clone or the installation" in done.stderr
+    assert "in a Makefile, because of the character" in done.stderr
     assert not (tmp_path / "mine").exists()
 
 
@@ -150,7 +152,7 @@ def again(bench, prefix, tmp_path):
     copy = tmp_path / "copy"
     shutil.copytree(prefix, copy, symlinks=True)
     return copy, lambda: subprocess.run([ROOT / "install", copy], env={**os.environ, "RVBENCH": bench}, capture_output=True, text=True,
-                                        timeout=SECONDS, check=False)
+                                        timeout=HANG, check=False)
 
 
 @pytest.mark.parametrize("name", ["bin/rvlook", "bin/rvbench", "lib/rvbench/rvbench", "share/man/man1/rvlook.1", "share/bash-completion/completions/rvbench"])
@@ -188,7 +190,7 @@ def test_install_leaves_no_stage(prefix):
 
 def test_install_refuses_an_empty_name(bench, tmp_path):
     done = subprocess.run([ROOT / "install", ""], env={**os.environ, "RVBENCH": bench, "HOME": str(tmp_path)}, capture_output=True, text=True,
-                          timeout=SECONDS, check=False)
+                          timeout=HANG, check=False)
     assert (done.returncode, done.stderr) == (1, "install: error: the name of the prefix is empty\n")
     assert not list(tmp_path.iterdir())
 

@@ -10,6 +10,7 @@ import tempfile
 import time
 
 import pytest
+from support.limits import HANG
 from support.race_programs import assembled
 
 from conftest import EXAMPLES, ROOT, RVLOOK
@@ -18,7 +19,7 @@ COUNTER = ("lui x5, 0x80011", "addi x6, x0, 200", "loop: lw x7, 0(x5)", "addi x7
            "done: jal x0, done")
 STORE = EXAMPLES / "enclaves" / "store_leaking"
 LEAK = ("leak", "--monitor", STORE / "image", "--symbols", STORE / "symbols", "--at", "key:32", "--tries", "1000", "--json")
-TIMES, LIMIT = 3, 60  # how often the progress is shown before Ctrl-C, and the seconds to wait for it
+TIMES = 3  # how often the progress is shown before Ctrl-C
 
 
 @pytest.fixture
@@ -32,11 +33,11 @@ def stopped(bench):
                                        env={**os.environ, "RVBENCH": bench, "TERM": "xterm"},
                                        preexec_fn=lambda: signal.signal(signal.SIGINT, signal.default_int_handler))
             os.close(theirs)
-            shown, until = "", time.monotonic() + LIMIT
+            shown, until = "", time.monotonic() + HANG
             while len(re.findall(pattern, shown)) < TIMES and time.monotonic() < until and process.poll() is None:
                 shown += os.read(ours, 65536).decode() if select.select([ours], [], [], 1)[0] else ""
             process.send_signal(signal.SIGINT)
-            process.wait(timeout=LIMIT)
+            process.wait(timeout=HANG)
             os.close(ours)
             output.seek(0)
             return process.returncode, len(re.findall(pattern, shown)), [json.loads(it) for it in output]

@@ -177,10 +177,14 @@ def test_value_that_does_not_occur_is_not_found(races, counter):
 
 
 def test_search_that_is_cut_claims_no_more_than_it_searched(races, image):
+    """The first limit is used after which the search claims anything, and shows it; a busy machine needs a larger one. The whole search takes
+    minutes."""
     path = image(COUNTER % 40)
-    found, last = races(path, "--outcome", COUNT, "--seconds", "0.5")
-    assert (last["complete"], last["covered"].startswith("stopped by --seconds after ")) == (False, True)
-    if "at most" in last["covered"]:
-        claimed = last["covered"].split("at most ")[1].split()[0]
-        again = races(path, "--outcome", COUNT, "--preemptions", claimed)[0]
-        assert set(values(again, COUNT)) <= set(values(found, COUNT))
+    for seconds in (0.5, 2, 8, 32):
+        found, last = races(path, "--outcome", COUNT, "--seconds", seconds)
+        assert (last["complete"], last["covered"].startswith("stopped by --seconds after ")) == (False, True)
+        if "at most" in last["covered"] and "not every final state was replayed" not in last["covered"]:
+            break
+    claimed = last["covered"].split("at most ")[1].split()[0]
+    again = races(path, "--outcome", COUNT, "--preemptions", claimed)[0]
+    assert set(values(again, COUNT)) <= set(values(found, COUNT))

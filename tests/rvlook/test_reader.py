@@ -8,7 +8,7 @@ from conftest import EXAMPLES, ROOT
 from support.race_programs import REGIONS, assembled, call_script
 
 sys.path.insert(0, str(ROOT / "python"))
-from rvlook.access.accesses import base_of  # noqa: E402
+from rvlook.access.touch import base_of  # noqa: E402
 from rvlook.cli.opening import opened  # noqa: E402
 from rvlook.cli.parser import read  # noqa: E402
 from rvlook.protocol.reader import Reader, lines_of  # noqa: E402

@@ -37,7 +37,7 @@ def test_refused_lines_have_the_replies_of_the_bench(bench, script):
     assert [reply for it in found for reply in it["replies"]] == wanted
     assert [it["given"] for it in found] == REFUSED
     assert done.status == 2
-    assert done.errors.count(b": error ") == len(REFUSED)
+    assert done.errors.count(b"rvlook: error: ") == len(REFUSED)
 
 
 def test_lines_that_the_bench_takes_are_no_faults(bench, script):
@@ -65,7 +65,7 @@ def test_refused_hart_line_is_reported_and_the_run_continues(bench, script, word
     done = run(bench, word, script("hart 1", "hart x", "hart", "step 1"), "--steps", "3")
     check(done)
     assert done.status == 2
-    assert b"hart 1: error hart" in done.errors and b"hart x: error operand" in done.errors
+    assert b"hart 1: no such hart" in done.errors and b"hart x: 'x' is not" in done.errors
 
 
 def test_trace_shows_no_control_character_of_a_line(bench, script):

@@ -10,10 +10,10 @@ import tarfile
 import zipfile
 
 import pytest
+from support.limits import HANG
 
 from conftest import ROOT
 
-SECONDS = 600
 COREUTILS = ("cat", "chmod", "cp", "cut", "dirname", "env", "head", "ln", "ls", "mkdir", "mktemp", "mv", "printf", "readlink", "rm", "sha256sum",
              "sort", "tail", "touch", "tr", "wc")
 LEFT_OUT = "./release"
@@ -24,7 +24,7 @@ INSTALLED = ("bin/rvbench", "bin/rvlook", "bin/rvbench-build", "lib/rvbench/vers
 def release(bench, *words, root=ROOT, **environment):
     """Runs `./release` with the built program."""
     return subprocess.run([root / "release", *words], env={**os.environ, "RVBENCH": bench, **environment}, capture_output=True, text=True,
-                          timeout=SECONDS, check=False)
+                          timeout=HANG, check=False)
 
 
 def made_in(bench, folder, **options):
@@ -54,7 +54,7 @@ def unpacked(tarball, tmp_path):
     def run(line):
         environment = {"PATH": str(tools), "HOME": str(tmp_path / "home")}
         return subprocess.run([tools / "bash", "-e", "-o", "pipefail", "-c", line], cwd=folder, env=environment, capture_output=True, text=True,
-                              timeout=SECONDS, check=False)
+                              timeout=HANG, check=False)
     (tmp_path / "home").mkdir()
     return folder, run
 
@@ -89,7 +89,7 @@ def test_contents_and_statement_have_the_digests(bench, unpacked):
 
 def copied_clone(folder):
     """Clones the repository to a folder with its uncommitted changes."""
-    subprocess.run(["git", "clone", "-q", "--shared", ROOT, folder], check=True, capture_output=True, timeout=SECONDS)
+    subprocess.run(["git", "clone", "-q", "--shared", ROOT, folder], check=True, capture_output=True, timeout=HANG)
     listed = subprocess.run(["git", "ls-files", "-z", "--cached", "--others", "--exclude-standard"], cwd=ROOT, capture_output=True, check=True)
     for name in filter(None, listed.stdout.decode().split("\0")):
         if (ROOT / name).exists():
@@ -144,9 +144,9 @@ def test_package_and_wheel_have_the_program_and_rvlook(tarball, tmp_path):
     folder = tarball.parent
     if not shutil.which("dpkg-deb"):
         pytest.skip("dpkg-deb is not installed")
-    subprocess.run(["dpkg-deb", "-x", next(folder.glob("*.deb")), tmp_path / "root"], check=True, capture_output=True, timeout=SECONDS)
+    subprocess.run(["dpkg-deb", "-x", next(folder.glob("*.deb")), tmp_path / "root"], check=True, capture_output=True, timeout=HANG)
     done = subprocess.run([tmp_path / "root" / "usr" / "bin" / "rvbench"], input="9300f0ff\n--\nstep 1\n", capture_output=True, text=True, check=True,
-                          timeout=SECONDS)
+                          timeout=HANG)
     assert done.stdout.startswith("ran 1 ")
     fields = subprocess.run(["dpkg-deb", "-f", next(folder.glob("*.deb")), "Package", "Architecture"], capture_output=True, text=True, check=True)
     assert fields.stdout == "Package: rvbench\nArchitecture: amd64\n"

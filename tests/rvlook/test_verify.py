@@ -9,6 +9,8 @@ from rvlook.__main__ import main
 from rvlook.symbolic import confirm, nodes
 
 pytest.importorskip("z3", reason="python3-z3 is not installed")
+
+pytestmark = pytest.mark.usefixtures("processor_clock")
 KEY = ("--at", "key:32", "--public", "window_base+1c:32")
 
 

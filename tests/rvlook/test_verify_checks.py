@@ -46,7 +46,7 @@ def test_bytes_of_the_region_are_inputs(objects, program, script):
 
 
 def test_inputs_reports_a_failed_check(objects, program, script):
-    _, found = objects("inputs", *program("verify_checks"), *script(2), "--runs", "120")
+    _, found = objects("inputs", *program("verify_checks"), *script(2), "--runs", "30")
     assert any(it["text"].startswith("the enclave traps: a failed check") for it in found if it["object"] == "finding")
 
 

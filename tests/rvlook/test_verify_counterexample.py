@@ -16,6 +16,7 @@ from rvlook.symbolic.counterexample import HINT, InputRow, table
 from support.gdb_client import Client
 from support.page_data import Steps, data_of
 
+pytestmark = pytest.mark.usefixtures("processor_clock")
 BUG = EXAMPLES / "enclaves" / "bug"
 WORDS = ("verify", "--monitor", BUG / "image", "--symbols", BUG / "symbols")
 PC = 32  # the number of the pc in the protocol of gdb

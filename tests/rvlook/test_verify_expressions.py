@@ -6,7 +6,7 @@ import pytest
 
 pytest.importorskip("z3", reason="python3-z3 is not installed")
 
-from rvlook.symbolic import conditions, domains, evaluation, nodes, words
+from rvlook.symbolic import conditions, domains, evaluation, nodes, translate, words
 from rvlook.symbolic.conditions import choice8, eq, lt, ult
 from rvlook.symbolic.domains import Domains
 from rvlook.symbolic.evaluation import evaluate
@@ -14,6 +14,7 @@ from rvlook.symbolic.nodes import INPUT, NUMBERS, Node, signed, variable
 from rvlook.symbolic.translate import Translator, Z3, the_z3
 from rvlook.symbolic.words import byte, choice, not_, operation, word
 
+pytestmark = pytest.mark.usefixtures("processor_clock")
 NAMES = ("e0", "e1", "e2", "e3")
 DEPTH, EXPRESSIONS, TRIES, SETS = 5, 300, 200, 150
 COMPARISONS = ((eq, lambda x, y: x == y), (ult, lambda x, y: x < y), (lt, lambda x, y: signed(x) < signed(y)))
@@ -58,8 +59,8 @@ class Maker:
 def by_z3(node, model):
     """Returns the value of a word by z3."""
     z = the_z3()
-    pairs = [(z.z3.BitVec(name, 8), z.z3.BitVecVal(v, 8)) for name, v in model.items()]
-    return z.z3.simplify(z.z3.substitute(z.z3.BitVecRef(Translator()(node), z.z3.main_ctx()), *pairs)).as_long()
+    pairs = [(z.z3.BitVec(name, 8, z.owner), z.z3.BitVecVal(v, 8, z.owner)) for name, v in model.items()]
+    return z.z3.simplify(z.z3.substitute(z.z3.BitVecRef(Translator()(node), z.owner), *pairs)).as_long()
 
 
 def differs(seed, with_z3=True):
@@ -135,3 +136,14 @@ def test_lost_value_of_a_byte_is_noticed(monkeypatch):
     monkeypatch.setattr(domains, "VALUES", 128)
     nodes.forget()
     assert wrong_answers(range(SETS))[0]
+
+
+def test_run_after_one_with_many_expressions_begins_with_an_empty_context(monkeypatch):
+    """Each question takes longer if there are many, so a run could not find what it finds alone."""
+    one = the_z3()
+    monkeypatch.setattr(translate, "MANY", one.count)
+    translate.leave_out_old()
+    assert the_z3() is one
+    Translator()(word(variable("one_more", INPUT), 1, 2, 3))
+    translate.leave_out_old()
+    assert the_z3() is not one and the_z3().context != one.context

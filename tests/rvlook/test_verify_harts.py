@@ -5,6 +5,7 @@ pytest.importorskip("z3", reason="python3-z3 is not installed")
 
 from conftest import EXAMPLES
 
+pytestmark = pytest.mark.usefixtures("processor_clock")
 HARTS = ("--harts", "2")
 
 
@@ -60,5 +61,5 @@ def test_change_of_the_window_by_the_other_hart_is_found(results, program, tmp_p
 
 
 def test_loop_that_waits_for_the_other_hart_is_not_decided(results):
-    found = results("verify", "--monitor", EXAMPLES / "enclaves" / "two_harts" / "image", *HARTS, "--seconds", "3", status=3)
+    found = results("verify", "--monitor", EXAMPLES / "enclaves" / "two_harts" / "image", *HARTS, "--seconds", "1", status=3)
     assert answers(found)["double fetches"][0] == "NOT DECIDED" and not found[-1]["complete"]

@@ -5,6 +5,7 @@ import shutil
 import subprocess
 
 import pytest
+from support.limits import HANG
 
 pytest.importorskip("z3", reason="python3-z3 is not installed")
 
@@ -30,6 +31,7 @@ from rvlook.symbolic.words import word
 from rvlook.symbolic.world import World
 from support.random_steps import OPTIONS
 
+pytestmark = pytest.mark.usefixtures("processor_clock")
 RUNS, STEPS = 60, 4000
 BYTES = (0, 0, 1, 2, 3, 8, 16, 17, 31, 32, 64, 255)
 HOST_INPUTS = EXAMPLES / "enclaves" / "host_inputs"
@@ -147,18 +149,20 @@ PLANTED = {
     "a join loses conditions": (joins, "rest_of", lambda c, a, b: [c])}
 
 
+def is_lost(bench, monkeypatch, task):
+    """Returns whether some random run of a function is no explored path, or the search fails."""
+    world = world_of(bench, monkeypatch, task, 1)
+    try:
+        return missing(world, explored(world, bound=100), 30) > 0
+    except (AssertionError, Ended, KeyError):
+        return True
+
+
 @pytest.mark.parametrize("name", PLANTED)
 def test_lost_path_is_noticed(bench, monkeypatch, name):
     monkeypatch.setattr(*PLANTED[name])
     monkeypatch.setattr(solver.Solver, "guessed", solver.Solver.guessed if not name.startswith("no guess") else lambda *_: None)
-    lost = 0
-    for task in TASKS:
-        world = world_of(bench, monkeypatch, task, 1)
-        try:
-            lost += missing(world, explored(world, bound=100), 30)
-        except (AssertionError, Ended, KeyError):
-            lost += 1
-    assert lost
+    assert any(is_lost(bench, monkeypatch, task) for task in TASKS)
 
 
 # ---- merged states
@@ -218,7 +222,7 @@ def test_state_at_a_stop_is_an_instance_of_the_merged_state(bench, monkeypatch, 
     assert len(search.states) > 1 and outside(search) == []
 
 
-def forgetful(self, at, x, y):
+def forgetful(self, it, at, x, y):
     """Joins two cells, and keeps the first."""
     return x
 
@@ -237,13 +241,13 @@ MERGE_ERRORS = {
 def test_error_of_a_merge_is_noticed(bench, monkeypatch, name):
     own = merge.changed_bytes
     monkeypatch.setattr(*MERGE_ERRORS[name])
-    found = []
-    for task in STOPPING:
+
+    def is_noticed(task):
         search = stops(bench, monkeypatch, task, False)
         with monkeypatch.context() as patch:
             patch.setattr(merge, "changed_bytes", own)
-            found += outside(search)
-    assert found
+            return outside(search) != []
+    assert any(map(is_noticed, STOPPING))
 
 
 def doubtful_facts(bench, monkeypatch, task):
@@ -277,7 +281,7 @@ def test_fact_that_is_not_asked_is_noticed(bench, monkeypatch):
 def smt_of(search, asts):
     """Returns conditions as SMT-LIB text."""
     z = search.solver.z3
-    solver_of_z3 = z.z3.SolverFor("QF_BV")
+    solver_of_z3 = z.z3.SolverFor("QF_BV", z.owner)
     for it in asts:
         z.c.Z3_solver_assert(z.context, solver_of_z3.solver, it)
     return "(set-logic QF_BV)\n" + solver_of_z3.to_smt2() + "(exit)\n"
@@ -292,5 +296,5 @@ def test_second_solver_agrees_that_nothing_exists(bench, monkeypatch, task):
     search.go(Progress())
     assert search.solver.proofs
     for asts in search.solver.proofs[:40]:
-        done = subprocess.run(["boolector", "--smt2"], input=smt_of(search, asts), capture_output=True, text=True, check=False, timeout=60)
+        done = subprocess.run(["boolector", "--smt2"], input=smt_of(search, asts), capture_output=True, text=True, check=False, timeout=HANG)
         assert done.stdout.split() == ["unsat"], done.stdout + done.stderr

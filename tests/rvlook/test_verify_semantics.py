@@ -16,6 +16,7 @@ from rvlook.symbolic.translate import Z3
 from rvlook.symbolic.world import World
 from support.random_steps import Program, compared, options
 
+pytestmark = pytest.mark.usefixtures("processor_clock")
 PROGRAMS, PARTS = 500, 4  # of the gate: 60,000 steps, in parts for several workers
 TRIES = 150  # programs in which a planted error must be noticed
 

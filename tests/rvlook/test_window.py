@@ -1,5 +1,4 @@
 """`window`: rows for double fetches and for bytes of another enclave, names of fields; with `--at` copies of parts of the secret, and public bytes."""
-import importlib.util
 import sys
 import types
 
@@ -8,9 +7,10 @@ import pytest
 from conftest import ROOT
 
 sys.path.insert(0, str(ROOT / "python"))
+from rvlook.finders.secrets import copies_in  # noqa: E402
 from rvlook.finders.window import Byte, Leftovers, reread  # noqa: E402
 from rvlook.protocol.symbols import Symbols  # noqa: E402
-from rvlook.protocol.units import ALL, Unit
+from rvlook.protocol.symbols import ALL, Unit
 
 KEY = ("--at", "key:20")
 ANSWER = "window_base+10"  # of the program: it depends on the key, and is public
@@ -104,15 +104,12 @@ def test_double_fetch_is_found_without_a_secret(window):
 
 
 def test_copies_are_maximal_and_none_covers_another():
-    spec = importlib.util.spec_from_file_location("secret_copies", ROOT / "python" / "rvlook" / "finders" / "secret_copies.py")
-    module = importlib.util.module_from_spec(spec)
-    spec.loader.exec_module(module)
     secret = bytes(range(1, 9)) * 2
-    assert module.copies_in(b"\0\0" + secret[3:] + b"\0", secret) == [(2, 13, 3)]
-    assert module.copies_in(secret[:6] + secret[1:5], secret) == [(0, 6, 0), (6, 4, 1)]
-    assert module.copies_in(b"abcd", b"ab") == [(0, 2, 0)]
-    assert module.copies_in(bytes(64), bytes(32)) == []
-    assert module.copies_in(b"", b"secret") == []
+    assert copies_in(b"\0\0" + secret[3:] + b"\0", secret) == [(2, 13, 3)]
+    assert copies_in(secret[:6] + secret[1:5], secret) == [(0, 6, 0), (6, 4, 1)]
+    assert copies_in(b"abcd", b"ab") == [(0, 2, 0)]
+    assert copies_in(bytes(64), bytes(32)) == []
+    assert copies_in(b"", b"secret") == []
 
 
 def test_rows_name_the_fields_of_the_window(rvlook, built, tmp_path):

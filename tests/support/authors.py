@@ -5,8 +5,9 @@ import subprocess
 import sys
 
 from conftest import EXAMPLES, ROOT
+from support.clock.processor_clock import environment_with
+from support.limits import HANG
 
-SECONDS = 300
 # Variables of this run of pytest. CI and BUILD_NUMBER are among them, since pytest does not shorten comparisons with them.
 OF_THIS_RUN = ("PYTEST_ADDOPTS", "PYTEST_XDIST_WORKER", "PYTEST_CURRENT_TEST", "PYTEST_XDIST_WORKER_COUNT", "PYTEST_XDIST_TESTRUNUID",
                "CI", "BUILD_NUMBER")
@@ -22,11 +23,11 @@ def copied(folder):
 
 def run_tests(bench, folder, *words):
     """Runs pytest in a folder, without the settings of this repository; returns its `CompletedProcess`, with text."""
-    environment = {**os.environ, "RVBENCH": bench, "PYTHONPATH": str(ROOT / "python"), "PYTHONDONTWRITEBYTECODE": "1", "COLUMNS": "120"}
+    environment = {**os.environ, **environment_with(ROOT / "python"), "RVBENCH": bench, "PYTHONDONTWRITEBYTECODE": "1", "COLUMNS": "120"}
     for name in OF_THIS_RUN:
         environment.pop(name, None)
     ini = folder / "pytest.ini"
     if not ini.exists():
         ini.write_text("[pytest]\n")
     return subprocess.run([sys.executable, "-m", "pytest", *PYTEST, *words], cwd=folder, env=environment, capture_output=True, text=True,
-                          timeout=SECONDS, check=False)
+                          timeout=HANG, check=False)

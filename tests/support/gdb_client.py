@@ -3,10 +3,10 @@ import re
 import subprocess
 import threading
 
+from support.limits import HANG
 from support.packets import packet
 
 PC = 32  # the number of pc among the registers
-LIMIT = 120  # seconds of a session
 
 
 class Client:
@@ -15,7 +15,7 @@ class Client:
     def __init__(self, command, cwd, environment, **more):
         self.process = subprocess.Popen([str(it) for it in command], cwd=cwd, env=environment, stdin=subprocess.PIPE, stdout=subprocess.PIPE,
                                         **more)
-        self.clock = threading.Timer(LIMIT, self.process.kill)
+        self.clock = threading.Timer(HANG, self.process.kill)
         self.clock.start()
         self.console = ""
         assert self.ask("QStartNoAckMode") == "OK"
@@ -84,7 +84,7 @@ class Client:
         self.ask("D")
         self.process.stdin.close()
         self.process.stdout.close()
-        assert self.process.wait(10) == 0
+        assert self.process.wait(HANG) == 0
 
 
 def states_of(replies, image, words, count):

@@ -8,17 +8,19 @@ import signal
 import struct
 import sys
 import tempfile
-import time
 from functools import lru_cache
 from pathlib import Path
 from typing import NamedTuple
+
+from support.limits import HANG
 
 ROOT = Path(__file__).resolve().parents[2]
 FOLDER = ROOT / "tests" / "rvlook" / "programs" / "hello"
 SOURCE = next(FOLDER.glob("*.c")).name
 FUNCTION = "a_function_with_a_name_of_48_characters_________"
 HELLO = bytes.fromhex((FOLDER / "elf.hex").read_text())
-SECONDS, MEMORY = 60, 1 << 30
+SECONDS, MEMORY = 60, 1 << 30  # of processor time, and bytes
+SLACK = 1 << 29  # bytes of addresses that have no memory
 FEW = ["--steps", "40"]  # the program halts after 23
 
 
@@ -55,35 +57,45 @@ def patched(at, new, data=HELLO):
 
 
 class Done(NamedTuple):
-    """How a run of rvlook ended: its status (minus the signal), its output, its errors, seconds, and bytes of memory more than this process had."""
+    """How a run of rvlook ended: its status (minus the signal), its output, its errors, and bytes of memory more than this process had."""
     status: int
     output: bytes
     errors: bytes
-    seconds: float
     memory: int
 
 
 def run(bench, *words, stdin=b"", seconds=SECONDS, memory=MEMORY):
-    """Runs rvlook in a forked child, which has its modules already; a run takes a few hundredths of a second."""
+    """Runs rvlook in a forked child, which has its modules already; a run takes a few hundredths of a second. A signal ends it after so many seconds
+    of processor time, or if it hangs."""
     load()
     without_limit(bench)
     with tempfile.TemporaryFile() as given, tempfile.TemporaryFile() as output, tempfile.TemporaryFile() as errors:
         given.write(stdin)
         given.seek(0)
-        began, before, child = time.monotonic(), resident(), os.fork()
+        before, limit = resident(), address_space() + memory + SLACK
+        child = os.fork()
         if not child:
-            in_child(bench, [str(it) for it in words], [it.fileno() for it in (given, output, errors)], seconds, memory)
+            in_child(bench, [str(it) for it in words], [it.fileno() for it in (given, output, errors)], seconds, limit)
         _, status, used = os.wait4(child, 0)
-        took = time.monotonic() - began
         output.seek(0)
         errors.seek(0)
-        return Done(os.waitstatus_to_exitcode(status), output.read(), errors.read(), took, used.ru_maxrss * 1024 - before)
+        return Done(os.waitstatus_to_exitcode(status), output.read(), errors.read(), used.ru_maxrss * 1024 - before)
 
 
 def resident():
     """Returns the bytes of memory that this process has; a forked child begins with as many."""
+    return pages()[1] * resource.getpagesize()
+
+
+def address_space():
+    """Returns the bytes of addresses that this process uses, also without memory; a forked child begins with as many."""
+    return pages()[0] * resource.getpagesize()
+
+
+def pages():
+    """Returns the sizes of this process that Linux reports, in pages."""
     with open("/proc/self/statm", encoding="ascii") as file:
-        return int(file.read().split()[1]) * resource.getpagesize()
+        return [int(it) for it in file.read().split()]
 
 
 def load():
@@ -106,13 +118,14 @@ def without_limit(bench):
     return path
 
 
-def in_child(bench, words, files, seconds, memory):
-    """Runs rvlook with these arguments, and ends the process."""
+def in_child(bench, words, files, seconds, limit):
+    """Runs rvlook with these arguments, and ends the process. The limit is that of its addresses, in bytes."""
     status = 101
     try:
         signal.signal(signal.SIGALRM, signal.SIG_DFL)
-        signal.alarm(seconds)
-        resource.setrlimit(resource.RLIMIT_AS, (memory + (1 << 29), resource.RLIM_INFINITY))
+        signal.alarm(HANG)
+        resource.setrlimit(resource.RLIMIT_CPU, (seconds, seconds))
+        resource.setrlimit(resource.RLIMIT_AS, (limit, resource.RLIM_INFINITY))
         for number, file in enumerate(files):
             os.dup2(file, number)
         os.environ.update(RVBENCH=without_limit(bench), TERM="dumb")

@@ -8,6 +8,8 @@ import sys
 import time
 from pathlib import Path
 
+from support.limits import HANG
+
 FULL = 'exec "$0" "$@" > /dev/full'
 PATCHED = """import sys
 sys.path[0] = %r
@@ -27,7 +29,7 @@ def forgetful(self, *more):
     return decode_step(self, *more)
 machine.RaceMachine.decode_step = forgetful
 """
-MORE = "operands = machine.operands; machine.operands = lambda word: (0, *operands(word)[1:])"
+MORE = "operands = machine.operands; machine.operands = lambda word: operands(word)._replace(writes=0)"
 NEVER_BACK = """
 from rvlook.finders.races import search as races_search
 loop_of = races_search.loop_of
@@ -38,6 +40,7 @@ import itertools
 ram, numbers = replay.Replays.ram, itertools.count()
 replay.Replays.ram = lambda self, bench: [*ram(self, bench)[:-1], str(next(numbers))]
 """
+KILLED = "from rvlook.protocol import jobs; import os; jobs.ignore_interrupts = lambda: os.kill(os.getpid(), 9)"
 ONE_SCRIPT = """
 from rvlook.monitors import conform
 tasks_of = conform.tasks_of
@@ -45,23 +48,24 @@ conform.tasks_of = lambda *more: tasks_of(*more)[:1]
 """
 CUT_PAIR = """
 import rvlook.monitors.twins as twins
-twins.TwinRuns.compare = lambda self: self.result("", 7, why_cut="first continues at 80014000 or 80014004")
+twins.TwinRuns.compare = lambda self: self.result("", 7, why_cut="first then continues at 80014000 in one run, and at 80014004 in the other")
 """
 MANY_VECTORS = "import rvlook.monitors.guarded as guarded; guarded.entries_of = lambda mtvec: range(0x80000000, 0x80000100, 4)"
-ACCESS = "import rvlook.finders.inputs.scripts as scripts; scripts.access_of = lambda *more: (0, 0)"
+ACCESS = "import rvlook.finders.inputs.report as scripts; scripts.access_of = lambda *more: (0, 0)"
+# The alarm of the time limit comes during the first replay, which takes longer.
 LATE_REPLAY = """
-import time
+import signal, time
 import rvlook.finders.inputs.report as inputs_report
 with_old_values = inputs_report.with_old_values
-inputs_report.with_old_values = lambda *more: (time.sleep(30), with_old_values(*more))[1]
+inputs_report.with_old_values = lambda *more: (signal.setitimer(signal.ITIMER_REAL, 0.1), time.sleep(30), with_old_values(*more))[2]
 """
 REGISTERS = """
-step = trace.Tracer.step
+step = trace.RunTracer.step
 def changing(self, number, hart_number, hart, *more):
     done = step(self, number, hart_number, hart, *more)
     hart.registers = [*hart.registers[:31], "changed"]
     return done
-trace.Tracer.step = changing
+trace.RunTracer.step = changing
 """
 
 
@@ -114,7 +118,7 @@ class Runs:
                 time.sleep(pause)
                 has_ended = process.poll() is not None
                 process.send_signal(signal.SIGINT)
-                _, errors = process.communicate(timeout=60)
+                _, errors = process.communicate(timeout=HANG)
             is_late = process.returncode != -signal.SIGINT and "Exception ignored" not in errors and wanted in errors
             if is_late and not has_ended:
                 break

@@ -6,8 +6,9 @@ import sys
 from dataclasses import dataclass
 from pathlib import Path
 
+from support.limits import HANG
+
 ROOT = Path(__file__).resolve().parents[2]
-SECONDS = 240  # for the test of one mutant
 COPIED = ("python", "tests/rvlook", "tests/support")
 LINKED = ("examples", "docs", "tools", "tests/models", "tests/rvlook/programs", "tests/rvlook/golden", "tests/rvlook/images")
 SKIPPED = ("__pycache__", "programs", "golden", "images", "fuzz")
@@ -51,6 +52,6 @@ def check_noticed(mutant, folder, bench):
     environment = {**os.environ, "RVBENCH": bench, "PYTHONDONTWRITEBYTECODE": "1"}
     environment.pop("RVLOOK", None)
     words = [sys.executable, "-m", "pytest", "-q", "-x", "-p", "no:xdist", "tests/rvlook/" + mutant.test]
-    done = subprocess.run(words, cwd=folder, env=environment, capture_output=True, text=True, timeout=SECONDS, check=False)
+    done = subprocess.run(words, cwd=folder, env=environment, capture_output=True, text=True, timeout=HANG, check=False)
     assert done.returncode == 1, "the test passes, or there is none: %s" % done.stdout[-800:]
     assert " failed" in done.stdout.splitlines()[-1], done.stdout[-800:]

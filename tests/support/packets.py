@@ -5,6 +5,7 @@ import subprocess
 import threading
 
 from support.hostile import ROOT
+from support.limits import HANG
 
 REPLY = re.compile(rb"\$([^#]*)#[0-9a-f]{2}")
 
@@ -23,12 +24,12 @@ def monitor(line):
     return packet("qRcmd," + line.encode().hex())
 
 
-def replies(bench, image, *packets, words=(), timeout=120):
+def replies(bench, image, *packets, words=()):
     """Sends packets to rvlook gdb; returns its replies without acknowledgements, and its standard error. Closes its input after the reply to a
     last packet, which ends the server."""
     server = subprocess.Popen([str(ROOT / "rvlook"), "gdb", str(image), *words], stdin=subprocess.PIPE, stdout=subprocess.PIPE,
                               stderr=subprocess.PIPE, env={**os.environ, "RVBENCH": bench, "TERM": "dumb"})
-    clock = threading.Timer(timeout, server.kill)
+    clock = threading.Timer(HANG, server.kill)
     clock.start()
     server.stdin.write(b"".join([*packets, LAST]))
     server.stdin.flush()
@@ -41,7 +42,7 @@ def replies(bench, image, *packets, words=(), timeout=120):
     _, errors = server.communicate()
     clock.cancel()
     assert b"Traceback" not in errors, errors.decode("latin-1")
-    assert server.returncode >= 0, "it does not reply in %d seconds" % timeout
+    assert server.returncode >= 0, "it does not reply in %d seconds" % HANG
     return REPLY.findall(output[:output.rfind(b"$")]), errors.decode("utf-8", "replace")
 
 

@@ -9,7 +9,6 @@ from rvlook.symbolic.fields import Ended
 from rvlook.symbolic.nodes import INPUT, Node, variable
 from rvlook.symbolic.options import VerifyOptions
 from rvlook.symbolic.search import Search
-from rvlook.symbolic.translate import the_z3
 from rvlook.symbolic.words import word
 
 STEPS, WORDS = 120, 128  # steps of a program, and its instructions
@@ -144,10 +143,9 @@ class Program:
 
 def value_by_z3(state, node):
     """Returns the value of a node by z3."""
-    z = the_z3()
-    ast = state.search.solver.plain(node)
-    it = (z.z3.BoolRef if node.op in CONDITIONS else z.z3.BitVecRef)(ast, z.z3.main_ctx())
-    pairs = [(z.z3.BitVec(n, 8), z.z3.BitVecVal(state.model[n], 8)) for n in nodes.names_of(nodes.mask_of(node))]
+    z, ast = state.search.solver.z3, state.search.solver.plain(node)
+    it = (z.z3.BoolRef if node.op in CONDITIONS else z.z3.BitVecRef)(ast, z.owner)
+    pairs = [(z.z3.BitVec(n, 8, z.owner), z.z3.BitVecVal(state.model[n], 8, z.owner)) for n in nodes.names_of(nodes.mask_of(node))]
     found = z.z3.simplify(z.z3.substitute(it, *pairs))
     return z.z3.is_true(found) if z.z3.is_bool(found) else found.as_long()
 

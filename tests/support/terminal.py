@@ -8,7 +8,8 @@ import subprocess
 import termios
 import time
 
-LIMIT = 20  # seconds until a terminal is given up
+from support.limits import HANG
+
 AGAIN = 1  # seconds after which Ctrl-D is sent again
 CODES = re.compile(r"\x1b\[[0-9;?]*[a-zA-Z]|\r")  # colours, cursor moves
 
@@ -36,10 +37,12 @@ class Terminal:
         return True
 
     def shows(self, text):
-        """Returns whether a text is shown in time; discards the output before it."""
-        end = time.monotonic() + LIMIT
+        """Returns whether a text is shown before the program ends; discards the output before it."""
+        end = time.monotonic() + HANG
         while text not in self.seen and time.monotonic() < end:
-            self.read()
+            has_ended = self.process.poll() is not None
+            if not self.read() and has_ended:
+                break
         _, found, self.seen = self.seen.partition(text)
         return bool(found)
 
@@ -48,13 +51,13 @@ class Terminal:
 
     def wait(self):
         """Waits for the end of the program."""
-        end = time.monotonic() + LIMIT
+        end = time.monotonic() + HANG
         while self.process.poll() is None and time.monotonic() < end:
             self.read()
 
     def end(self):
         """Returns the status, and whether the settings of the terminal are as before. Sends Ctrl-D again if it came before the prompt."""
-        end, sent = time.monotonic() + LIMIT, time.monotonic()
+        end, sent = time.monotonic() + HANG, time.monotonic()
         while self.process.poll() is None and time.monotonic() < end:
             self.read()
             if time.monotonic() > sent + AGAIN:

@@ -13,10 +13,12 @@ from dataclasses import dataclass
 from pathlib import Path
 from typing import Dict, List, Optional
 
+from support.limits import HANG
+
 HERE = Path(__file__).resolve().parent
 COMPILER = ("riscv64-unknown-elf-gcc", "-march=rv32im_zicsr", "-mabi=ilp32", "-static", "-mcmodel=medany", "-nostdlib", "-nostartfiles", "-w",
             "-Wl,-n", "-DXLEN=32", "-DTEST_CASE_1=True")
-RAM, RUNS, SECONDS = 16777216, 20, 120
+RAM, RUNS = 16777216, 20
 
 
 @dataclass(frozen=True)
@@ -55,7 +57,7 @@ def signature_of(program: str, elf: Path) -> List[str]:
     image = "\n".join(re.findall(".{1,120}", elf.read_bytes().hex()))
     reads = ["mem %x 4" % at for at in range(begin, end, 4)]
     script = "\n".join([image, "--", "break %x" % names["rvbench_halt"], *["run 1000000"] * RUNS, *reads, ""])
-    done = subprocess.run([program, "run", "--ram", str(RAM)], input=script, capture_output=True, text=True, timeout=SECONDS, check=True)
+    done = subprocess.run([program, "run", "--ram", str(RAM)], input=script, capture_output=True, text=True, timeout=HANG, check=True)
     lines = done.stdout.splitlines()[1:]
     if not any(" why=break " in line for line in lines[:RUNS]):
         return []
@@ -68,7 +70,7 @@ def run_test(program: str, suite: Path, test: Path, references: Optional[Path] =
     with tempfile.TemporaryDirectory(prefix="rvbench-arch-") as scratch:
         elf = Path(scratch) / "test.elf"
         words = [*COMPILER, "-I", suite / "env", "-I", HERE / "model", "-T", HERE / "model" / "link.ld", "-o", elf, test]
-        built = subprocess.run([str(it) for it in words], capture_output=True, text=True, timeout=SECONDS, check=False)
+        built = subprocess.run([str(it) for it in words], capture_output=True, text=True, timeout=HANG, check=False)
         if built.returncode:
             return Result(test.stem, "left out", next((it for it in built.stderr.splitlines() if "rror" in it), "it does not build"))
         found = signature_of(program, elf)

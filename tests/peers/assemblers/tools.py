@@ -10,7 +10,8 @@ import tempfile
 from pathlib import Path
 from typing import Any, Callable, Dict, List, Optional, Sequence
 
-SECONDS = 120
+from support.limits import HANG
+
 GNU, MARCH = "riscv64-unknown-elf-", "rv32im_zicsr"
 ATTRIBUTE = "rv32i2p1_m2p0_zicsr2p0"
 UNKNOWN = re.compile(r"(\.\w+|<unknown>|unimp)\b.*|<unknown>")
@@ -26,7 +27,7 @@ class ToolError(Exception):
 
 def run(words: Sequence[str], text: Optional[str] = None) -> str:
     """Runs a command and returns its output; raises `ToolError` if it fails."""
-    done = subprocess.run([str(it) for it in words], input=text, capture_output=True, text=True, timeout=SECONDS, check=False)
+    done = subprocess.run([str(it) for it in words], input=text, capture_output=True, text=True, timeout=HANG, check=False)
     if done.returncode:
         raise ToolError("%s: %s" % (words[0], (done.stderr or done.stdout)[:2000]))
     return done.stdout

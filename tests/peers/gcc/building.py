@@ -7,6 +7,8 @@ from dataclasses import dataclass
 from pathlib import Path
 from typing import Dict, List, Tuple
 
+from support.limits import HANG
+
 from .sources import Source
 
 HERE = Path(__file__).resolve().parent
@@ -16,7 +18,7 @@ TARGET = ("-march=rv32im_zicsr", "-mabi=ilp32")
 LIBRARY_TARGET = "-march=rv32im"
 # As in GCC's own runs: builtins and warnings as in a hosted program.
 FLAGS = ("-w", "-O2", "-std=gnu17", "-fno-stack-protector", "-fno-pic", "-I", str(HERE / "include"))
-RAM, MILLION, SECONDS = 16777216, 1000000, 120
+RAM, MILLION = 16777216, 1000000
 # The most million steps of a test.
 MOST = 1000
 PASSED = 0
@@ -44,7 +46,7 @@ class BuildFailed(Exception):
 
 def compile_with(*words: str) -> None:
     """Runs the compiler; raises `BuildFailed` with its first error."""
-    done = subprocess.run([COMPILER, *TARGET, *words], capture_output=True, text=True, errors="replace", timeout=SECONDS, check=False)
+    done = subprocess.run([COMPILER, *TARGET, *words], capture_output=True, text=True, errors="replace", timeout=HANG, check=False)
     if done.returncode:
         found = re.search(r"(?:fatal )?error: (.*)|(undefined reference to .*)", done.stderr)
         raise BuildFailed(next(filter(None, found.groups())) if found else done.stderr.strip().split("\n")[-1])

@@ -7,10 +7,11 @@ from dataclasses import dataclass, field
 from pathlib import Path
 from typing import List, Tuple
 
+from support.limits import HANG
+
 HERE = Path(__file__).resolve().parent
 ROOT = HERE.parents[2]
 COPIED = ("crates", "tools", "crates.txt", "HANDLES", "README.md", "pyproject.toml")
-SECONDS = 1800
 
 
 class BadError(Exception):
@@ -76,7 +77,7 @@ def build(error: PlantedError, folder: Path) -> Path:
     plant(error, folder)
     builder = folder / "tools" / "optimised"
     builder.write_text(without_optimisation(builder.read_text(encoding="utf-8")), encoding="utf-8")
-    done = subprocess.run([folder / "tools" / "program", "planted"], capture_output=True, text=True, timeout=SECONDS, check=False)
+    done = subprocess.run([folder / "tools" / "program", "planted"], capture_output=True, text=True, timeout=HANG, check=False)
     program = Path(done.stdout.strip() or "none")
     if done.returncode or not program.is_file():
         raise BadError("%s cannot be built: %s" % (error.name, done.stderr[-2000:]))

@@ -49,7 +49,7 @@ CASES: Dict[str, List[Action]] = {
     "delegation": [write("mideleg", 0x222)],
     "counter enables": [write("mcounteren", 1)],
     "environment": [write("menvcfg", 1)],
-    "MPRV of a return": [*OPEN, *below(MPRV)],
+    "MPRV after mret or sret": [*OPEN, *below(MPRV)],
     "mret without PMP entries": below(),
     "write of nothing": [VECTOR, instruction("csrrs", 1, 0xF14, 2)],
     "mhpmcounter": [VECTOR, read(0xB03)],

@@ -46,7 +46,7 @@ class Emulator:
         self.process = subprocess.Popen(words, stdin=subprocess.DEVNULL, stdout=subprocess.DEVNULL, stderr=subprocess.PIPE, text=True)
         self.ram, self.counts = ram, counts
         try:
-            self.remote = Remote(path)
+            self.remote = Remote(path, self.process)
             self._begin()
         except RemoteError:
             self.process.kill()

@@ -3,9 +3,12 @@ from __future__ import annotations
 
 import re
 import socket
+import subprocess
 import time
 from pathlib import Path
 from typing import Iterable
+
+from support.limits import HANG
 
 PACKET = re.compile(rb"\$([^#]*)#[0-9a-f]{2}")
 PART = 65536
@@ -18,10 +21,11 @@ class RemoteError(Exception):
 
 
 class Remote:
-    """A connection to a gdb server. The server needs no acknowledgements, so that packets can be sent ahead of their answers."""
+    """A connection to a gdb server, a process that has been started. The server needs no acknowledgements, so that packets can be sent ahead of their
+    answers."""
 
-    def __init__(self, path: Path, seconds: float = 20):
-        self.socket = _connect(path, time.monotonic() + seconds)
+    def __init__(self, path: Path, server: subprocess.Popen[str], seconds: float = HANG):
+        self.socket = _connect(path, server, time.monotonic() + seconds)
         self.socket.settimeout(seconds)
         self.unread = b""
 
@@ -75,8 +79,8 @@ class Remote:
         return found[1].decode("ascii")
 
 
-def _connect(path: Path, end: float) -> socket.socket:
-    """Connects to a server that may not have begun to listen."""
+def _connect(path: Path, server: subprocess.Popen[str], end: float) -> socket.socket:
+    """Connects to a server that may not have begun to listen. Raises RemoteError if it has ended."""
     while True:
         made = socket.socket(socket.AF_UNIX)
         try:
@@ -84,6 +88,6 @@ def _connect(path: Path, end: float) -> socket.socket:
             return made
         except OSError as error:
             made.close()
-            if time.monotonic() > end:
+            if server.poll() is not None or time.monotonic() > end:
                 raise RemoteError("cannot connect to %s: %s" % (path, error)) from error
             time.sleep(0.005)

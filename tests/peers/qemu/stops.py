@@ -63,8 +63,8 @@ def at_device(step: Step) -> bool:
 
 STOPS = [
     Stop("TOR up to 0", "3.7.1", "a TOR entry with address 0 matches all addresses from the preceding address on", tor_to_zero),
-    Stop("bits 33:32", "3.7.1", "the bits 33:32 of the addresses of PMP entries are ignored", high_addresses),
+    Stop("bits 33:32", "3.7.1", "QEMU ignores bits 33:32 of the addresses of PMP entries", high_addresses),
     Stop("MPRV in the page of pc", "3.1.6.3", "a load or a store in the page of the instruction has the permissions of M", mprv_in_page),
-    Stop("Zicntr", "2.2", "M can read cycle, time and instret; QEMU 7.2 has no option that removes them", zicntr, True),
+    Stop("Zicntr", "2.2", "M can read cycle, time and instret, and no option of QEMU 7.2 removes them", zicntr, True),
     Stop("devices", "3.6", "a boot ROM, a console and a timer are at 1000, 1000000 and 2000000", at_device, True),
 ]

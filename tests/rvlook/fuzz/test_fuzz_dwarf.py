@@ -71,8 +71,8 @@ def images(draw):
 
 def read(path, data):
     """Reads everything that rvlook reads of the debugging information; returns the texts."""
-    from rvlook.image.frames import frames_of
-    from rvlook.image.source_paths import files_of
+    from rvlook.image.variables import frames_of
+    from rvlook.image.symbols import files_of
     from rvlook.image.symbols import symbols_of
     from rvlook.image.variables import variables_of
     path.write_bytes(data)

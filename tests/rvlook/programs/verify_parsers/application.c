@@ -1,4 +1,4 @@
-// A parser of a message of up to 64 bytes: TLV, CBOR or DER, as a macro says. PLANTED selects its bug.
+// A parser of a message: TLV, CBOR or DER of up to 64 bytes, or boxes of up to 16, as a macro says. Further macros select a bug.
 #include "request.h"
 #include "services.h"
 
@@ -10,6 +10,8 @@ unsigned char message[MESSAGE];
 #include "tlv.h"
 #elif defined CBOR
 #include "cbor.h"
+#elif defined BOXES
+#include "boxes.h"
 #else
 #include "der.h"
 #endif

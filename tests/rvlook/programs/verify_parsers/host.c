@@ -7,6 +7,8 @@
 static const unsigned char request[] = {3, 1, 7};
 #elif defined CBOR
 static const unsigned char request[] = {0x01};
+#elif defined BOXES
+static const unsigned char request[] = {2, 0, 0};
 #else
 static const unsigned char request[] = {0x30, 3, 2, 1, 5};
 #endif

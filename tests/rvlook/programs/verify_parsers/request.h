@@ -2,7 +2,11 @@
 #ifndef REQUEST_H
 #define REQUEST_H
 
+#ifdef BOXES
+enum { MESSAGE = 16 };
+#else
 enum { MESSAGE = 64 };
+#endif
 
 typedef volatile struct {
     unsigned length;
