@@ -16,6 +16,8 @@ from enum import Enum
 from functools import lru_cache
 from typing import Container, NamedTuple, Optional, Sequence
 
+from rvlook.errors import warn
+from rvlook.output.findings import ReportedCases
 from rvlook.protocol import names
 from rvlook.protocol.instructions import Instruction, MemoryOperand, instruction_of
 from rvlook.protocol.reader import Need, Reader, Reads
@@ -250,6 +252,13 @@ def overflows(run: Run, symbols: Symbols) -> list[Overflow]:
             if isinstance(item, Stretch):
                 finder.take(item, reader.read(item))
     return sorted(finder.found.values(), key=lambda it: it.step)
+
+
+def report_overflows(run: Run, symbols: Symbols, findings: ReportedCases) -> None:
+    """Reports each stack overflow of the run as a finding."""
+    for overflow in overflows(run, symbols):
+        warn(overflow_text(overflow, symbols))
+        findings.add("stack", overflow_text(overflow, symbols))
 
 
 def overflow_text(overflow: Overflow, symbols: Symbols) -> str:

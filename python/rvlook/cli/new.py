@@ -5,6 +5,7 @@ import os
 import re
 import shutil
 import sys
+from argparse import Namespace
 
 from rvlook.errors import RvlookError, Unfinished
 from rvlook.output.files import create_file
@@ -16,6 +17,11 @@ TEMPLATES = {"Makefile": "Makefile", "ci": "ci", "pytest.ini": "pytest.ini", "ta
              "test_enclave.py": os.path.join("tests", "test_enclave.py")}
 SPECIAL = re.compile(r"""["'`$\\#\x00-\x1f\x7f]""")  # characters that make or a shell reads in another way
 START = os.path.join("enclaves", "hello")
+
+
+def perform(arguments: Namespace) -> None:
+    """Makes the folder that the arguments name."""
+    show_new(arguments.folder)
 
 
 def examples() -> str:

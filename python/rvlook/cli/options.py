@@ -10,7 +10,7 @@ from functools import partial
 from typing import Any, Callable, NoReturn
 
 from rvlook.errors import UsageError
-from rvlook.monitors.ranges_file import GRAMMAR
+from rvlook.monitors.grammar import GRAMMAR
 from rvlook.protocol.schedule import TURN
 from rvlook.symbolic.options import VerifyOptions
 

@@ -40,11 +40,8 @@ SUBCOMMANDS = """subcommands:
 Without a subcommand, rvlook IMAGE starts an interactive prompt.
 See 'rvlook SUBCOMMAND --help' and docs/LOOK.md."""
 
-MODULES = {  # of each subcommand, in this package
-    "run": "views", "map": "views", "trace": "views", "touch": "views", "window": "finders", "inputs": "searches", "verify": "searches",
-    "leak": "finders", "timer": "finders", "races": "searches", "conform": "monitors", "guard": "monitors", "measure": "others",
-    "explain": "others", "page": "views", "gdb": "others", "new": "others"}
-NAMES = tuple(MODULES)
+NAMES = ("run", "map", "trace", "touch", "window", "inputs", "verify", "leak", "timer", "races", "conform", "guard", "measure", "explain", "page",
+         "gdb", "new")  # each is also the name of a module of this package
 MOST_STEPS, MOST_STEPS_OF_RUN = 1000000, 1000000000  # the defaults of --steps
 ABOUT_STEPS, ABOUT_STEPS_OF_RACES = "run at most N steps after the script", "give up a hart if one transition has more than N steps"  # its help
 PACKAGE = os.path.dirname(os.path.dirname(os.path.realpath(__file__)))
@@ -52,10 +49,10 @@ INSTALLED = os.path.join(PACKAGE, "../../version")  # what ./install wrote
 PRINTER = os.path.join(PACKAGE, "../../tools/version")  # of a clone
 
 
-def later(name: str, module: str = "") -> Callable[[Namespace], None]:
-    """Returns the function that runs a subcommand. It imports the module of the subcommand, which takes longer than most of them run."""
+def later(name: str) -> Callable[[Namespace], None]:
+    """Returns the function that runs a subcommand. It imports the module of the subcommand: the import of all would take longer than most runs."""
     def do(arguments: Namespace) -> None:
-        getattr(import_module("rvlook.cli." + (module or MODULES[name])), "do_" + name)(arguments)
+        import_module("rvlook.cli." + name).perform(arguments)
     return do
 
 
@@ -100,7 +97,8 @@ OVER_AN_IMAGE: Sequence[Any] = (  # a name, its help, and its options
     ("timer", "Interrupt an enclave before each of its steps, and check that the result stays the same", slot_option, timer_options,
      findings_options),
     ("races", "Search all schedules of two harts and of timer interrupts, and show the final states", races_options, findings_options),
-    ("page", "Write the run as an HTML page", page_options, schedule_options))
+    ("page", "Write the run as an HTML page", page_options, schedule_options),
+    ("gdb", "Serve the run to a debugger by the GDB remote serial protocol", gdb_options, schedule_options))
 OTHERS: Sequence[Any] = (  # the same without an image that is run
     ("conform", "Compare an M-mode monitor with the monitor of rvbench, call by call", conform_options, findings_options),
     ("guard", "Check that an M-mode monitor with calls of any kind isolates the worlds in S and U", guard_options, findings_options),
@@ -109,20 +107,16 @@ OTHERS: Sequence[Any] = (  # the same without an image that is run
     ("new", "Make a folder for an enclave of your own", new_options))
 
 
-def parser_of() -> Parser:
-    """Returns the parser of all subcommands."""
+def parser_of(name: str = "") -> Parser:
+    """Returns the parser of all subcommands. If the arguments begin with the name of one, no other one has its options."""
     parser = Parser(prog="rvlook", usage=USAGE, epilog=SUBCOMMANDS, formatter_class=argparse.RawDescriptionHelpFormatter,
                     description="Show what a host and its enclaves can access, and when, in a run of rvbench.")
-    parser.set_defaults(findings=ReportedCases(), is_report=False, junit=None, subcommand=None)
+    parser.set_defaults(findings=ReportedCases(), is_report=False, junit=None, subcommand=None, command_line=(NAMES, read))
     parser.add_argument("--version", action=Version, nargs=0, help="print the version, the commit and the Rattle kit")
     subparsers = parser.add_subparsers(prog="rvlook", metavar="SUBCOMMAND", help=argparse.SUPPRESS)
-    for name, about, *options in OVER_AN_IMAGE:
-        add_subcommand(subparsers, name, about, options_of_image(name), *options)
-    for name, about, *options in OTHERS:
-        add_subcommand(subparsers, name, about, *options)
-    gdb = add_subcommand(subparsers, "gdb", "Serve the run to a debugger by the GDB remote serial protocol", options_of_image("gdb"), gdb_options,
-                         schedule_options)
-    gdb.set_defaults(command_line=(NAMES, read))
+    over_an_image = [(it, about, options_of_image(it), *options) for it, about, *options in OVER_AN_IMAGE]
+    for it, about, *options in (*over_an_image, *OTHERS):
+        add_subcommand(subparsers, it, about, *(options if it == name or name not in NAMES else ()))
     return parser
 
 
@@ -145,7 +139,7 @@ def with_secrets(parser: Parser, arguments: Sequence[str]) -> Namespace:
 def read(arguments: Sequence[str]) -> Namespace:
     """Parses the command line."""
     complete()
-    parser = parser_of()
+    parser = parser_of(*arguments[:1])
     if not arguments:
         parser.print_help()
         sys.exit(2)
@@ -157,7 +151,7 @@ def read(arguments: Sequence[str]) -> Namespace:
         raise UsageError("no subcommand or file '%s'%s" % (arguments[0], meant(arguments[0], NAMES, "see 'rvlook --help'")))
     alone = Parser(prog="rvlook", usage=USAGE)
     image_options(alone)
-    alone.set_defaults(do=later("prompt", "views"), findings=ReportedCases(), is_report=False, junit=None)
+    alone.set_defaults(do=later("prompt"), findings=ReportedCases(), is_report=False, junit=None)
     return alone.parse_args(arguments)
 
 

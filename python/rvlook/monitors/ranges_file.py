@@ -11,23 +11,6 @@ from rvlook.monitors.ownership import ALL, HANDS, HOST, MONITOR, ONCE, SECRET, S
 from rvlook.protocol.names import NUMBER_OF
 from rvlook.protocol.symbols import Symbols
 
-GRAMMAR = "\n".join((
-    "lines of RANGES, in which # begins a comment:",
-    "  OWNER [RIGHTS] FIRST-LAST [while CONDITION...]",
-    "  shared OWNER... [RIGHTS] FIRST-LAST [while CONDITION...]",
-    "  table NAME COUNT PLACE STRIDE region BASE SIZE [window BASE SIZE] [while CONDITION...]",
-    "  hands REGISTER...",
-    "  once OWNER...",
-    "  secret PLACE SIZE",
-    "",
-    "  OWNER       monitor, host, or a name for an enclave; NAME0, NAME1, ... for the elements of a table",
-    "  RIGHTS      three letters, such as rw- (default: rwx)",
-    "  FIRST, LAST hexadecimal numbers; also STRIDE, BASE and SIZE; the last two are offsets in an element",
-    "  COUNT       a decimal number of elements",
-    "  PLACE       SYMBOL, SYMBOL+OFFSET or an address",
-    "  CONDITION   PLACE=VALUE, PLACE!=VALUE, PLACE<VALUE or PLACE>=VALUE, of the word there",
-    "  or          calls=N, calls!=N, calls<N or calls>=N, of the number of ecalls of the host from S, in decimal",
-    "  In a table, PLACE of a condition is an offset in the element."))
 FORMS = "expected 'OWNER [RIGHTS] FIRST-LAST', 'shared', 'table', 'hands', 'once' or 'secret', as 'rvlook guard --help' says"
 WHILE, TABLE, CALLS, REGION, WINDOW = "while", "table", "calls", "region", "window"
 RANGE = re.compile(r"([0-9a-fA-F]{1,8})-([0-9a-fA-F]{1,8})\Z")

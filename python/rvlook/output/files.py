@@ -2,7 +2,6 @@
 from __future__ import annotations
 
 import os
-import secrets
 from contextlib import contextmanager
 from typing import Callable, Iterable, Iterator
 
@@ -54,7 +53,7 @@ def new_beside(path: str) -> tuple[str, int]:
     """Makes a new file in the folder of `path`; returns its path and its descriptor. Raises OSError."""
     folder = os.path.dirname(path) or "."
     for _ in range(TRIES):
-        temporary = os.path.join(folder, ".rvlook." + secrets.token_hex(6))
+        temporary = os.path.join(folder, ".rvlook." + os.urandom(6).hex())
         try:
             return temporary, os.open(temporary, WRITTEN, 0o666)
         except FileExistsError:
