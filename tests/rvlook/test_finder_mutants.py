@@ -4,14 +4,15 @@ from support.mutants import Mutant, check_noticed, id_of
 
 MUTANTS = (
     Mutant("only_constant_moves_of_sp_are_seen", "access/stack.py", "operation.kind not in (Effect.BUILD, Effect.LOAD) and address:",
-           "operation.kind is Effect.COPY:", "test_stack.py::test_use_outside_the_stack_is_found[register]"),
+           "operation.factors == (1, 0):", "test_stack.py::test_use_outside_the_stack_is_found[register]"),
     Mutant("only_stores_through_sp_are_seen", "access/stack.py", "POINTED.get(kind, ()) if pointers.is_pointer(base) else ()", "()",
            "test_stack.py::test_use_outside_the_stack_is_found[pointer_below]"),
     Mutant("pointers_may_reach_each_stack", "access/stack.py", '"application": ("application",)}', '"application": ("runtime", "application")}',
            "test_stack.py::test_use_outside_the_stack_is_found[pointer_above]"),
-    Mutant("the_distance_of_two_pointers_is_a_pointer", "access/stack.py", "else -registers[two])", "else 0)",
+    Mutant("the_distance_of_two_pointers_is_a_pointer", "access/stack.py", '"sub": (1, -1)', '"sub": (1, 0)',
            "test_stack.py::test_pointers_into_the_stack_and_their_distances_are_no_overflow"),
-    Mutant("any_address_is_inside_a_stack", "access/stack.py", "if stacks and not any(stack.bottom <= address and", "if stacks and not any(True or",
+    Mutant("any_address_is_inside_a_stack", "access/stack.py", "return bool(stacks) and not any(stack.bottom <= address and",
+           "return bool(stacks) and not any(True or",
            "test_stack.py::test_a_frame_below_the_stack_is_found"),
     Mutant("a_stack_overflow_is_no_finding", "access/stack.py", "        findings.add(\"stack\", overflow_text(overflow, symbols))\n", "",
            "test_stack.py::test_a_frame_below_the_stack_is_found"),

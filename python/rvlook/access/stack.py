@@ -38,31 +38,25 @@ TIMER, CALL = names.TIMER.encode(), names.ECALL_FROM_S.encode()
 
 class Effect(Enum):
     """The effect of an instruction on pointers."""
-    ADD = "add"
-    SUBTRACT = "subtract"
-    COPY = "copy"  # a pointer moves by a constant, or is aligned
+    SUM = "sum"  # also the difference of two registers, and a pointer that moves by a constant or is aligned
     NUMBER = "number"  # the result is no pointer into the stack
     BUILD = "build"  # the upper part of a constant
     LOAD = "load"
     STORE = "store"
 
 
-SUMS = {"add": Effect.ADD, "or": Effect.ADD, "sub": Effect.SUBTRACT}
+FACTORS = {"add": (1, 1), "or": (1, 1), "sub": (1, -1)}
 
 
 class PointerOperation(NamedTuple):
-    """An instruction that writes a register or accesses memory: the register that it writes, and its operands."""
+    """An instruction that writes a register or accesses memory: the register that it writes, and its operands. For a sum, `factors` says how often
+    each operand is added. `register` must be read: the base of an access, or sp after a write of it; None if none is needed."""
     kind: Effect
     writes: int = 0
     sources: tuple[int, int] = (0, 0)
+    factors: tuple[int, int] = (0, 0)
     memory: Optional[MemoryOperand] = None
-
-    @property
-    def register(self) -> int | None:
-        """Returns the register that must be read: the base of an access, or sp after a write of it; None if none is needed."""
-        if self.memory:
-            return self.memory.base
-        return SP if self.writes == SP else None
+    register: Optional[int] = None
 
 
 def operation_of(line: bytes) -> PointerOperation | None:
@@ -71,18 +65,20 @@ def operation_of(line: bytes) -> PointerOperation | None:
     if instruction is None:
         return None
     if instruction.memory:
-        kind = Effect.LOAD if instruction.memory.kind == "r" else Effect.STORE
-        return PointerOperation(kind, instruction.writes, (instruction.memory.base, instruction.memory.register), instruction.memory)
+        kind, memory = Effect.LOAD if instruction.memory.kind == "r" else Effect.STORE, instruction.memory
+        return PointerOperation(kind, instruction.writes, (memory.base, memory.register), memory=memory, register=memory.base)
     return computation_of(instruction) if instruction.writes else None
 
 
 def computation_of(instruction: Instruction) -> PointerOperation:
     """Decodes an instruction that writes a register and accesses no memory."""
-    if instruction.name in SUMS:
-        return PointerOperation(SUMS[instruction.name], instruction.writes, (instruction.operands[1], instruction.operands[2]))
-    if instruction.name in ("addi", "ori") or instruction.name == "andi" and instruction.operands[2] < 0:
-        return PointerOperation(Effect.COPY, instruction.writes, (instruction.operands[1], 0))
-    return PointerOperation(Effect.BUILD if instruction.name in ("lui", "auipc") else Effect.NUMBER, instruction.writes)
+    name, writes, operands = instruction.name, instruction.writes, instruction.operands
+    register = SP if writes == SP else None
+    if name in FACTORS:
+        return PointerOperation(Effect.SUM, writes, (operands[1], operands[2]), FACTORS[name], register=register)
+    if name in ("addi", "ori") or name == "andi" and operands[2] < 0:
+        return PointerOperation(Effect.SUM, writes, (operands[1], 0), (1, 0), register=register)
+    return PointerOperation(Effect.BUILD if name in ("lui", "auipc") else Effect.NUMBER, writes, register=register)
 
 
 @dataclass
@@ -97,29 +93,24 @@ class Pointers:
 
     def has_source(self, operation: PointerOperation) -> bool:
         """Returns whether an operand of a computation is a pointer into the stack."""
-        return operation.kind in (Effect.ADD, Effect.SUBTRACT, Effect.COPY) and any(self.is_pointer(register) for register in operation.sources)
+        return operation.kind is Effect.SUM and any(self.is_pointer(register) for register in operation.sources)
 
-    def execute(self, operation: PointerOperation, address: int) -> None:
-        """Takes the effect of an instruction; `address` is that of its access."""
-        registers, (one, two) = self.registers, operation.sources
-        result = 0
-        if operation.kind is Effect.STORE:
-            self.store(address, registers[two] if operation.memory and operation.memory.width == WORD else 0)
-        elif operation.kind is Effect.LOAD:
-            result = self.words.get(address, 0) if operation.memory and operation.memory.width == WORD else 0
-        elif operation.kind is Effect.COPY:
-            result = registers[one]
-        elif operation.kind in (Effect.ADD, Effect.SUBTRACT):
-            result = registers[one] + (registers[two] if operation.kind is Effect.ADD else -registers[two])
-        if operation.writes:
-            registers[operation.writes] = int(operation.kind is not Effect.BUILD) if operation.writes == SP else result
+    def compute(self, operation: PointerOperation) -> None:
+        """Takes the effect of an instruction that accesses no memory."""
+        kind, writes, (one, two), (first, second), _, _ = operation
+        registers = self.registers
+        registers[writes] = first * registers[one] + second * registers[two] if writes != SP else int(kind is not Effect.BUILD)
 
-    def store(self, address: int, coefficient: int) -> None:
-        """Takes the store of a word with a coefficient."""
-        if coefficient:
-            self.words[address] = coefficient
-        else:
+    def access(self, operation: PointerOperation, address: int) -> None:
+        """Takes the effect of an access to an address."""
+        kind, writes, (_, two), _, memory, _ = operation
+        is_word = memory is not None and memory.width == WORD
+        if kind is Effect.STORE and is_word and self.registers[two]:
+            self.words[address] = self.registers[two]
+        elif kind is Effect.STORE:
             self.words.pop(address, None)
+        elif writes:
+            self.registers[writes] = 1 if writes == SP else self.words.get(address, 0) if is_word else 0
 
     def answer(self) -> None:
         """Takes the answer of the monitor to a call, which is in a0 and a1."""
@@ -175,29 +166,36 @@ class OverflowFinder:
         self.found: dict[str, Overflow] = {}
         self.pointers: dict[str, Pointers] = {}
         self.left_at: dict[str, int] = {}  # the pc at which an enclave left
+        self.kinds: dict[tuple[bytes, bytes], Optional[str]] = {}  # of stack, by world and mode
 
     def take(self, stretch: Stretch, reads: Reads[PointerOperation]) -> None:
         """Checks steps of one hart, one after another."""
         columns, world = stretch.columns, b""
-        values = dict(zip(reads.indices, map(reads.values.__getitem__, reads.starts)))
+        values = map(reads.values.__getitem__, reads.starts)
         operations = {line: operation_of(line) for line in set(reads.lines)}
-        steps = zip(columns.pcs, columns.worlds, columns.traps, columns.after, reads.lines)
-        for at, (pc, now, trap, after, line) in enumerate(steps):
+        steps = zip(columns.pcs, columns.modes, columns.worlds, columns.traps, reads.lines)
+        for at, (pc, mode, now, trap, line) in enumerate(steps):
             if now != world:
                 world = now
                 pointers = self.enter(stretch.hart, world.decode(), int(pc, 16))
             operation = operations[line]
-            if trap != NO_TRAP and (trap.startswith(TIMER) if operation else after != world):
+            if trap != NO_TRAP and (trap.startswith(TIMER) if operation else columns.after[at] != world):
                 self.left_at[world.decode()] = int(pc, 16)
-            if operation and not trap.startswith(TIMER):
-                value = values.get(at, 0)
-                address = (value + operation.memory.offset) & MASK if operation.memory else value
-                if operation.kind is Effect.STORE or operation.writes == SP:
-                    self.check(stretch, at, operation, pointers, address)
+            if not operation:
+                if trap.startswith(CALL):
+                    pointers.answer()
+                continue
+            memory = operation.memory
+            value = 0 if operation.register is None else next(values)
+            if trap == NO_TRAP or not trap.startswith(TIMER):
+                address = (value + memory.offset) & MASK if memory else value
+                if operation.writes == SP or operation.kind is Effect.STORE:
+                    kind = self.kind(now, mode)
+                    if kind and self.is_outside(kind, operation, pointers, address):
+                        self.found[kind] = Overflow(stretch.first + at, stretch.hart, now.decode(), int(pc, 16), operation.kind is Effect.STORE,
+                                                    address, self.nearest(kind, address))
                 if trap == NO_TRAP:
-                    pointers.execute(operation, address)
-            elif not operation and trap.startswith(CALL):
-                pointers.answer()
+                    pointers.access(operation, address) if memory else pointers.compute(operation)
 
     def enter(self, hart: int, world: str, pc: int) -> Pointers:
         """Returns the pointers of a world that continues at pc. An enclave that is entered elsewhere than where it left has none."""
@@ -207,25 +205,30 @@ class OverflowFinder:
             self.pointers[key] = Pointers()
         return self.pointers[key]
 
-    def check(self, stretch: Stretch, at: int, operation: PointerOperation, pointers: Pointers, address: int) -> None:
-        """Checks the use of a stack by the step of a stretch with an index."""
-        columns = stretch.columns
-        world = columns.worlds[at].decode()
-        kind = kind_of(world, columns.modes[at].decode(), self.stacks)
-        if kind is None or kind in self.found or kind not in self.stacks:
-            return
+    def kind(self, world: bytes, mode: bytes) -> str | None:
+        """Returns the kind of stack that a world uses in a mode; None if it is not known."""
+        if (world, mode) not in self.kinds:
+            self.kinds[world, mode] = kind_of(world.decode(), mode.decode(), self.stacks)
+        return self.kinds[world, mode]
+
+    def is_outside(self, kind: str, operation: PointerOperation, pointers: Pointers, address: int) -> bool:
+        """Returns whether a step uses a stack outside its range. Only the first use of each kind of stack counts."""
+        if kind in self.found or kind not in self.stacks:
+            return False
         wanted: Sequence[str] = ()
-        if operation.kind is Effect.STORE and operation.memory:
+        is_store = operation.kind is Effect.STORE
+        if is_store and operation.memory:
             base = operation.memory.base
             wanted = (kind,) if base == SP else POINTED.get(kind, ()) if pointers.is_pointer(base) else ()
         elif operation.writes == SP and operation.kind not in (Effect.BUILD, Effect.LOAD) and address:
             # 0 is no stack: a handler exchanges sp with sscratch
             wanted = (kind,) if pointers.has_source(operation) else self.stacks_of_world(kind)
         stacks = [stack for name in wanted for stack in self.stacks.get(name, ())]
-        is_store = operation.kind is Effect.STORE
-        if stacks and not any(stack.bottom <= address and address - (not is_store) < stack.top for stack in stacks):
-            own = min(self.stacks[kind], key=lambda stack: min(abs(stack.bottom - address), abs(stack.top - address)))
-            self.found[kind] = Overflow(stretch.first + at, stretch.hart, world, int(columns.pcs[at], 16), is_store, address, own)
+        return bool(stacks) and not any(stack.bottom <= address and address - (not is_store) < stack.top for stack in stacks)
+
+    def nearest(self, kind: str, address: int) -> Stack:
+        """Returns the stack of a kind that is nearest to an address."""
+        return min(self.stacks[kind], key=lambda stack: min(abs(stack.bottom - address), abs(stack.top - address)))
 
     def stacks_of_world(self, kind: str) -> Sequence[str]:
         """Returns the kinds of stacks to which a world may switch; none if the symbols do not define each of them."""
