@@ -214,6 +214,36 @@ module _ {S W : Type 0} {g : SourceGhosts S} (h : SinkGhosts W) where
   RunsScript-whole Separator output before after {old = old} {mid = mid} {new = new} source emptied sink ends found taken written =
       record { reads = FindsEnd-separator old mid new source emptied found taken; sink = sink; written = written }
 
+  -- the sink passed on what it held after the replies
+  pub RespondsToAll-passed : {A : Type 0} {by : Responding A} {end : ScriptEnd} {start now : A} {old new : Lines S g} {before mid after : W}
+      → RespondsToAll h by end start now old new before mid → h.taken after ≡ h.taken mid → SinkWorked h mid after
+      → RespondsToAll h by end start now old new before after
+  RespondsToAll-passed {by = by} {end = end} {start = start} {now = now} {old = old} {before = before} responds same worked = record {
+    source = responds.source;
+    sink = SinkWorked-more h responds.sink worked;
+    emptied = responds.emptied;
+    stopped = elim responds.stopped [
+      | inl run ↦ inl (record {
+        last = run.last;
+        found = run.found;
+        going = run.going;
+        responded = λ follows.
+            subst (RespondsToLines by end start (unread old) (h.taken before) now (unread run.last) run.last.is_at_end) (sym same) (run.responded follows);
+      })
+      | inr run ↦ inr (record {
+        was = run.was;
+        shown = run.shown;
+        mid = run.mid;
+        reply = run.reply;
+        is = run.is;
+        going = run.going;
+        over = run.over;
+        told = same ∙ run.told;
+        next = run.next;
+      })
+    ];
+  }
+
   -- The sink may be flushed after the replies; if it fails then, it has all replies.
   module _ {end : ScriptEnd} {start now : BenchState} {old new : Lines S g} {before mid : W}
       (responds : RespondsToAll h one_bench end start now old new before mid) (ends : EndsWithSource old new) where

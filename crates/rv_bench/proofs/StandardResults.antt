@@ -1,5 +1,5 @@
 -- The program over a reader and a writer, by their logs.
-use Rattle.std.proofs.Common.{◌≡◌, ◌<◌, ◌+◌, ◌⊎◌, ℕ, List, [], ◌++◌, inl, inr, Result, Ok, Err, sym, ◌∙◌, ap, subst, arith}
+use Rattle.std.proofs.Common.{◌≡◌, ◌<◌, ◌+◌, ◌⊎◌, ℕ, List, [], ◌++◌, inl, inr, Result, Ok, Err, zero, suc, true, refl, sym, ◌∙◌, ap, subst, arith}
 use Rattle.std.specs.Result.{OnErr}
 use Rattle.clap.specs.Words.{Text}
 use Rattle.rv_command_line.specs.declared.job.Job.{Job}
@@ -9,30 +9,62 @@ use Rattle.rv_streams.specs.declared.device.Source.{Ghosts as SourceGhosts}
 use Rattle.rv_streams.specs.CallLog.{no_call}
 use Rattle.rv_streams.specs.declared.log.CallLog.{CallLog}
 use Rattle.rv_streams.specs.Calls.{SinkFailed}
+use Rattle.rv_streams.specs.Held.{taken_of, is_flushed_of, failures_of}
+use Rattle.rv_streams.specs.declared.held.BufferedSink.{BufferedSink}
+use Rattle.rv_streams.proofs.HeldLemmas.{all_passed, flushed_too}
 use Rattle.rv_bench.specs.ProgramOutput.{MeansGiven, ProgramOutput, RunsProgram, StopsOutOfMemory, Writes, WritesOutput, program_output}
 use Rattle.rv_bench.specs.Standard.{Gave, Passed, RunsOverStreams}
 
--- The counts of a sink that was not called before are those of the log.
+-- The counts of a sink that was not called before are those of the log, and so are its bytes once it is flushed.
 pub record LogsSink {W : Type 0} (h : SinkGhosts W) (before after : W) (log : CallLog) : Type 0 where
   pub nothing : h.taken before ≡ []
   pub unfailed : h.failures before ≡ 0
   pub unrefused : h.refusals before ≡ 0
   pub unflushed : h.flushes before ≡ 0
-  pub taken : h.taken after ≡ log.bytes
-  pub failures : h.failures after ≡ log.failures
-  pub refusals : h.refusals after ≡ log.empty_calls
+  pub taken : h.is_flushed after ≡ true → h.taken after ≡ log.bytes
+  pub flushed : h.is_flushed after ≡ true → log.is_flushed ≡ true
+  pub failures : h.failures after + h.refusals after ≡ log.failures + log.empty_calls
   pub flushes : h.flushes after ≡ log.flushes
-  pub flushed : h.is_flushed after ≡ log.is_flushed
+
+-- the state of a sink that holds bytes for another one
+abbrev held_ghosts : {W : Type 0} (h : SinkGhosts W) → SinkGhosts (BufferedSink W h)
+held_ghosts h = record {
+  taken = taken_of h;
+  is_flushed = is_flushed_of h;
+  flushes = λ it. h.flushes it.sink;
+  refusals = λ it. 0;
+  failures = failures_of h;
+}
+
+-- the counts of a sink that holds bytes for another one, which has a log
+pub held_logs : {W : Type 0} (h : SinkGhosts W) (before after : BufferedSink W h) (log : CallLog) → taken_of h before ≡ [] → failures_of h before ≡ 0
+    → h.flushes before.sink ≡ 0 → h.taken after.sink ≡ log.bytes → h.is_flushed after.sink ≡ log.is_flushed → failures_of h after ≡ log.failures + log.empty_calls
+    → h.flushes after.sink ≡ log.flushes → LogsSink (held_ghosts h) before after log
+held_logs h before after log nothing unfailed unflushed bytes flushed failures flushes = record {
+  nothing = nothing;
+  unfailed = unfailed;
+  unrefused = refl;
+  unflushed = unflushed;
+  taken = λ is. all_passed (h.taken after.sink) after.buffer (h.is_flushed after.sink) after.start after.end is ∙ bytes;
+  flushed = λ is. sym flushed ∙ flushed_too (h.is_flushed after.sink) _ is;
+  failures = omega (arith, failures);
+  flushes = flushes;
+}
+
+-- one of two counts has risen if their sum has
+one_of_both : (m n : ℕ) → 0 < m + n → (0 < m) ⊎ (0 < n)
+one_of_both zero n some = inr (omega (arith, some))
+one_of_both (suc m) n some = inl (omega arith)
 
 module _ {S W : Type 0} (g : SourceGhosts S) (h : SinkGhosts W) (source left : S) (before after : W) (writer : CallLog)
     (logs : LogsSink h before after writer) where
   -- the program's output passed to standard output
   passed : (output : ProgramOutput) (status : ℕ) → Writes g h source left before after output status → Passed writer output status
   passed output status writes = let worked = writes.sink.worked in record {
-    bytes = sym logs.taken ∙ (writes.written ∙ ap (λ taken. taken ++ output.text) logs.nothing);
-    failures = sym logs.failures ∙ (worked.0 ∙ logs.unfailed);
-    refusals = sym logs.refusals ∙ (worked.1 ∙ logs.unrefused);
-    flushed = sym logs.flushed ∙ writes.sink.flushed;
+    bytes = sym (logs.taken writes.sink.flushed) ∙ (writes.written ∙ ap (λ taken. taken ++ output.text) logs.nothing);
+    failures = omega (arith, logs.failures, worked.0, worked.1, logs.unfailed, logs.unrefused);
+    refusals = omega (arith, logs.failures, worked.0, worked.1, logs.unfailed, logs.unrefused);
+    flushed = logs.flushed writes.sink.flushed;
     once = sym logs.flushes ∙ (writes.sink.once ∙ ap (λ n. n + 1) logs.unflushed);
     status_is = writes.status_is;
   }
@@ -46,8 +78,8 @@ module _ {S W : Type 0} (g : SourceGhosts S) (h : SinkGhosts W) (source left : S
 
   -- a failure of the sink is one of standard output
   sink_failed : SinkFailed h before after → (0 < writer.failures) ⊎ (0 < writer.empty_calls)
-  sink_failed (inl risen) = inl (omega (arith, risen, logs.unfailed, logs.failures))
-  sink_failed (inr risen) = inr (omega (arith, risen, logs.unrefused, logs.refusals))
+  sink_failed (inl risen) = one_of_both writer.failures writer.empty_calls (omega (arith, risen, logs.failures))
+  sink_failed (inr risen) = one_of_both writer.failures writer.empty_calls (omega (arith, risen, logs.failures))
 
   -- for refused arguments, no byte of the input was read
   read_nothing : (read : Result Job WordsFault) (Nothing : Type 0) → (left ≡ source → Nothing) → OnErr read (left ≡ source) → OnErr read Nothing

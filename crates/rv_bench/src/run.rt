@@ -10,11 +10,11 @@ use crate::responder::Responder;
 use crate::start::start;
 use rv_command_line::Setup;
 use rv_debug::Bench;
-use rv_streams::{BenchFault, Lines, ScriptEnd, Sink, Source, read_image, write_all};
+use rv_streams::{BenchFault, Lines, ScriptEnd, Sink, Source, read_image, write_reply};
 use std::alloc::Global;
 use std::convert::AsSlice;
 
-/// Responds to the lines of a script, and writes each response. It ends at the end of the script, or after the line at which the responder is
+/// Responds to the lines of a script, and writes each response. Before it waits for a line, it passes on what the sink holds. It ends at the end of the script, or after the line at which the responder is
 /// over, which is the last line that is read. It allocates no memory.
 pub(crate) fn run_lines<T: Responder, S: Source, W: Sink>(
     responding: &mut T,
@@ -30,7 +30,8 @@ pub(crate) fn run_lines<T: Responder, S: Source, W: Sink>(
     let mut told = T::Told::default();
     while let Some(line) = lines.next_line_before(end).map_err(|_| BenchFault::Read)? {
         responding.respond_to_line(line.as_slice(), &mut told);
-        write_all(sink, told.as_slice()).map_err(|_| BenchFault::Write)?;
+        let is_last = !lines.has_line_ahead();
+        write_reply(sink, told.as_slice(), is_last).map_err(|_| BenchFault::Write)?;
         if responding.is_over() {
             return Ok(());
         }

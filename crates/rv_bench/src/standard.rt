@@ -6,7 +6,7 @@ ghost use Rattle.rv_bench.specs.Standard.{RunsOverStreams};
 
 use crate::program::perform_arguments;
 use rv_command_line::WordsFault;
-use rv_streams::{BufferedSource, ReaderSource, WriterSink};
+use rv_streams::{BufferedSink, BufferedSource, ReaderSource, WriterSink};
 use std::alloc::Global;
 use std::io::{Read, Write};
 
@@ -24,8 +24,9 @@ pub fn run_over_streams<R: Read, W: Write>(
     ghost input: { List ℕ }
     ensures { RunsOverStreams (given_by arguments.now) input result.0.log result.1.log result.2 }
 {
-    let mut sink = WriterSink::new(writer);
+    let passing = WriterSink::new(writer);
+    let mut sink = BufferedSink::new(passing);
     let source = BufferedSource::new(ReaderSource::new(reader));
     let (source, status) = perform_arguments(alloc, arguments, source, &mut sink);
-    (source.into_source(), sink, status)
+    (source.into_source(), sink.into_sink(), status)
 }

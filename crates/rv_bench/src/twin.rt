@@ -3,6 +3,8 @@
 ghost use Rattle.std.specs.Prelude.{◌≡◌, Ok, Err, Some, None, MatchOption, MatchResult, IfSome, [], false};
 ghost use Rattle.rv_bench.specs.Pair.{make_pair as make_pair_of, no_slot_text};
 ghost use Rattle.rv_bench.specs.Loaded.{Starts, started};
+ghost use Rattle.rv_bench.specs.Replies.{one_bench};
+ghost use Rattle.rv_bench.specs.Responses.{RespondsToScript};
 ghost use Rattle.rv_bench.specs.Twin.{RunsSecond, RunsTwin, monitored_setup};
 ghost use Rattle.rv_streams.specs.Unread.{held, EndsWithSource};
 
@@ -78,6 +80,19 @@ fn make_pair(benches: EqualBenches, number: u8) -> Option<PairOnSlot>
     Some(PairOnSlot { pair, slot })
 }
 
+/// Runs the first script on both benches, and writes the replies of the first. Passes on what the sink holds, before the second script is read.
+fn run_first<S: Source, W: Sink>(
+    benches: &mut EqualBenches,
+    lines: &mut Lines<S>,
+    sink: &mut W,
+) -> Result<(), BenchFault>
+    ensures outcome { RespondsToScript W.Sink one_bench ScriptEnd.Separator benches.old.first benches.new.first lines.old lines.new sink.old sink.new result }
+    ensures end { EndsWithSource lines.old lines.new }
+{
+    run_lines(benches, lines, sink, ScriptEnd::Separator)?;
+    sink.pass_on().map_err(|_| BenchFault::Write)
+}
+
 /// Scrambles the slot with a number in the second bench, and runs the second script. If it cannot be scrambled, writes `twin no slot`.
 fn run_second<S: Source, W: Sink>(
     benches: EqualBenches,
@@ -126,6 +141,6 @@ pub fn run_twin<S: Source, W: Sink>(
 {
     let image = read_image(alloc, lines)?;
     let mut benches = start_two(alloc, image.as_slice(), setup)?;
-    run_lines(&mut benches, lines, sink, ScriptEnd::Separator)?;
+    run_first(&mut benches, lines, sink)?;
     run_second(benches, slot, lines, sink)
 }

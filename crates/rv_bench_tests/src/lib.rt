@@ -21,6 +21,8 @@ mod expecting;
 #[cfg(test)]
 mod faulty;
 #[cfg(test)]
+mod held_tests;
+#[cfg(test)]
 mod image_tests;
 #[cfg(test)]
 mod job_tests;

@@ -1,10 +1,13 @@
 -- Lemmas about bytes that were read ahead.
-use Rattle.std.proofs.Common.{◌≡◌, ◌<◌, ◌≤◌, ◌==◌, ℕ, ◌+◌, ◌-◌, min, false, List, ◌++◌, take, drop, length, arith, ◌∙◌, ap, sym, append_assoc}
+use Rattle.std.proofs.Common.{◌≡◌, ◌<◌, ◌≤◌, ◌==◌, ◌||◌, ℕ, ◌+◌, ◌-◌, nat_lt, suc, min, Bool, true, false, not, cond, List, [], ◌∷◌, ◌++◌, take, drop, length}
+use Rattle.std.proofs.Common.{arith, refl, ◌∙◌, ap, sym, append_assoc}
+use Rattle.std.proofs.lemmas.Bool.Decides.{nat_tests}
 use Rattle.std.proofs.Math.Seq.{take-add}
-use Rattle.std.proofs.lemmas.List.{drop-drop, length-take, take-take}
+use Rattle.std.proofs.lemmas.List.{drop-drop, length-take, take-append-drop, take-take}
 use Rattle.std.specs.List.{position_or_len}
 use Rattle.rv_text.specs.Lines.{has_feed}
 use Rattle.rv_text.proofs.LineCuts.{no_feed, all_taken}
+use Rattle.rv_text.proofs.LineLemmas.{has_feed-append}
 use Rattle.rv_streams.proofs.LineTextLemmas.{has_feed-take}
 
 -- some of the bytes read ahead are returned, and the others stay
@@ -41,3 +44,24 @@ pub feedless-cut : (text : List ℕ) (end : ℕ) → end ≡ position_or_len (λ
 feedless-cut text end end_is within =
     let len : length (take (end + 1) text) - 1 ≡ end = omega (arith, length-take (end + 1) text) in
     rw len (ap has_feed (take-take end (end + 1) text (omega arith)) ∙ (ap (λ n. has_feed (take n text)) end_is ∙ no_feed text))
+
+-- a text with one more byte
+feed_found-step : (test : Bool) (n len : ℕ) (more : Bool) → nat_lt n len ≡ more → nat_lt (cond (not test) (1 + n) 0) (suc len) ≡ test || more
+feed_found-step true n len more h = grind (arith, nat_tests)
+feed_found-step false n len more h = grind (arith, nat_tests, h)
+
+-- a text has a line feed if the position of the first one is in it
+pub feed_found : (text : List ℕ) (at : ℕ) → at ≡ position_or_len (λ b. b == 10) text → nat_lt at (length text) ≡ has_feed text
+feed_found text at at_is = ap (λ n. nat_lt n (length text)) at_is ∙ found text where
+  found : (text : List ℕ) → nat_lt (position_or_len (λ b. b == 10) text) (length text) ≡ has_feed text
+  found [] = refl
+  found (b ∷ bs) = feed_found-step (b == 10) _ (length bs) (has_feed bs) (found bs)
+
+-- a text has a line feed at the position of the first one
+pub feed_within : (text : List ℕ) (at : ℕ) → at ≡ position_or_len (λ b. b == 10) text → at < length text → has_feed text ≡ true
+feed_within text at at_is within = let is : nat_lt at (length text) ≡ true = grind (arith, nat_tests, within) in sym (feed_found text at at_is) ∙ is
+
+-- a text has a line feed if a part at its beginning has one
+pub feed_in_part : (n : ℕ) (text : List ℕ) → has_feed (take n text) ≡ true → has_feed text ≡ true
+feed_in_part n text feed =
+    ap has_feed (sym (take-append-drop n text)) ∙ (has_feed-append (take n text) (drop n text) ∙ ap (λ b. b || has_feed (drop n text)) feed)

@@ -6,6 +6,8 @@ pub mod BufferedLemmas
 pub mod Ends
 -- Examples: lines and images with their results
 pub mod Examples
+-- Lemmas about bytes that a sink holds
+pub mod HeldLemmas
 -- Lemmas about the image of lines that are read one by one
 pub mod ImageLemmas
 -- The results of reading an image, by the line that ends it

@@ -20,6 +20,8 @@ pub mod CallLog
 pub mod Buffered
 -- The numbers of the errors
 pub mod Faults
+-- The bytes that a sink holds for another sink
+pub mod Held
 -- The image in a text of hexadecimal lines
 pub mod Image
 -- The result of reading an image, and its effects in each case

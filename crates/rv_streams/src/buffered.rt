@@ -1,6 +1,6 @@
 //! A source that reads ahead from another, so that it can give one line after the other.
 ghost use Rattle.std.specs.Prelude.{◌≡◌, ◌<◌, ◌≤◌, ◌-◌, false, min, take, length};
-ghost use Rattle.rv_text.specs.Lines.{has_feed};
+ghost use Rattle.rv_text.specs.Lines.{has_feed as has_feed_of};
 
 use crate::device::{DeviceFault, Source};
 use rv_text::{position_in_short, position_of};
@@ -27,7 +27,7 @@ fn give(bytes: &[u8], buffer: &mut [u8]) -> usize
 #[inline(always)]
 fn through_feed(bytes: &[u8], most: usize) -> &[u8]
     ensures prefix { result.now ≡ take (length result.now) bytes.now }
-    ensures line { has_feed (take (length result.now - 1) result.now) ≡ false }
+    ensures line { has_feed_of (take (length result.now - 1) result.now) ≡ false }
     ensures most { length result.now ≤ most }
     ensures some { 0 < most → 0 < length bytes.now → 0 < length result.now }
 {
@@ -42,6 +42,18 @@ fn through_feed(bytes: &[u8], most: usize) -> &[u8]
         return prefix;
     }
     &prefix[..end + 1]
+}
+
+/// Returns whether the bytes have a line feed.
+#[inline(always)]
+fn has_feed(bytes: &[u8]) -> bool
+    ensures { result ≡ has_feed_of bytes.now }
+{
+    let head = &bytes[..bytes.len().min(HEAD_LEN)];
+    if position_in_short(head, b'\n') < head.len() {
+        return true;
+    }
+    position_of(bytes, b'\n') < bytes.len()
 }
 
 /// A source that reads ahead from another source. It has the ends and the failures of that source, and no others.
@@ -163,5 +175,10 @@ impl<S: Source> Source for BufferedSource<S> {
         let count = give(text, buffer);
         self.start += count;
         Ok(count)
+    }
+
+    #[inline(always)]
+    fn has_line_ahead(&self) -> bool {
+        has_feed(&self.buffer[self.start..self.end])
     }
 }

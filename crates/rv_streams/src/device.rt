@@ -62,6 +62,11 @@ pub trait Source {
     {
         self.read_some(&mut buffer[..1])
     }
+
+    /// Returns whether a whole line was read ahead, so that the next line is given without waiting. This changes only when a sink passes bytes on.
+    fn has_line_ahead(&self) -> bool {
+        false
+    }
 }
 
 /// A device that takes bytes.
@@ -94,7 +99,22 @@ pub trait Sink {
         ensures refusals { refusals self.new ≡ counted_if (moves_none result (length part.now)) (refusals self.old) }
         ensures failures { failures self.new ≡ counted_if (is_err result) (failures self.old) };
 
-    /// Passes on all bytes that the sink has taken and still holds.
+    /// Passes on all bytes that the sink has taken and still holds, without a flush. A sink that holds none does nothing.
+    ///
+    /// # Errors
+    ///
+    /// `DeviceFault`, if the device failed. The sink still holds the bytes that were not passed on.
+    fn pass_on(&mut self) -> Result<(), DeviceFault>
+        ensures bytes { taken self.new ≡ taken self.old }
+        ensures flushed { is_flushed self.new ≡ is_flushed self.old }
+        ensures flushes { flushes self.new ≡ flushes self.old }
+        ensures refusals { refusals self.new ≡ refusals self.old }
+        ensures failures { failures self.new ≡ counted_if (is_err result) (failures self.old) }
+    {
+        Ok(())
+    }
+
+    /// Passes on all bytes that the sink has taken and still holds, and flushes the device.
     ///
     /// # Errors
     ///

@@ -70,6 +70,12 @@ impl<S: Source> Lines<S> {
         self.is_at_end
     }
 
+    /// Returns whether the source has read a whole line ahead, so that the next line is returned without waiting.
+    #[inline(always)]
+    pub fn has_line_ahead(&self) -> bool {
+        self.source.has_line_ahead()
+    }
+
     /// Returns the next line, or `None` if the source has returned its end and no line is left. A line of more than 120 bytes is cut to its
     /// first 121.
     ///

@@ -27,3 +27,19 @@ pub fn write_all<W: Sink>(sink: &mut W, text: &[u8]) -> Result<(), DeviceFault>
     }
     Ok(())
 }
+
+/// Writes the whole text, and passes on what the sink holds if nothing is to be written before the next wait.
+///
+/// # Errors
+///
+/// As for `write_all`. If the bytes could not be passed on, the whole text is written.
+pub fn write_reply<W: Sink>(sink: &mut W, text: &[u8], is_last: bool) -> Result<(), DeviceFault>
+    ensures written { OnOk result (W.taken sink.new ≡ W.taken sink.old ++ text.now) }
+    ensures prefix { WritesPrefix (W.taken sink.old) (W.taken sink.new) text.now }
+    ensures ok { OnOk result ((W.failures sink.new ≡ W.failures sink.old) × (W.refusals sink.new ≡ W.refusals sink.old)) }
+    ensures flushes { W.flushes sink.new ≡ W.flushes sink.old }
+    ensures err { OnErr result (HasRisen (W.failures sink.old) (W.failures sink.new) ⊎ HasRisen (W.refusals sink.old) (W.refusals sink.new)) }
+{
+    write_all(sink, text)?;
+    if is_last { sink.pass_on() } else { Ok(()) }
+}

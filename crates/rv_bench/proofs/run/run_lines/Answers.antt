@@ -31,16 +31,16 @@ turn g c =
 
 -- the sink has the replies so far, and then that to this line
 wrote : (g : given.Over) (c : After-is_over g)
-    → g.W.Sink.taken c.write_all.new.sink ≡ g.W.Sink.taken c.loop-told.sink ++ g.T.Told.AsSlice.items c.respond_to_line.new.out
+    → g.W.Sink.taken c.write_reply.new.sink ≡ g.W.Sink.taken c.loop-told.sink ++ g.T.Told.AsSlice.items c.respond_to_line.new.out
 wrote g c =
-    let done = ok_mapped _ c.write_all.result c.map_err-in-Some.result _ c.map_err-in-Some.ensures.cases c.in_ok-map_err.was in
-    IfOk-at_ok _ done c.write_all.ensures.written ∙ ap (λ t. g.W.Sink.taken c.loop-told.sink ++ t) c.as_slice-in-Some.ensures
+    let done = ok_mapped _ c.write_reply.result c.map_err-in-Some.result _ c.map_err-in-Some.ensures.cases c.in_ok-map_err.was in
+    IfOk-at_ok _ done c.write_reply.ensures.written ∙ ap (λ t. g.W.Sink.taken c.loop-told.sink ++ t) c.as_slice-in-Some.ensures
 
 -- no call of the sink failed while the reply was written
-worked : (g : given.Over) (c : After-is_over g) → SinkWorked g.W.Sink c.loop-told.sink c.write_all.new.sink
+worked : (g : given.Over) (c : After-is_over g) → SinkWorked g.W.Sink c.loop-told.sink c.write_reply.new.sink
 worked g c = record {
-  worked = IfOk-at_ok _ (ok_mapped _ c.write_all.result c.map_err-in-Some.result _ c.map_err-in-Some.ensures.cases c.in_ok-map_err.was) c.write_all.ensures.ok;
-  unflushed = c.write_all.ensures.flushes;
+  worked = IfOk-at_ok _ (ok_mapped _ c.write_reply.result c.map_err-in-Some.result _ c.map_err-in-Some.ensures.cases c.in_ok-map_err.was) c.write_reply.ensures.ok;
+  unflushed = c.write_reply.ensures.flushes;
 }
 
 -- whether the responder is over then
@@ -78,9 +78,9 @@ returns-in_err-line-clause-end g c = EndsWithSource-more _ _ _ c.loop-told.invar
 pub returns-in_err-map_err-clause-outcome : goal.returns-in_err-map_err-clause-outcome
 returns-in_err-map_err-clause-outcome g c =
     let fault_is : c.from_residual-in_err-map_err.result ≡ Err Write = search rules in
-    let prefix = subst (WritesPrefix (g.W.Sink.taken c.loop-told.sink) (g.W.Sink.taken c.write_all.new.sink)) c.as_slice-in-Some.ensures in
-    rw fault_is (Turn-stops (turn g (goal.at.returns-in_err-map_err-clause-outcome g c).After-respond_to_line) c.write_all.new.sink (search rules)
-    (prefix c.write_all.ensures.prefix))
+    let prefix = subst (WritesPrefix (g.W.Sink.taken c.loop-told.sink) (g.W.Sink.taken c.write_reply.new.sink)) c.as_slice-in-Some.ensures in
+    rw fault_is (Turn-stops (turn g (goal.at.returns-in_err-map_err-clause-outcome g c).After-respond_to_line) c.write_reply.new.sink (search rules)
+    (prefix c.write_reply.ensures.prefix))
 
 -- `run_lines` meets clause `outcome` of its contract (`RespondsToScript`) where the test `is_over` holds
 pub returns-then-is_over-clause-outcome : goal.returns-then-is_over-clause-outcome

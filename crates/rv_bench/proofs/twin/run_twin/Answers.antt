@@ -18,23 +18,23 @@ returns-in_err-benches-clause-outcome g c =
       ends = c.in_ok-image.ensures.end;
     }) _ c.in_err-benches.ensures)
 
--- `run_twin` meets clause `outcome` of its contract (`RunsTwin`) where `?` returns the error of `run_lines`
-pub returns-in_err-run_lines-clause-outcome : goal.returns-in_err-run_lines-clause-outcome
-returns-in_err-run_lines-clause-outcome g c =
-    passed_on (RunsTwin g.W.Sink c.args.setup.now c.args.slot c.args.lines.now c.run_lines.new.lines c.args.sink.now c.run_lines.new.sink)
-    c.from_residual-in_err-run_lines.result _ c.from_residual-in_err-run_lines.ensures.1
+-- `run_twin` meets clause `outcome` of its contract (`RunsTwin`) where `?` returns the error of `run_first`
+pub returns-in_err-run_first-clause-outcome : goal.returns-in_err-run_first-clause-outcome
+returns-in_err-run_first-clause-outcome g c =
+    passed_on (RunsTwin g.W.Sink c.args.setup.now c.args.slot c.args.lines.now c.run_first.new.lines c.args.sink.now c.run_first.new.sink)
+    c.from_residual-in_err-run_first.result _ c.from_residual-in_err-run_first.ensures.1
     (first_fails g.W.Sink c.args.setup.now c.args.slot c.as_slice.result.now c.args.lines.now c.read_image.new.lines c.args.sink.now
     (record {
       through = c.in_ok-image.ensures.outcome.0;
       gives = λ follows. c.in_ok-image.ensures.outcome.2 follows ∙ ap Ok (sym c.as_slice.ensures.value);
       ends = c.in_ok-image.ensures.end;
     })
-    _ c.in_ok-benches.ensures _ _ c.run_lines.ensures.end _ c.in_err-run_lines.ensures.outcome)
+    _ c.in_ok-benches.ensures _ _ c.run_first.ensures.end _ c.in_err-run_first.ensures.outcome)
 
 -- `run_twin` meets clause `outcome` of its contract (`RunsTwin`)
 pub returns-clause-outcome : goal.returns-clause-outcome
 returns-clause-outcome g c =
-    let first = c.in_ok-run_lines.ensures.outcome in
+    let first = c.in_ok-run_first.ensures.outcome in
     second_part g.W.Sink c.args.setup.now c.args.slot c.as_slice.result.now c.args.lines.now c.read_image.new.lines c.args.sink.now
     (record {
       through = c.in_ok-image.ensures.outcome.0;
@@ -43,19 +43,19 @@ returns-clause-outcome g c =
     })
     _ c.in_ok-benches.ensures
     (record {
-      next = c.run_lines.new.lines;
-      between = c.run_lines.new.sink;
+      next = c.run_first.new.lines;
+      between = c.run_first.new.sink;
       then = _;
-      runs = one_bench-runs g.W.Sink first c.run_lines.ensures.end refl (record { worked = (refl, refl); unflushed = refl });
-      state = one_bench-state g.W.Sink first c.run_lines.ensures.end;
-      ends = c.run_lines.ensures.end;
+      runs = one_bench-runs g.W.Sink first c.run_first.ensures.end refl (record { worked = (refl, refl); unflushed = refl });
+      state = one_bench-state g.W.Sink first c.run_first.ensures.end;
+      ends = c.run_first.ensures.end;
     })
     c.run_second.new.lines c.run_second.new.sink c.run_second.ensures.end c.run_second.result c.run_second.ensures.outcome
 
--- `run_twin` meets clause `end` of its contract (`EndsWithSource`) where `?` returns the error of `run_lines`
-pub returns-in_err-run_lines-clause-end : goal.returns-in_err-run_lines-clause-end
-returns-in_err-run_lines-clause-end g c = EndsWithSource-more _ _ _ c.in_ok-image.ensures.end c.run_lines.ensures.end
+-- `run_twin` meets clause `end` of its contract (`EndsWithSource`) where `?` returns the error of `run_first`
+pub returns-in_err-run_first-clause-end : goal.returns-in_err-run_first-clause-end
+returns-in_err-run_first-clause-end g c = EndsWithSource-more _ _ _ c.in_ok-image.ensures.end c.run_first.ensures.end
 
 -- `run_twin` meets clause `end` of its contract (`EndsWithSource`)
 pub returns-clause-end : goal.returns-clause-end
-returns-clause-end g c = EndsWithSource-more _ _ _ c.in_ok-image.ensures.end (EndsWithSource-more _ _ _ c.run_lines.ensures.end c.run_second.ensures.end)
+returns-clause-end g c = EndsWithSource-more _ _ _ c.in_ok-image.ensures.end (EndsWithSource-more _ _ _ c.run_first.ensures.end c.run_second.ensures.end)
