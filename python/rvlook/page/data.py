@@ -11,6 +11,7 @@ import struct
 import sys
 import zlib
 from array import array
+from operator import itemgetter
 from typing import Any, Hashable, Mapping
 
 from rvlook.output.printer import Json
@@ -28,6 +29,7 @@ MAP = ("enclaves", "columns", "rows")
 REFUSED, NO_VALUE = 2, 4  # added to the kind of an access that trapped, and of one without a value
 LEVEL = 6  # of zlib
 BRANCH = re.compile(r"b|jal ")
+TOUCH = ("step", "address", "width", "kind", "name", "value")
 SITE = ("word", "abi", "symbol", "function", "source", "caller")  # of a site, after its pc
 
 
@@ -89,8 +91,7 @@ class Collector:
         self.name_numbers: dict[int, int] = {}  # by address
         self.site, self.place, self.trap = array("I"), array("B"), array("I")
         self.changes, self.registers, self.values = array("B"), array("B"), array("I")
-        self.touch = {"step": array("I"), "address": array("I"), "width": array("B"), "kind": array("B"), "name": array("I"),
-                      "value": array("I")}
+        self.touches: list[tuple[int, ...]] = []  # the columns of TOUCH for each load or store
         self.calls: list[dict[str, Any]] = []
         self.events: list[dict[str, Any]] = []
         self.others: dict[str, list[dict[str, Any]]] = {"end": [], "command": [], "console": []}  # objects of other kinds
@@ -134,9 +135,9 @@ class Collector:
         trap, changed = step.trap, step.changed
         self.trap.append(self.traps.number((trap.cause, trap.value, names.cause_name(trap.cause))) + 1 if trap else 0)
         self.changes.append(len(changed))
-        for number, value in changed.items():
-            self.registers.append(number)
-            self.values.append(int(value, 16))
+        if changed:
+            self.registers.extend(changed)
+            self.values.extend([int(it, 16) for it in changed.values()])
         if step.call:
             call = self.objects.call(step.call) or {}
             self.calls.append({"step": step.number, **call, "to": step.next.world, "refused": refusal(step)})
@@ -170,9 +171,7 @@ class Collector:
         elif touch.width > 1:
             self.add_place(touch.address, touch.width, None)
         kind = KINDS[touch.kind] + (0 if touch.done else REFUSED) + (NO_VALUE if touch.value is None else 0)
-        values = (step, touch.address, touch.width, kind, number, int(touch.value or "0", 16))
-        for column, value in zip(self.touch.values(), values):
-            column.append(value)
+        self.touches.append((step, touch.address, touch.width, kind, number, int(touch.value or "0", 16)))
 
     def add_place(self, address: int, width: int, symbol: str | None) -> None:
         """Takes the address of an access of `width` bytes, with its symbol."""
@@ -199,5 +198,6 @@ class Collector:
             "places": self.places.rows("hart", "world", "mode"), "traps": self.traps.rows("cause", "value", "name"),
             "names": list(self.names.numbers), "site": columns.add(self.site), "place": columns.add(self.place),
             "trap": columns.add(self.trap), "changes": columns.add(self.changes), "registers": columns.add(self.registers),
-            "values": columns.add(self.values), "touch": {name: columns.add(column) for name, column in self.touch.items()},
+            "values": columns.add(self.values),
+            "touch": {name: columns.add(array("I", map(itemgetter(n), self.touches))) for n, name in enumerate(TOUCH)},
             "calls": self.calls, "commands": self.others["command"], "consoles": self.others["console"], "events": self.events}

@@ -77,7 +77,7 @@ def collected(run: Run, symbols: Symbols) -> Collector:
     for item in RunTracer(run).events():
         if isinstance(item, TracedStep):
             found.step(item)
-            for of, line in lines_of(item, consoles):
+            for of, line in lines_of(item, consoles) if consoles else ():
                 writer.console(item.number, of, line)
         elif isinstance(item, End):
             writer.end(item)

@@ -140,13 +140,13 @@ class RunTracer:
         replies = self.registers(reader, hart, begin, rans, instructions)
         for number, done in enumerate(zip(rans, instructions), begin):
             yield self.step(number, stretch.hart, hart, done, replies)
-        kept = [line[-8:].decode() for line in (next(replies) for _ in range(REGISTERS - 1))]
+        kept = [next(replies)[-8:] for _ in range(REGISTERS - 1)]
         if kept != hart.registers:
             raise Unfinished("the registers after step %d differ from those derived from its steps" % stop)
         self.position = stop
 
     def registers(self, reader: Timeline, hart: Hart, begin: int, rans: Sequence[RanFields],
-                  instructions: Sequence[Instruction | None]) -> Iterator[bytes]:
+                  instructions: Sequence[Instruction | None]) -> Iterator[str]:
         """Returns the replies of these steps: each with what it may have changed, and all registers after the last."""
         reader.go_before(begin)
         if not hart.registers:
@@ -164,9 +164,9 @@ class RunTracer:
                 count += 1
         block = reader.bench.block(b"".join(queries) + b"regs\n", count)
         reader.lines_to(begin - 1 + len(rans))
-        return iter(block.split(b"\n"))
+        return iter(block.decode().split("\n"))
 
-    def step(self, number: int, hart_number: int, hart: Hart, done: Done, replies: Iterator[bytes]) -> TracedStep:
+    def step(self, number: int, hart_number: int, hart: Hart, done: Done, replies: Iterator[str]) -> TracedStep:
         """Returns a step, from its replies and what was before it; `hart` becomes what is after it."""
         at, (ran, instruction) = hart.location, done
         next_location = hart.location = self.locations.get(ran[:3]) or self.location_of(ran)
@@ -177,13 +177,13 @@ class RunTracer:
                 registers, memory = hart.registers, instruction.memory
                 address = (int(registers[memory.base], 16) + memory.offset) & 0xFFFFFFFF if memory else 0
                 if instruction.writes:
-                    value = next(replies)[-8:].decode()
+                    value = next(replies)[-8:]
                     if value != registers[instruction.writes]:
                         registers[instruction.writes] = value
                         changed = {instruction.writes: value}
                 if memory:
                     touch = self.touched(memory, address, registers[memory.register])
-            return TracedStep(number, hart_number, at, instruction, changed, touch, call=None, trap=None, next=next_location, written=value)
+            return TracedStep(number, hart_number, at, instruction, changed, touch, None, None, next_location, value)
         step = TracedStep(number, hart_number, at, instruction, changed={}, touch=None, call=None, trap=trap_of(ran[3].decode()), next=next_location)
         return self.trapped(step, hart, replies)
 
@@ -191,14 +191,14 @@ class RunTracer:
     def touched(memory: MemoryOperand, address: int, value: str) -> Touch:
         """Returns a load or store that was done; `value` is its register after it."""
         has_value = memory.kind == "w" or memory.register
-        return Touch(memory.kind, address, memory.width, done=True, value=value[8 - 2 * memory.width:] if has_value else None)
+        return Touch(memory.kind, address, memory.width, True, value[8 - 2 * memory.width:] if has_value else None)
 
     @staticmethod
-    def trapped(step: TracedStep, hart: Hart, replies: Iterator[bytes]) -> TracedStep:
+    def trapped(step: TracedStep, hart: Hart, replies: Iterator[str]) -> TracedStep:
         """Returns a step that trapped, with what it changed: any register may have another value after it, as another world may continue."""
         before, trap, instruction, at = hart.registers, step.trap, step.instruction, step.at
         assert trap is not None
-        after = [line[-8:].decode() for line in (next(replies) for _ in range(REGISTERS))][:32]
+        after = [next(replies)[-8:] for _ in range(REGISTERS)][:32]
         hart.registers = after
         changed = {n: after[n] for n in range(1, 32) if after[n] != before[n]}
         memory = instruction.memory if instruction and trap.cause in names.ACCESS_FAULTS else None
