@@ -63,7 +63,8 @@ pub trait Source {
         self.read_some(&mut buffer[..1])
     }
 
-    /// Returns whether a whole line was read ahead, so that the next line is given without waiting. This changes only when a sink passes bytes on.
+    /// Returns whether a whole line was read ahead, so that the next line is given without waiting. The output does not depend on the result, but
+    /// the time at which a sink passes it on does.
     fn has_line_ahead(&self) -> bool {
         false
     }

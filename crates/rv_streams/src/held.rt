@@ -43,7 +43,7 @@ fn hold(buffer: &mut [u8], end: usize, part: &[u8]) -> usize
     count
 }
 
-/// A sink that holds bytes for another sink until it has no room for more, or is told to pass them on. A call of the other sink that takes no
+/// A sink that holds bytes for another sink until it has no room for more, or until a call passes them on. A call of the other sink that takes no
 /// byte counts as a failure.
 #[derive(Drop, Debug)]
 pub struct BufferedSink<W: Sink> {

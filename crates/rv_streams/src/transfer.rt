@@ -28,7 +28,7 @@ pub fn write_all<W: Sink>(sink: &mut W, text: &[u8]) -> Result<(), DeviceFault>
     Ok(())
 }
 
-/// Writes the whole text, and passes on what the sink holds if nothing is to be written before the next wait.
+/// Writes the whole text. If it is the last one before the program waits for input, passes on what the sink holds.
 ///
 /// # Errors
 ///
