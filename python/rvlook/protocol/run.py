@@ -203,19 +203,20 @@ class Run:
 
     def tail(self, bench: Bench, position: int, hart: int, last: bytes) -> Iterator[Stretch | End]:
         """Yields the steps after the script, until the hart does nothing more or the limit is reached, and then the end."""
-        pending, left = b"", 0 if self.ended else self.setup.limit
+        pending, waiting, left = b"", 0, 0 if self.ended else self.setup.limit
         why = self.ended or "limit"
         while left > 0 and why == "limit":
             count = min(left, CHUNK)
             left -= count
-            lines = (pending + bench.block(SINGLE * count, count)).splitlines(keepends=True)
-            equal = equal_at_end(lines)
+            data = pending + bench.block(SINGLE * count, count)
+            equal = equal_lines_at_end(data)
             if equal >= EQUAL:
-                why, kept = "halted", len(lines) - equal + 1
+                why, later = "halted", equal - 1
             else:
-                kept = len(lines) - (EQUAL - 1 if left else 0)
-            data, pending = b"".join(lines[:kept]), b"".join(lines[kept:])
-            last = data or last
+                later = EQUAL - 1 if left else 0
+            cut = begin_of_last(later, data)
+            data, pending = data[:cut], data[cut:]
+            kept, waiting, last = waiting + count - later, later, data or last
             yield Stretch(position + 1, hart, data, kept)
             position += kept
         ran = step_of(last.splitlines()[-1].decode())
@@ -232,6 +233,24 @@ def equal_at_end(lines: Sequence[AnyStr]) -> int:
     while count < len(lines) and lines[-1 - count] == lines[-1]:
         count += 1
     return count
+
+
+def equal_lines_at_end(data: bytes) -> int:
+    """Returns the same for replies to single steps, of which none is the end of another."""
+    at = begin_of_last(1, data)
+    line, count = data[at:], 1
+    while at and data.endswith(line, 0, at):
+        at -= len(line)
+        count += 1
+    return count
+
+
+def begin_of_last(count: int, data: bytes) -> int:
+    """Returns where the last lines of a text begin, each of which ends with a line feed."""
+    at = len(data)
+    for _ in range(count):
+        at = data.rfind(b"\n", 0, at - 1) + 1
+    return at
 
 
 def hidden_lines(lines: Iterable[str], hart: int) -> list[Line]:
