@@ -236,7 +236,7 @@ def equal_at_end(lines: Sequence[AnyStr]) -> int:
 
 
 def equal_lines_at_end(data: bytes) -> int:
-    """Returns the same for replies to single steps, of which none is the end of another."""
+    """Returns the same for replies to single steps as one text. No such reply is the end of another one."""
     at = begin_of_last(1, data)
     line, count = data[at:], 1
     while at and data.endswith(line, 0, at):
@@ -246,7 +246,7 @@ def equal_lines_at_end(data: bytes) -> int:
 
 
 def begin_of_last(count: int, data: bytes) -> int:
-    """Returns where the last lines of a text begin, each of which ends with a line feed."""
+    """Returns where the last lines of a text begin. Each line ends with a line feed."""
     at = len(data)
     for _ in range(count):
         at = data.rfind(b"\n", 0, at - 1) + 1
