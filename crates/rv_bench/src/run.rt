@@ -14,8 +14,8 @@ use rv_streams::{BenchFault, Lines, ScriptEnd, Sink, Source, read_image, write_r
 use std::alloc::Global;
 use std::convert::AsSlice;
 
-/// Responds to the lines of a script, and writes each response. Before it waits for a line, it passes on what the sink holds. It ends at the end of the script, or after the line at which the responder is
-/// over, which is the last line that is read. It allocates no memory.
+/// Responds to the lines of a script, and writes each response. Before it waits for a line, it passes on what the sink holds. It ends at the end
+/// of the script, or after the line at which the responder is over, which is the last line that is read. It allocates no memory.
 pub(crate) fn run_lines<T: Responder, S: Source, W: Sink>(
     responding: &mut T,
     lines: &mut Lines<S>,
