@@ -375,7 +375,7 @@ def test_secret_of_the_monitor_is_found(rvlook, tmp_path):
 
 
 def test_grammar_of_ranges_is_on_the_page_and_in_the_help(rvlook):
-    from rvlook.monitors.ranges_file import GRAMMAR
+    from rvlook.monitors.grammar import GRAMMAR
     assert "```\n%s\n```\n" % GRAMMAR in (ROOT / "docs" / "OWN_MONITOR.md").read_text(encoding="utf-8")
     assert GRAMMAR in rvlook("guard", "--help").stdout
 
