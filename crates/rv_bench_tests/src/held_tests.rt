@@ -55,7 +55,7 @@ fn expect_rest_held(rt: &impl Abort, at: AtSetCall) {
     assert!(rt; sink.pass_on() == Err(DeviceFault));
     assert!(rt; sink.write_some(b"!") == Ok(1));
     assert!(rt; sink.pass_on() == Ok(()));
-    expect_taken(rt, &sink.into_sink(), b"one two!", 5);
+    expect_taken(rt, &sink.into_sink(), b"one two!", 4);
 }
 
 #[test]
