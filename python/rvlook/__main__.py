@@ -23,6 +23,7 @@ def fail(line: str, status: int) -> int:
 def main(arguments: Sequence[str]) -> int:
     """Runs rvlook with these arguments; returns the exit status. Prints every error in one line."""
     gc.set_threshold(COLLECT)
+    gc.enable()
     open_closed_streams()
     take_all_characters()
     try:
