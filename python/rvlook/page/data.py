@@ -12,7 +12,7 @@ import sys
 import zlib
 from array import array
 from operator import itemgetter
-from typing import Any, Hashable, Mapping
+from typing import Any, Dict, Hashable, Mapping
 
 from rvlook.output.printer import Json
 from rvlook.protocol import names
@@ -33,19 +33,16 @@ TOUCH = ("step", "address", "width", "kind", "name", "value")
 SITE = ("word", "abi", "symbol", "function", "source", "caller")  # of a site, after its pc
 
 
-class NumberedValues:
-    """Values with a number each, in the order in which they came."""
+class NumberedValues(Dict[Any, int]):
+    """The number of each value, in the order in which they came. A value gets its number when it is first looked up."""
 
-    def __init__(self) -> None:
-        self.numbers: dict[Any, int] = {}
-
-    def number(self, value: Hashable) -> int:
-        """Returns the number of a value, and adds the value if it is new."""
-        return self.numbers.setdefault(value, len(self.numbers))
+    def __missing__(self, value: Hashable) -> int:
+        self[value] = number = len(self)
+        return number
 
     def rows(self, *names: str) -> list[dict[str, Any]]:
         """Returns the values as objects with these members."""
-        return [dict(zip(names, value)) for value in self.numbers]
+        return [dict(zip(names, value)) for value in self]
 
 
 class NumberColumns:
@@ -88,7 +85,7 @@ class Collector:
         self.run: dict[str, Any] = {}
         self.sites, self.places, self.traps, self.names = NumberedValues(), NumberedValues(), NumberedValues(), NumberedValues()
         self.site_numbers: dict[tuple[object, ...], int] = {}  # by pc, word, and whether the word was fetched or an interrupt came
-        self.name_numbers: dict[int, int] = {}  # by address
+        self.name_numbers: dict[tuple[int, int], int] = {}  # by address and width of an access
         self.site, self.place, self.trap = array("I"), array("B"), array("I")
         self.changes, self.registers, self.values = array("B"), array("B"), array("I")
         self.touches: list[tuple[int, ...]] = []  # the columns of TOUCH for each load or store
@@ -126,18 +123,18 @@ class Collector:
         self.boundaries.update(row["first"] for row in record["rows"])
         shown = json.dumps({name: record[name] for name in MAP})
         rest = {name: value for name, value in record.items() if name not in MAP}
-        self.events.append({**rest, "map": self.maps.number(shown)})
+        self.events.append({**rest, "map": self.maps[shown]})
 
     def step(self, step: TracedStep) -> None:
         """Takes a step."""
         self.site.append(self.site_of(step))
-        self.place.append(self.places.number((step.hart, step.at.world, step.at.mode)))
+        self.place.append(self.places[step.hart, step.at.world, step.at.mode])
         trap, changed = step.trap, step.changed
-        self.trap.append(self.traps.number((trap.cause, trap.value, names.cause_name(trap.cause))) + 1 if trap else 0)
+        self.trap.append(self.traps[trap.cause, trap.value, names.cause_name(trap.cause)] + 1 if trap else 0)
         self.changes.append(len(changed))
-        if changed:
-            self.registers.extend(changed)
-            self.values.extend([int(it, 16) for it in changed.values()])
+        for register, value in changed.items():
+            self.registers.append(register)
+            self.values.append(int(value, 16))
         if step.call:
             call = self.objects.call(step.call) or {}
             self.calls.append({"step": step.number, **call, "to": step.next.world, "refused": refusal(step)})
@@ -155,7 +152,7 @@ class Collector:
             if text and target is not None and BRANCH.match(text):
                 symbol = self.symbols.name(target)
                 text = "%s%08x%s" % (text[:text.rindex(" ") + 1], target, " <%s>" % symbol if symbol else "")
-            self.site_numbers[key] = self.sites.number((step.at.pc, *(site[name] for name in SITE), text))
+            self.site_numbers[key] = self.sites[(step.at.pc, *(site[name] for name in SITE), text)]
             if not step.is_interrupt:
                 self.add_place(pc, 4, site["symbol"])
         return self.site_numbers[key]
@@ -163,15 +160,13 @@ class Collector:
     def take_touch(self, step: int, touch: Touch) -> None:
         """Takes the load or store of a step."""
         self.points += 1
-        number = self.name_numbers.get(touch.address)
-        if number is None:
+        place = touch.address, touch.width
+        if place not in self.name_numbers:
             name = self.symbols.name(touch.address)
-            number = self.name_numbers[touch.address] = self.names.number(name)
-            self.add_place(touch.address, touch.width, name)
-        elif touch.width > 1:
-            self.add_place(touch.address, touch.width, None)
+            self.name_numbers[place] = self.names[name]
+            self.add_place(*place, name)
         kind = KINDS[touch.kind] + (0 if touch.done else REFUSED) + (NO_VALUE if touch.value is None else 0)
-        self.touches.append((step, touch.address, touch.width, kind, number, int(touch.value or "0", 16)))
+        self.touches.append((step, *place, kind, self.name_numbers[place], int(touch.value or "0", 16)))
 
     def add_place(self, address: int, width: int, symbol: str | None) -> None:
         """Takes the address of an access of `width` bytes, with its symbol."""
@@ -182,21 +177,21 @@ class Collector:
 
     def executed(self) -> list[int]:
         """Returns the addresses of the steps, in ascending order."""
-        return sorted({int(site[0], 16) for site in self.sites.numbers})
+        return sorted({int(site[0], 16) for site in self.sites})
 
     def source_names(self) -> set[str]:
         """Returns the names of the files with executed lines."""
-        sources = [source for site in self.sites.numbers for source in site[5:7] if source]
+        sources = [source for site in self.sites for source in site[5:7] if source]
         return {source.rsplit(":", 1)[0] for source in sources}
 
     def data(self, columns: NumberColumns) -> dict[str, Any]:
         """Returns all data as one object, and appends the columns."""
         return {
             "title": self.title, "run": self.run, "end": self.others["end"][-1], "steps": len(self.site), "points": self.points,
-            "rows": self.rows, "maps": [json.loads(it) for it in self.maps.numbers],
+            "rows": self.rows, "maps": [json.loads(it) for it in self.maps],
             "sites": self.sites.rows("pc", *SITE, "shown"),
             "places": self.places.rows("hart", "world", "mode"), "traps": self.traps.rows("cause", "value", "name"),
-            "names": list(self.names.numbers), "site": columns.add(self.site), "place": columns.add(self.place),
+            "names": list(self.names), "site": columns.add(self.site), "place": columns.add(self.place),
             "trap": columns.add(self.trap), "changes": columns.add(self.changes), "registers": columns.add(self.registers),
             "values": columns.add(self.values),
             "touch": {name: columns.add(array("I", map(itemgetter(n), self.touches))) for n, name in enumerate(TOUCH)},

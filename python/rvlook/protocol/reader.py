@@ -12,8 +12,8 @@ from bisect import bisect
 from dataclasses import dataclass
 from functools import lru_cache
 from itertools import accumulate, chain, compress
-from operator import sub
-from typing import Callable, Dict, Generic, Mapping, Optional, Sequence, Tuple, TypeVar
+from operator import add, sub
+from typing import Any, Callable, Dict, Generic, Mapping, NamedTuple, Optional, Sequence, Tuple, TypeVar
 
 from rvlook.protocol.bench import Closing
 from rvlook.protocol.instructions import MemoryOperand, instruction_of
@@ -35,19 +35,18 @@ def step_command(count: int) -> bytes:
     return b"step %d\n" % count if count else b""
 
 
-@dataclass(frozen=True)
-class Probe(Generic[Item]):
+class Probe(NamedTuple):
     """The questions about an instruction, after `is_after` steps, and the number of their registers. The first one is the base of its store, if it is
     one. `skipped` registers are read only for that. `item` is what the reader makes of the instruction, None if it needs nothing."""
     questions: bytes
-    count: int
+    registers: int
     is_after: bool
     store: Optional[MemoryOperand]
     skipped: int
-    item: Optional[Item]
+    item: Any
 
 
-def probe_of(line: bytes, need: Need[Item] | None, has_store: bool) -> Probe[Item] | None:
+def probe_of(line: bytes, need: Need[Item] | None, has_store: bool) -> Probe | None:
     """Returns the questions about the instruction in a reply of `dis`: its need, and the base of its store; None if there are none."""
     code = instruction_of(line) if has_store else None
     store = code.memory if code and code.memory and code.memory.kind == "w" else None
@@ -71,12 +70,14 @@ class Reads(Generic[Item]):
 
 @dataclass(frozen=True)
 class Asked(Generic[Item]):
-    """The probes of a stretch, with the index of the step and the number of registers before each one, and the commands for all of them. `calls` are
-    the indices of the steps after which the instructions are listed again."""
+    """The probes of a stretch as columns: the index of the step, the number of registers before it, the store, the registers to skip, and the item.
+    `text` has the commands for all of them. `calls` are the indices of the steps after which the instructions are listed again."""
     lines: Sequence[bytes]
     indices: Sequence[int]
-    probes: Sequence[Probe[Item]]
     starts: Sequence[int]
+    stores: Sequence[Optional[MemoryOperand]]
+    skipped: Sequence[int]
+    items: Sequence[Optional[Item]]
     calls: Sequence[int]
     text: bytes
 
@@ -86,7 +87,7 @@ class Reader(Closing, Generic[Item]):
 
     def __init__(self, run: Run, needs: Callable[[bytes], Optional[Need[Item]]]) -> None:
         self.run, self.replay, self.needs = run, run.replay(), needs
-        self.probes: Dict[Tuple[bytes, bool], Optional[Probe[Item]]] = {}
+        self.probes: Dict[Tuple[bytes, bool], Optional[Probe]] = {}
 
     def close(self) -> None:
         """Ends the bench."""
@@ -118,7 +119,7 @@ class Reader(Closing, Generic[Item]):
         begin(replay, stretch)
         return reads_of(asked, values_of(replay.bench.block(asked.text, asked.text.count(b"\n"))))
 
-    def probe(self, line: bytes, has_store: bool) -> Probe[Item] | None:
+    def probe(self, line: bytes, has_store: bool) -> Probe | None:
         """Returns the questions about the instruction in a reply of `dis`; None if there are none."""
         if (line, has_store) not in self.probes:
             self.probes[line, has_store] = probe_of(line, self.needs(line), has_store)
@@ -127,19 +128,19 @@ class Reader(Closing, Generic[Item]):
     def asked(self, stretch: Stretch, lines: Sequence[bytes], listing: bytes = b"") -> Asked[Item]:
         """Returns what to ask about the steps of a stretch. `listing` lists its instructions, if a write could change them."""
         found = {it: self.probe(it, bool(listing)) for it in set(lines)}
-        every = [found[it] for it in lines]
-        indices, probes = [n for n, it in enumerate(every) if it], [it for it in every if it]
-        starts = list(accumulate([it.count for it in probes], initial=0))
-        if not starts[-1] and not listing:
-            return Asked(lines, indices, probes, starts, calls=(), text=b"")
-        positions, texts = [n + it.is_after for n, it in zip(indices, probes)], [it.questions for it in probes]
+        every = list(map(found.__getitem__, lines))
+        indices = list(compress(range(len(every)), every))
+        questions, counts, is_after, stores, skipped, items = zip(*filter(None, every)) if indices else ((),) * len(Probe._fields)
+        starts = list(accumulate(counts, initial=0))
         calls = calls_in(stretch) if self.run.setup.monitor and listing else []
+        positions, texts = list(map(add, indices, is_after)), list(questions)
         for n in calls:
             at = bisect(positions, n + 1)
             positions.insert(at, n + 1)
             texts.insert(at, listing)
         steps = map(step_command, map(sub, [*positions, stretch.count], [0, *positions]))
-        return Asked(lines, indices, probes, starts, calls, b"".join(chain.from_iterable(zip(steps, [*texts, b""]))))
+        text = b"".join(chain.from_iterable(zip(steps, [*texts, b""]))) if listing or starts[-1] else b""
+        return Asked(lines, indices, starts, stores, skipped, items, calls, text)
 
 
 def calls_in(stretch: Stretch) -> list[int]:
@@ -152,13 +153,10 @@ def calls_in(stretch: Stretch) -> list[int]:
 
 def reads_of(asked: Asked[Item], values: Sequence[int]) -> Reads[Item]:
     """Returns the values that the reader needs, by the steps."""
-    probes, starts = asked.probes, asked.starts
-    items = [it.item for it in probes if it.item is not None]
-    if len(items) < len(probes):
-        is_needed = [it.item is not None for it in probes]
-        return Reads(asked.lines, list(compress(asked.indices, is_needed)), items,
-                     [at + it.skipped for it, at in compress(zip(probes, starts), is_needed)], values)
-    return Reads(asked.lines, asked.indices, items, [at + it.skipped for it, at in zip(probes, starts)], values)
+    is_needed = [it is not None for it in asked.items]
+    columns = asked.indices, asked.items, map(add, asked.starts, asked.skipped)
+    indices, items, starts = (list(compress(it, is_needed)) for it in columns)
+    return Reads(asked.lines, indices, items, starts, values)
 
 
 def values_of(block: bytes) -> Sequence[int]:
@@ -173,17 +171,14 @@ def is_changed(asked: Asked[Item], values: Sequence[int], stretch: Stretch, chan
     """Returns whether a step executes an instruction after a write to it. `changed` has the pcs of those that the monitor wrote, each with the index
     of the step of the first call that did."""
     pcs, traps = stretch.columns.pcs, stretch.columns.traps
-    is_store = [it.store is not None and traps[n] == NO_TRAP for n, it in zip(asked.indices, asked.probes)]
-    indices = list(compress(asked.indices, is_store))
-    bases = [values[at] for at in compress(asked.starts, is_store)]
-    memories = {line: probe.store for line, probe in zip(map(asked.lines.__getitem__, indices), compress(asked.probes, is_store))}
-    several = set(zip(map(asked.lines.__getitem__, indices), bases))
-    stored = {address & -4 for line, base in several for address in bytes_at(base, memories[line])}
+    is_store = [it is not None and traps[n] == NO_TRAP for n, it in zip(asked.indices, asked.stores)]
+    stores, bases = list(compress(asked.stores, is_store)), [values[at] for at in compress(asked.starts, is_store)]
+    stored = {address & -4 for memory, base in set(zip(stores, bases)) for address in bytes_at(base, memory)}
     if not changed and stored.isdisjoint([int(pc, 16) for pc in set(pcs)]):
         return False
     written = {int(pc, 16): at for pc, at in changed.items()}
-    for n, base in zip(indices, bases):
-        for address in bytes_at(base, memories[asked.lines[n]]):
+    for n, memory, base in zip(compress(asked.indices, is_store), stores, bases):
+        for address in bytes_at(base, memory):
             written[address & -4] = min(n, written.get(address & -4, n))
     return any(written.get(int(pc, 16), n) < n for n, pc in enumerate(pcs))
 

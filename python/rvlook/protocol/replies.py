@@ -129,6 +129,7 @@ def poke_commands(address: int, data: bytes) -> list[str]:
     return ["poke %x %02x" % (address + n, it) for n, it in enumerate(data)]
 
 
+@lru_cache(maxsize=1)
 def step_fields(data: bytes) -> list[RanFields]:
     """Decodes the replies to single steps: pc, mode, world and trap of each. Most replies of a run come many times."""
     return list(map(fields_of, data.splitlines()))

@@ -2,6 +2,9 @@
 read. All registers are read after a trap and at the end of each part of the run, where the values so far must agree."""
 from __future__ import annotations
 
+import re
+from functools import lru_cache
+from itertools import islice
 from typing import Iterator, NamedTuple, Optional, Sequence, Tuple
 
 from rvlook.errors import Unfinished
@@ -13,10 +16,11 @@ from rvlook.protocol.run import End, Run
 from rvlook.protocol.stretch import Stretch
 from rvlook.protocol.timeline import Line, Timeline
 
-REGISTERS = 33  # lines of `regs`
-STEP = b"step 1\n"
-STEP_AND = [b"step 1\nreg %d\n" % number for number in range(32)]
-STEP_AND_ALL = b"step 1\nregs\n"
+REGISTERS = 32
+ALL = b"regs\n"  # shows them and pc, in a line each
+STEP_AND = [b"step 1\n", *(b"step 1\nreg %d\n" % number for number in range(1, REGISTERS))]  # by the register that the step writes, 0 for none
+STEP_AND_ALL = b"step 1\n" + ALL
+VALUE = re.compile(r"x\d+=(.{8})")  # of a register, in a reply
 
 
 class Touch(NamedTuple):
@@ -100,7 +104,6 @@ class RunTracer:
         start = Location(run.pc, run.mode, run.world)
         self.harts = [Hart(start) for _ in range(run.setup.harts)]
         self.position = self.hart = 0
-        self.locations: dict[tuple[bytes, bytes, bytes], Location] = {}
 
     def events(self) -> Iterator[TracedCommand | TracedStep | End]:
         """Yields Command, Step and End in the order of the run. Two benches follow the first one, which reports each pc: one decodes the
@@ -130,87 +133,80 @@ class RunTracer:
         self.hart, hart, end = stretch.hart, self.harts[stretch.hart], stretch.first + stretch.count - 1
         begin, stop = max(self.first, stretch.first), min(end, self.last or end)
         if begin > end:
-            hart.location, hart.registers, self.position = self.location_of(stretch.last), [], end
+            hart.location, hart.registers, self.position = location_of(stretch.last), [], end
             return
         rans = step_fields(stretch.data)
         if begin > stretch.first:
-            hart.location, hart.registers = self.location_of(rans[begin - stretch.first - 1]), []
+            hart.location, hart.registers = location_of(rans[begin - stretch.first - 1]), []
         part = slice(begin - stretch.first, stop - stretch.first + 1)
         rans, instructions = rans[part], list(map(instruction_of, decoder.read(stretch).lines[part]))
-        replies = self.registers(reader, hart, begin, rans, instructions)
+        values = registers_after(reader, hart, begin, rans, instructions)
         for number, done in enumerate(zip(rans, instructions), begin):
-            yield self.step(number, stretch.hart, hart, done, replies)
-        kept = [next(replies)[-8:] for _ in range(REGISTERS - 1)]
-        if kept != hart.registers:
+            yield traced(number, stretch.hart, hart, done, values)
+        if list(values) != hart.registers:
             raise Unfinished("the registers after step %d differ from those derived from its steps" % stop)
         self.position = stop
 
-    def registers(self, reader: Timeline, hart: Hart, begin: int, rans: Sequence[RanFields],
-                  instructions: Sequence[Instruction | None]) -> Iterator[str]:
-        """Returns the replies of these steps: each with what it may have changed, and all registers after the last."""
-        reader.go_before(begin)
-        if not hart.registers:
-            hart.registers = [line[-8:] for line in reader.bench.ask("regs")[0][:32]]
-        queries, count = [], REGISTERS
-        for ran, instruction in zip(rans, instructions):
-            if ran[3] != NO_TRAP:
-                queries.append(STEP_AND_ALL)
-                count += 1 + REGISTERS
-            elif instruction is not None and instruction.writes:
-                queries.append(STEP_AND[instruction.writes])
-                count += 2
-            else:
-                queries.append(STEP)
-                count += 1
-        block = reader.bench.block(b"".join(queries) + b"regs\n", count)
-        reader.lines_to(begin - 1 + len(rans))
-        return iter(block.decode().split("\n"))
 
-    def step(self, number: int, hart_number: int, hart: Hart, done: Done, replies: Iterator[str]) -> TracedStep:
-        """Returns a step, from its replies and what was before it; `hart` becomes what is after it."""
-        at, (ran, instruction) = hart.location, done
-        next_location = hart.location = self.locations.get(ran[:3]) or self.location_of(ran)
-        next(replies)
-        if ran[3] == NO_TRAP:
-            touch, changed, value = None, {}, None
-            if instruction is not None:
-                registers, memory = hart.registers, instruction.memory
-                address = (int(registers[memory.base], 16) + memory.offset) & 0xFFFFFFFF if memory else 0
-                if instruction.writes:
-                    value = next(replies)[-8:]
-                    if value != registers[instruction.writes]:
-                        registers[instruction.writes] = value
-                        changed = {instruction.writes: value}
-                if memory:
-                    touch = self.touched(memory, address, registers[memory.register])
-            return TracedStep(number, hart_number, at, instruction, changed, touch, None, None, next_location, value)
-        step = TracedStep(number, hart_number, at, instruction, changed={}, touch=None, call=None, trap=trap_of(ran[3].decode()), next=next_location)
-        return self.trapped(step, hart, replies)
+@lru_cache(maxsize=65536)
+def location_of(ran: RanFields) -> Location:
+    """Returns where a hart is after a step."""
+    pc, mode, world, _ = ran
+    return Location(pc.decode(), mode.decode(), world.decode())
 
-    @staticmethod
-    def touched(memory: MemoryOperand, address: int, value: str) -> Touch:
-        """Returns a load or store that was done; `value` is its register after it."""
-        has_value = memory.kind == "w" or memory.register
-        return Touch(memory.kind, address, memory.width, True, value[8 - 2 * memory.width:] if has_value else None)
 
-    @staticmethod
-    def trapped(step: TracedStep, hart: Hart, replies: Iterator[str]) -> TracedStep:
-        """Returns a step that trapped, with what it changed: any register may have another value after it, as another world may continue."""
-        before, trap, instruction, at = hart.registers, step.trap, step.instruction, step.at
-        assert trap is not None
-        after = [next(replies)[-8:] for _ in range(REGISTERS)][:32]
-        hart.registers = after
-        changed = {n: after[n] for n in range(1, 32) if after[n] != before[n]}
-        memory = instruction.memory if instruction and trap.cause in names.ACCESS_FAULTS else None
-        address = (int(before[memory.base], 16) + memory.offset) & 0xFFFFFFFF if memory else 0
-        touch = Touch(memory.kind, address, memory.width, done=False, value=None) if memory else None
-        is_call = trap.cause == names.ECALL_FROM_S and at.world != "bare"
-        call = call_of(at.world, [int(it, 16) for it in before], [int(it, 16) for it in after]) if is_call else None
-        return step._replace(changed=changed, touch=touch, call=call)
+def registers_after(reader: Timeline, hart: Hart, begin: int, rans: Sequence[RanFields],
+                    instructions: Sequence[Instruction | None]) -> Iterator[str]:
+    """Returns the values of registers after these steps: of the one that each writes, of all after a trap, and of all after the last."""
+    reader.go_before(begin)
+    if not hart.registers:
+        hart.registers = [line[-8:] for line in reader.bench.ask("regs")[0][:REGISTERS]]
+    queries = [STEP_AND_ALL if ran[3] != NO_TRAP else STEP_AND[it.writes if it else 0] for ran, it in zip(rans, instructions)]
+    text = b"".join(queries) + ALL
+    block = reader.bench.block(text, text.count(b"\n") + text.count(ALL) * REGISTERS)
+    reader.lines_to(begin - 1 + len(rans))
+    return iter(VALUE.findall(block.decode()))
 
-    def location_of(self, ran: RanFields) -> Location:
-        """Returns where a hart is after a step."""
-        return self.locations.setdefault(ran[:3], Location(*(it.decode() for it in ran[:3])))
+
+def traced(number: int, hart_number: int, hart: Hart, done: Done, values: Iterator[str]) -> TracedStep:
+    """Returns a step, from what was before it and the values of registers after it; `hart` becomes what is after it."""
+    at, (ran, instruction) = hart.location, done
+    after = hart.location = location_of(ran)
+    if ran[3] != NO_TRAP:
+        trap = trap_of(ran[3].decode())
+        return trapped(TracedStep(number, hart_number, at, instruction, changed={}, touch=None, call=None, trap=trap, next=after), hart, values)
+    touch, changed, value = None, {}, None
+    if instruction is not None:
+        registers, memory, writes = hart.registers, instruction.memory, instruction.writes
+        address = (int(registers[memory.base], 16) + memory.offset) & 0xFFFFFFFF if memory else 0
+        if writes:
+            value = next(values)
+            if value != registers[writes]:
+                registers[writes] = value
+                changed = {writes: value}
+        if memory:
+            touch = touched(memory, address, registers[memory.register])
+    return TracedStep(number, hart_number, at, instruction, changed, touch, None, None, after, value)
+
+
+def touched(memory: MemoryOperand, address: int, value: str) -> Touch:
+    """Returns a load or store that was done; `value` is its register after it."""
+    has_value = memory.kind == "w" or memory.register
+    return Touch(memory.kind, address, memory.width, True, value[8 - 2 * memory.width:] if has_value else None)
+
+
+def trapped(step: TracedStep, hart: Hart, values: Iterator[str]) -> TracedStep:
+    """Returns a step that trapped, with what it changed: any register may have another value after it, as another world may continue."""
+    before, trap, instruction, at = hart.registers, step.trap, step.instruction, step.at
+    assert trap is not None
+    after = hart.registers = list(islice(values, REGISTERS))
+    changed = {n: after[n] for n in range(1, REGISTERS) if after[n] != before[n]}
+    memory = instruction.memory if instruction and trap.cause in names.ACCESS_FAULTS else None
+    address = (int(before[memory.base], 16) + memory.offset) & 0xFFFFFFFF if memory else 0
+    touch = Touch(memory.kind, address, memory.width, done=False, value=None) if memory else None
+    is_call = trap.cause == names.ECALL_FROM_S and at.world != "bare"
+    call = call_of(at.world, [int(it, 16) for it in before], [int(it, 16) for it in after]) if is_call else None
+    return step._replace(changed=changed, touch=touch, call=call)
 
 
 def call_of(world: str, registers: Sequence[int], after: Sequence[int]) -> CallMade | None:
