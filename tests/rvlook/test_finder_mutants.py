@@ -3,7 +3,7 @@ import pytest
 from support.mutants import Mutant, check_noticed, id_of
 
 MUTANTS = (
-    Mutant("only_constant_moves_of_sp_are_seen", "access/stack.py", "operation.kind not in (Effect.BUILD, Effect.LOAD) and address:",
+    Mutant("only_constant_moves_of_sp_are_seen", "access/stack.py", "operation.memory is None and not operation.is_upper and address:",
            "operation.factors == (1, 0):", "test_stack.py::test_use_outside_the_stack_is_found[register]"),
     Mutant("only_stores_through_sp_are_seen", "access/stack.py", "POINTED.get(kind, ()) if pointers.is_pointer(base) else ()", "()",
            "test_stack.py::test_use_outside_the_stack_is_found[pointer_below]"),

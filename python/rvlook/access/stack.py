@@ -12,7 +12,6 @@ from __future__ import annotations
 
 import re
 from dataclasses import dataclass, field
-from enum import Enum
 from functools import lru_cache
 from typing import Container, NamedTuple, Optional, Sequence
 
@@ -36,27 +35,21 @@ MASK = 0xFFFFFFFF
 TIMER, CALL = names.TIMER.encode(), names.ECALL_FROM_S.encode()
 
 
-class Effect(Enum):
-    """The effect of an instruction on pointers."""
-    SUM = "sum"  # also the difference of two registers, and a pointer that moves by a constant or is aligned
-    NUMBER = "number"  # the result is no pointer into the stack
-    BUILD = "build"  # the upper part of a constant
-    LOAD = "load"
-    STORE = "store"
-
-
 FACTORS = {"add": (1, 1), "or": (1, 1), "sub": (1, -1)}
+UPPER = ("lui", "auipc")  # build the upper part of a constant
 
 
 class PointerOperation(NamedTuple):
-    """An instruction that writes a register or accesses memory: the register that it writes, and its operands. For a sum, `factors` says how often
-    each operand is added. `register` must be read: the base of an access, or sp after a write of it; None if none is needed."""
-    kind: Effect
-    writes: int = 0
+    """An instruction that writes a register or accesses memory: the register that it writes, and its operands. The result of a computation has
+    each operand as a summand as often as `factors` says; a result that is no pointer into the stack has none. `register` must be read: the base
+    of an access, or sp after a write of it; None if none is needed."""
+    writes: int
     sources: tuple[int, int] = (0, 0)
     factors: tuple[int, int] = (0, 0)
     memory: Optional[MemoryOperand] = None
     register: Optional[int] = None
+    is_store: bool = False
+    is_upper: bool = False
 
 
 def operation_of(line: bytes) -> PointerOperation | None:
@@ -64,21 +57,21 @@ def operation_of(line: bytes) -> PointerOperation | None:
     instruction = instruction_of(line)
     if instruction is None:
         return None
-    if instruction.memory:
-        kind, memory = Effect.LOAD if instruction.memory.kind == "r" else Effect.STORE, instruction.memory
-        return PointerOperation(kind, instruction.writes, (memory.base, memory.register), memory=memory, register=memory.base)
+    memory = instruction.memory
+    if memory:
+        sources = memory.base, memory.register
+        return PointerOperation(instruction.writes, sources, memory=memory, register=memory.base, is_store=memory.kind == "w")
     return computation_of(instruction) if instruction.writes else None
 
 
 def computation_of(instruction: Instruction) -> PointerOperation:
     """Decodes an instruction that writes a register and accesses no memory."""
-    name, writes, operands = instruction.name, instruction.writes, instruction.operands
-    register = SP if writes == SP else None
+    name, writes, operands, sources, factors = instruction.name, instruction.writes, instruction.operands, (0, 0), (0, 0)
     if name in FACTORS:
-        return PointerOperation(Effect.SUM, writes, (operands[1], operands[2]), FACTORS[name], register=register)
-    if name in ("addi", "ori") or name == "andi" and operands[2] < 0:
-        return PointerOperation(Effect.SUM, writes, (operands[1], 0), (1, 0), register=register)
-    return PointerOperation(Effect.BUILD if name in ("lui", "auipc") else Effect.NUMBER, writes, register=register)
+        sources, factors = (operands[1], operands[2]), FACTORS[name]
+    elif name in ("addi", "ori") or name == "andi" and operands[2] < 0:
+        sources, factors = (operands[1], 0), (1, 0)
+    return PointerOperation(writes, sources, factors, register=SP if writes == SP else None, is_upper=name in UPPER)
 
 
 @dataclass
@@ -93,24 +86,23 @@ class Pointers:
 
     def has_source(self, operation: PointerOperation) -> bool:
         """Returns whether an operand of a computation is a pointer into the stack."""
-        return operation.kind is Effect.SUM and any(self.is_pointer(register) for register in operation.sources)
+        return any(self.is_pointer(register) for register in operation.sources)
 
     def compute(self, operation: PointerOperation) -> None:
         """Takes the effect of an instruction that accesses no memory."""
-        kind, writes, (one, two), (first, second), _, _ = operation
+        writes, (one, two), (first, second), _, _, _, is_upper = operation
         registers = self.registers
-        registers[writes] = first * registers[one] + second * registers[two] if writes != SP else int(kind is not Effect.BUILD)
+        registers[writes] = first * registers[one] + second * registers[two] if writes != SP else int(not is_upper)
 
-    def access(self, operation: PointerOperation, address: int) -> None:
-        """Takes the effect of an access to an address."""
-        kind, writes, (_, two), _, memory, _ = operation
-        is_word = memory is not None and memory.width == WORD
-        if kind is Effect.STORE and is_word and self.registers[two]:
-            self.words[address] = self.registers[two]
-        elif kind is Effect.STORE:
+    def access(self, memory: MemoryOperand, address: int) -> None:
+        """Takes the effect of an access to an address. A load into sp makes it a pointer into the stack."""
+        kind, width, _, _, register = memory
+        if kind == "r":
+            self.registers[register] = 1 if register == SP else self.words.get(address, 0) if width == WORD and register else 0
+        elif width == WORD and self.registers[register]:
+            self.words[address] = self.registers[register]
+        else:
             self.words.pop(address, None)
-        elif writes:
-            self.registers[writes] = 1 if writes == SP else self.words.get(address, 0) if is_word else 0
 
     def answer(self) -> None:
         """Takes the answer of the monitor to a call, which is in a0 and a1."""
@@ -172,30 +164,29 @@ class OverflowFinder:
         """Checks steps of one hart, one after another."""
         columns, world = stretch.columns, b""
         values = map(reads.values.__getitem__, reads.starts)
-        operations = {line: operation_of(line) for line in set(reads.lines)}
-        steps = zip(columns.pcs, columns.modes, columns.worlds, columns.traps, reads.lines)
-        for at, (pc, mode, now, trap, line) in enumerate(steps):
+        decoded = {line: operation_of(line) for line in set(reads.lines)}
+        steps = zip(columns.pcs, columns.modes, columns.worlds, columns.traps, map(decoded.__getitem__, reads.lines))
+        for at, (pc, mode, now, trap, operation) in enumerate(steps):
             if now != world:
                 world = now
                 pointers = self.enter(stretch.hart, world.decode(), int(pc, 16))
-            operation = operations[line]
-            if trap != NO_TRAP and (trap.startswith(TIMER) if operation else columns.after[at] != world):
-                self.left_at[world.decode()] = int(pc, 16)
-            if not operation:
+            if trap != NO_TRAP:
+                if trap.startswith(TIMER) if operation else columns.after[at] != world:
+                    self.left_at[world.decode()] = int(pc, 16)
                 if trap.startswith(CALL):
                     pointers.answer()
+            if operation is None:
                 continue
             memory = operation.memory
             value = 0 if operation.register is None else next(values)
-            if trap == NO_TRAP or not trap.startswith(TIMER):
-                address = (value + memory.offset) & MASK if memory else value
-                if operation.writes == SP or operation.kind is Effect.STORE:
-                    kind = self.kind(now, mode)
-                    if kind and self.is_outside(kind, operation, pointers, address):
-                        self.found[kind] = Overflow(stretch.first + at, stretch.hart, now.decode(), int(pc, 16), operation.kind is Effect.STORE,
-                                                    address, self.nearest(kind, address))
-                if trap == NO_TRAP:
-                    pointers.access(operation, address) if memory else pointers.compute(operation)
+            address = value + memory.offset & MASK if memory else value
+            if (operation.writes == SP or operation.is_store) and not trap.startswith(TIMER):
+                kind = self.kind(now, mode)
+                if kind and self.is_outside(kind, operation, pointers, address):
+                    self.found[kind] = Overflow(stretch.first + at, stretch.hart, now.decode(), int(pc, 16), operation.is_store, address,
+                                                self.nearest(kind, address))
+            if trap == NO_TRAP:
+                pointers.access(memory, address) if memory else pointers.compute(operation)
 
     def enter(self, hart: int, world: str, pc: int) -> Pointers:
         """Returns the pointers of a world that continues at pc. An enclave that is entered elsewhere than where it left has none."""
@@ -216,11 +207,11 @@ class OverflowFinder:
         if kind in self.found or kind not in self.stacks:
             return False
         wanted: Sequence[str] = ()
-        is_store = operation.kind is Effect.STORE
-        if is_store and operation.memory:
-            base = operation.memory.base
+        is_store = operation.is_store
+        if is_store:
+            base = operation.sources[0]
             wanted = (kind,) if base == SP else POINTED.get(kind, ()) if pointers.is_pointer(base) else ()
-        elif operation.writes == SP and operation.kind not in (Effect.BUILD, Effect.LOAD) and address:
+        elif operation.memory is None and not operation.is_upper and address:
             # 0 is no stack: a handler exchanges sp with sscratch
             wanted = (kind,) if pointers.has_source(operation) else self.stacks_of_world(kind)
         stacks = [stack for name in wanted for stack in self.stacks.get(name, ())]

@@ -27,7 +27,7 @@ KINDS_OF_ARRAYS = "BHI"
 COMMON = ("stdin", "image", "program.elf")  # names that do not identify a run
 MAP = ("enclaves", "columns", "rows")
 REFUSED, NO_VALUE = 2, 4  # added to the kind of an access that trapped, and of one without a value
-LEVEL = 6  # of zlib
+LEVEL = 4  # of zlib; level 6 takes twice the time, for 2 % fewer bytes
 BRANCH = re.compile(r"b|jal ")
 TOUCH = ("step", "address", "width", "kind", "name", "value")
 SITE = ("word", "abi", "symbol", "function", "source", "caller")  # of a site, after its pc
@@ -84,7 +84,7 @@ class Collector:
         self.path = ""
         self.run: dict[str, Any] = {}
         self.sites, self.places, self.traps, self.names = NumberedValues(), NumberedValues(), NumberedValues(), NumberedValues()
-        self.site_numbers: dict[tuple[object, ...], int] = {}  # by pc, word, and whether the word was fetched or an interrupt came
+        self.kinds: dict[tuple[object, ...], tuple[int, int, int]] = {}  # the numbers of site, place and trap of equal steps
         self.name_numbers: dict[tuple[int, int], int] = {}  # by address and width of an access
         self.site, self.place, self.trap = array("I"), array("B"), array("I")
         self.changes, self.registers, self.values = array("B"), array("B"), array("I")
@@ -127,10 +127,13 @@ class Collector:
 
     def step(self, step: TracedStep) -> None:
         """Takes a step."""
-        self.site.append(self.site_of(step))
-        self.place.append(self.places[step.hart, step.at.world, step.at.mode])
         trap, changed = step.trap, step.changed
-        self.trap.append(self.traps[trap.cause, trap.value, names.cause_name(trap.cause)] + 1 if trap else 0)
+        kind = step.hart, step.at, step.instruction, trap
+        if kind not in self.kinds:
+            trap_number = self.traps[trap.cause, trap.value, names.cause_name(trap.cause)] + 1 if trap else 0
+            self.kinds[kind] = self.site_of(step), self.places[step.hart, step.at.world, step.at.mode], trap_number
+        for column, number in zip((self.site, self.place, self.trap), self.kinds[kind]):
+            column.append(number)
         self.changes.append(len(changed))
         for register, value in changed.items():
             self.registers.append(register)
@@ -144,18 +147,15 @@ class Collector:
             self.take_touch(step.number, step.touch)
 
     def site_of(self, step: TracedStep) -> int:
-        """Returns the number of the site of a step: its pc and instruction. A new site is drawn, unless an interrupt came in its place."""
-        key = step.at.pc, step.instruction and step.instruction.word, step.trap and (step.is_executed, step.is_interrupt)
-        if key not in self.site_numbers:
-            site, target, pc = self.objects.site(step), step.target, int(step.at.pc, 16)
-            text = site["abi"]
-            if text and target is not None and BRANCH.match(text):
-                symbol = self.symbols.name(target)
-                text = "%s%08x%s" % (text[:text.rindex(" ") + 1], target, " <%s>" % symbol if symbol else "")
-            self.site_numbers[key] = self.sites[(step.at.pc, *(site[name] for name in SITE), text)]
-            if not step.is_interrupt:
-                self.add_place(pc, 4, site["symbol"])
-        return self.site_numbers[key]
+        """Returns the number of the site of a step: its pc and instruction. A site is drawn, unless an interrupt came in its place."""
+        site, target = self.objects.site(step), step.target
+        text = site["abi"]
+        if text and target is not None and BRANCH.match(text):
+            symbol = self.symbols.name(target)
+            text = "%s%08x%s" % (text[:text.rindex(" ") + 1], target, " <%s>" % symbol if symbol else "")
+        if not step.is_interrupt:
+            self.add_place(int(step.at.pc, 16), 4, site["symbol"])
+        return self.sites[(step.at.pc, *(site[name] for name in SITE), text)]
 
     def take_touch(self, step: int, touch: Touch) -> None:
         """Takes the load or store of a step."""

@@ -24,9 +24,10 @@ class MemoryOperand(NamedTuple):
     register: int
 
 
-@dataclass(frozen=True)
+@dataclass(frozen=True, eq=False)
 class Instruction:
-    """A word of memory, as a reply of `dis` has it. `operands` are the numbers of its registers and its immediates, in the order of the text."""
+    """A word of memory, as a reply of `dis` has it; equal replies have the same one. `operands` are the numbers of its registers and its
+    immediates, in the order of the text."""
     word: str
     text: str
     name: str
@@ -76,7 +77,7 @@ def instruction_of(line: bytes) -> Instruction | None:
 
 
 # The manual's table of assembler pseudoinstructions: a text with ABI names, and the short form of it, in the order of preference.
-SHORT = [(re.compile(pattern + r"\Z"), form) for pattern, form in (
+SHORT = (
     (r"addi zero, zero, 0", "nop"), (r"addi (\w+), zero, (\S+)", r"li \1, \2"), (r"addi (\w+), (\w+), 0", r"mv \1, \2"),
     (r"xori (\w+), (\w+), -1", r"not \1, \2"), (r"sub (\w+), zero, (\w+)", r"neg \1, \2"),
     (r"sltiu (\w+), (\w+), 1", r"seqz \1, \2"), (r"sltu (\w+), zero, (\w+)", r"snez \1, \2"),
@@ -88,10 +89,11 @@ SHORT = [(re.compile(pattern + r"\Z"), form) for pattern, form in (
     (r"jalr zero, 0\((\w+)\)", r"jr \1"), (r"jalr ra, 0\((\w+)\)", r"jalr \1"),
     (r"csrrs (\w+), (\w+), zero", r"csrr \1, \2"), (r"csrrw zero, (\w+), (\w+)", r"csrw \1, \2"),
     (r"csrrs zero, (\w+), (\w+)", r"csrs \1, \2"), (r"csrrc zero, (\w+), (\w+)", r"csrc \1, \2"),
-    (r"csrr([wsc])i zero, (\w+), (\w+)", r"csr\1i \2, \3"))]
+    (r"csrr([wsc])i zero, (\w+), (\w+)", r"csr\1i \2, \3"))
 
 
 @lru_cache(maxsize=65536)
 def short_form(text: str) -> str:
     """Returns the manual's short form of a text with ABI names, or the text itself."""
-    return next((pattern.sub(form, text) for pattern, form in SHORT if pattern.match(text)), text)
+    matches = ((re.fullmatch(pattern, text), form) for pattern, form in SHORT)
+    return next((match.expand(form) for match, form in matches if match), text)
