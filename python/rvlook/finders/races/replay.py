@@ -66,7 +66,8 @@ class Replays:
                 ran = step_of(lines[0])
                 reached[chosen] = ran.mode, ran.world
         for hart in range(machine.count):
-            own, (_, pc, kept) = machine.own(state, hart), machine.harts[state.harts[hart]]
+            context, pc, kept = machine.harts[state.harts[hart]]
+            own = machine.contexts[context]
             found = machine.registers_and_rest(bench.ask(*machine.setup.choice(hart), "regs", *machine.rest))
             self.expect(end, found, ((*kept, pc), own.csrs))
             self.expect(end, reached.get(hart, (own.mode, own.world)), (own.mode, own.world))
