@@ -299,15 +299,21 @@ def ranges_of(dwarf: Any, unit: Any, entry: Any) -> Iterator[tuple[int, int]]:
         first, end = attributes["DW_AT_low_pc"].value, attributes["DW_AT_high_pc"]
         yield first, end.value if end.form == "DW_FORM_addr" else first + end.value
     elif "DW_AT_ranges" in attributes and dwarf.range_lists():
-        base = unit.get_top_DIE().attributes.get("DW_AT_low_pc")
-        base = base.value if base else 0
-        for item in dwarf.range_lists().get_range_list_at_offset(attributes["DW_AT_ranges"].value, unit):
-            spend()
-            if hasattr(item, "base_address"):
-                base = item.base_address
-            else:
-                at = 0 if getattr(item, "is_absolute", False) else base
-                yield at + item.begin_offset, at + item.end_offset
+        items = dwarf.range_lists().get_range_list_at_offset(attributes["DW_AT_ranges"].value, unit)
+        yield from ((first, end) for first, end, _ in placed(unit, items))
+
+
+def placed(unit: Any, items: Iterable[Any]) -> Iterator[tuple[int, int, Any]]:
+    """Yields the items of a range list or a location list of a unit, each with its first address and its end."""
+    base = unit.get_top_DIE().attributes.get("DW_AT_low_pc")
+    at = base.value if base else 0
+    for item in items:
+        spend()
+        if hasattr(item, "base_address"):
+            at = item.base_address
+        elif hasattr(item, "begin_offset"):
+            start = 0 if getattr(item, "is_absolute", False) else at
+            yield start + item.begin_offset, start + item.end_offset, item
 
 
 def files_of(path: str) -> dict[str, str]:
