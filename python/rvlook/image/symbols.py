@@ -331,8 +331,9 @@ def files_of_tables(file: Any) -> dict[str, str]:
             found[name_of(os.path.basename(path))][path] += 0
     ambiguous = {it for paths in found.values() if len(paths) > 1 for it in paths}
     for program, paths in tables:
-        for row_path in rows_of(program, paths) if not ambiguous.isdisjoint(paths.values()) else ():
-            found[name_of(os.path.basename(row_path))][row_path] += 1
+        for row in line_states(program) if not ambiguous.isdisjoint(paths.values()) else ():
+            if not row.end_sequence and row.file in paths:
+                found[name_of(os.path.basename(paths[row.file]))][paths[row.file]] += 1
     return {name: os.fsdecode(max(paths, key=lambda it: paths[it])) for name, paths in found.items()}
 
 
@@ -340,11 +341,6 @@ def folder_of(unit: Any) -> bytes:
     """Returns the folder in which a unit was compiled; empty if it is not known."""
     folder = unit.get_top_DIE().attributes.get("DW_AT_comp_dir")
     return folder.value if folder and isinstance(folder.value, bytes) else b""
-
-
-def rows_of(program: Any, paths: dict[int, bytes]) -> Iterator[bytes]:
-    """Yields the path of the file of each row of a line table."""
-    yield from (paths[it.file] for it in line_states(program) if not it.end_sequence and it.file in paths)
 
 
 def paths_in(program: Any, built_in: bytes) -> dict[int, bytes]:
