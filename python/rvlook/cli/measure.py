@@ -84,10 +84,6 @@ def perform(arguments: Namespace) -> None:
         raise RvlookError("create rejects these arguments: %s" % refusal)
     record = (base, size, window if window_size else 0, window_size, entry)
     digest = measurement(record, region_bytes(path, data, base, size))
-    if printer.as_json:
-        printer.object("measure", base=hex8(base), size=size, window=hex8(record[2]), window_size=window_size, entry=hex8(entry),
-                       measurement=digest)
-    else:
-        shown = "window %08x %s" % (window, names.size_text(window_size)) if window_size else "no window"
-        printer.line("region %08x %s  %s  entry %08x" % (base, names.size_text(size), shown, entry))
-        printer.line("measurement " + digest)
+    shown = "window %08x %s" % (window, names.size_text(window_size)) if window_size else "no window"
+    printer.show("region %08x %s  %s  entry %08x\nmeasurement %s" % (base, names.size_text(size), shown, entry, digest), "measure",
+                 base=hex8(base), size=size, window=hex8(record[2]), window_size=window_size, entry=hex8(entry), measurement=digest)

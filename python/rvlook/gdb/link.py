@@ -130,7 +130,7 @@ def escaped(text: str) -> str:
 
 
 def unescaped(text: str) -> bytes:
-    """Returns the bytes that `escaped` data of the protocol stands for."""
+    """Reverts `escaped`; returns bytes."""
     return re.sub(r"\}(.)", lambda match: chr(ord(match[1]) ^ 0x20), text, flags=re.S).encode("latin-1")
 
 

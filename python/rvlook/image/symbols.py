@@ -183,10 +183,10 @@ def symbol_entries(file: Any) -> Iterator[tuple[str, SymbolEntry]]:
 def units_of(path: str, file: Any, budget: Budget) -> Iterator[Unit]:
     """Yields the compilation units. A line table that several units share belongs to the first of them, whose ranges are then unknown."""
     entries = [(dwarf, unit, unit.get_top_DIE()) for dwarf, unit in compilation_units(file)]
-    tables = Counter(table_of(top) for _, _, top in entries)
+    tables = Counter(value_of(top, "DW_AT_stmt_list") for _, _, top in entries)
     seen: set[int | None] = {None}
     for dwarf, unit, top in entries:
-        table = table_of(top)
+        table = value_of(top, "DW_AT_stmt_list")
         ranges = list(ranges_of(dwarf, unit, top)) if tables[table] == 1 else []
         spend(UNIT_RANGE * len(ranges))
         yield Unit(ranges or ALL, reader(path, "no source lines", partial(source_lines, dwarf, unit), budget) if table not in seen else lambda: (),
@@ -202,10 +202,10 @@ def compilation_units(file: Any) -> Iterator[tuple[Any, Any]]:
         yield dwarf, unit
 
 
-def table_of(top: Any) -> int | None:
-    """Returns the offset of the line table of a unit, or None."""
-    table = top.attributes.get("DW_AT_stmt_list")
-    return table.value if table else None
+def value_of(entry: Any, name: str) -> Any:
+    """Returns the value of an attribute of an entry, or None."""
+    attribute = entry.attributes.get(name)
+    return attribute.value if attribute else None
 
 
 def reader(path: str, without: str, read: Callable[[], Iterable[T]], budget: Budget) -> Callable[[], Iterable[T]]:
@@ -305,8 +305,7 @@ def ranges_of(dwarf: Any, unit: Any, entry: Any) -> Iterator[tuple[int, int]]:
 
 def placed(unit: Any, items: Iterable[Any]) -> Iterator[tuple[int, int, Any]]:
     """Yields the items of a range list or a location list of a unit, each with its first address and its end."""
-    base = unit.get_top_DIE().attributes.get("DW_AT_low_pc")
-    at = base.value if base else 0
+    at = value_of(unit.get_top_DIE(), "DW_AT_low_pc") or 0
     for item in items:
         spend()
         if hasattr(item, "base_address"):
@@ -339,8 +338,8 @@ def files_of_tables(file: Any) -> dict[str, str]:
 
 def folder_of(unit: Any) -> bytes:
     """Returns the folder in which a unit was compiled; empty if it is not known."""
-    folder = unit.get_top_DIE().attributes.get("DW_AT_comp_dir")
-    return folder.value if folder and isinstance(folder.value, bytes) else b""
+    folder = value_of(unit.get_top_DIE(), "DW_AT_comp_dir")
+    return folder if isinstance(folder, bytes) else b""
 
 
 def paths_in(program: Any, built_in: bytes) -> dict[int, bytes]:

@@ -42,11 +42,11 @@ MOST_LIVE = 13
 
 def host() -> list[Item]:
     """Returns items that give the host values of its own."""
-    return [*set_supervisor("host", HOST_HANDLER), set_registers("host")]
+    return inside(HOST, "host")
 
 
 def inside(base: int, name: str) -> list[Item]:
-    """Returns items that give an enclave that was just entered values of its own, and a handler in its region."""
+    """Returns items that give the host, or an enclave that was just entered, values of its own, and a handler in its memory from `base` on."""
     return [*set_supervisor(name, base + HANDLER), set_registers(name)]
 
 
