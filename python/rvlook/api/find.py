@@ -11,6 +11,7 @@ from typing import Any, Callable, Dict, Iterator, List, Optional, Sequence, Tupl
 
 from rvlook.access.failures import FailureReport, failure_text
 from rvlook.access.stack import overflow_text, overflows as overflows_of
+from rvlook.api.building import PathLike
 from rvlook.api.program import RAM, STEPS, Program
 from rvlook.cli.opening import sets_order
 from rvlook.errors import UsageError, heard
@@ -41,7 +42,6 @@ from rvlook.symbolic.text import details_of as details_of_path, heading_of, prin
 from rvlook.symbolic.verify import find_verify
 
 Names = Union[str, Sequence[str]]
-Path = Union[str, "os.PathLike[str]"]
 
 
 @dataclass(frozen=True, repr=False)
@@ -217,7 +217,7 @@ def races(program: Program, *, forbid: Names = (), outcome: Names = (), timers: 
     return found
 
 
-def conform(monitor: Path, *, only: str = "", tries: int = 60, items: int = 120, jobs: int = 1, exact: bool = False, seed: int = 1,
+def conform(monitor: PathLike, *, only: str = "", tries: int = 60, items: int = 120, jobs: int = 1, exact: bool = False, seed: int = 1,
             deep: bool = False, ram: Optional[int] = None, boot: Optional[str] = None, memory: Optional[str] = None,
             seconds: Optional[float] = None) -> Findings:
     """Compares a monitor of your own with the proved one, call by call (docs/OWN_MONITOR.md). `script` of the finding is the shrunk script for it."""
@@ -233,7 +233,7 @@ def conform(monitor: Path, *, only: str = "", tries: int = 60, items: int = 120,
     return found
 
 
-def guard(image: Path, ranges: Path, *, host: Optional[Path] = None, timers: int = 8, seed: int = 1, steps: int = 20000, jobs: int = 1,
+def guard(image: PathLike, ranges: PathLike, *, host: Optional[PathLike] = None, timers: int = 8, seed: int = 1, steps: int = 20000, jobs: int = 1,
           ram: int = LEAST_RAM, boot: Optional[str] = None) -> Findings:
     """Checks that an M-mode monitor with calls of any kind isolates the worlds in S and U (docs/OWN_MONITOR.md). `ranges` is the file that says
     who owns which memory. A finding has the step below M and the pc of the trap."""

@@ -279,7 +279,8 @@ class Stepper(Closing):
         for console, state in zip(self.consoles, snapshot.consoles):
             console.written, console.pending, console.status = state
         if self.schedule:
-            self.turns = turns_after(self.schedule, self.scheduled)
+            self.turns = turns_of(self.schedule)
+            self.next_harts(self.scheduled)
 
 
 def checked(commands: Iterable[str], replies: List[List[str]]) -> List[List[str]]:
@@ -299,14 +300,3 @@ def runs_of(timeline: Timeline, turns: Sequence[Tuple[int, int]]) -> List[Ran]:
 def trap_from(trap: RanTrap) -> Trap:
     """Returns the trap of a reply, as numbers."""
     return Trap(int(trap.cause, 16), int(trap.value, 16))
-
-
-def turns_after(schedule: str, count: int) -> Iterator[Tuple[int, int]]:
-    """Yields the turns of a schedule that follow its first `count` steps, each as a hart and its number of steps."""
-    turns, hart, left = turns_of(schedule), 0, -count
-    while left < 0:
-        hart, steps = next(turns)
-        left += steps
-    if left:
-        yield hart, left
-    yield from turns

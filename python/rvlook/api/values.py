@@ -13,8 +13,7 @@ from rvlook.output.printer import Printer
 from rvlook.protocol import names
 from rvlook.protocol.symbols import Symbols
 
-EXITED, STOPPED, INTERRUPTED = range(3)  # a0 of the host after an enclave has exited
-LEFT = ("exited", "stopped", "interrupted")
+LEFT = ("exited", "stopped", "interrupted")  # by a0 of the host after an enclave has exited
 COLOURS = {"---": "#eee", "rwx": "#9d9", "rw-": "#bdf"}  # of access rights in a notebook
 OTHER_COLOUR = "#fd9"
 
@@ -66,7 +65,7 @@ def answer_of(is_entered: bool, a0: int, a1: int) -> CallResult:
     if a0 in names.STATUSES:
         return CallResult("refused", names.STATUSES[a0])
     if is_entered and a0 < len(LEFT):
-        return CallResult(LEFT[a0], 0 if a0 == INTERRUPTED else a1)
+        return interrupted() if LEFT[a0] == "interrupted" else CallResult(LEFT[a0], a1)
     return CallResult("done", a1) if a0 == 0 else CallResult("refused", a0)
 
 

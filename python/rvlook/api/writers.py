@@ -6,7 +6,7 @@ from typing import Iterable, Iterator, List, Optional, Sequence, Tuple
 from rvlook.output.printer import place_text
 from rvlook.protocol.instructions import instruction_of
 from rvlook.protocol.run import Setup
-from rvlook.protocol.timeline import MOST_STEPS, Action, ScheduledSteps, Timeline, actions_between
+from rvlook.protocol.timeline import Action, ScheduledSteps, Timeline, actions_between
 
 MOST_ACCESSES = 50  # that are examined, from the last one on
 
@@ -41,21 +41,12 @@ def accesses(setup: Setup, past: Iterable[Action], address: int) -> List[Access]
 
 def watched_steps(again: Timeline, steps: ScheduledSteps) -> Iterator[int]:
     """Repeats steps; yields the number of each one that accesses the watched byte."""
-    for hart, count in parts_of(steps):
+    for hart, count in steps.by_hart():
         while count:
-            ran = again.run(hart, min(count, MOST_STEPS))
+            ran = again.run(hart, count)
             count -= ran.steps
             if ran.why.startswith("watch"):
                 yield again.position
-
-
-def parts_of(steps: ScheduledSteps) -> Iterator[Tuple[int, int]]:
-    """Yields steps as a hart and a number of steps each: all at once if they are of one hart."""
-    if steps.chosen:
-        yield int(steps.turns[0]), steps.count
-        return
-    for n in range(steps.count):
-        yield int(steps.turns[n % len(steps.turns)]), 1
 
 
 def store_at(setup: Setup, past: Iterable[Action], step: int) -> Optional[str]:

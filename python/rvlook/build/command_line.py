@@ -24,9 +24,10 @@ import signal
 import sys
 import tempfile
 from dataclasses import dataclass
+from pathlib import Path
 from typing import Any, List, NoReturn, Sequence
 
-from rvlook.build.linking import Script, install_elf, install_outputs, link, report_lacking, report_stacks
+from rvlook.build.linking import Script, install_file, install_outputs, link, report_lacking, report_stacks
 from rvlook.build.objects import Workshop
 from rvlook.build.programs import DROP_UNUSED, compile_monitor, compile_programs, has, is_monitor
 from rvlook.build.toolchain import BuildError, toolchain_of
@@ -128,7 +129,7 @@ def build(request: Request, examples: str) -> None:
         if kept and not any(it.startswith("-O") for it in cflags):
             print("build: optimised for size; to debug, build with CFLAGS=-Og", flush=True)
         if kept and folders.monitor and not folders.is_monitor:
-            install_elf(elf, kept)
+            install_file(kept, Path(elf).read_bytes())
         else:
             install_outputs(workshop, elf, kept)
 

@@ -108,19 +108,14 @@ def install_file(path: str, data: bytes) -> None:
         raise BuildError("error: cannot write '%s': %s" % (visible(path), fault.strerror)) from None
 
 
-def install_elf(elf: str, path: str) -> None:
-    """Writes the ELF file with symbols and source lines to `path`."""
-    install_file(path, Path(elf).read_bytes())
-
-
-def install_outputs(workshop: Workshop, elf: str, kept: str | None) -> None:
+def install_outputs(workshop: Workshop, elf: str, kept: str) -> None:
     """Writes symbols, listing and image into the folder, and the ELF file to `kept`. Strips the ELF file."""
     symbols = "".join("%s  %s\n" % (it.address, it.name) for it in symbols_in(workshop.toolchain, elf, "-n") if it.kind != DEBUGGING and it.address)
     listing = output_of([*workshop.toolchain.disassemble, "-d", "-M", "no-aliases,numeric", elf])
     install_file(os.path.join(workshop.folder, "symbols"), symbols.encode("utf-8", "surrogateescape"))
     install_file(os.path.join(workshop.folder, "listing"), (symbols + "".join(listing_of(listing))).encode("utf-8", "surrogateescape"))
     if kept:
-        install_elf(elf, kept)
+        install_file(kept, Path(elf).read_bytes())
     output_of([*workshop.toolchain.object_copy, "--strip-all", elf])
     install_file(os.path.join(workshop.folder, "image"), digits_of(Path(elf).read_bytes()))
 

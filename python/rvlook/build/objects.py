@@ -3,10 +3,11 @@ from __future__ import annotations
 
 import os
 import re
+import sys
 from dataclasses import dataclass, field
 from typing import Iterable, NamedTuple, Sequence, Tuple
 
-from rvlook.build.toolchain import BuildError, Toolchain, output_of, printable, report, run
+from rvlook.build.toolchain import BuildError, Toolchain, output_of, printable, run
 from rvlook.escapes import visible
 
 C, CPP = (".c",), (".cpp", ".cc", ".cxx")  # endings of sources in C and in C++
@@ -56,7 +57,8 @@ class Workshop:
         done = run([*words, "-c", "-o", target, path], self.folder if is_compiled else os.path.dirname(os.path.join(self.folder, source)))
         if done.returncode:
             raise BuildError(printable(done.stderr) or "error: '%s' cannot be compiled" % visible(source))
-        report(done.stderr)
+        if done.stderr:
+            print(printable(done.stderr), file=sys.stderr, flush=True)
         return target
 
     def string_functions(self, objects: Sequence[str], name: str) -> list[str]:

@@ -4,7 +4,6 @@ from __future__ import annotations
 import os
 import shutil
 import subprocess
-import sys
 from dataclasses import dataclass
 from typing import Sequence, Tuple
 
@@ -73,12 +72,6 @@ def output_of(words: Sequence[str]) -> str:
     if done.returncode:
         raise BuildError(printable(done.stderr))
     return done.stdout.decode("utf-8", "surrogateescape")
-
-
-def report(errors: bytes) -> None:
-    """Prints the warnings of a program to standard error."""
-    if errors:
-        print(printable(errors), file=sys.stderr, flush=True)
 
 
 def printable(data: bytes) -> str:

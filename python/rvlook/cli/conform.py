@@ -3,9 +3,9 @@ from __future__ import annotations
 
 from argparse import Namespace
 
-from rvlook.cli.own_monitor import files_of
+from rvlook.cli.opening import options_from
 from rvlook.monitors.conform import ScriptPlan
-from rvlook.monitors.conform_text import show_conform
+from rvlook.monitors.conform_text import MonitorFiles, show_conform
 from rvlook.output.printer import Printer
 
 
@@ -14,4 +14,4 @@ def perform(arguments: Namespace) -> None:
     has_ram = any(it is not None for it in (arguments.ram, arguments.boot, arguments.memory))
     plan = ScriptPlan(arguments.tries, arguments.items, str(arguments.seed), arguments.only, arguments.seconds, arguments.jobs, arguments.deep,
                       has_ram)
-    show_conform(files_of(arguments), plan, Printer(arguments.json), arguments.findings, arguments.scripts, arguments.table)
+    show_conform(options_from(MonitorFiles, arguments), plan, Printer(arguments.json), arguments.findings, arguments.scripts, arguments.table)

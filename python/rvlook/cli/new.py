@@ -19,11 +19,6 @@ SPECIAL = re.compile(r"""["'`$\\#\x00-\x1f\x7f]""")  # characters that make or a
 START = os.path.join("enclaves", "hello")
 
 
-def perform(arguments: Namespace) -> None:
-    """Makes the folder that the arguments name."""
-    show_new(arguments.folder)
-
-
 def examples() -> str:
     """Returns the folder of the examples, with `build`. Raises Unfinished if there is none."""
     for example in EXAMPLES:
@@ -33,11 +28,11 @@ def examples() -> str:
     raise Unfinished("cannot find the examples, with which a new folder begins; run rvlook from a clone, or install it with ./install")
 
 
-def show_new(folder: str) -> None:
-    """Makes the folder: the sources of a first enclave, tests, a Makefile, tasks for an editor, and a script for a CI job.
+def perform(arguments: Namespace) -> None:
+    """Makes a folder: the sources of a first enclave, tests, a Makefile, tasks for an editor, and a script for a CI job.
 
     Writes no file that exists, and follows no link. Raises RvlookError or Unfinished; then nothing of the folder is left."""
-    source = examples()
+    folder, source = arguments.folder, examples()
     commands = {"@BUILD@": quotable(os.path.join(source, "build")), "@RVLOOK@": quotable(rvlook()),
                 "@PYTHON@": quotable(sys.executable), "@PACKAGE@": quotable(os.path.dirname(PACKAGE))}
     if not folder:

@@ -15,6 +15,8 @@ from rvlook.protocol.schedule import TURN
 from rvlook.symbolic.options import VerifyOptions
 
 LONG_NUMBER = re.compile(r"(\d{20})\d{20,}")
+MOST_STEPS, MOST_STEPS_OF_RUN = 1000000, 1000000000  # the defaults of --steps
+ABOUT_STEPS, ABOUT_STEPS_OF_RACES = "run at most N steps after the script", "give up a hart if one transition has more than N steps"  # its help
 WORLD = re.compile(r"host\Z|bare\Z|[MSU]\Z|e([0-9]|1[0-2])\Z")
 
 
@@ -51,10 +53,10 @@ def world(text: str) -> str:
     return text
 
 
-def image_options(parser: ArgumentParser, has_json: bool = True, steps: int = 1000000,
-                  about_steps: str = "run at most N steps after the script") -> None:
-    """Adds the options of the image and its run; without `has_json`, --json is parsed but not in the help. `steps` is the default of --steps, and
-    `about_steps` its help."""
+def image_options(parser: ArgumentParser, name: str = "") -> None:
+    """Adds the options of the image and its run, for a subcommand or for the prompt. `page` and `gdb` parse --json, but their help leaves it out."""
+    steps = MOST_STEPS_OF_RUN if name == "run" else MOST_STEPS
+    about_steps = ABOUT_STEPS_OF_RACES if name == "races" else ABOUT_STEPS
     parser.add_argument("image", metavar="IMAGE", help="an ELF file, raw bytes, or a hex image, which may be followed by -- and a script")
     parser.add_argument("--script", metavar="FILE", help="run the commands in FILE first, and show their steps too")
     parser.add_argument("--monitor", action="store_true", default=None, help="run the image under the monitor (default: the image decides)")
@@ -65,7 +67,7 @@ def image_options(parser: ArgumentParser, has_json: bool = True, steps: int = 10
     parser.add_argument("--symbols", metavar="FILE", help="read symbols from an ELF file or from the output of nm (default: from the image)")
     parser.add_argument("--steps", metavar="N", type=count, default=steps, help="%s (default: %d)" % (about_steps, steps))
     parser.add_argument("--json", action="store_true",
-                        help="print one JSON object per line (see docs/LOOK.md)" if has_json else argparse.SUPPRESS)
+                        help=argparse.SUPPRESS if name in ("page", "gdb") else "print one JSON object per line (see docs/LOOK.md)")
     parser.set_defaults(opened=None, schedule=None, has_schedule=False, needs_order=False)
 
 

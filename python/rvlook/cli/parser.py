@@ -40,10 +40,6 @@ SUBCOMMANDS = """subcommands:
 Without a subcommand, rvlook IMAGE starts an interactive prompt.
 See 'rvlook SUBCOMMAND --help' and docs/LOOK.md."""
 
-NAMES = ("run", "map", "trace", "touch", "window", "inputs", "verify", "leak", "timer", "races", "conform", "guard", "measure", "explain", "page",
-         "gdb", "new")  # each is also the name of a module of this package
-MOST_STEPS, MOST_STEPS_OF_RUN = 1000000, 1000000000  # the defaults of --steps
-ABOUT_STEPS, ABOUT_STEPS_OF_RACES = "run at most N steps after the script", "give up a hart if one transition has more than N steps"  # its help
 PACKAGE = os.path.dirname(os.path.dirname(os.path.realpath(__file__)))
 INSTALLED = os.path.join(PACKAGE, "../../version")  # what ./install wrote
 PRINTER = os.path.join(PACKAGE, "../../tools/version")  # of a clone
@@ -56,19 +52,12 @@ def later(name: str) -> Callable[[Namespace], None]:
     return do
 
 
-def add_subcommand(subparsers: Any, name: str, about: str, *more: Callable[[ArgumentParser], object]) -> Parser:
+def add_subcommand(subparsers: Any, name: str, about: str, *more: Callable[[ArgumentParser], object]) -> None:
     """Adds a subcommand; each function of `more` adds options."""
-    parser: Parser = subparsers.add_parser(name, help=about, description=about + ".")
+    parser = subparsers.add_parser(name, help=about, description=about + ".")
     for options in more:
         options(parser)
     parser.set_defaults(do=later(name), subcommand=name)
-    return parser
-
-
-def options_of_image(name: str) -> Callable[[ArgumentParser], None]:
-    """Returns the function that adds the options of the image of a subcommand."""
-    return partial(image_options, has_json=name not in ("page", "gdb"), steps=MOST_STEPS_OF_RUN if name == "run" else MOST_STEPS,
-                   about_steps=ABOUT_STEPS_OF_RACES if name == "races" else ABOUT_STEPS)
 
 
 class Version(argparse.Action):
@@ -105,6 +94,7 @@ OTHERS: Sequence[Any] = (  # the same without an image that is run
     ("measure", "Compute the measurement of an enclave, as the monitor's create records it", measure_options),
     ("explain", "Explain the errors of an rvbench input", explain_options, findings_options),
     ("new", "Make a folder for an enclave of your own", new_options))
+NAMES = tuple(name for name, *_ in (*OVER_AN_IMAGE, *OTHERS))  # each is also the name of a module of this package
 
 
 def parser_of(name: str = "") -> Parser:
@@ -114,7 +104,7 @@ def parser_of(name: str = "") -> Parser:
     parser.set_defaults(findings=ReportedCases(), is_report=False, junit=None, subcommand=None, command_line=(NAMES, read))
     parser.add_argument("--version", action=Version, nargs=0, help="print the version, the commit and the Rattle kit")
     subparsers = parser.add_subparsers(prog="rvlook", metavar="SUBCOMMAND", help=argparse.SUPPRESS)
-    over_an_image = [(it, about, options_of_image(it), *options) for it, about, *options in OVER_AN_IMAGE]
+    over_an_image = [(it, about, partial(image_options, name=it), *options) for it, about, *options in OVER_AN_IMAGE]
     for it, about, *options in (*over_an_image, *OTHERS):
         add_subcommand(subparsers, it, about, *(options if it == name or name not in NAMES else ()))
     return parser

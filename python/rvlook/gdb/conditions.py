@@ -5,6 +5,8 @@ from __future__ import annotations
 import operator
 from typing import Callable
 
+from rvlook.monitors.encodings import signed
+
 FIRST_OF_64 = 1 << 64
 READS = {0x17: 1, 0x18: 2, 0x19: 4, 0x1A: 8}
 CONSTANTS = {0x22: 1, 0x23: 2, 0x24: 4, 0x25: 8}
@@ -13,11 +15,6 @@ MOST = 10000  # operations
 
 class ExpressionError(Exception):
     """An expression that cannot be evaluated."""
-
-
-def signed(value: int) -> int:
-    """Returns 64 bits as a signed number."""
-    return value - FIRST_OF_64 if value >> 63 else value
 
 
 def divided(one: int, other: int) -> int:
@@ -29,13 +26,13 @@ def divided(one: int, other: int) -> int:
 
 def on_signed(operation: Callable[[int, int], int]) -> Callable[[int, int], int]:
     """Returns an operation on signed numbers."""
-    return lambda one, other: operation(signed(one), signed(other))
+    return lambda one, other: operation(signed(one, 64), signed(other, 64))
 
 
 TWO = {
     0x02: operator.add, 0x03: operator.sub, 0x04: operator.mul, 0x05: on_signed(divided), 0x06: divided,
     0x07: on_signed(lambda one, other: one - other * divided(one, other)), 0x08: lambda one, other: one - other * divided(one, other),
-    0x09: lambda one, other: one << (other & 63), 0x0A: lambda one, other: signed(one) >> (other & 63),
+    0x09: lambda one, other: one << (other & 63), 0x0A: lambda one, other: signed(one, 64) >> (other & 63),
     0x0B: lambda one, other: one >> (other & 63), 0x0F: operator.and_, 0x10: operator.or_, 0x11: operator.xor,
     0x13: operator.eq, 0x14: on_signed(operator.lt), 0x15: operator.lt}
 
@@ -44,8 +41,7 @@ def extended(value: int, bits: int) -> int:
     """Sign-extends the low bits of a value; raises ExpressionError for 0 bits."""
     if bits == 0:
         raise ExpressionError("a value of no bits")
-    value &= (1 << bits) - 1
-    return value - (1 << bits) if value >> (bits - 1) else value
+    return signed(value & (1 << bits) - 1, bits)
 
 
 class ExpressionStack:

@@ -129,9 +129,9 @@ def escaped(text: str) -> str:
     return ESCAPED.sub(lambda match: "}" + chr(ord(match[0]) ^ 0x20), text)
 
 
-def unescaped(text: str) -> str:
-    """Reverts `escaped`."""
-    return re.sub(r"\}(.)", lambda match: chr(ord(match[1]) ^ 0x20), text, flags=re.S)
+def unescaped(text: str) -> bytes:
+    """Reverts `escaped`; returns bytes."""
+    return re.sub(r"\}(.)", lambda match: chr(ord(match[1]) ^ 0x20), text, flags=re.S).encode("latin-1")
 
 
 def hex_of(text: str) -> str:

@@ -5,13 +5,13 @@ import functools
 import re
 from typing import Callable, Iterable, Iterator, Mapping, Optional, Tuple
 
-from rvlook.gdb.stops import Halt, Stops
+from rvlook.gdb.stops import NO_TRAP, Halt, Stops
 from rvlook.protocol.replies import Ran, RanTrap, step_of
 from rvlook.protocol.run import EQUAL
 from rvlook.protocol.timeline import MOST_STEPS, Action, Line, ScheduledSteps, Timeline, actions_between, rotated, steps_within
 
 BLOCK = 4096  # steps of an exchange
-LONGEST, NO_TRAP = 100, b"trap=-"  # the most bytes of a reply to `run`; the end of a reply without a trap
+LONGEST = 100  # the most bytes of a reply to `run`
 RUNS, MOST_QUESTIONS = 256, 16  # runs in one exchange, and queries after each
 
 RanState = Tuple[str, str, str, Optional[RanTrap]]  # pc, mode, world and trap

@@ -112,9 +112,7 @@ class Moves:
 
     def turns_of(self, harts: Sequence[int]) -> str:
         """Returns the schedule of these harts from the next step on."""
-        if len(harts) == 1:
-            return str(harts[0])
-        return self.timeline.turns_of(self.schedule)
+        return str(harts[0]) if len(harts) == 1 else self.timeline.turns_of(self.schedule)
 
     def turn_of(self, hart: int) -> str:
         """Returns the schedule if its next step is of this hart; else the hart alone."""

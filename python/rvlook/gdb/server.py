@@ -195,18 +195,10 @@ class Server(Closing):
             raise Refused("%08x is outside RAM" % first)
         return found.hex()
 
-    def write_memory(self, rest: str) -> str:
-        """Replies to M."""
-        location, digits = rest.split(":", 1)
-        return self.write(location, bytes.fromhex(digits))
-
-    def write_binary(self, rest: str) -> str:
-        """Replies to X."""
-        location, data = rest.split(":", 1)
-        return self.write(location, unescaped(data).encode("latin-1"))
-
-    def write(self, location: str, data: bytes) -> str:
-        """Pokes bytes; raises Refused if one is outside RAM."""
+    def write(self, rest: str, decode: Callable[[str], bytes]) -> str:
+        """Replies to M and X, which have the bytes to poke in digits and escaped. Raises Refused if one is outside RAM."""
+        location, text = rest.split(":", 1)
+        data = decode(text)
         first, count = map(number_of, location.split(","))
         if len(data) != count:
             raise Refused("got %d bytes instead of %d" % (len(data), count))
@@ -358,9 +350,10 @@ def answers(text: str) -> Callable[[Server, str], str]:
 
 MOVING = ("vCont", "c", "s", "bc", "bs")
 ACTS: Dict[str, Callable[[Server, str], Optional[str]]] = {
-    "!": Server.extend, "?": Server.where, "D": Server.detach, "H": Server.choose, "M": Server.write_memory, "P": Server.write_register,
+    "!": Server.extend, "?": Server.where, "D": Server.detach, "H": Server.choose, "P": Server.write_register,
+    "M": lambda server, rest: server.write(rest, bytes.fromhex), "X": lambda server, rest: server.write(rest, unescaped),
     "R": lambda server, rest: server.start(),  # without a reply
-    "T": lambda server, rest: "OK" if server.hart_of(rest) >= 0 else "", "X": Server.write_binary, "Z": Server.set_stop,
+    "T": lambda server, rest: "OK" if server.hart_of(rest) >= 0 else "", "Z": Server.set_stop,
     "k": Server.end, "m": Server.read_memory, "p": Server.read_register, "z": Server.clear_stop, "g": Server.registers,
     "c": lambda server, rest: server.go_on("c", rest), "s": lambda server, rest: server.go_on("s", rest),
     "bc": Server.go_back, "bs": Server.step_back, "QRvlookFresh": Server.set_refresh,

@@ -13,7 +13,7 @@ from rvlook.protocol.timeline import Timeline
 
 STEPPED, INTERRUPTED, STOPPED = 5, 2, 0  # signals, as the protocol numbers them
 SIGNALS = {"00000000": 10, "00000001": 11, "00000002": 4, "00000003": 5, "00000005": 11, "00000007": 11}  # of traps, by their cause
-PC, NO_TRAP = 32, b"trap=-"
+PC, NO_TRAP = 32, b"trap=-"  # the register pc, and the end of a reply without a trap
 
 
 @dataclass(frozen=True)

@@ -2,18 +2,14 @@
 those around pc and above sp after each step; the step brings them in the same exchange."""
 from __future__ import annotations
 
+from itertools import takewhile
 from typing import Any
 
-from rvlook.protocol.replies import Ran, step_of
+from rvlook.protocol.replies import Ran, bytes_of, step_of
 from rvlook.protocol.timeline import Timeline
 
 LINE = 64
 SP, PC, REGISTERS = 2, 32, 33
-
-
-def value_of(reply: str) -> str:
-    """Returns the digits of a line of `regs` or `csr`."""
-    return reply[reply.index("=") + 1:]
 
 
 def line_of(address: int) -> str:
@@ -39,7 +35,7 @@ class CachedView:
         self.check()
         if hart not in self.values:
             self.timeline.choose(hart)
-            self.values[hart] = [value_of(line) for line in self.timeline.ask("regs")[0]]
+            self.values[hart] = [line.partition("=")[2] for line in self.timeline.ask("regs")[0]]
         return self.values[hart]
 
     def csr(self, hart: int, number: int) -> str | None:
@@ -48,7 +44,7 @@ class CachedView:
         if (hart, number) not in self.values:
             self.timeline.choose(hart)
             reply = self.timeline.ask("csr %x" % number)[0][0]
-            self.values[hart, number] = None if reply.startswith("error ") else value_of(reply)
+            self.values[hart, number] = None if reply.startswith("error ") else reply.partition("=")[2]
         return self.values[hart, number]
 
     def bytes(self, first: int, count: int) -> bytes:
@@ -58,16 +54,12 @@ class CachedView:
         missing = [at for at in lines if at not in self.lines]
         for at, (reply,) in zip(missing, self.timeline.ask(*map(line_of, missing)) if missing else ()):
             self.take_line(at, reply)
-        found = b""
-        for at in lines:
-            if not self.lines[at]:
-                break
-            found += self.lines[at]
+        found = b"".join(takewhile(bool, map(self.lines.__getitem__, lines)))
         return found[first & LINE - 1:][:count]
 
     def take_line(self, address: int, reply: str) -> None:
         """Keeps the bytes of a reply of `mem`."""
-        self.lines[address] = b"" if reply.startswith("error ") else bytes.fromhex(reply[reply.index(":") + 1:])
+        self.lines[address] = b"" if reply.startswith("error ") else bytes_of(reply)
 
     def step(self, hart: int, turns: str) -> Ran:
         """Does a `run 1` of a hart, and returns its reply. Reads the registers and the memory nearby in the same exchange."""

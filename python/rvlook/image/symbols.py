@@ -183,10 +183,10 @@ def symbol_entries(file: Any) -> Iterator[tuple[str, SymbolEntry]]:
 def units_of(path: str, file: Any, budget: Budget) -> Iterator[Unit]:
     """Yields the compilation units. A line table that several units share belongs to the first of them, whose ranges are then unknown."""
     entries = [(dwarf, unit, unit.get_top_DIE()) for dwarf, unit in compilation_units(file)]
-    tables = Counter(table_of(top) for _, _, top in entries)
+    tables = Counter(value_of(top, "DW_AT_stmt_list") for _, _, top in entries)
     seen: set[int | None] = {None}
     for dwarf, unit, top in entries:
-        table = table_of(top)
+        table = value_of(top, "DW_AT_stmt_list")
         ranges = list(ranges_of(dwarf, unit, top)) if tables[table] == 1 else []
         spend(UNIT_RANGE * len(ranges))
         yield Unit(ranges or ALL, reader(path, "no source lines", partial(source_lines, dwarf, unit), budget) if table not in seen else lambda: (),
@@ -202,10 +202,10 @@ def compilation_units(file: Any) -> Iterator[tuple[Any, Any]]:
         yield dwarf, unit
 
 
-def table_of(top: Any) -> int | None:
-    """Returns the offset of the line table of a unit, or None."""
-    table = top.attributes.get("DW_AT_stmt_list")
-    return table.value if table else None
+def value_of(entry: Any, name: str) -> Any:
+    """Returns the value of an attribute of an entry, or None."""
+    attribute = entry.attributes.get(name)
+    return attribute.value if attribute else None
 
 
 def reader(path: str, without: str, read: Callable[[], Iterable[T]], budget: Budget) -> Callable[[], Iterable[T]]:
@@ -299,15 +299,20 @@ def ranges_of(dwarf: Any, unit: Any, entry: Any) -> Iterator[tuple[int, int]]:
         first, end = attributes["DW_AT_low_pc"].value, attributes["DW_AT_high_pc"]
         yield first, end.value if end.form == "DW_FORM_addr" else first + end.value
     elif "DW_AT_ranges" in attributes and dwarf.range_lists():
-        base = unit.get_top_DIE().attributes.get("DW_AT_low_pc")
-        base = base.value if base else 0
-        for item in dwarf.range_lists().get_range_list_at_offset(attributes["DW_AT_ranges"].value, unit):
-            spend()
-            if hasattr(item, "base_address"):
-                base = item.base_address
-            else:
-                at = 0 if getattr(item, "is_absolute", False) else base
-                yield at + item.begin_offset, at + item.end_offset
+        items = dwarf.range_lists().get_range_list_at_offset(attributes["DW_AT_ranges"].value, unit)
+        yield from ((first, end) for first, end, _ in placed(unit, items))
+
+
+def placed(unit: Any, items: Iterable[Any]) -> Iterator[tuple[int, int, Any]]:
+    """Yields the items of a range list or a location list of a unit, each with its first address and its end."""
+    at = value_of(unit.get_top_DIE(), "DW_AT_low_pc") or 0
+    for item in items:
+        spend()
+        if hasattr(item, "base_address"):
+            at = item.base_address
+        elif hasattr(item, "begin_offset"):
+            start = 0 if getattr(item, "is_absolute", False) else at
+            yield start + item.begin_offset, start + item.end_offset, item
 
 
 def files_of(path: str) -> dict[str, str]:
@@ -325,20 +330,16 @@ def files_of_tables(file: Any) -> dict[str, str]:
             found[name_of(os.path.basename(path))][path] += 0
     ambiguous = {it for paths in found.values() if len(paths) > 1 for it in paths}
     for program, paths in tables:
-        for row_path in rows_of(program, paths) if not ambiguous.isdisjoint(paths.values()) else ():
-            found[name_of(os.path.basename(row_path))][row_path] += 1
+        for row in line_states(program) if not ambiguous.isdisjoint(paths.values()) else ():
+            if not row.end_sequence and row.file in paths:
+                found[name_of(os.path.basename(paths[row.file]))][paths[row.file]] += 1
     return {name: os.fsdecode(max(paths, key=lambda it: paths[it])) for name, paths in found.items()}
 
 
 def folder_of(unit: Any) -> bytes:
     """Returns the folder in which a unit was compiled; empty if it is not known."""
-    folder = unit.get_top_DIE().attributes.get("DW_AT_comp_dir")
-    return folder.value if folder and isinstance(folder.value, bytes) else b""
-
-
-def rows_of(program: Any, paths: dict[int, bytes]) -> Iterator[bytes]:
-    """Yields the path of the file of each row of a line table."""
-    yield from (paths[it.file] for it in line_states(program) if not it.end_sequence and it.file in paths)
+    folder = value_of(unit.get_top_DIE(), "DW_AT_comp_dir")
+    return folder if isinstance(folder, bytes) else b""
 
 
 def paths_in(program: Any, built_in: bytes) -> dict[int, bytes]:

@@ -12,7 +12,7 @@ from typing import Any, Iterable, Iterator, Optional, Sequence, Tuple
 from rvlook.escapes import visible
 from rvlook.image.budget import spend
 from rvlook.image.files import read_file
-from rvlook.image.symbols import compilation_units, entries_of, ranges_of, read_elf
+from rvlook.image.symbols import compilation_units, entries_of, placed, ranges_of, read_elf
 from rvlook.protocol.inputs import Image
 
 FIXED = 0x03  # DW_OP_addr
@@ -271,15 +271,8 @@ class UnitEntries:
     def listed(self, offset: int, entry: Any) -> Iterator[tuple[int, int, bytes]]:
         """Yields the ranges of a location list, each with its expression."""
         lists = self.dwarf.location_lists()
-        base = self.unit.get_top_DIE().attributes.get("DW_AT_low_pc")
-        at = base.value if base else 0
-        for item in lists.get_location_list_at_offset(offset, entry) if lists else ():
-            spend()
-            if hasattr(item, "base_address"):
-                at = item.base_address
-            elif hasattr(item, "begin_offset"):
-                start = 0 if getattr(item, "is_absolute", False) else at
-                yield start + item.begin_offset, start + item.end_offset, bytes(item.loc_expr)
+        items = lists.get_location_list_at_offset(offset, entry) if lists else ()
+        yield from ((first, end, bytes(item.loc_expr)) for first, end, item in placed(self.unit, items))
 
     @staticmethod
     def location(entry: Any) -> bytes:

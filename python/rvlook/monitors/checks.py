@@ -13,6 +13,7 @@ from rvlook.protocol.replies import ROW
 
 SIE, SPIE, SPP, MXR = 2, 0x20, 0x100, 0x80000
 MARKED_CSRS = ("sscratch", "sepc", "scause", "stval")
+SWITCHING = (ECALL_FROM_S, TIMER)  # causes of traps that may switch worlds on purpose
 A0, A7 = 10, 17
 
 
@@ -48,21 +49,12 @@ def forbidden_access(ownership: Ownership, world: str, pc: int, rights: tuple[Ri
             if is_foreign and part.overlaps(right):
                 return "%s at %08x may access %s %08x-%08x, which belongs to %s" % (
                     world, pc, right.may, max(right.first, part.first), min(right.end, part.end) - 1, part.owner)
-        if world != HOST and right.may != "---" and not is_permitted(ownership, world, right):
-            return "%s at %08x may access %s %08x-%08x, which is neither its own nor shared with it" % (
-                world, pc, right.may, right.first, right.end - 1)
+        if world != HOST and right.may != "---":
+            permitted = [it for it in ownership.open_to(world) if not set(right.may) - set(it.may) - {"-"}]
+            if not is_covered(right.first, right.end, permitted):
+                return "%s at %08x may access %s %08x-%08x, which is neither its own nor shared with it" % (
+                    world, pc, right.may, right.first, right.end - 1)
     return ""
-
-
-def is_permitted(ownership: Ownership, world: str, right: Right) -> bool:
-    """Returns whether a range of access rights is inside ranges that a world may access in this way."""
-    at = right.first
-    while at < right.end:
-        parts = [it for it in ownership.open_to(world) if it.has(at) and not set(right.may) - set(it.may) - {"-"}]
-        if not parts:
-            return False
-        at = max(it.end for it in parts)
-    return True
 
 
 def missing_access(ownership: Ownership, world: str, pc: int, rights: tuple[Right, ...], live: set[OwnedRange]) -> str:
@@ -213,21 +205,16 @@ def marks_in_memory(ownership: Ownership, was: str, left: Left, memory: bytes) -
     return ""
 
 
-def not_zeroed(part: OwnedRange, world: str, memory: bytes, rights: tuple[Right, ...]) -> str:
-    """A range of an enclave is all zeros, and open as a whole, when another world gets it."""
+def not_zeroed(part: OwnedRange, memory: bytes, rights: tuple[Right, ...]) -> str:
+    """A range of an enclave is all zeros, and open as a whole, when the host gets it."""
     data = memory[part.first - MONITOR_END:part.end - MONITOR_END]
     if any(data):
         at = part.first + next(n for n, it in enumerate(data) if it)
-        return "%s may access %s of %s, which is not zeroed: byte %08x is %02x" % (world, part, part.owner, at, data[at - part.first])
+        return "%s may access %s of %s, which is not zeroed: byte %08x is %02x" % (HOST, part, part.owner, at, data[at - part.first])
     shut = next((it for it in rights if it.may == "---" and part.overlaps(it)), None)
-    return "%s may access only a part of %s of %s" % (world, part, part.owner) if shut else ""
+    return "%s may access only a part of %s of %s" % (HOST, part, part.owner) if shut else ""
 
 
 def closed_ranges(ownership: Ownership, rights: tuple[Right, ...]) -> list[OwnedRange]:
     """Returns the ranges of enclaves that are closed as a whole."""
     return [part for part in ownership.private() if not any(it.may != "---" and part.overlaps(it) for it in rights)]
-
-
-def is_context_switch(cause: str) -> bool:
-    """Returns whether a trap with this cause may switch worlds on purpose."""
-    return cause in (ECALL_FROM_S, TIMER)

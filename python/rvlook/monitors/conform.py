@@ -158,19 +158,15 @@ class Shrinker:
         return found
 
     def shrink(self) -> Shrinker:
-        """Shrinks the script until no item can be left out, or until Ctrl-C."""
+        """Leaves out halves, quarters, and then single items, until none can be left out, or until Ctrl-C."""
+        size = max(1, len(self.played.items) // 2)
+        self.end = time.monotonic() + MOST_SECONDS
         try:
-            self.leave_out_all()
+            while not self.is_over:
+                found = self.leave_out(size)
+                if size == 1 and not found:
+                    break
+                size = max(1, size // 2)
         except KeyboardInterrupt:
             self.is_interrupted = True
         return self
-
-    def leave_out_all(self) -> None:
-        """Leaves out halves, quarters, and then single items, until none can be left out."""
-        size = max(1, len(self.played.items) // 2)
-        self.end = time.monotonic() + MOST_SECONDS
-        while not self.is_over:
-            found = self.leave_out(size)
-            if size == 1 and not found:
-                break
-            size = max(1, size // 2)

@@ -42,11 +42,11 @@ MOST_LIVE = 13
 
 def host() -> list[Item]:
     """Returns items that give the host values of its own."""
-    return [*set_supervisor("host", HOST_HANDLER), set_registers("host")]
+    return inside(HOST, "host")
 
 
 def inside(base: int, name: str) -> list[Item]:
-    """Returns items that give an enclave that was just entered values of its own, and a handler in its region."""
+    """Returns items that give the host, or an enclave that was just entered, values of its own, and a handler in its memory from `base` on."""
     return [*set_supervisor(name, base + HANDLER), set_registers(name)]
 
 
@@ -61,14 +61,8 @@ def directed_scripts(ram: int) -> Iterator[tuple[str, list[Item]]]:
     yield "reset", [nop(), nop()]
     yield "three creates", [*host(), poke(FIRST, bytes(range(256)) * 16), made(), create(SECOND, PAGE),
                             create(THIRD, PAGE, WINDOW, PAGE, THIRD + 0xFFC)]
-    yield from life_scripts()
-    yield from user_scripts()
-    yield from measured_scripts()
-    yield from slot_scripts()
-    yield from window_scripts()
-    yield from interrupt_scripts()
-    yield from exception_scripts()
-    yield from access_scripts()
+    for scripts in (life_scripts, user_scripts, measured_scripts, slot_scripts, window_scripts, interrupt_scripts, exception_scripts, access_scripts):
+        yield from scripts()
     yield from size_scripts(end)
 
 

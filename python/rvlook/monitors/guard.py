@@ -17,7 +17,7 @@ from rvlook.monitors.twins import TwinResult, TwinRuns, secrets_of
 from rvlook.monitors.unexecuted import Block, MonitorBlocks, code_of, unexecuted
 from rvlook.output.progress import Progress
 from rvlook.protocol.jobs import results_of, uninterrupted
-from rvlook.protocol.names import CSRS, ECALL_FROM_S, TIMER
+from rvlook.protocol.names import CSRS, ECALL_FROM_S
 from rvlook.protocol.replies import value_of
 from rvlook.protocol.symbols import Symbols
 
@@ -117,7 +117,7 @@ class Guard:
         self.last = left
         self.counts["returns from M"] += 1
         if stay.fault:
-            self.fail("trap in M", stay.fault, machine, stay.inside)
+            self.check(stay.fault, "trap in M", machine, stay.inside)
             return
         memory = MemoryAndRights(before, machine.memory(), rights)
         self.check(checks.changed_bytes(self.ownership, self.world, memory), "integrity", machine)
@@ -130,7 +130,7 @@ class Guard:
         is_call = cause == ECALL_FROM_S
         registers = {n: self.mark() for n in range(1, 32) if not (is_call and A0 <= n <= A7)}
         csrs = {name: self.mark() & ~(3 if name == "sepc" else 0) for name in checks.MARKED_CSRS}
-        csrs["sstatus"] = SWITCHED if checks.is_context_switch(cause) else self.draw.getrandbits(32) & SWITCHED
+        csrs["sstatus"] = SWITCHED if cause in checks.SWITCHING else self.draw.getrandbits(32) & SWITCHED
         return Left(entry, registers, csrs, is_call)
 
     def mark(self) -> int:
@@ -139,14 +139,10 @@ class Guard:
 
     # ---- checks
 
-    def check(self, text: str, name: str, machine: Guarded) -> None:
+    def check(self, text: str, name: str, machine: Guarded, inside: int = 0) -> None:
         """Notes the violation that a check returned, unless there is one already."""
         if text and not self.violation:
-            self.fail(name, text, machine)
-
-    def fail(self, name: str, text: str, machine: Guarded, inside: int = 0) -> None:
-        """Notes a violation."""
-        self.violation = self.violation or Violation(name, text, machine.steps, self.last.state.pc, inside)
+            self.violation = Violation(name, text, machine.steps, self.last.state.pc, inside)
 
     def arrive(self, machine: Guarded, stay: StayInM, memory: bytes, tval: int) -> None:
         """Makes the checks of a return from M, and gives the world that continues its values in place of the marks."""
@@ -154,7 +150,7 @@ class Guard:
         was, owner = self.world, self.ownership.owner_of(stay.exit.pc)
         self.handled.update(stay.handled)
         if stay.fault:
-            self.fail("trap in M", stay.fault, machine, stay.inside)
+            self.check(stay.fault, "trap in M", machine, stay.inside)
             return
         self.world = was if owner is None or owner == MONITOR else owner
         if stay.cause and self.world == was:
@@ -168,12 +164,12 @@ class Guard:
     def same_world(self, machine: Guarded, stay: StayInM, tval: int) -> None:
         """Checks a trap after which the same world continues."""
         left, world = self.last, self.world
-        if stay.cause not in (ECALL_FROM_S, TIMER) and checks.is_redirect(stay):
+        if stay.cause not in checks.SWITCHING and checks.is_redirect(stay):
             self.check(checks.wrong_redirect(world, left, stay, tval), "redirect", machine)
             csrs = {"sscratch": left.state.csrs["sscratch"], "sstatus": checks.redirected_status(left.state.csrs["sstatus"], left.state.mode)}
             machine.set_state(self.restored(left, stay.exit, is_call=False), csrs)
             return
-        if stay.cause in (ECALL_FROM_S, TIMER):
+        if stay.cause in checks.SWITCHING:
             self.check(checks.changed_context(self.ownership, world, left, stay.exit), "context", machine)
         else:
             self.check(checks.wrong_emulation(world, left, stay), "context", machine)
@@ -203,15 +199,14 @@ class Guard:
         """Checks the access rights of the world that continues, and which ranges are live from now on."""
         state = stay.exit
         rights = rights_of(state.entries, self.setup.ram)
-        private = self.ownership.private()
+        private, closed = self.ownership.private(), checks.closed_ranges(self.ownership, rights)
         for part in [it for it in self.live if it.is_timed and it not in private]:
             self.give_back(machine, part, memory, ())
         for part in private:
             self.activity.setdefault(part.owner, Counter())
-            is_open = any(it.may != "---" and part.overlaps(it) for it in rights)
             if part.is_timed:
                 self.live.add(part)
-            elif self.world == part.owner or self.world == HOST and not is_open:
+            elif self.world == part.owner or self.world == HOST and part in closed:
                 self.check(self.exposed_text(part, stay), "access", machine)
                 self.live.add(part)
             elif part in self.live and self.world == HOST:
@@ -223,7 +218,7 @@ class Guard:
 
     def give_back(self, machine: Guarded, part: OwnedRange, memory: bytes, rights: tuple[Right, ...]) -> None:
         """Checks a range that the host gets back, or that ends."""
-        self.check(checks.not_zeroed(part, HOST, memory, rights), "zeros", machine)
+        self.check(checks.not_zeroed(part, memory, rights), "zeros", machine)
         self.live.discard(part)
         self.left.pop(part.owner, None)
         self.activity[part.owner]["given_back"] += 1

@@ -4,12 +4,11 @@ from __future__ import annotations
 import struct
 
 from rvlook.errors import RvlookError
+from rvlook.image.detect import SECTIONS, SECTIONS_AT
 from rvlook.image.files import digits_of, image_of
 from rvlook.image.symbols import symbols_of
 from rvlook.protocol.inputs import AT_SEGMENTS, AT_SIZES, HEADER, SEGMENT, Image, Segment
 from rvlook.protocol.symbols import Symbols
-
-AT_SECTIONS, AT_SECTION_SIZES = 32, 46  # in the header
 
 
 def segments_of(image: Image) -> list[Segment]:
@@ -46,8 +45,8 @@ def header_of(image: Image, count: int) -> bytes:
     header = bytearray((image.data or b"")[:HEADER])
     struct.pack_into("<I", header, AT_SEGMENTS, HEADER)
     struct.pack_into("<HH", header, AT_SIZES, SEGMENT.size, count)
-    struct.pack_into("<I", header, AT_SECTIONS, 0)
-    struct.pack_into("<HHH", header, AT_SECTION_SIZES, 0, 0, 0)
+    struct.pack_into("<I", header, SECTIONS_AT, 0)
+    struct.pack_into("<HHH", header, SECTIONS, 0, 0, 0)
     return bytes(header)
 
 

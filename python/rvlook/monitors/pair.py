@@ -20,10 +20,8 @@ HOST_RESULTS = {
     Call.run.name: (DONE, "NoEnclave", "BadState"), Call.resume.name: (DONE, "NoEnclave", "BadState"),
     Call.measure.name: (DONE, "NoEnclave", "BadAddress"), Call.stop.name: ("NotSupported",), Call.exit.name: ("NotSupported",),
     OTHER: ("NotSupported",)}
-ENCLAVE_RESULTS = {
-    Call.create.name: ("NotSupported",), Call.destroy.name: ("NotSupported",), Call.run.name: ("NotSupported",),
-    Call.resume.name: ("NotSupported",), Call.measure.name: (DONE, "BadAddress"), Call.stop.name: (DONE,), Call.exit.name: (DONE,),
-    OTHER: ("NotSupported",)}
+ENCLAVE_RESULTS = {**dict.fromkeys(HOST_RESULTS, ("NotSupported",)), Call.measure.name: (DONE, "BadAddress"), Call.stop.name: (DONE,),
+                   Call.exit.name: (DONE,)}
 SWITCHES = ("run", "resume after stop", "resume after timer in S", "resume after timer in U", "stop", "exit", "timer in S", "timer in U",
             "destroy of Fresh", "destroy of Stopped", "destroy of Exited")
 CAUSES = {"S": (0, 1, 2, 3, 5, 7), "U": (0, 1, 2, 3, 5, 7, 8)}

@@ -9,14 +9,14 @@ from __future__ import annotations
 from dataclasses import dataclass, field
 from typing import Iterator
 
-from rvlook.monitors.checks import A0, A7, MARKED_CSRS, closed_ranges, is_context_switch
+from rvlook.monitors.checks import A0, A7, MARKED_CSRS, SWITCHING, closed_ranges
 from rvlook.monitors.guarded import STATE_CSRS, SUPERVISOR, Guarded, StayInM, HartState
 from rvlook.monitors.items import MASK
 from rvlook.monitors.ownership import HOST, MONITOR, OwnedRange, Ownership
 from rvlook.monitors.rights import rights_of
 from rvlook.monitors.sides import MonitorSetup, word_at
 from rvlook.protocol.memory_map import MONITOR_END, RAM_BASE
-from rvlook.protocol.names import ECALL_FROM_S, abi_name
+from rvlook.protocol.names import ABI, ECALL_FROM_S
 from rvlook.protocol.replies import poke_commands
 
 OTHERS = "the ranges of enclaves that do not run"
@@ -57,7 +57,7 @@ class Track:
             if self.machine.loop.is_closed(cause, entry, self.machine.steps):
                 return None
             self.calls += cause == ECALL_FROM_S and self.world == HOST
-            if secret and self.world == secret and is_context_switch(cause):
+            if secret and self.world == secret and cause in SWITCHING:
                 self.invert_state(cause, entry)
             stay = self.machine.to_return(cause, entry)
         self.returns += 1
@@ -219,12 +219,10 @@ def state_difference(one: StayInM, other: StayInM) -> str:
     if one.spent != other.spent:
         return "M takes %d or %d steps for a trap at %08x" % (one.spent, other.spent, one.entry.pc)
     mine, its = one.exit, other.exit
-    for number in range(32):
-        if mine.registers[number] != its.registers[number]:
-            return "%s at %08x is %08x or %08x" % (abi_name(number), mine.pc, mine.registers[number], its.registers[number])
-    for name in STATE_CSRS:
-        if mine.csrs[name] != its.csrs[name]:
-            return "%s at %08x is %08x or %08x" % (name, mine.pc, mine.csrs[name], its.csrs[name])
+    values = (*mine.registers, *mine.csrs.values()), (*its.registers, *its.csrs.values())
+    for name, left, right in zip((*ABI, *STATE_CSRS), *values):
+        if left != right:
+            return "%s at %08x is %08x or %08x" % (name, mine.pc, left, right)
     return "the PMP entries at %08x differ" % mine.pc if mine.entries != its.entries else ""
 
 

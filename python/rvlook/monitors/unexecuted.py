@@ -139,8 +139,7 @@ class BlockReplay:
         self.bench = setup.own.bench()
         self.waiting = [it.first for it in blocks]
         self.decided = set(self.waiting[:BREAKPOINTS])  # a breakpoint is set there during the whole run
-        self.missing = set(self.waiting)
-        self.executed: set[int] = set()
+        self.missing = set(self.waiting)  # which were not executed so far
         self.pc = 0
 
     def run(self, log: Sequence[str]) -> None:
@@ -183,7 +182,6 @@ class BlockReplay:
         """Notes that an instruction is executed."""
         if at in self.missing:
             self.missing.discard(at)
-            self.executed.add(at)
             if at in self.waiting:
                 self.waiting.remove(at)
             else:
@@ -198,8 +196,8 @@ def unexecuted_in(setup: MonitorSetup, logs: Sequence[Sequence[str]], blocks: Se
         while rest:
             replay = BlockReplay(setup, rest)
             replay.run(log)
-            missed += [it for it in rest if it.first in replay.decided and it.first not in replay.executed]
-            rest = [it for it in rest if it.first not in replay.decided and it.first not in replay.executed]
+            missed += [it for it in rest if it.first in replay.missing and it.first in replay.decided]
+            rest = [it for it in rest if it.first in replay.missing and it.first not in replay.decided]
             progress.show("code that was not executed: run %d of %d, %d blocks left", number, len(logs), len(rest))
         missing = missed
     return missing

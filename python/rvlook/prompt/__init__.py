@@ -1,1 +1,1 @@
-"""The prompt, and `explain`."""
+"""The prompt."""

@@ -88,25 +88,19 @@ class PromptSession:
         return "%s%s %s %s> " % (hart, self.timeline.worlds[self.hart], self.timeline.modes[self.hart], name or pc)
 
     def line(self, text: str) -> bool:
-        """Runs a line; returns False if the session ends."""
-        try:
-            return self.done(text)
-        except SymbolError as fault:
-            self.print(str(fault), Style.bad)
-            return True
-
-    def done(self, text: str) -> bool:
-        """Runs a line; returns False if the session ends. Raises SymbolError for an ambiguous name."""
+        """Runs a line; returns False if the session ends. Prints the error for an ambiguous name."""
         tokens = tokens_of(text)
         if not has_reply(text):
             return True
         if tokens[0] in ("quit", "exit"):
             return False
-        if tokens[0] in OWN and not is_malformed(text):
-            if not run_own(self, *tokens):
+        try:
+            if tokens[0] not in OWN or is_malformed(text):
+                self.command(resolved(text, self.symbols))
+            elif not run_own(self, *tokens):
                 self.print(OWN[tokens[0]])
-        else:
-            self.command(resolved(text, self.symbols))
+        except SymbolError as fault:
+            self.print(str(fault), Style.bad)
         return True
 
     def print(self, text: str, style: Style | None = None) -> None:

@@ -4,7 +4,7 @@ recurs. Orders are counted over the components: rounds of an endless loop are le
 from __future__ import annotations
 
 from collections import defaultdict, deque
-from dataclasses import dataclass
+from dataclasses import dataclass, replace
 from typing import Any, Callable, Iterable, Iterator, Mapping, NamedTuple, Optional, Sequence, Set, Tuple
 
 from rvlook.errors import RvlookError
@@ -43,11 +43,6 @@ class FinalState:
     state: CachedState
     tail: tuple[Segment, ...] = ()
     number: int = 0
-
-    @property
-    def key(self) -> tuple[tuple[HartEnd, ...], tuple[Value, ...]]:
-        """Returns what distinguishes final states."""
-        return self.harts, self.values
 
     @property
     def steps(self) -> int:
@@ -91,11 +86,12 @@ class FinalStates:
 
     def add(self, end: FinalState) -> None:
         """Adds a final state. Joins those with the same report, and keeps the simplest schedule."""
-        old = self.found.setdefault(end.key, end)
+        key = end.harts, end.values
+        old = self.found.setdefault(key, end)
         if old is not end:
             best = min(old, end, key=lambda it: (it.node.cost, it.steps))
             best.orders = old.orders + end.orders
-            self.found[end.key] = best
+            self.found[key] = best
 
     def of_graph(self, graph: Graph) -> Iterator[FinalState]:
         """Yields the final states of one round of the search."""
@@ -259,8 +255,7 @@ def moves_inside(graph: Graph, part: Iterable[Vertex], component_of: Mapping[Ver
 
 def with_preemptions(graph: Graph, bound: int) -> Graph:
     """Returns a graph whose vertices include the number of preemptions so far, at most `bound`."""
-    new, start = Graph(), (next(iter(graph.nodes)), 0)
-    new.moves, new.loops, new.unended, new.alone = graph.moves, graph.loops, graph.unended, graph.alone
+    new, start = replace(graph, nodes={}, edges={}), (next(iter(graph.nodes)), 0)
     waiting: list[Vertex] = [start]
     while waiting:
         vertex = waiting.pop()

@@ -9,7 +9,7 @@ from rvlook.errors import RvlookError
 from rvlook.escapes import visible
 from rvlook.finders.outcomes import Bytes, Observed, Register
 from rvlook.finders.races.final_states import FinalState
-from rvlook.finders.races.machine import CachedState, Memory, RaceMachine, commands_of
+from rvlook.finders.races.machine import Memory, RaceMachine, commands_of
 from rvlook.protocol.bench import Bench
 from rvlook.protocol.bench_line import ended
 from rvlook.protocol.jobs import results_of
@@ -50,23 +50,24 @@ class Replays:
 
     def check(self, end: FinalState) -> None:
         """Replays a final state, and its round twice; raises RvlookError if the bench comes to another state."""
-        machine, state = self.machine, end.state
+        machine = self.machine
         with machine.at_start() as bench:
             self.rows = self.rows or self.ram(bench)
-            self.done(bench, end, commands_of(end.schedule(), machine.count), state)
+            self.done(bench, end, commands_of(end.schedule(), machine.count))
             for _ in range(2 if end.round else 0):
-                self.done(bench, end, commands_of(end.round, machine.count), state)
+                self.done(bench, end, commands_of(end.round, machine.count))
 
-    def done(self, bench: Bench, end: FinalState, commands: Sequence[str], state: CachedState) -> None:
-        """Runs commands, and compares the state after them."""
-        machine, chosen, reached = self.machine, 0, {}
+    def done(self, bench: Bench, end: FinalState, commands: Sequence[str]) -> None:
+        """Runs commands that lead to a final state, and compares the state after them."""
+        machine, state, chosen, reached = self.machine, end.state, 0, {}
         for command, lines in zip(commands, bench.ask(*commands)):
             chosen = int(command[5:]) if command.startswith("hart ") else chosen
             if command.startswith("step"):
                 ran = step_of(lines[0])
                 reached[chosen] = ran.mode, ran.world
         for hart in range(machine.count):
-            own, (_, pc, kept) = machine.own(state, hart), machine.harts[state.harts[hart]]
+            context, pc, kept = machine.harts[state.harts[hart]]
+            own = machine.contexts[context]
             found = machine.registers_and_rest(bench.ask(*machine.setup.choice(hart), "regs", *machine.rest))
             self.expect(end, found, ((*kept, pc), own.csrs))
             self.expect(end, reached.get(hart, (own.mode, own.world)), (own.mode, own.world))

@@ -7,6 +7,7 @@ from __future__ import annotations
 import heapq
 import itertools
 from collections import defaultdict
+from dataclasses import dataclass, field
 from typing import Any, Callable, Iterable, Iterator, List, NamedTuple, Optional, Tuple, Union
 
 from rvlook.finders.outcomes import Watched
@@ -145,19 +146,19 @@ class TouchedBytes:
         return found
 
 
+@dataclass
 class Graph:
     """The orders of a round.
 
     Has the first node of each vertex, its edges, and the moves of each state. `loops` has the endless loops in which no other hart can affect a hart.
     `unended` and `alone` have the states in which a hart was given up: within a move, or after many moves alone."""
 
-    def __init__(self) -> None:
-        self.nodes: dict[Vertex, SearchNode] = {}
-        self.edges: dict[Vertex, list[Edge]] = {}
-        self.moves: dict[MoveKey, Move | None] = {}
-        self.loops: dict[tuple[CachedState, int], Loop] = {}
-        self.unended: set[tuple[CachedState, int]] = set()
-        self.alone: set[tuple[CachedState, int]] = set()
+    nodes: dict[Vertex, SearchNode] = field(default_factory=dict)
+    edges: dict[Vertex, list[Edge]] = field(default_factory=dict)
+    moves: dict[MoveKey, Move | None] = field(default_factory=dict)
+    loops: dict[tuple[CachedState, int], Loop] = field(default_factory=dict)
+    unended: set[tuple[CachedState, int]] = field(default_factory=set)
+    alone: set[tuple[CachedState, int]] = field(default_factory=set)
 
 
 class SearchBounds(NamedTuple):
@@ -183,8 +184,8 @@ class ScheduleSearch:
     def __init__(self, machine: RaceMachine, bounds: SearchBounds = SearchBounds(), plain: bool = False, outcome: Watched = Watched(),
                  limit: TimeLimit = TimeLimit()) -> None:
         self.machine, self.bounds, self.outcome, self.limit = machine, bounds, outcome, limit
-        self.progress: Callable[[ScheduleSearch], None] | None = None
-        self.prepare: Callable[[Heap], None] | None = None
+        self.progress: Callable[[ScheduleSearch], None] = lambda _: None
+        self.prepare: Callable[[Heap], None] = lambda _: None
         self.new_move: Callable[[MoveKey, Schedule], Move | None] = self.compute_move
         self.watched = frozenset((*outcome.addresses, -1)) if bounds.timers else frozenset()
         self.plain = plain or not machine.monitor  # a handler of the bare bench shares its registers with what it stops
@@ -207,22 +208,18 @@ class ScheduleSearch:
 
     def run(self) -> ScheduleSearch:
         """Repeats the search until a round finds no new shared bytes, or until the time limit."""
+        is_done = False
         try:
             with self.limit.until(SEARCH_SHARE):
-                self.run_rounds()
+                while not is_done:
+                    self.rounds += 1
+                    self.reset()
+                    is_done = self.search()
         except KeyboardInterrupt:
             self.why_cut = "Ctrl-C"
         except OutOfTime:
             self.why_cut = "--seconds"
         return self
-
-    def run_rounds(self) -> None:
-        """Repeats the search until a round finds no new shared bytes."""
-        is_done = False
-        while not is_done:
-            self.rounds += 1
-            self.reset()
-            is_done = self.search()
 
     def show_outcome(self) -> None:
         """Makes each step that may change the outcome a dependent one in the rounds that follow, so that each value of it has a node."""
@@ -270,10 +267,8 @@ class ScheduleSearch:
             self.done.add(node.point)
             self.graph.nodes.setdefault(self.vertex(node), node)
             self.waiting = len(heap)
-            if self.progress:
-                self.progress(self)
-            if self.prepare:
-                self.prepare(heap)
+            self.progress(self)
+            self.prepare(heap)
             if len(self.done) >= MOST_STATES:
                 self.why_cut = "the limit of %d states" % MOST_STATES
                 return True
