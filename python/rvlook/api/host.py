@@ -1,7 +1,7 @@
 """The test as the host: it makes calls of the monitor in place of the host's code, and enters enclaves.
 
-A call replaces the next instruction of the host by an `ecall` for one step. After the answer a jump leads back to that instruction, whose bytes
-are then as before. The registers that the call used get their values back. Other registers stay as the monitor left them."""
+A call of the test replaces the next instruction of the host by an `ecall` for one step. When the monitor has answered, the test jumps back to that
+instruction, and restores its bytes and the registers that the call used. Other registers stay as the monitor left them."""
 from __future__ import annotations
 
 from functools import lru_cache

@@ -115,7 +115,7 @@ class Server(Closing):
         return ("m" if first + count < len(text) else "l") + escaped(text[first:first + count])
 
     def threads(self, _: str) -> str:
-        """Replies to qfThreadInfo."""
+        """Replies to qfThreadInfo: the thread of a hart has the number of the hart, plus 1."""
         return "m" + ",".join("%x" % (hart + 1) for hart in range(self.setup.harts)) if self.running else "l"
 
     def hart_text(self, hart: int) -> str:

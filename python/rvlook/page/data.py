@@ -81,22 +81,26 @@ class Collector:
 
     def __init__(self, run: Run, symbols: Symbols) -> None:
         self.objects, self.symbols = ObjectTrace(run, symbols, self), symbols
-        self.path = ""
-        self.run: dict[str, Any] = {}
-        self.sites, self.places, self.traps, self.names = NumberedValues(), NumberedValues(), NumberedValues(), NumberedValues()
+        self.path = ""  # of the image
+        self.run: dict[str, Any] = {}  # the object `run`
+        self.sites = NumberedValues()  # a pc with the values of SITE, and the text that is shown
+        self.places = NumberedValues()  # a hart, a world and a mode
+        self.traps = NumberedValues()  # the cause, the value and the name of a trap
+        self.names = NumberedValues()  # of accessed addresses
         self.kinds: dict[tuple[object, ...], tuple[int, int, int]] = {}  # the numbers of site, place and trap of equal steps
-        self.name_numbers: dict[tuple[int, int], int] = {}  # by address and width of an access
-        self.site, self.place, self.trap = array("I"), array("B"), array("I")
-        self.changes, self.registers, self.values = array("B"), array("B"), array("I")
+        self.name_numbers: dict[tuple[int, int], int] = {}  # of `names`, by address and width of an access
+        self.site, self.place, self.trap = array("I"), array("B"), array("I")  # the numbers for each step; a trap counts from 1, 0 is none
+        self.changes = array("B")  # how many registers each step changed
+        self.registers, self.values = array("B"), array("I")  # the changed ones of all steps, and their new values
         self.touches: list[tuple[int, ...]] = []  # the columns of TOUCH for each load or store
         self.calls: list[dict[str, Any]] = []
         self.events: list[dict[str, Any]] = []
         self.others: dict[str, list[dict[str, Any]]] = {"end": [], "command": [], "console": []}  # objects of other kinds
-        self.granules: set[int] = set()
-        self.labels: dict[str, int] = {}
-        self.maps = NumberedValues()
-        self.boundaries: set[str] = set()
-        self.points = self.rows = 0
+        self.granules: set[int] = set()  # of memory that is accessed, by address / GRANULE
+        self.labels: dict[str, int] = {}  # the lowest accessed address in each symbol
+        self.maps = NumberedValues()  # the members MAP of events, as JSON
+        self.boundaries: set[str] = set()  # the first addresses of the ranges of all maps
+        self.points = self.rows = 0  # accesses and instructions that are drawn, and rows of all maps
 
     @property
     def title(self) -> str:

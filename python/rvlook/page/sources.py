@@ -40,7 +40,8 @@ def source_texts(paths: Sequence[str], wanted: set[str], roots: list[str]) -> di
 
 def is_shown_below(path: str, root: str) -> bool:
     """Returns whether a path is below a folder, with no hidden file or folder on the way."""
-    return os.path.commonpath([path, root]) == root and not any(it.startswith(".") for it in os.path.relpath(path, root).split(os.path.sep))
+    names = os.path.relpath(path, root).split(os.path.sep)
+    return os.path.commonpath([path, root]) == root and not any(name.startswith(".") for name in names)
 
 
 def text_of(path: str, roots: Sequence[str]) -> str | None:

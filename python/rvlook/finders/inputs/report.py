@@ -30,10 +30,10 @@ from rvlook.protocol.timeline import Timeline
 
 Group = Sequence[InputFinding]  # of one instruction and kind; the first one has the fewest changes, and is replayed
 Models = Callable[[InputSearch, Trace], Iterator[Child]]
-SECONDS, INTERRUPT = "--seconds", "Ctrl-C"  # what ends a search early
+SECONDS, INTERRUPT = "--seconds", "Ctrl-C"  # the names of what ends a search early
 GRACE = 2.0  # seconds after the limit in which the findings are completed, and again in which they are replayed
-MOST_SHOWN = 4  # objects of one access; bytes of a value
-LONGEST = 16
+MOST_SHOWN = 4  # names in a list
+LONGEST = 16  # bytes of a value that is printed whole
 
 
 def replay_of(search: InputSearch, finding: InputFinding) -> Timeline:
@@ -327,9 +327,9 @@ def coverage_of(search: InputSearch) -> dict[str, int]:
             branches.setdefault(pc, set()).add(following)
     enclave, symbols = search.objects.enclave, search.symbols
     lines = {symbols.source(pc) for pc in search.judge.seen.pcs} - {None}
-    every = {it for it in symbols.sources_in(enclave.base, enclave.base + enclave.size) if it}
+    all_lines = {it for it in symbols.sources_in(enclave.base, enclave.base + enclave.size) if it}
     return dict(inputs=len(search.inputs), values=search.tracer.runs - 1, branches=len(branches),
-                both_ways=sum(len(it) > 1 for it in branches.values()), lines=len(lines), all_lines=len(every),
+                both_ways=sum(len(it) > 1 for it in branches.values()), lines=len(lines), all_lines=len(all_lines),
                 instructions=len(search.judge.seen.pcs))
 
 
