@@ -2,9 +2,10 @@
 from __future__ import annotations
 
 import re
+from dataclasses import dataclass
 from enum import Enum
-from functools import lru_cache
-from typing import NamedTuple, Tuple
+from functools import cached_property, lru_cache
+from typing import Tuple
 
 from rvlook.protocol.instructions import BRANCHES, Instruction, instruction_of
 
@@ -30,8 +31,9 @@ class Kind(Enum):
 ENDS_BLOCK = (Kind.BRANCH, Kind.CALL, Kind.INDIRECT, Kind.RETURN, Kind.TRAP_RETURN, Kind.ECALL)
 
 
-class Code(NamedTuple):
-    """A decoded instruction.
+@dataclass(frozen=True, eq=False)
+class Code:
+    """A decoded instruction; equal replies of `dis` have the same one.
 
     `probes` are the registers to read before it: of a load the base, of a store the base and the stored register, of an ecall a6 and a1. `link`
     is the register that receives the return address, 0 if none. `writes` is the destination register, `sources` are the operands."""
@@ -45,22 +47,22 @@ class Code(NamedTuple):
     sources: Tuple[int, ...] = ()
     moves_sp: int = 0
 
-    @property
+    @cached_property
     def is_access(self) -> bool:
         """Returns whether the instruction may access memory by an address of its own: a load, a store, or a call of the monitor."""
         return bool(self.probes)
 
-    @property
+    @cached_property
     def is_plain(self) -> bool:
         """Returns whether the instruction neither jumps nor accesses memory, except relative to sp."""
         return self.kind is Kind.OTHER or bool(self.probes) and self.probes[0] == SP
 
-    @property
+    @cached_property
     def is_sp_relative(self) -> bool:
         """Returns whether the address of a load or store is relative to sp."""
         return bool(self.probes) and self.probes[0] == SP
 
-    @property
+    @cached_property
     def is_saving(self) -> bool:
         """Returns whether the instruction may save a register of the caller in the frame."""
         return self.kind is Kind.STORE and self.probes[0] == SP and self.probes[1] in SAVED

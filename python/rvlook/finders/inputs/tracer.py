@@ -7,9 +7,10 @@ from __future__ import annotations
 
 from array import array
 from bisect import bisect_left
-from collections import Counter
+from collections import defaultdict
 from dataclasses import dataclass
 from functools import lru_cache
+from itertools import compress
 from typing import Iterator, Mapping, Optional, Sequence, Set, Tuple
 
 from rvlook.errors import Unfinished
@@ -52,15 +53,21 @@ class TracePart:
     text: bytes = b""
 
 
+@lru_cache(maxsize=1 << 17)
+def pc_and_tail(line: bytes) -> tuple[int, bytes]:
+    """Decodes the reply to a single step: the pc, and the text from the world on."""
+    return int(line[9:17], 16), line[31:]
+
+
 def part_of(block: bytes, own: bytes, pc: int, is_own: bool) -> TracePart:
     """Decodes the replies to single steps."""
     lines = block.split(b"\n")[:-1]
-    pcs = [int(line[9:17], 16) for line in lines]
-    after = [line.startswith(own, 31) for line in lines]
-    next_pc, pcs = pcs[-1], [pc, *pcs[:-1]]
-    inside = [n for n, it in enumerate([is_own, *after[:-1]]) if it]
+    next_pcs, tails = zip(*map(pc_and_tail, lines))
+    is_inside = {it: it.startswith(own) for it in set(tails)}
+    after, pcs = [is_inside[it] for it in tails], [pc, *next_pcs[:-1]]
+    inside = list(compress(range(len(lines)), [is_own, *after[:-1]]))
     starts = {0, *(at + 1 for at, n in enumerate(inside) if not after[n])}
-    return TracePart(lines, pcs, after, next_pc, inside, array("I", [pcs[n] for n in inside]), [lines[n][31:] for n in inside], starts)
+    return TracePart(lines, pcs, after, next_pcs[-1], inside, array("I", [pcs[n] for n in inside]), [tails[n] for n in inside], starts)
 
 
 @dataclass(frozen=True)
@@ -371,10 +378,10 @@ class Tracer:
 def ways_of(trace: Trace, start: int) -> dict[bytes, list[int]]:
     """Returns the first occurrences of each pc in the next steps of a trace, by the pcs from there on."""
     found: dict[bytes, list[int]] = {}
-    counts: Counter[int] = Counter()
-    for at in range(start, min(len(trace), start + FAR)):
-        counts[trace.pcs[at]] += 1
-        if counts[trace.pcs[at]] <= OCCURRENCES:
+    counts: dict[int, int] = defaultdict(int)
+    for at, pc in enumerate(trace.pcs[start:start + FAR], start):
+        counts[pc] += 1
+        if counts[pc] <= OCCURRENCES:
             found.setdefault(trace.pcs[at:at + SAME].tobytes(), []).append(at)
     return found
 
