@@ -79,7 +79,7 @@ class Accesses(Paths):
 
     def access(self, at: int, width: int, tag: Tag, offset: int, kind: str) -> None:
         """Takes an access at a number: reports it if it leaves the object of its origin."""
-        old = self.inside.get(self.pc)
+        old = self.last_objects.get(self.pc)
         if old is not None and old[0] == tag and old[1] <= at and at + width <= old[2]:
             return
         search, (low, high) = self.search, self.search.world.window
@@ -99,7 +99,7 @@ class Accesses(Paths):
             search.doubt_access(kind, self, FOLDED)
         else:
             search.landed.add((self.pc, hit[0].bounds))
-            self.inside[self.pc] = tag, hit[0].low, hit[0].high
+            self.last_objects[self.pc] = tag, hit[0].low, hit[0].high
             self.settle(tag, hit[0], kind)
             member_leaves(self, at, width, Place(tag, offset, hit[0]), kind)
 
@@ -139,7 +139,7 @@ class Accesses(Paths):
 
     def stack_access(self, at: int, kind: str) -> None:
         """Takes an access relative to sp: reports it if it is below the stack."""
-        if at < self.bottom:
+        if at < self.stack_bottom:
             self.overflow(at, kind)
 
     def overflow(self, at: int, kind: str) -> None:
@@ -194,7 +194,7 @@ class Accesses(Paths):
         """Asks whether an address can be outside all its objects. Returns None if the address is to be followed value by value."""
         search = self.search
         outside = self.outside_of(insides)
-        if (kind, self.pc) in search.found:
+        if (kind, self.pc) in search.findings:
             search.assumed_inside[self.pc] += 1
             return True
         answer, model = search.solver.satisfiable(self.conds, outside, self.model)
@@ -248,9 +248,9 @@ class Accesses(Paths):
             if answer is None:
                 search.undecided["value", self.pc] += 1
             elif answer:
-                tried = self.rejoined[1] if self.rejoined and self.rejoined[0] == self.steps else 0
+                tried = self.values_followed[1] if self.values_followed and self.values_followed[0] == self.steps else 0
                 if tried >= MOST_VALUES:
-                    search.many[self.pc] += 1
+                    search.words_with_many_values[self.pc] += 1
                 elif inside is not True:
                     self.again(inside, model, tried + 1, extent.low)
         if own is None:  # the model is in none of them

@@ -68,10 +68,10 @@ class TracePath(Search):
         self.accesses[pc, context] = self.accesses.get((pc, context), 0) + 1
         return self.accesses[pc, context] == 1
 
-    def later(self, state: State) -> None:
+    def add_path(self, state: State) -> None:
         """Continues the path itself. Another path becomes a model."""
         if state.is_base:
-            super().later(state)
+            super().add_path(state)
         else:
             self.models.append(Model(state, state.model, (state.pcs[-1], state.pc) if state.pcs else None))
 
@@ -88,7 +88,7 @@ class BranchModels:
             return
         self.left -= 1
         path = path_of(search, trace)
-        if path is None or [it.pcs[:1] for it in path.world.visits] != [trace.pcs[it.first:it.first + 1].tolist() for it in trace.visits]:
+        if path is None or [it.pcs[:1] for it in path.world.own_activations] != [trace.pcs[it.first:it.first + 1].tolist() for it in trace.visits]:
             return  # a timer interrupt, or no z3
         count = 0
         for model in path.models:
@@ -116,7 +116,7 @@ def path_of(search: InputSearch, trace: Trace) -> Optional[TracePath]:
         path = TracePath(World(run, search.symbols, search.variables, options), options)
     except RvlookError:
         return None
-    path.first().go()
+    path.first_state().go()
     return path
 
 

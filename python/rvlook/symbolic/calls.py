@@ -59,10 +59,10 @@ class Traps(Memory):
         new = self.regs[2]
         if type(new) is not int:
             raise Ended("sp")
-        self.bottom, _ = self.search.extents.stack_of(new)
+        self.stack_bottom, _ = self.search.extents.stack_of(new)
         if is_relative and new < old:
             self.areas += (Area(self.call, new, old),)
-            if new < self.bottom:
+            if new < self.stack_bottom:
                 self.overflow(new, "store")
         elif is_relative:
             self.areas = tuple(it for it in self.areas if it.call != self.call or it.low >= new)
@@ -138,21 +138,21 @@ class Traps(Memory):
     def leave_enclave(self, call: int) -> None:
         """Stops or exits. The next activation begins with what the host then gives."""
         search, registers = self.search, self.regs
-        search.answered(self, registers[10])
+        search.check_answer(self, registers[10])
         self.answers.append(Answer(self.steps, call, registers[10], len(self.loads), len(self.stores)))
-        search.left(self)
+        search.check_leaving(self)
         if call == EXIT:
             raise Ended(EXITED)
         if search.merger:
-            search.take_stop(self)
+            search.merge_at_stop(self)
             if not self.is_base:
                 raise Ended(STOPPED)
             self.is_covered = bool(search.means.loops_from)
-        if self.visit + 1 >= search.activations:
+        if self.activation + 1 >= search.activations:
             raise Ended(STOPPED)
-        self.visit += 1
-        self.win, self.fetched, self.fetched_at, self.counts, self.pending, self.released = {}, {}, [], {}, (), False
-        self.winmem = bytearray(search.world.windows[min(self.visit, len(search.world.windows) - 1)])
+        self.activation += 1
+        self.calm_window, self.fetched, self.symbolic_fetches, self.branch_counts, self.pending_outputs, self.is_released = {}, {}, [], {}, (), False
+        self.window_memory = bytearray(search.world.windows[min(self.activation, len(search.world.windows) - 1)])
         self.answer(0)
 
     def measure(self) -> int:

@@ -29,7 +29,7 @@ class Mark(NamedTuple):
 def rest_of(state: AnyState) -> Tuple[Any, ...]:
     """Returns what a path has beside its registers: a digest of memory, the window as it is known, the mode, and the registers of mode S."""
     digest = blake2b(state.mem).digest()
-    return digest, frozenset(state.sym.items()), frozenset(state.win.items()), state.mode, tuple(state.csr.values()), state.context
+    return digest, frozenset(state.sym.items()), frozenset(state.calm_window.items()), state.mode, tuple(state.csr.values()), state.context
 
 
 class Endless:
@@ -41,17 +41,17 @@ class Endless:
     def at_branch(self, state: AnyState) -> None:
         """Takes a path at a branch whose condition is an expression: reports it, and ends it, if its state is that of the last time. The memory is
         compared only if the registers are the same."""
-        key, counts = (state.pc, state.context), (state.inputs, state.visit)
-        old = state.marks.get(key)
+        key, counts = (state.pc, state.context), (state.input_count, state.activation)
+        old = state.branch_states.get(key)
         if old is None or old.counts != counts or old.regs != state.regs:
-            state.marks[key] = Mark(state.regs[:], counts, None)
+            state.branch_states[key] = Mark(state.regs[:], counts, None)
             return
         rest = rest_of(state)
         if old.rest == rest and not state.is_merged and not self.search.is_trial:
-            self.found(state)
-        state.marks[key] = Mark(old.regs, counts, rest)
+            self.report_endless(state)
+        state.branch_states[key] = Mark(old.regs, counts, rest)
 
-    def found(self, state: AnyState) -> None:
+    def report_endless(self, state: AnyState) -> None:
         """Reports a path whose state repeats, and ends it."""
         self.search.report("stuck", state, "never returns", state.model)
         raise Ended(FINDING)
@@ -63,14 +63,14 @@ class Endless:
             if state.pc == first:
                 key = tuple(state.regs), rest_of(state)
                 if key in seen and (len(state.loads), len(state.answers)) == counts:
-                    self.found(state)
+                    self.report_endless(state)
                 seen.add(key)
             state.step()
 
     def try_numbers(self, state: AnyState, tries: Dict[int, int]) -> None:
         """Follows a loop with the values of one model: reports it if the state repeats without an input."""
         search = self.search
-        if state.is_merged or search.is_trial or tries.get(state.pc, 0) >= TRIALS or ("stuck", state.pc) in search.found:
+        if state.is_merged or search.is_trial or tries.get(state.pc, 0) >= TRIALS or ("stuck", state.pc) in search.findings:
             return
         tries[state.pc] = tries.get(state.pc, 0) + 1
         trial: Any = state.fork(state.pc, is_again=True)

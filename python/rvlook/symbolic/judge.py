@@ -6,7 +6,7 @@ from typing import Dict, List, NamedTuple, Sequence, Set, Tuple, TYPE_CHECKING
 from rvlook.protocol.names import MARKS
 from rvlook.symbolic.conditions import all_of, any_of, differ, eq, overlap, within
 from rvlook.symbolic.evaluation import evaluate
-from rvlook.symbolic.fields import CODE, FINDING, Ended, FetchedAt
+from rvlook.symbolic.fields import CODE, FINDING, Ended, SymbolicFetch
 from rvlook.symbolic.nodes import Condition, Node, Word
 from rvlook.symbolic.origins import How
 from rvlook.symbolic.outputs import Outputs
@@ -106,10 +106,10 @@ class Judge(Outputs):
                 first = state.fetched.setdefault(place + n, here)
                 if state.fetched[place + n] is not here:
                     self.fetched_again(state, first, place + n, state.model)
-        if (type(place) is not int or state.fetched_at) and ("reread", state.pc) not in self.found:
+        if (type(place) is not int or state.symbolic_fetches) and ("reread", state.pc) not in self.findings:
             self.ask_overlap(state, place, width)
         if type(place) is not int:
-            state.fetched_at.append(FetchedAt(place, width, *here))
+            state.symbolic_fetches.append(SymbolicFetch(place, width, *here))
 
     def fetched_again(self, state: State, first: Place, at: int, model: Dict[str, int]) -> None:
         """Takes a byte of the window that is loaded a second time in an activation."""
@@ -126,7 +126,7 @@ class Judge(Outputs):
     def ask_overlap(self, state: State, place: Word, width: int) -> None:
         """Asks whether a load has a byte that an earlier one had, where one of them is at an expression. If it must have one, it is a double fetch.
         If it only can, that is not decided, unless the place is a pointer of the host, which may meet any other place."""
-        earlier = [EarlierLoad(overlap(place, width, it.at, it.width), (it.pc, it.context), it.joined) for it in state.fetched_at]
+        earlier = [EarlierLoad(overlap(place, width, it.at, it.width), (it.pc, it.context), it.joined) for it in state.symbolic_fetches]
         if type(place) is not int:
             earlier += [EarlierLoad(within(place, low - width + 1, high - 1), first) for low, high, first in ranges_of(state.fetched)]
         earlier = [it for it in earlier if it.overlaps is not False]
@@ -138,7 +138,7 @@ class Judge(Outputs):
         """Asks the same for one of the paths that were joined: that of a condition."""
         here, question = (state.pc, state.context), any_of(*(it.overlaps for it in earlier))
         can, model = self.solver.satisfiable(state.conds, all_of(joined, question), state.model)
-        if can is False or ("reread", state.pc) in self.found:
+        if can is False or ("reread", state.pc) in self.findings:
             return
         must_not, _ = self.solver.satisfiable(state.conds, all_of(joined, not_(question)), state.model)
         if can is None or must_not is None:
@@ -170,7 +170,7 @@ class Judge(Outputs):
         """Takes a jump to an address that is an expression; returns the address at which this path goes on. The host may choose among functions
         that the enclave has compared it with."""
         what = "return" if is_return else "jump"
-        if (what, state.pc) not in self.found:
+        if (what, state.pc) not in self.findings:
             known: List[Condition] = [eq(x, at) for at in sorted(self.world.functions)]
             outside = differ(x, state.value(x)) if is_return else all_of(*(not_(it) for it in known))
             answer, model = self.solver.satisfiable(state.conds, outside, state.model)

@@ -108,17 +108,17 @@ def member_leaves(state: Accesses, at: int, width: int, place: Place, kind: str)
     if is_shifted(state, at, width, place, kind):
         start = search.extents.member(place.tag.base)
         if start is not None and not is_one_array(start, place.whole):
-            del state.inside[state.pc]
+            del state.last_objects[state.pc]
         return
     member = member_of(state, place)
     if member is None:
         return
-    del state.inside[state.pc]
+    del state.last_objects[state.pc]
     stride = stride_of(state, member)
     moved = (at - member.at) % stride if stride else at - member.at
     if at == place.base or 0 <= moved and moved + width <= reach_of(state, member) and not member.is_union:
         if not member.is_union:  # the next access of the instruction may leave the member
-            state.inside[state.pc] = place.tag, member.at, member.at + member.size
+            state.last_objects[state.pc] = place.tag, member.at, member.at + member.size
     elif state.is_base:
         search.usual_moves.add((state.context, state.pc))
     elif (state.context, state.pc) not in search.usual_moves:
@@ -153,7 +153,7 @@ def asked_member(state: Accesses, address: Node, width: int, place: Place, kind:
     begins. Returns the array in which it stays for sure, or the variable."""
     search = state.search
     member = None if is_shifted(state, address, width, place, kind) else member_of(state, place)
-    if member is None or (kind, state.pc) in search.found or (state.context, state.pc) in search.usual_moves:
+    if member is None or (kind, state.pc) in search.findings or (state.context, state.pc) in search.usual_moves:
         return place.whole
     if member.is_union:
         search.doubt_access(kind, state, UNION)

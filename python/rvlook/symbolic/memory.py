@@ -119,16 +119,16 @@ class Memory(Accesses):
         """Returns bytes of the window: new inputs, unless the host waits during an activation. `place` is the address, maybe an expression."""
         search, own = self.search, self.search.world.window[0]
         is_number = type(place) is int
-        if is_number and search.options.calm and all(at + n in self.win for n in range(width)):
-            return [self.win[at + n] for n in range(width)]
+        if is_number and search.options.calm and all(at + n in self.calm_window for n in range(width)):
+            return [self.calm_window[at + n] for n in range(width)]
         if is_number and search.is_given(at, width):
             return self.given(at, width)
-        number, found, names = self.inputs, [], []  # type: int, List[Byte], List[Tuple[int, str]]
+        number, found, names = self.input_count, [], []  # type: int, List[Byte], List[Tuple[int, str]]
         for n in range(width):
-            if is_number and search.options.calm and at + n in self.win:
-                found.append(self.win[at + n])
+            if is_number and search.options.calm and at + n in self.calm_window:
+                found.append(self.calm_window[at + n])
                 continue
-            name, value = "i%d_%d" % (number, n), self.winmem[at + n - own]
+            name, value = "i%d_%d" % (number, n), self.window_memory[at + n - own]
             input_byte = variable(name, INPUT)
             if self.model.get(name) != value:
                 self.memo = {} if name in self.model else self.memo
@@ -136,9 +136,9 @@ class Memory(Accesses):
             names.append((n, name))
             found.append(input_byte)
             if is_number and search.options.calm:
-                self.win[at + n] = input_byte
+                self.calm_window[at + n] = input_byte
         self.loads.append(Load(self.steps, place, tuple(names)))
-        self.inputs += 1
+        self.input_count += 1
         search.note_fetch(self, place, width, names)
         if is_number and at in search.world.lengths:
             self.limit(at, assembled(found, width, is_signed=False))
@@ -150,7 +150,7 @@ class Memory(Accesses):
         if self.is_base and self.value(value) > most:
             name = search.world.symbols.name(at) or "%08x" % at
             raise RvlookError("--length leaves out the run itself, which has %d at %s" % (self.value(value), name))
-        search.limited.add(at)
+        search.lengths_met.add(at)
         self.move_to(not_(ult(most, value)))
 
     def become_any(self, at: int, count: int) -> None:
@@ -159,8 +159,8 @@ class Memory(Accesses):
         if not low <= at <= at + count <= high:
             raise Ended("any_bytes")
         self.access(at, count, self.tags[10], 0, "store")
-        names = [(n, "a%d_%d" % (self.inputs, n)) for n in range(count)]
-        self.inputs += 1
+        names = [(n, "a%d_%d" % (self.input_count, n)) for n in range(count)]
+        self.input_count += 1
         values = {name: self.value(plain(self.sym[at + n])) if at + n in self.sym else self.mem[at + n - low] for n, name in names}
         self.model, self.memo = {**self.model, **values}, {}
         self.search.note_written(self, at, count, True)
@@ -172,7 +172,7 @@ class Memory(Accesses):
     def given(self, at: int, width: int) -> List[Byte]:
         """Returns bytes of the window that the host gives as in the run itself."""
         own = self.search.world.window[0]
-        values = list(self.winmem[at - own:at - own + width])
+        values = list(self.window_memory[at - own:at - own + width])
         names = tuple((n, "g%02x" % value) for n, value in enumerate(values))
         self.model = {**self.model, **{name: value for (_, name), value in zip(names, values)}}
         self.loads.append(Load(self.steps, at, names))
@@ -185,18 +185,18 @@ class Memory(Accesses):
         first = place if is_number else None
         if not is_number and type(value) is Node and value.taint & (SECRET | CHECK):
             first = search.public_place(self, place, width)
-        search.output(self, parts, [first + n if first is not None else None for n in range(width)], "window")
+        search.check_output(self, parts, [first + n if first is not None else None for n in range(width)], "window")
         stored: Optional[int] = value if type(value) is int else self.value(value) if self.is_base else None
         if stored is not None:
             for n in range(width):
-                self.winmem[at + n - own] = stored >> 8 * n & 255
+                self.window_memory[at + n - own] = stored >> 8 * n & 255
         if search.options.calm and is_number:
             for n in range(width):
-                self.win[place + n] = parts[n]
+                self.calm_window[place + n] = parts[n]
         elif search.options.calm:
-            self.win.clear()
+            self.calm_window.clear()
         if search.world.given and (not is_number or search.is_given(at, width)):
-            search.given_written.add(self.pc)
+            search.stores_to_given.add(self.pc)
         self.stores.append(Store(self.steps, place, width, value))
 
     # ---- expressions as addresses

@@ -37,7 +37,7 @@ class OwnState(State):
         if type(place) is not int:
             raise Ended(OPEN)
         base = self.search.world.window[0]
-        return [self.win.get(at + n, self.winmem[at + n - base]) for n in range(width)]
+        return [self.calm_window.get(at + n, self.window_memory[at + n - base]) for n in range(width)]
 
     def sent(self, at: int, width: int, value: Word, place: Word) -> None:
         """Stores to the window, whose bytes may be loaded again."""
@@ -54,21 +54,21 @@ class OwnPath(Search):
         super().__init__(world, options)
         self.is_divided, self.last = False, None  # type: bool, Optional[State]
 
-    def later(self, state: State) -> None:
+    def add_path(self, state: State) -> None:
         """Continues the path itself. Each other path is one of another secret."""
         if state.is_base:
-            super().later(state)
+            super().add_path(state)
         else:
             self.is_divided = True
 
-    def output(self, state: State, parts: Sequence[Byte], places: Sequence[Optional[int]], what: str) -> None:
+    def check_output(self, state: State, parts: Sequence[Byte], places: Sequence[Optional[int]], what: str) -> None:
         """Takes bytes that the host can read. They are not taken to be equal afterwards, since --public allows a difference."""
-        super().output(state, parts, places, what)
+        super().check_output(state, parts, places, what)
         state.public.clear()
 
-    def answered(self, state: State, value: Word) -> None:
+    def check_answer(self, state: State, value: Word) -> None:
         """Takes the value with which the enclave leaves, which is not taken to be equal afterwards."""
-        super().answered(state, value)
+        super().check_answer(state, value)
         state.public.clear()
 
     def is_late(self) -> bool:
@@ -77,7 +77,7 @@ class OwnPath(Search):
 
     def harm(self) -> List[str]:
         """Returns the kinds of findings and of open questions after which the secret may be seen."""
-        found = [what for what, _ in self.found if what not in HARMLESS]
+        found = [what for what, _ in self.findings if what not in HARMLESS]
         return found + [what for what, pc in self.undecided if what not in OBJECTS or (what, pc) not in self.reasons]
 
     def explore(self, state: State) -> None:
@@ -87,10 +87,10 @@ class OwnPath(Search):
 
     def is_hidden(self) -> bool:
         """Returns whether the whole run is one path, which is the same for all secrets."""
-        it, visits = self.last, self.world.visits
-        if it is None or self.queue or self.is_divided or self.harm() or self.assumed_inside or self.many or self.changed_code:
+        it, visits = self.last, self.world.own_activations
+        if it is None or self.queue or self.is_divided or self.harm() or self.assumed_inside or self.words_with_many_values or self.changed_code:
             return False
-        return (self.ends[EXITED] + self.ends[STOPPED] == self.paths == 1 and len(it.answers) == len(visits)
+        return (self.end_counts[EXITED] + self.end_counts[STOPPED] == self.paths == 1 and len(it.answers) == len(visits)
                 and it.all_pcs() == [pc for visit in visits for pc in visit.pcs])
 
 

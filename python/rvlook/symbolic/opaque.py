@@ -63,10 +63,10 @@ class Opaque(Translator):
 
     def relevant(self, conditions: Sequence[Node], question: Node) -> Optional[List[Node]]:
         """Returns the conditions that share variables with a question, and the question; None if there is nothing to leave out."""
-        found, mask = self.sliced(conditions, self.mask_of(question))
+        found, mask = self.relevant_conditions(conditions, self.mask_of(question))
         return [*found, question] if self.within(mask) or len(found) < len(conditions) else None
 
-    def sliced(self, conditions: Sequence[Node], mask: int) -> Tuple[List[Node], int]:
+    def relevant_conditions(self, conditions: Sequence[Node], mask: int) -> Tuple[List[Node], int]:
         """Returns the conditions that share variables with a set of them, directly or by others, and all these variables."""
         left, found = list(conditions), []  # type: List[Node], List[Node]
         while True:

@@ -37,39 +37,39 @@ class Outputs(Record):
 
     def __init__(self) -> None:
         super().__init__()
-        self.usual_raw: Set[Tuple[int, Optional[int]]] = set()  # where the run itself shows bytes of the secret
-        self.declared_raw: Set[int] = set()  # the instructions with which it shows them at a public place
-        self.whole: Dict[Node, bool] = {}  # conditions on what the host must know: whether they are comparisons of all its bytes
-        self.matters: Set[str] = set()  # bytes of which an output is known to depend on them
-        self.appears = 0  # the variables of all outputs and of all conditions at stops
+        self.usual_copies: Set[Tuple[int, Optional[int]]] = set()  # where the run itself shows bytes of the secret
+        self.declared_copies: Set[int] = set()  # the instructions with which it shows them at a public place
+        self.whole_comparisons: Dict[Node, bool] = {}  # conditions on what the host must know: whether they are comparisons of all its bytes
+        self.influencing_bytes: Set[str] = set()  # bytes of which an output is known to depend on them
+        self.output_variables = 0  # the variables of all outputs and of all conditions at stops
 
     def report(self, what: str, state: State, text: str, one: Dict[str, int], two: Optional[Dict[str, int]] = None) -> None:
         """Adds a finding. With --calm it is none if the window changes during an activation."""
-        is_new = self.options.calm and not state.is_merged and (what, state.pc) not in self.found
+        is_new = self.options.calm and not state.is_merged and (what, state.pc) not in self.findings
         if is_new and not is_calm(history_of(state, one), one):
             self.doubt(what, state, CHANGES)
         else:
             super().report(what, state, text, one, two)
 
-    def output(self, state: State, parts: Sequence[Byte], places: Sequence[Optional[int]], what: str) -> None:
+    def check_output(self, state: State, parts: Sequence[Byte], places: Sequence[Optional[int]], what: str) -> None:
         """Takes bytes that the host can read afterwards. `places` has their addresses in the window, None for one that is not a number."""
         own = [n for n, part in enumerate(parts) if type(part) is Node and part.taint & (SECRET | CHECK)]
         if not own:
             return
         public = self.world.public
         shown = [n for n in own if public.answer] if what == "answer" else [n for n in own if (at := places[n]) is not None and public.has(at)]
-        self.raw(state, parts, places, own, [n for n in own if n in shown or self.condition_of([places[n]]) is not None])
-        self.shows_check(state, [parts[n] for n in own])
+        self.check_copies(state, parts, places, own, [n for n in own if n in shown or self.condition_of([places[n]]) is not None])
+        self.check_shown_codes(state, [parts[n] for n in own])
         secret = [n for n in own if parts[n].taint & SECRET]
         if secret:
-            self.comes_out(state, any(parts[n].taint & CHECK for n in secret))
+            self.check_release(state, any(parts[n].taint & CHECK for n in secret))
             self.note_influence(state, parts)
         self.solver.declared.update(parts[n] for n in secret if n in shown)
         hidden = [n for n in secret if n not in shown and not (parts[n] in state.public and parts[n] in self.solver.declared)]
         value = word(*[parts[n] if n in hidden else 0 for n in range(len(parts))], *[0] * (4 - len(parts)))
         wanted = self.condition_of([places[n] for n in hidden])
         if hidden and wanted is not None:
-            state.pending += ((wanted, value, state.pc),)
+            state.pending_outputs += ((wanted, value, state.pc),)
         elif hidden:
             state.differs(what, value)
         for n in secret:
@@ -93,18 +93,18 @@ class Outputs(Record):
                 return wanted
         return None
 
-    def raw(self, state: State, parts: Sequence[Byte], places: Sequence[Optional[int]], own: Sequence[int], shown: Sequence[int]) -> None:
+    def check_copies(self, state: State, parts: Sequence[Byte], places: Sequence[Optional[int]], own: Sequence[int], shown: Sequence[int]) -> None:
         """Takes bytes of the secret that come out as they are, or changed so that one can compute them. A public place shows them only if the run
         itself does so."""
         bare = [n for n in own if parts[n].taint & SECRET and is_one_byte(parts[n], SECRET)]
         key = state.pc, places[bare[0]] if bare else None
         if state.is_base and bare:
-            self.usual_raw.add(key)
-            self.declared_raw |= {state.pc} if set(bare) <= set(shown) else set()
-        elif bare and set(bare) <= set(shown) and key not in self.usual_raw:
+            self.usual_copies.add(key)
+            self.declared_copies |= {state.pc} if set(bare) <= set(shown) else set()
+        elif bare and set(bare) <= set(shown) and key not in self.usual_copies:
             self.report("raw", state, "%d bytes of the secret itself, at a public place where the run has others" % len(bare), state.model)
 
-    def shows_check(self, state: State, parts: Sequence[Node]) -> None:
+    def check_shown_codes(self, state: State, parts: Sequence[Node]) -> None:
         """Takes bytes that depend on what the host must know: they may show whether it is right, and nothing else."""
         for part in parts:
             if not part.taint & CHECK:
@@ -114,7 +114,7 @@ class Outputs(Record):
             elif not self.is_compared(part):
                 self.doubt("check", state, "an output depends on what the host must know by something else than one comparison of all its bytes")
 
-    def compares(self, state: State, condition: Node) -> None:
+    def check_comparison(self, state: State, condition: Node) -> None:
         """Takes a condition by which a path divides: it may compare all bytes that the host must know at once, and nothing else."""
         if condition.taint & CHECK and not self.is_whole_comparison(condition.args[0] if condition.op == "not" else condition):
             self.doubt("check", state, "a path depends on what the host must know by something else than one comparison of all its bytes")
@@ -126,22 +126,22 @@ class Outputs(Record):
 
     def is_whole_comparison(self, condition: Node) -> bool:
         """Returns whether a condition holds for only one value of the bytes that the host must know, for equal inputs."""
-        if condition not in self.whole:
-            self.whole[condition] = self.solver.is_free([condition], self.check_names) is False
-        return self.whole[condition]
+        if condition not in self.whole_comparisons:
+            self.whole_comparisons[condition] = self.solver.allows_other_codes([condition], self.check_names) is False
+        return self.whole_comparisons[condition]
 
     @property
     def check_names(self) -> List[str]:
         """The variables of what the host must know."""
         return ["c_%08x" % at for at in self.world.check]
 
-    def comes_out(self, state: State, is_mixed: bool) -> None:
+    def check_release(self, state: State, is_mixed: bool) -> None:
         """Takes a place where a secret comes out: asks whether the host must know what it is to know. An output in which both are mixed may be chosen
         without a branch."""
-        if not self.world.check or state.released or ("check", state.pc) in self.found:
+        if not self.world.check or state.is_released or ("check", state.pc) in self.findings:
             return
-        state.released = True
-        answer = self.solver.is_free(state.conds, self.check_names)
+        state.is_released = True
+        answer = self.solver.allows_other_codes(state.conds, self.check_names)
         if answer and is_mixed:
             self.doubt("check", state, "an output is computed of the secret and of what the host must know")
         elif answer:
@@ -150,20 +150,20 @@ class Outputs(Record):
         elif answer is None:
             self.undecided["check", state.pc] += 1
 
-    def answered(self, state: State, value: Word) -> None:
+    def check_answer(self, state: State, value: Word) -> None:
         """Takes the value with which the enclave leaves, and the outputs that are public only with some answer."""
-        for wanted, shown, pc in state.pending:
+        for wanted, shown, pc in state.pending_outputs:
             other = differ(value, wanted)
             answer, model = self.solver.satisfiable(state.conds, other, state.model)
             if answer is False:
                 continue
             conds = state.conds + ([other] if type(other) is Node else [])
-            differs, one, two = self.solver.pair(conds, shown, set(), model)
+            differs, one, two = self.solver.secret_pair(conds, shown, set(), model)
             if differs and one is not None:
                 self.report("window", state, "the output of %s is public only with the answer %d" % (self.world.place(pc), wanted), one, two)
             elif differs is None or answer is None:
                 self.undecided["window", pc] += 1
-        self.output(state, [byte(value, n) for n in range(4)], [None] * 4, "answer")
+        self.check_output(state, [byte(value, n) for n in range(4)], [None] * 4, "answer")
         if type(value) is Node and value.taint & SECRET:
             state.public.add(value)
 
@@ -174,28 +174,28 @@ class Outputs(Record):
         mask = 0
         for part in parts:
             mask |= mask_of(part)
-        self.appears |= mask
+        self.output_variables |= mask
         for name in names_of(mask) if self.options.must_matter and not state.is_merged else ():
-            if name.startswith("k_") and name not in self.matters:
+            if name.startswith("k_") and name not in self.influencing_bytes:
                 other = {**state.model, name: state.model.get(name, 0) ^ 0x55}
                 memo: Dict[Node, object] = {}
                 is_possible = all(evaluate(it, other, memo) for it in state.conds)
                 if is_possible and any(evaluate(part, other, memo) != state.value(part) for part in parts):
-                    self.matters.add(name)
+                    self.influencing_bytes.add(name)
 
     # ---- the end of an activation
 
-    def left(self, state: State) -> None:
+    def check_leaving(self, state: State) -> None:
         """Takes an activation that leaves: older states, and what remains in the region."""
         for it in state.conds if self.options.must_matter else ():
-            self.appears |= mask_of(it)
+            self.output_variables |= mask_of(it)
         is_asked = self.means.is_whole and (state.is_base or not self.options.merges)
-        if state.visit >= 2 and is_asked and ("older", state.pc) not in self.found:
-            self.older(state)
+        if state.activation >= 2 and is_asked and ("older", state.pc) not in self.findings:
+            self.check_older_states(state)
         if self.world.secret and self.options.wiped:
-            self.remains(state)
+            self.check_remains(state)
 
-    def remains(self, state: State) -> None:
+    def check_remains(self, state: State) -> None:
         """Asks what in the region and the registers depends on the secret at a stop."""
         cells = {at: plain(it) for at, it in state.sym.items()}
         places = sorted(at for at, it in cells.items() if is_secret(state, it) and not (at in self.world.secret and it.op == "var"))
@@ -206,11 +206,11 @@ class Outputs(Record):
             what = " and ".join(filter(None, (text, ("registers " if registers else "") + " ".join(registers))))
             self.report("remains", state, "%s depend on the secret" % what, state.model)
 
-    def older(self, state: State) -> None:
+    def check_older_states(self, state: State) -> None:
         """Asks whether the activation accepts a state of an earlier one as it does the latest."""
         ends = [Counts(0, 0)] + [Counts(it.loads, it.stores) for it in state.answers]
         loaded: Dict[int, str] = {}
-        for load in state.loads[ends[state.visit].loads:]:
+        for load in state.loads[ends[state.activation].loads:]:
             for n, name in load.names if type(load.at) is int else ():
                 loaded.setdefault(load.at + n, name)
         kept = kept_states(state, ends)
@@ -221,22 +221,22 @@ class Outputs(Record):
             changed = [at for at in places if at in old and old[at] != latest[at]]
             then = [eq(input_of(loaded[at]), as_word(old.get(at, latest[at]))) for at in places]
             question = all_of(*then, any_of(*(differ(as_word(old[at]), as_word(latest[at])) for at in changed)))
-            if self.accepts(state, question, now, changed):
+            if self.check_acceptance(state, question, now, changed):
                 return
-        self.older_at_index(state, ends, sorted({at for old in kept[:-1] for at in old if old[at] != latest[at]}))
+        self.check_older_at_index(state, ends, sorted({at for old in kept[:-1] for at in old if old[at] != latest[at]}))
 
-    def older_at_index(self, state: State, ends: Sequence[Counts], changed: List[int]) -> None:
+    def check_older_at_index(self, state: State, ends: Sequence[Counts], changed: List[int]) -> None:
         """Takes the loads and stores at expressions: it is not decided whether a load gives an older state if it may meet what an earlier activation
         has stored. `changed` has the bytes that differ between two stops."""
-        stored = [(it.at, it.width) for it in state.stores[:ends[state.visit].stores] if type(it.at) is Node]
+        stored = [(it.at, it.width) for it in state.stores[:ends[state.activation].stores] if type(it.at) is Node]
         meets: List[Condition] = []
-        for load in state.loads[ends[state.visit].loads:]:
+        for load in state.loads[ends[state.activation].loads:]:
             places = stored + ([(other, 1) for other in changed] if type(load.at) is Node else [])
             meets += [overlap(load.at, len(load.names), other, width) for other, width in places]
         if self.solver.satisfiable(state.conds, any_of(*meets), state.model)[0] is not False:
             self.doubt("older", state, "an index of the host may lead to what an earlier activation has stored")
 
-    def accepts(self, state: State, question: Node, now: Node, changed: List[int]) -> bool:
+    def check_acceptance(self, state: State, question: Node, now: Node, changed: List[int]) -> bool:
         """Reports an older state that is accepted; returns whether it is."""
         answer, model = self.solver.satisfiable(state.conds, question, state.model)
         latest, _ = self.solver.satisfiable(state.conds, now, state.model) if answer else (False, None)
@@ -251,7 +251,7 @@ def kept_states(state: State, ends: Sequence[Counts]) -> List[Dict[int, Byte]]:
     """Returns the bytes that the enclave has stored to the window up to the end of each earlier activation, by address."""
     found: List[Dict[int, Byte]] = []
     contents: Dict[int, Byte] = {}
-    for visit in range(state.visit):
+    for visit in range(state.activation):
         for store in state.stores[ends[visit].stores:ends[visit + 1].stores]:
             contents.update({store.at + n: byte(store.value, n) for n in range(store.width)} if type(store.at) is int else {})
         found.append(dict(contents))

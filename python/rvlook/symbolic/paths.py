@@ -36,9 +36,9 @@ class Paths(Fields):
         search, key = self.search, (what, self.pc)
         if search.world.public.has(self.pc):
             return False
-        if key in search.found:
+        if key in search.findings:
             return True
-        answer, one, two = search.solver.pair(self.conds, word, self.public, self.model)
+        answer, one, two = search.solver.secret_pair(self.conds, word, self.public, self.model)
         if answer and one is not None:
             search.report(what, self, "", one, two)
             return True
@@ -49,25 +49,25 @@ class Paths(Fields):
     def branch(self, condition: Node, target: int, following: int) -> int:
         """Goes on where a condition says, and leaves the other side to another path if it is possible. Returns the pc."""
         search, pc = self.search, self.pc
-        if self.first_visit == MERGED_LOOP and (pc, self.context) in search.heads:
-            if self.head != pc:
-                search.take_loop(self)
+        if self.start_kind == MERGED_LOOP and (pc, self.context) in search.heads:
+            if self.start_head != pc:
+                search.merge_at_head(self)
                 raise Ended(MERGED)
-            self.head = None
+            self.start_head = None
         search.endless.at_branch(self)
         taken = self.holds(condition)
         is_leak = bool(condition.taint & SECRET) and self.differs("pc", condition)
-        search.compares(self, condition)
+        search.check_comparison(self, condition)
         here = condition if taken else not_(condition)
-        is_known = (pc, not taken) in search.sides
-        search.sides.add((pc, taken))
+        is_known = (pc, not taken) in search.sides_taken
+        search.sides_taken.add((pc, taken))
         if is_leak and is_known:
             search.left_after_leak[pc] += 1
         else:
             answer, model = search.solver.satisfiable(self.conds, not_(here), self.model)
             if answer is False:  # the conditions imply this side
                 self.count_implied()
-                if self.first_visit == MERGED_LOOP:
+                if self.start_kind == MERGED_LOOP:
                     self.conds.append(here)  # it may not be implied by a wider bound
                 return target if taken else following
             if answer:
@@ -80,34 +80,34 @@ class Paths(Fields):
     def count_implied(self) -> None:
         """Counts the rounds of a loop whose end is not possible any more. After as many as are followed, the state may repeat."""
         search, key = self.search, (-self.pc, self.context)
-        count = self.counts[key] = self.counts.get(key, 0) + 1
+        count = self.branch_counts[key] = self.branch_counts.get(key, 0) + 1
         if count == search.options.bound or count in TRIED_AT:
-            search.endless.try_numbers(self, search.tries)
-            if count >= search.options.bound and ("stuck", self.pc) in search.found and not self.is_base:
+            search.endless.try_numbers(self, search.trial_counts)
+            if count >= search.options.bound and ("stuck", self.pc) in search.findings and not self.is_base:
                 raise Ended(FINDING)
 
     def leave_other_side(self, here: Node, model: dict[str, int], other: int) -> None:
         """Leaves the other side of a branch to a path of its own, unless this is one round of a loop too many. A misaligned target traps at the
         branch, which that path executes again."""
         search, key, whole = self.search, (self.pc, self.context), (self.pc, ~self.context)
-        count = self.counts[key] = self.counts.get(key, 0) + 1
-        total = self.counts[whole] = self.counts.get(whole, 0) + 1
+        count = self.branch_counts[key] = self.branch_counts.get(key, 0) + 1
+        total = self.branch_counts[whole] = self.branch_counts.get(whole, 0) + 1
         if count in TRIED_AT:
-            search.endless.try_numbers(self, search.tries)
+            search.endless.try_numbers(self, search.trial_counts)
         if count <= search.options.bound and total <= search.options.bound * NESTED:
             is_trap = bool(other & 3)
             branch = self.fork(self.pc if is_trap else other, is_trap)
-            branch.model, branch.head = model, self.pc if is_trap and key in search.heads else None
+            branch.model, branch.start_head = model, self.pc if is_trap and key in search.heads else None
             branch.conds.append(not_(here))
-            search.divide(branch)
+            search.add_divided_path(branch)
         elif search.options.loops and search.merger:
             search.heads.add(key)
-            search.take_loop(self)
+            search.merge_at_head(self)
             if not self.is_base:
                 raise Ended(MERGED)
         else:
             search.cut_loops[self.pc] += 1
-            search.endless.try_numbers(self, search.tries)
+            search.endless.try_numbers(self, search.trial_counts)
             if not self.is_base:
                 raise Ended("bound")
 
@@ -117,7 +117,7 @@ class Paths(Fields):
             return x
         search, value = self.search, self.value(x)
         is_leak = bool(x.taint & SECRET) and self.differs(what, x)
-        tried = self.rejoined[1] if self.rejoined and self.rejoined[0] == self.steps else 0  # values of this very step
+        tried = self.values_followed[1] if self.values_followed and self.values_followed[0] == self.steps else 0  # values of this very step
         other = differ(x, value)
         answer, model = search.solver.satisfiable(self.conds, other, self.model)
         if answer is None:
@@ -125,7 +125,7 @@ class Paths(Fields):
         elif answer and is_leak:
             search.left_after_leak[self.pc] += 1
         elif answer and tried >= MOST_VALUES:
-            search.many[self.pc] += 1
+            search.words_with_many_values[self.pc] += 1
         elif answer:
             self.again(other, model, tried + 1, evaluate(x, model, {}))
         self.assume(eq(x, value))
@@ -134,6 +134,6 @@ class Paths(Fields):
     def again(self, condition: Node, model: dict[str, int], tried: int, target: int) -> None:
         """Leaves this step to another path, with another condition, and with a value of a word or an object."""
         other = self.fork(self.pc, is_again=True)
-        other.model, other.rejoined, other.head, other.target = model, (other.before, tried), self.head, target
+        other.model, other.values_followed, other.start_head, other.value_followed = model, (other.steps_before, tried), self.start_head, target
         other.conds.append(condition)
-        self.search.divide(other)
+        self.search.add_divided_path(other)

@@ -73,25 +73,25 @@ def gone(search: Search) -> List[str]:
         found.append("the run itself does not fulfil the assumption at %s" % place(pc))
     for pc in search.left_after_leak:
         found.append("after the leak at %s other secrets are left out" % place(pc))
-    for pc in search.many:
+    for pc in search.words_with_many_values:
         found.append("the word at %s has more than %d values" % (place(pc), MOST_VALUES))
     for pc in search.assumed_inside:
         found.append("after the finding at %s the access stays inside" % place(pc))
     for pc in sorted(search.changed_code):
         found.append("code changes, at %s" % place(pc))
-    for pc in sorted(search.given_written):
+    for pc in sorted(search.stores_to_given):
         found.append("%s stores to bytes of --given" % place(pc))
-    found += ["%s (%d paths)" % (text, search.ends[why]) for why, text in REASONS.items() if text and search.ends[why]]
-    if search.ends[FINDING]:
-        found.append("%d paths end at a finding" % search.ends[FINDING])
+    found += ["%s (%d paths)" % (text, search.end_counts[why]) for why, text in REASONS.items() if text and search.end_counts[why]]
+    if search.end_counts[FINDING]:
+        found.append("%d paths end at a finding" % search.end_counts[FINDING])
     return found
 
 
 def untrusted(search: Search) -> List[str]:
     """Returns which replays differ from what the search predicts."""
-    found = ["the replay of %s" % it for it in search.wrong]
+    found = ["the replay of %s" % it for it in search.wrong_replays]
     return found + ["the replay of the finding %s at %s: %s" % (it.what, search.world.place(it.pc), it.answer)
-                    for it in search.found.values() if it.answer and not it.is_confirmed]
+                    for it in search.findings.values() if it.answer and not it.is_confirmed]
 
 
 def answers(search: Search) -> List[Answer]:
@@ -103,12 +103,12 @@ def answers(search: Search) -> List[Answer]:
         is_limited = {"memory": bool(search.allowed), "state": search.merger is not None}.get(name, False)
         more = LIMITS[name] if is_limited else ""
         answer = Answer(name, PROVED if is_complete else NONE_FOUND, title + more)
-        answer.findings = sorted((x for x in search.found.values() if x.what in kinds and x.is_confirmed), key=lambda x: (x.pc, x.what))
+        answer.findings = sorted((x for x in search.findings.values() if x.what in kinds and x.is_confirmed), key=lambda x: (x.pc, x.what))
         for (what, pc), count in sorted(search.undecided.items(), key=lambda x: (x[0][1], x[0][0])):
-            if what in kinds and (what, pc) not in search.found:
+            if what in kinds and (what, pc) not in search.findings:
                 why = "; ".join(sorted(search.reasons.get((what, pc), ())))
                 answer.places.append("%s at %s%s, %d times" % (what, search.world.place(pc), ": " + why if why else "", count))
-        late = [x for x in search.found.values() if x.what in kinds and not x.answer]
+        late = [x for x in search.findings.values() if x.what in kinds and not x.answer]
         answer.places += ["%s at %s: not replayed" % (x.what, search.world.place(x.pc)) for x in late]
         answer.places += ["the end of the loop at %s" % search.world.place(pc) for pc in search.loops.endless()] if name == "returns" else []
         answer.places += influences(search) if name == "influence" else []
@@ -119,7 +119,7 @@ def answers(search: Search) -> List[Answer]:
 
 def influences(search: Search) -> List[str]:
     """Returns the bytes of the secret that no output is known to depend on."""
-    missing = [at for at in search.world.must_matter if "k_%08x" % at not in search.matters]
+    missing = [at for at in search.world.must_matter if "k_%08x" % at not in search.influencing_bytes]
     return ["no output is known to depend on %d bytes, the first at %08x" % (len(missing), missing[0])] if missing else []
 
 
@@ -145,7 +145,7 @@ def covered(search: Search) -> str:
     places = ", ".join(search.world.place(pc) for pc in sorted(search.assumptions))
     assumed = ", if the assumptions hold at %s" % places if places else ""
     allowed = ", if the allowed accesses are right: %s" % "; ".join(allowed_texts(search)) if search.allowed else ""
-    copies = ", ".join(search.world.place(pc) for pc in sorted(search.declared_raw))
+    copies = ", ".join(search.world.place(pc) for pc in sorted(search.declared_copies))
     shown = ", if copies of the secret may come out at %s" % copies if copies else ""
     return "%sall paths, all inputs%s%s, %s%s%s%s%s%s" % (limits(search), secrets, given, number, calm, assumed, allowed, shown, types)
 
@@ -163,5 +163,5 @@ def unused(search: Search) -> List[str]:
 def limits(search: Search) -> str:
     """Returns up to which lengths a search has gone, or nothing."""
     world = search.world
-    places = ["%d at %s" % (world.lengths[at], world.symbols.name(at) or "%08x" % at) for at in sorted(search.limited)]
+    places = ["%d at %s" % (world.lengths[at], world.symbols.name(at) or "%08x" % at) for at in sorted(search.lengths_met)]
     return "up to %s: " % " and ".join(places) if places else ""

@@ -64,14 +64,14 @@ class Plan:
         for step, at, width, stored_value in path.stores:
             first, value = evaluate(at, model, memo), evaluate(stored_value, model, memo)
             self.stored.setdefault(step, []).extend((first + n, value >> 8 * n & 255) for n in range(width))
-        self.ends = {it.step: (it.call, evaluate(it.value, model, memo)) for it in path.answers}
+        self.leaves = {it.step: (it.call, evaluate(it.value, model, memo)) for it in path.answers}
 
 
 class Replayer:
     """Replays paths of an enclave."""
 
-    def __init__(self, world: World, until: float = inf) -> None:
-        self.world, self.until = world, until  # `until`: by time.perf_counter()
+    def __init__(self, world: World, deadline: float = inf) -> None:
+        self.world, self.deadline = world, deadline  # `until`: by time.perf_counter()
 
     def secrets(self, model: Mapping[str, int]) -> List[str]:
         """Returns the commands that set the secrets of a model."""
@@ -85,26 +85,26 @@ class Replayer:
         first, last = 0, len(pcs) - 1
         with self.world.run.replay() as replay:
             bench, replayed.after = replay.bench, self.world.pc
-            replayed.log = replay.lines_to(self.world.visits[0].position)
+            replayed.log = replay.lines_to(self.world.own_activations[0].position)
             replayed.log += ["hart %d" % self.world.hart] * (self.world.run.setup.harts > 1) + self.secrets(model)
             bench.ask(*replayed.log)
             while first <= last and not replayed.wrong:
-                replayed.is_late = time.perf_counter() > self.until
+                replayed.is_late = time.perf_counter() > self.deadline
                 if replayed.is_late:
                     return replayed
                 most = min(first + PART - 1, last)
-                end = next((n for n in range(first, most + 1) if n in plan.ends), most)
+                end = next((n for n in range(first, most + 1) if n in plan.leaves), most)
                 is_open = end == last and not is_whole
                 steps(bench, plan, replayed, range(first, end + (not is_open)))
                 if is_open:
                     last_step(bench, plan, replayed, last)
-                elif end in plan.ends:
-                    self.leave(bench, replayed, plan.ends[end], end == last)
+                elif end in plan.leaves:
+                    self.leave(bench, replayed, plan.leaves[end], end == last)
                 first = end + 1
             if is_whole and not replayed.wrong:
                 check_window(bench, replayed)
             if is_endless and not replayed.wrong:
-                go_on(bench, replayed, pcs[-1], self.until)
+                go_on(bench, replayed, pcs[-1], self.deadline)
         if not replayed.wrong and replayed.pcs[:len(pcs)] != list(pcs[:len(replayed.pcs)]):
             n = next(n for n, (x, y) in enumerate(zip(replayed.pcs, pcs)) if x != y)
             replayed.wrong = "step %d is at %08x, predicted %08x" % (n, replayed.pcs[n], pcs[n])
@@ -155,25 +155,25 @@ def last_step(bench: Bench, plan: Plan, replayed: Replayed, number: int) -> None
     replayed.note(bench.one("step 1"))
 
 
-def go_on(bench: Bench, replayed: Replayed, pc: int, until: float) -> None:
+def go_on(bench: Bench, replayed: Replayed, pc: int, deadline: float) -> None:
     """Executes FURTHER steps in which the host gives nothing, and then up to WATCHED more, until the registers at the pc are the same again."""
     own = replayed.world
     for _ in range(FURTHER // FURTHER_PART):
-        replayed.is_late = replayed.is_late or time.perf_counter() > until
+        replayed.is_late = replayed.is_late or time.perf_counter() > deadline
         if replayed.is_late:
             return
         lines = [x for x in bench.block(b"step 1\n" * FURTHER_PART, FURTHER_PART).split(b"\n") if x.startswith(b"ran ")]
         for x in (lines[0], lines[-1]):
             replayed.note(x.decode())
             replayed.wrong = replayed.wrong or "" if replayed.world == own else "the enclave leaves in further steps"
-    watch(bench, replayed, pc, until)
+    watch(bench, replayed, pc, deadline)
 
 
-def watch(bench: Bench, replayed: Replayed, pc: int, until: float) -> None:
+def watch(bench: Bench, replayed: Replayed, pc: int, deadline: float) -> None:
     """Executes up to WATCHED steps, until the registers at the pc are the same again."""
     seen: Set[Tuple[int, ...]] = set()
     for _ in range(WATCHED if not replayed.wrong else 0):
-        replayed.is_late = time.perf_counter() > until
+        replayed.is_late = time.perf_counter() > deadline
         if replayed.after == pc:
             regs = tuple(register_values(bench.ask("regs")[0][:32]))
             replayed.is_again = regs in seen

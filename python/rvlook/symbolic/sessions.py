@@ -29,7 +29,7 @@ class Session:
             mask |= self.opaque.mask_of(question) if type(question) is Node else 0
         self.all = frozenset(conditions)
         self.shown = solver.shown.setdefault(self.all, set())
-        self.conditions, self.mask = self.opaque.sliced([it for it in conditions if it.weight <= HEAVY], mask)
+        self.conditions, self.mask = self.opaque.relevant_conditions([it for it in conditions if it.weight <= HEAVY], mask)
         self.asts = [self.opaque(it) for it in self.conditions]
         self.memo: Dict[Node, Any] = {}  # the values of nodes by the last answer
 
@@ -39,7 +39,7 @@ class Session:
             return question
         solver, opaque = self.solver, self.opaque
         asts = [*self.asts, opaque(question)]
-        answer, values = solver.timed(partial(solver.z3.checked_by_tactics, asts), solver.timeout)
+        answer, values = solver.ask_in_time(partial(solver.z3.checked_by_tactics, asts), solver.timeout)
         if answer is False:
             solver.note_proof(asts)
         if answer:

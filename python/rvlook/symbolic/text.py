@@ -89,7 +89,7 @@ def print_text(search: Search, answers: Sequence[questions.Answer], printer: Pri
         printer.line(printer.styled("NOT TO BE TRUSTED: %s" % text, Style.bad))
     printer.line(covered_text(search))
     if not reasons:
-        mark = "COMPLETE " if search.limited else "COMPLETE: "
+        mark = "COMPLETE " if search.lengths_met else "COMPLETE: "
         printer.line(printer.styled(mark + questions.covered(search), Style.good if not number else Style.heading))
     else:
         printer.line("not complete: %s" % "; ".join(reasons))

@@ -31,7 +31,7 @@ def find_verify(run: Run, symbols: Symbols, variables: Variables, options: Verif
     search = strategy.result()
     search.is_cut = is_cut
     strategy.confirm(search)
-    search.not_confirmed = sum(not it.answer for it in search.found.values())
+    search.not_confirmed = sum(not it.answer for it in search.findings.values())
     return search
 
 
