@@ -1,4 +1,4 @@
-"""Takes inputs for the subcommand `inputs` from z3. With such inputs a trace takes a branch the other way, or an access reaches the border of its
+"""Proposes inputs to the subcommand `inputs`, by z3. With such inputs a trace takes a branch the other way, or an access reaches the border of its
 object.
 
 A *trace* is a run of `inputs` with some changed inputs. Its path is executed with the bytes of the window as expressions. Each byte has one value in

@@ -8,7 +8,7 @@ from rvlook.symbolic.words import RULES, bool_, may_of, not_, operation
 
 
 def eq(x: Word, y: Word) -> Condition:
-    """Returns whether two words are equal."""
+    """Returns the condition that two words are equal."""
     if type(x) is int:
         if type(y) is int:
             return x == y
@@ -19,7 +19,7 @@ def eq(x: Word, y: Word) -> Condition:
 
 
 def equals_number(x: Node, y: int) -> Condition:
-    """Returns whether a node has a value."""
+    """Returns the condition that a node has a value."""
     if y & ~x.may:
         return False
     op, last = x.op, x.args[-1]
@@ -40,9 +40,11 @@ def equals_number(x: Node, y: int) -> Condition:
 
 
 def divided(condition: Node, one: Condition, two: Condition) -> Optional[Condition]:
-    """Returns whether one condition holds, or another if `c` does not hold; None if neither of them is known."""
+    """Returns the condition `one` if `condition` holds, else `two`. Returns None if both are nodes."""
     if type(one) is bool and type(two) is bool:
-        return one if one == two else condition if one else not_(condition)
+        if one == two:
+            return one
+        return condition if one else not_(condition)
     if type(one) is bool:
         return any_of(condition, two) if one else all_of(not_(condition), two)
     if type(two) is bool:
@@ -51,7 +53,7 @@ def divided(condition: Node, one: Condition, two: Condition) -> Optional[Conditi
 
 
 def word_equals(x: Node, y: int) -> Condition:
-    """Returns whether a word of bytes has a value: the constant bytes decide at once."""
+    """Returns the condition that a word of bytes has a value. A constant byte that differs decides it."""
     wanted = [y >> 8 * n & 255 for n in range(4)]
     if any(type(part) is int and part != expected for part, expected in zip(x.args, wanted)):
         return False
@@ -60,7 +62,7 @@ def word_equals(x: Node, y: int) -> Condition:
 
 
 def equals_node(x: Node, y: Node) -> Condition:
-    """Returns whether two nodes are equal."""
+    """Returns the condition that two nodes are equal."""
     last = x.args[-1]
     if x.op == y.op:
         if x.op == "mul" and type(last) is int and last & 1 and last == y.args[1]:
@@ -100,7 +102,7 @@ def unshifted(y: int, n: int) -> int:
 
 
 def ult(x: Word, y: Word) -> Condition:
-    """Returns whether a word is below another, without signs."""
+    """Returns the condition that a word is less than another one, as unsigned numbers."""
     if type(x) is int and type(y) is int:
         return x < y
     if x is y:
@@ -131,7 +133,7 @@ def by_choice(compare: Callable[[Word, Word], Condition], x: Word, y: Word) -> O
 
 
 def lt(x: Word, y: Word) -> Condition:
-    """Returns whether a word is below another, with signs."""
+    """Returns the condition that a word is less than another one, as signed numbers."""
     if type(x) is int and type(y) is int:
         return signed(x) < signed(y)
     if x is y:
@@ -170,12 +172,17 @@ def distinct(conditions: List[Node]) -> List[Node]:
 
 
 def bound_of(condition: Node) -> Tuple[Any, int]:
-    """Returns what a condition bounds, and a number that is the greater the stricter it is."""
-    compared, is_not = (condition.args[0], True) if condition.op == "not" else (condition, False)
-    if compared.op == "ult" and type(compared.args[0]) is int:  # a < x, or x <= a
-        return (compared.args[1], is_not), -compared.args[0] if is_not else compared.args[0]
-    if compared.op == "ult" and type(compared.args[1]) is int:  # x < a, or a <= x
-        return (compared.args[0], not is_not), compared.args[1] - 1 if is_not else 1 - compared.args[1]
+    """Returns what a condition bounds, a word and whether from above, and a number that is the greater the stricter the bound is. Returns the
+    condition and 0 for another condition."""
+    is_not = condition.op == "not"
+    compared = condition.args[0] if is_not else condition
+    if compared.op != "ult":
+        return condition, 0
+    low, high = compared.args
+    if type(low) is int:  # low < word, or word <= low
+        return (high, is_not), -low if is_not else low
+    if type(high) is int:  # word < high, or high <= word
+        return (low, not is_not), high - 1 if is_not else 1 - high
     return condition, 0
 
 
@@ -185,12 +192,12 @@ def any_of(*conditions: Condition) -> Condition:
 
 
 def differ(x: Word, y: Word) -> Condition:
-    """Returns whether two words differ."""
+    """Returns the condition that two words differ."""
     return not_(eq(x, y))
 
 
 def within(x: Word, low: int, last: int) -> Condition:
-    """Returns whether a word is from `low` up to `last`."""
+    """Returns the condition that a word is from `low` up to `last`."""
     if last < low:
         return False
     if type(x) is Node and x.op == "add" and type(x.args[1]) is int:
@@ -201,7 +208,8 @@ def within(x: Word, low: int, last: int) -> Condition:
 
 
 def overlap(x: Word, width: int, y: Word, size: Word) -> Condition:
-    """Returns whether two accesses have a byte in common. The size of the second may be an expression: its end."""
+    """Returns the condition that two accesses have a byte in common. The first begins at `x` and has `width` bytes. The second begins at `y` and has
+    `size` bytes; if `size` is an expression, it is the end of the second."""
     if type(size) is Node:
         return all_of(not_(ult(operation("add", x, width - 1), y)), ult(x, size))
     distance = operation("add", operation("sub", x, y), width - 1)
@@ -212,10 +220,10 @@ class Table:
     """The bytes of an object that is read at an index."""
 
     def __init__(self, content: Tuple[Byte, ...]) -> None:
-        self.content = content
+        self.content = content  # from the first byte of the object on
 
 
-tables: Dict[Tuple[Byte, ...], Table] = {}
+tables: Dict[Tuple[Byte, ...], Table] = {}  # all tables, by content
 
 
 def element(at: Word, low: int, content: Tuple[Byte, ...]) -> Byte:
@@ -238,7 +246,7 @@ def is_same(x: Byte, y: Byte) -> bool:
 
 
 def choice8(condition: Condition, x: Byte, y: Byte) -> Byte:
-    """Returns one byte or another."""
+    """Returns the byte `x` if a condition holds, else `y`."""
     if type(condition) is bool:
         return x if condition else y
     if is_same(x, y):

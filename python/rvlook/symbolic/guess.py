@@ -15,27 +15,34 @@ MOST_INVERTED = 60  # operations that are inverted one after another
 
 
 def solutions(question: Node, model: Model, memo: Dict[Node, Any], is_far: bool = False) -> Iterator[Part]:
-    """Yields values of variables for which a condition may hold. The caller evaluates it. If `is_far`, values that are larger by some steps come
-    early: a loop that goes on for one more round then goes on for several."""
-    question_part, is_not = (question.args[0], True) if question.op == "not" else (question, False)
-    if question_part.op == "and1":
-        yield from parts_of_conjunction(question_part, is_not, model, memo, is_far)
-    elif question_part.op in COMPARISONS:
-        x, y = question_part.args
-        if question_part.op == "eq8" and x.op == "byte" and x.args[0].op == "or":
+    """Yields values of variables for which a condition may hold. The caller evaluates the condition. `model` has the present values of all variables,
+    and `memo` the values of nodes in it. With `is_far`, values that are larger by some steps come early: a loop that goes on for one more round then
+    goes on for several."""
+    is_not = question.op == "not"
+    compared = question.args[0] if is_not else question
+    if compared.op == "and1":
+        yield from parts_of_conjunction(compared, is_not, model, memo, is_far)
+    elif compared.op in COMPARISONS:
+        x, y = compared.args
+        if compared.op == "eq8" and x.op == "byte" and x.args[0].op == "or":
             x = x.args[0]
-        if not is_not and type(y) is int and not y and x.op == "or":
+        if not is_not and type(y) is int and y == 0 and x.op == "or":
             yield zeros(x, model, memo)
         for one, two in ((x, y), (y, x)):
-            if type(one) is Node:
-                value, step = evaluate(two, model, memo), may_of(one) & -may_of(one)
-                further = (value + LEAP * step,) if is_far else ()
-                targets = (value, *further, value + step, value - step, value ^ FLIPPED & may_of(one))
-                yield from (part for part in (inverse(one, target & M32, model, memo) for target in targets) if part)
+            if type(one) is not Node:
+                continue
+            value = evaluate(two, model, memo)
+            step = may_of(one) & -may_of(one)  # the least distance between two values
+            further = (value + LEAP * step,) if is_far else ()
+            for target in (value, *further, value + step, value - step, value ^ FLIPPED & may_of(one)):
+                part = inverse(one, target & M32, model, memo)
+                if part:
+                    yield part
 
 
 def parts_of_conjunction(node: Node, is_not: bool, model: Model, memo: Dict[Node, Any], is_far: bool) -> Iterator[Part]:
-    """Yields values for which all parts of a conjunction may hold, or for which one may not."""
+    """Yields values for which all parts of a conjunction may hold; if `is_not`, values for which one of them may not hold. The other arguments are
+    those of `solutions`."""
     if is_not:
         for part in node.args:
             yield from solutions(part.args[0] if part.op == "not" else not_(part), model, memo, is_far)
@@ -64,7 +71,7 @@ def zeros(x: Node, model: Model, memo: Dict[Node, Any]) -> Part:
         pairs = ((leaf.args[0], leaf.args[1]), (leaf.args[1], leaf.args[0])) if leaf.op == "xor" else ((leaf, 0),)
         known = {} if chosen else memo
         found = (inverse(one, evaluate(two, values, known), values, known) for one, two in pairs if type(one) is Node)
-        chosen.update(next((it for it in found if it), {}))
+        chosen.update(next((part for part in found if part), {}))
     return chosen
 
 

@@ -52,7 +52,8 @@ def make(op: str, args: Tuple[Any, ...], may: int = M32) -> Node:
     key = (op, args)
     node = known.get(key)
     if node is None:
-        taint, weight = 0, 1
+        taint = 0
+        weight = 1
         for operand in args:
             if type(operand) is Node:
                 taint |= operand.taint
