@@ -1,4 +1,7 @@
-"""Conditions: equality with inverses of bijections, conjunctions, tables that are read at an index, and choices."""
+"""Conditions on words, simplified as they are made. Also makes tables, which are read at an index, and choices of bytes.
+
+An equation is simplified by the inverses of operations that are bijections: x + 3 == 5 becomes x == 2. `nodes` has a list of all operations. `x.may`
+are the bits of a node x that may be set, so it is also the largest value that x may have."""
 from __future__ import annotations
 
 from typing import Any, Callable, Dict, List, Optional, Tuple
@@ -94,7 +97,7 @@ def is_shifted(x: Node) -> bool:
 
 
 def unshifted(y: int, n: int) -> int:
-    """Returns the x for which x ^ x >> n is y."""
+    """Returns the number x for which x ^ x >> n is y."""
     x = y
     for _ in range(32 // n + 1):
         x = y ^ x >> n
@@ -124,7 +127,8 @@ def ult(x: Word, y: Word) -> Condition:
 
 
 def by_choice(compare: Callable[[Word, Word], Condition], x: Word, y: Word) -> Optional[Condition]:
-    """Returns a comparison of a choice with a number, if at least one of the two cases is known; else None."""
+    """Returns a comparison of a choice with a number, if at least one of the two cases is known; else None. `compare` makes the comparison of two
+    words."""
     if type(y) is int and x.op == "ite":
         return divided(x.args[0], compare(x.args[1], y), compare(x.args[2], y))
     if type(x) is int and y.op == "ite":
@@ -241,7 +245,7 @@ def element(at: Word, low: int, content: Tuple[Byte, ...]) -> Byte:
 
 
 def is_same(x: Byte, y: Byte) -> bool:
-    """Returns whether two bytes are the same number or the same node."""
+    """Returns whether two bytes are equal numbers, or the same object."""
     return x is y or type(x) is int and type(y) is int and x == y
 
 

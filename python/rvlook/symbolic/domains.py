@@ -1,4 +1,4 @@
-"""Conditions on one byte alone: the values that it may have, by trying all of them. The answer is exact, so no solver is needed."""
+"""Decides conditions on one byte alone: tries all 256 values of the byte. The answer is exact, so no solver is needed."""
 from __future__ import annotations
 
 from typing import Any, Dict, List, Optional, Sequence, Tuple

@@ -36,7 +36,7 @@ def evaluate(node: Word, model: Model, memo: Dict[Node, Any]) -> Any:
 
 
 def step(node: Node, memo: Dict[Node, Any], stack: List[Node]) -> None:
-    """Notes the value of a node if those of its operands are known, else adds one of them to the stack."""
+    """Adds the value of a node to `memo` if the values of its operands are known, else adds one of the operands to the stack."""
     values = []
     for operand in node.args:
         if type(operand) is Node:
@@ -51,7 +51,7 @@ def step(node: Node, memo: Dict[Node, Any], stack: List[Node]) -> None:
 
 
 def table_operand(node: Node, memo: Dict[Node, Any]) -> Optional[Node]:
-    """Returns an operand of a table whose value is not known yet: the address, or the byte there."""
+    """Returns an operand of a table node whose value is not in `memo` yet: the address, or the byte there. Returns None if both are known."""
     at, low, table = node.args
     if type(at) is Node and at not in memo:
         return at
@@ -61,7 +61,7 @@ def table_operand(node: Node, memo: Dict[Node, Any]) -> Optional[Node]:
 
 
 def table_value(node: Node, memo: Dict[Node, Any]) -> int:
-    """Returns the byte of a table at its address; 0 outside."""
+    """Returns the byte of a table node at its address; 0 outside. `memo` has the values of its operands."""
     at, low, table = node.args
     index = (memo[at] if type(at) is Node else at) - low & M32
     content_byte = table.content[index] if index < len(table.content) else 0

@@ -15,7 +15,7 @@ if TYPE_CHECKING:
     from rvlook.symbolic.history import Join
     from rvlook.symbolic.search import Search
 
-SSTATUS = 0x100  # numbers of control and status registers of S-mode (Privileged ISA)
+SSTATUS = 0x100  # the numbers of the control and status registers of S-mode (Privileged ISA)
 STVEC = 0x105
 SSCRATCH = 0x140
 SEPC = 0x141

@@ -57,7 +57,8 @@ def parts_of_conjunction(node: Node, is_not: bool, model: Model, memo: Dict[Node
 
 
 def zeros(x: Node, model: Model, memo: Dict[Node, Any]) -> Part:
-    """Returns values for which each part of an or is zero: a comparison of many bytes."""
+    """Returns values of variables for which each part of an or is 0, as in a comparison of many bytes. `model` and `memo` are those of
+    `solutions`."""
     chosen: Part = {}
     leaves: List[Word] = [x]
     while leaves:
@@ -76,8 +77,8 @@ def zeros(x: Node, model: Model, memo: Dict[Node, Any]) -> Part:
 
 
 def inverse(node: Word, value: int, model: Model, memo: Dict[Node, Any]) -> Optional[Part]:
-    """Returns values of variables for which a node has a value, or None if it is not that simple: the results of a hash are not. A choice keeps to
-    its side, and an index to its value."""
+    """Returns values of variables for which a node has a value, or None if they are not that simple to find, as for the result of a hash. A choice
+    keeps to its side, and an index keeps its value. `model` and `memo` are those of `solutions`."""
     for _ in range(MOST_INVERTED):
         if type(node) is int:
             return {} if node == value else None
@@ -100,7 +101,8 @@ def inverse(node: Word, value: int, model: Model, memo: Dict[Node, Any]) -> Opti
 
 
 def inner(node: Node, value: int, model: Model, memo: Dict[Node, Any]) -> Optional[Tuple[Word, int]]:
-    """Returns an operand and its value for which a node has a value, with the present values of the other operands; or None."""
+    """Returns an operand, and a value of it for which a node has a value while the other operands keep their values; or None. `model` and `memo` are
+    those of `solutions`."""
     op, args = node.op, node.args
     if op in ("ite8", "ite"):
         return args[1] if evaluate(args[0], model, memo) else args[2], value
@@ -132,7 +134,7 @@ def inner(node: Node, value: int, model: Model, memo: Dict[Node, Any]) -> Option
 
 
 def joined(one: Optional[Part], two: Optional[Part]) -> Optional[Part]:
-    """Returns the values of two parts, or None if they contradict each other."""
+    """Returns the values of variables in two parts together. Returns None if one part is None, or if the parts contradict each other."""
     if one is None or two is None or any(one.get(name, value) != value for name, value in two.items()):
         return None
     return {**one, **two}

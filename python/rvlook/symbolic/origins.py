@@ -37,7 +37,7 @@ Tag = Optional[Origin]  # None for a word that is no pointer, as far as is known
 
 
 def known(tag: Tag) -> Tag:
-    """Returns an origin, or None for the mark of a word that is no pointer."""
+    """Returns an origin as the tag of a register: None for NO_ORIGIN, which only words in memory have."""
     return None if tag is NO_ORIGIN else tag
 
 

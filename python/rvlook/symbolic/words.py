@@ -1,4 +1,6 @@
-"""Words and bytes as expressions, simplified as they are made: bytes of words, and the bits that may be set."""
+"""Words and bytes as expressions, simplified as they are made. `nodes` has a list of all operations.
+
+`x.may` are the bits of a node x that may be set, so it is also the largest value that x may have."""
 from __future__ import annotations
 
 from typing import Any, Callable, Dict, Optional, Tuple
