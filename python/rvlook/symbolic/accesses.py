@@ -37,8 +37,8 @@ class Accesses(Paths):
 
     def anchored(self, tag: Tag, value: Word, offset: int) -> Tag:
         """Returns the origin of the sum of a register and an offset, which goes to another register. `value` is that of the register, and `tag` its
-        origin. If the register has the address of a variable, and another variable or member begins exactly at the sum, this is the origin of the
-        sum: compilers address several variables and members from one of them."""
+        origin. The sum gets an origin of its own if the register has the address of a variable, and another variable or member begins exactly at the
+        sum. Compilers address several variables and members from one of them."""
         if tag is None or tag.how is not How.SYMBOL or tag.call != self.call or value != tag.base or not offset:
             return tag
         extents = self.search.extents

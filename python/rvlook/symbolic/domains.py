@@ -74,8 +74,8 @@ class Domains:
         return found
 
     def answer(self, conditions: Sequence[Node]) -> Tuple[Optional[bool], Dict[Node, int]]:
-        """Returns True if all conditions are about one byte each and can hold, with the sets of values: for each byte, a condition about it with the
-        values for which all conditions about it hold. Returns False if the conditions about some byte contradict each other, and otherwise None."""
+        """Returns True if all conditions are about one byte each and can hold. The sets of values are those for which all conditions about a byte
+        hold, each with one of these conditions. Returns False if the conditions about some byte contradict each other, and otherwise None."""
         sets: Dict[int, Tuple[Node, int]] = {}  # a condition and the values of a byte, by the mask of its variable
         is_whole = True
         for part in parts_of(conditions):

@@ -74,8 +74,8 @@ def form_of(fact: Fact) -> Fact:
 
 
 def active(facts: Sequence[Fact]) -> List[Fact]:
-    """Returns the facts that no others imply: of the bounds of one word only the least, and of facts about two words only those that do not follow
-    from the bounds of the two."""
+    """Returns the facts that no others imply. If a word has several bounds, these include only the least. A fact about two words is left out if it
+    follows from their bounds."""
     others: List[Fact] = []
     least: Dict[Tuple[WordPlace, WordPlace, int], Fact] = {}  # the least bounds, by their words and their offset
     for fact in facts:

@@ -24,7 +24,7 @@ Origin = Tuple[int, ...]  # the pcs of the heads through which a path has come, 
 
 
 class Hints(NamedTuple):
-    """What is known about a head that was dropped, for the next head at its place. The loop around it has more states by then, so the same bytes
+    """The results for a head that was dropped, for the next head at its place. The loop around it has more states by then, so the same bytes
     differ again, and the same facts do not hold again."""
     unknown: FrozenSet[Place] = frozenset()  # the unknown bytes
     lost: FrozenSet[Fact] = frozenset()  # facts that did not hold, without bounds that are expressions

@@ -89,8 +89,8 @@ class LoopMerger(Merger):
         return is_changed
 
     def dead_places(self, state: State) -> Set[Place]:
-        """Returns the places of bytes that are not read before they are written: those of registers, of words that were popped from a stack, and in
-        user mode of what the next trap sets. They are unknown from the first path on."""
+        """Returns the places of bytes that are not read before they are written. They belong to registers, and to words that were popped from a
+        stack. In user mode the registers that the next trap sets are also dead. Dead bytes are unknown from the first path on."""
         live = self.search.indices.live(state.pc)
         names = ["x%d" % n for n in range(1, 32) if n != SP and n not in live]
         if not state.mode:
@@ -121,8 +121,8 @@ class LoopMerger(Merger):
         return content
 
     def complete_unknown_words(self, head: Head, state: State) -> bool:
-        """Makes all bytes of a word unknown if one of them may have any value and the path has computed the word: a carry reaches the other bytes in
-        a later round. Returns whether a cell changed."""
+        """Makes all bytes of a computed word unknown if one of them may have any value. A carry would reach the other bytes in a later round. Returns
+        whether a cell changed."""
         before = dict(head.cells)
         for at in self.candidates(head):
             present = self.present_word(state, at)
@@ -172,8 +172,8 @@ class LoopMerger(Merger):
         return is_changed
 
     def note_moving_loads(self, head: Head, state: State, moving: List[SymbolicFetch]) -> Tuple[bool, Dict[int, Tuple[int, int]]]:
-        """Adds the loads of a path that are at another place in each round to the range of a head: those at expressions (`moving`), and those of a
-        first round, which are at numbers. Returns whether the range changed, and all loads at numbers that are not in it."""
+        """Adds the loads of a path that are at another place in each round to the range of a head. These are the loads at expressions (`moving`). The
+        loads of a first round are at numbers. Returns whether the range changed, and all loads at numbers that are not in it."""
         fetched = {**head.fetched, **state.fetched}
         is_own = self.is_own(state)
         if not moving and not is_own:
@@ -294,8 +294,8 @@ class LoopMerger(Merger):
     # ---- whether the loop ends
 
     def rank(self, head: Head, state: State) -> None:
-        """Notes for a path which words change in one direction since it was at this head, and since it was at the head from which it comes and at
-        those around that one."""
+        """Notes for a path which words have changed in one direction. The changes count from the last time at this head, at the head from which the
+        path comes, and at the heads around that one."""
         if state.source_head is None:
             return
         source = state.source_head

@@ -64,9 +64,9 @@ class Loops:
         return merger, head
 
     def origin_of(self, state: State) -> Origin:
-        """Returns the pcs of the last heads through which a path has come, the last one first, if it enters a loop that has no loop inside and writes
-        no index. The merged state at such a head is divided by them: words that depend on each other come from there, such as the pointer and the
-        length of a copy."""
+        """Returns the pcs of the last heads through which a path has come, the last one first. Returns an empty tuple unless the path enters a loop
+        that has no loop inside and writes no index. The merged state at such a head is divided by them: words that depend on each other come from
+        there, such as the pointer and the length of a copy."""
         flow = self.search.flows.known.get(state.entry)
         if state.source_head is None or flow is None or not flow.is_innermost(state.pc) or self.search.indices.is_changed(state.entry, state.pc):
             return ()
@@ -87,9 +87,9 @@ class Loops:
 
     @staticmethod
     def turn(merged: Merged) -> Turn:
-        """Returns the key by which merged states are explored, the least first: whether it is a stop, whether there was a head at its place before,
-        and for a new place the depth of the loop, then the place in the program. Heads at a new place come first, and inner ones before those around
-        them: the search then knows what an inner loop changes before it explores the outer loop again."""
+        """Returns the key by which merged states are explored, the least first. It says whether the state is that of a stop, and whether there was a
+        head at its place before. The depth of a loop at a new place and the place in the program come next. Heads at a new place come first, and
+        inner ones before those around them: the search then knows what an inner loop changes before it explores the outer loop again."""
         if not isinstance(merged, Head):
             return True, False, 0, ()
         depth = 0 if merged.is_known else len(merged.turn)

@@ -1,15 +1,21 @@
 """Expressions over the inputs of the host and the bytes of secrets: a graph without duplicates.
 
 A word of 32 bits, a byte and a condition are each a number if they are constant, else a Node. A condition is a bool if it is constant. The *mask* of
-a node is the set of its variables: bit n stands for the variable with number n. These are the operations of nodes:
+a node is the set of its variables: bit n is set for the variable with number n. These are the operations of nodes:
 
-- "var": a variable, which is a byte; the operand is its name
-- the names of NUMBERS: an instruction on two words
-- "word": the word of four bytes, the lowest first; "byte": byte n of a word; "sx8", "sx16": one or two bytes as a word with their sign
-- "eq", "ult", "lt": a comparison of two words (equal, less unsigned, less signed); "eq8": two equal bytes
-- "not", "and1": the negation of a condition, and a conjunction; "bool": a condition as the word 0 or 1
-- "ite", "ite8": one of two words, or of two bytes, by a condition
-- "table": the byte at an address of an object: the address, the first address of the object, and a Table with its bytes"""
+- "var": a variable, which is a byte; the operand is its name.
+
+- The names of NUMBERS: an instruction on two words.
+
+- "word": the word of four bytes, the lowest first; "byte": byte n of a word; "sx8", "sx16": one or two bytes as a word with their sign.
+
+- "eq", "ult", "lt": a comparison of two words (equal, less unsigned, less signed); "eq8": the condition that two bytes are equal.
+
+- "not": the negation of a condition; "and1": a conjunction; "bool": a condition as the word 0 or 1.
+
+- "ite", "ite8": one of two words, or of two bytes, by a condition.
+
+- "table": the byte at an address of an object; the operands are the address, the first address of the object, and a Table with its bytes."""
 from __future__ import annotations
 
 from typing import Any, Dict, List, Optional, Tuple

@@ -22,8 +22,8 @@ MergedPlace = Union[int, str]  # a place in a merged state: the address of a byt
 
 
 def unknown_place(name: str) -> Optional[MergedPlace]:
-    """Returns the place of an unknown of a state that was merged at a stop, by the name of its variable: the address of a byte, or a byte of a
-    register such as "x10_0". Returns None for another variable."""
+    """Returns the place of an unknown of a state that was merged at a stop, by the name of its variable. The place is the address of a byte, or a
+    byte of a register such as "x10_0". Returns None for another variable."""
     if not name.startswith("u"):
         return None
     place = name.split("_", 2)[2]
@@ -31,8 +31,8 @@ def unknown_place(name: str) -> Optional[MergedPlace]:
 
 
 def merged_place(name: str) -> Optional[MergedPlace]:
-    """Returns the place of an unknown of a state that was merged at a stop, by the name of its variable: the address of a byte, or a register such as
-    "x10". Returns None for another variable."""
+    """Returns the place of an unknown of a state that was merged at a stop, by the name of its variable. The place is the address of a byte, or a
+    register such as "x10". Returns None for another variable."""
     place = unknown_place(name)
     return place.partition("_")[0] if isinstance(place, str) else place
 

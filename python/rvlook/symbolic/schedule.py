@@ -40,8 +40,8 @@ def place_of(flows: Flows, state: State, entry: int, call: int, pc: int) -> Posi
 
 
 def turn_of(flows: Flows, state: State) -> Position:
-    """Returns the place of the head of a loop, at which a path is, in the order in which loops are explored: after the loops that come before it in
-    the program, and before those inside it."""
+    """Returns the place of the loop at whose head a path is, in the order in which loops are explored. A loop comes after the loops before it in the
+    program, and before those inside it."""
     found: List[int] = []
     places = [(state.entry, state.pc), *((it.entry, it.back - 4) for it in state.open_calls())]
     for entry, pc in reversed(places):
@@ -75,7 +75,7 @@ class Schedule:
 
     def rarity(self, state: State) -> Position:
         """Counts a path, and returns how many paths have begun at its place. The place includes the values of index registers, and the value that the
-        path follows: a parser is at another place for each depth, and for each type of a field."""
+        path follows. A parser is at another place for each depth, and for each type of a field."""
         place = state.pc, state.context, *state.search.indices.values(state), state.value_followed
         self.begun[place] += 1
         return (self.begun[place],)

@@ -96,8 +96,8 @@ class Search(Judge):
         self.is_cut = False  # whether Ctrl-C ended the search
 
     def may_join(self) -> bool:
-        """Returns whether paths are joined. The search for rare branches needs single paths. So does the question `state`, which compares the states
-        of several stops of one path."""
+        """Returns whether paths are joined. The search for rare branches needs single paths. The question `state` also needs them: it compares the
+        states of several stops of one path."""
         if self.means.is_rare_first:
             return False
         return self.options.merges or not self.means.is_whole or self.activations < STATE_QUESTION

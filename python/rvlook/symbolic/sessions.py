@@ -19,7 +19,7 @@ ROUNDS = 40  # questions about all conditions at once, before each condition is 
 
 
 class Session:
-    """Conditions about which several questions are asked. Conditions that share no variables with any question are left out, and so are conditions
+    """Conditions for several questions. Conditions that share no variables with any question are left out, and so are conditions
     about results of a hash."""
 
     def __init__(self, solver: Solver, conditions: Sequence[Node], questions: Iterable[Word], model: Dict[str, int]) -> None:
@@ -58,8 +58,8 @@ class Session:
 
     def implied(self, wanted: Sequence[Condition], is_late: Callable[[], bool], strongest: Callable[[List[int]], List[int]] = list) -> List[bool]:
         """Returns which of the conditions `wanted` follow from those of the session. One question is about all of them, and each answer leaves out
-        those that do not hold. `strongest` returns those of some numbers of `wanted` from which the others follow. Nothing is asked once `is_late`
-        returns True. What was shown for the same conditions is not asked again: in the last pass, most paths arrive as they did before."""
+        those that do not hold. `strongest` returns those of some numbers of `wanted` from which the others follow. Stops as soon as `is_late` returns
+        True. A condition that was shown for the same conditions needs no question: in the last pass, most paths arrive as they did before."""
         shown = [condition is True or condition in self.all or condition in self.shown for condition in wanted]
         may_hold = [shown[n] or (condition is not False and bool(self.value_of(condition))) for n, condition in enumerate(wanted)]
         for _ in range(0 if is_late() else ROUNDS):
