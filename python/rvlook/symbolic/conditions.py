@@ -246,7 +246,7 @@ def element(at: Word, low: int, content: Tuple[Byte, ...]) -> Byte:
 
 def is_same(x: Byte, y: Byte) -> bool:
     """Returns whether two bytes are equal numbers, or the same object."""
-    return x is y or type(x) is int and type(y) is int and x == y
+    return x is y or (type(x) is int and type(y) is int and x == y)
 
 
 def choice8(condition: Condition, x: Byte, y: Byte) -> Byte:

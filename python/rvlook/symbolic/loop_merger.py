@@ -256,7 +256,7 @@ class LoopMerger(Merger):
         is_read = aligned in self.search.loaded
         if is_word and not is_read:
             self.search.unread.add(aligned)
-        return is_word and is_read or at in self.search.wanted_places
+        return (is_word and is_read) or at in self.search.wanted_places
 
     def widen(self, merged: Merged, state: State, dropped: Set[Fact]) -> None:
         """Drops the bounds of a word that this path would not keep if they were assumed in place of a bound that was dropped. The least bound that

@@ -156,7 +156,7 @@ class Solver:
         """Returns values of the variables of a question for which the question and the conditions hold, or None. `mask` has these variables."""
         names = names_of(mask)
         memo: Dict[Node, Any] = {}
-        if len(names) > MOST_NAMES and question.weight > HEAVY or is_long(question):
+        if (len(names) > MOST_NAMES and question.weight > HEAVY) or is_long(question):
             return None
         parts = list(islice(solutions(question, model, memo, self.is_far), MOST_SOLUTIONS))
         if len(names) <= MOST_NAMES:

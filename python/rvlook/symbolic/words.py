@@ -288,7 +288,7 @@ def choice(condition: Condition, x: Word, y: Word) -> Word:
         x = x.args[1]
     if type(y) is Node and y.op == "ite" and y.args[0] is condition:
         y = y.args[2]
-    if x is y or type(x) is int and type(y) is int and x == y:
+    if x is y or (type(x) is int and type(y) is int and x == y):
         return x
     if type(x) is int and type(y) is int and x | y == 1:
         return bool_(condition if x else not_(condition))

@@ -177,7 +177,7 @@ class World:
     def is_allowed(self, at: int, width: int) -> bool:
         """Returns whether the enclave may load and store `width` bytes at an address."""
         low, high = self.region
-        return low <= at and at + width <= high or self.window[0] <= at and at + width <= self.window[1]
+        return (low <= at and at + width <= high) or (self.window[0] <= at and at + width <= self.window[1])
 
 
 def bytes_at(bench: Bench, low: int, high: int) -> bytearray:
