@@ -193,10 +193,10 @@ def up_to_a_finding(monkeypatch, processor_clock):
 
     def report_and_end(self, *those):
         report(self, *those)
-        if self.found:
-            self.solver.until = 0
+        if self.findings:
+            self.solver.deadline = 0
     monkeypatch.setattr(Search, "report", report_and_end)
-    monkeypatch.setattr(Search, "is_late", lambda self: bool(self.found) or late(self))
+    monkeypatch.setattr(Search, "is_late", lambda self: bool(self.findings) or late(self))
 
 
 @pytest.fixture(scope="session")

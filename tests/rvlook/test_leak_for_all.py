@@ -62,7 +62,7 @@ def test_loaded_public_word_must_be_followed(bench, monkeypatch, capsys, words):
     """With a planted error: bytes that the enclave has stored to the window are those of the run."""
     def received(self, at, width, place):
         base = self.search.world.window[0]
-        return [self.winmem[at + n - base] for n in range(width)]
+        return [self.window_memory[at + n - base] for n in range(width)]
 
     monkeypatch.setenv("RVBENCH", bench)
     arguments = [str(it) for it in words(6, *KEY, *SHOWN[6])]

@@ -73,7 +73,7 @@ def random_window(rng, world):
 def trace_of(world, changes):
     """Runs the first activation on the bench with other bytes of the window; returns its pcs."""
     with world.run.replay() as replay:
-        replay.go(world.visits[0].position)
+        replay.go(world.own_activations[0].position)
         replay.bench.ask(*["poke %x %02x" % it for it in changes.items()])
         lines = replay.bench.block(b"step 1\n" * STEPS, STEPS).splitlines()
     pcs = [world.pc]
@@ -89,9 +89,9 @@ def runs_of(part, window, known):
     joined paths that the inputs may take. `known` has the results for parts."""
     if id(part) not in known:
         before = [({}, [])]
-        if part.past:
-            sides = ((part.past.one, True), (part.past.two, False))
-            before = [it for side, holds in sides for it in runs_of(side, window, known) if bool(evaluate(part.past.condition, it[0], {})) == holds]
+        if part.join:
+            sides = ((part.join.one, True), (part.join.two, False))
+            before = [it for side, holds in sides for it in runs_of(side, window, known) if bool(evaluate(part.join.condition, it[0], {})) == holds]
         known[id(part)] = [(loaded(model, part.loads, window), pcs + part.pcs) for model, pcs in before]
     return known[id(part)]
 
@@ -135,17 +135,17 @@ def test_each_random_run_is_an_explored_path(bench, monkeypatch, task):
 def one_round(self, here, model, other):
     """Leaves the other side of a branch to another path in its first round only."""
     key = self.pc, self.context
-    if not self.counts.get(key):
+    if not self.branch_counts.get(key):
         LEAVE(self, here, model, other)
-    self.counts[key] = 2
+    self.branch_counts[key] = 2
 
 
 LEAVE = Paths.leave_other_side
 PLANTED = {
-    "no question has an answer": (solver.Solver, "answered", lambda self, relevant, question, mask, model: (False, None)),
+    "no question has an answer": (solver.Solver, "decide", lambda self, relevant, question, mask, model: (False, None)),
     "a branch divides a path only once": (Paths, "leave_other_side", one_round),
     "no guess holds, and z3 finds nothing": (solver.Solver, "solve", lambda self, asts, names: (False, None)),
-    "a join keeps one path": (joins.Joins, "pair", lambda self, one, two: one),
+    "a join keeps one path": (joins.Joins, "join_pair", lambda self, one, two: one),
     "a join loses conditions": (joins, "rest_of", lambda c, a, b: [c])}
 
 
@@ -161,7 +161,7 @@ def is_lost(bench, monkeypatch, task):
 @pytest.mark.parametrize("name", PLANTED)
 def test_lost_path_is_noticed(bench, monkeypatch, name):
     monkeypatch.setattr(*PLANTED[name])
-    monkeypatch.setattr(solver.Solver, "guessed", solver.Solver.guessed if not name.startswith("no guess") else lambda *_: None)
+    monkeypatch.setattr(solver.Solver, "guess", solver.Solver.guess if not name.startswith("no guess") else lambda *_: None)
     assert any(is_lost(bench, monkeypatch, task) for task in TASKS)
 
 
@@ -170,9 +170,9 @@ def test_lost_path_is_noticed(bench, monkeypatch, name):
 class Stops(Search):
     """A search that keeps the state of each path at its first stop."""
 
-    def take_stop(self, state):
-        super().take_stop(state)
-        if not state.is_merged and not state.visit:
+    def merge_at_stop(self, state):
+        super().merge_at_stop(state)
+        if not state.is_merged and not state.activation:
             self.states = getattr(self, "states", []) + [(state.fork(state.pc), merge.key_of(state))]
 
 
@@ -233,7 +233,7 @@ def untainted(x):
 
 
 MERGE_ERRORS = {
-    "the first state is kept": (merge.Merger, "joined", forgetful), "a taint is dropped": (merge, "taint_and_values", untainted),
+    "the first state is kept": (merge.Merger, "join_cell", forgetful), "a taint is dropped": (merge, "taint_and_values", untainted),
     "a change is lost": (merge, "changed_bytes", lambda one, two, base: [])}
 
 
@@ -255,7 +255,7 @@ def doubtful_facts(bench, monkeypatch, task):
     world = world_of(bench, monkeypatch, task, 1)
     options = VerifyOptions(**{**OPTIONS, "seconds": 60, "merges": True, "activations": 0, "bound": 100})
     search = Stops(world, options, Means(loops_from=3))
-    search.joins, search.wanted = None, set(range(*world.region)) | {"x%d" % n for n in range(32)}
+    search.joins, search.wanted_places = None, set(range(*world.region)) | {"x%d" % n for n in range(32)}
     search.go(Progress())
     assert any(it.facts for it in search.merger.merged.values())
     found = []

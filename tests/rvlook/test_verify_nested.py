@@ -7,7 +7,7 @@ pytest.importorskip("z3", reason="python3-z3 is not installed")
 
 from rvlook.symbolic.facts import form_of
 from rvlook.symbolic.flow import Flows
-from rvlook.symbolic.loop_merger import Hints
+from rvlook.symbolic.heads import Hints
 from rvlook.symbolic.means import Means
 from rvlook.symbolic.memory import Memory
 from rvlook.symbolic.ranks import Edge, circular
@@ -33,7 +33,7 @@ def merged(bench, built, monkeypatch):
         strategy = Strategy(World(program.run, program.symbols, variables_of(str(path), program.setup.image), options), options)
         with Progress() as progress:
             for _ in range(MOST_STARTS):
-                search = strategy.another(Means(loops_from=1, is_rough=True))
+                search = strategy.add_search(Means(loops_from=1, is_rough=True))
                 late = search.is_late
                 search.is_late = lambda: is_enough(search) or late()
                 if not strategy.run(search, 1, progress).is_outgrown:
@@ -115,7 +115,7 @@ def test_only_heads_inside_with_no_other_sources_are_dropped():
     queue = [(None, it) for it in heads.values()]
     loops = Loops(SimpleNamespace(merge_queue=queue))
     loops.heads = {name: (SimpleNamespace(prefix=name), it) for name, it in heads.items()}
-    loops.begin_again("outer", heads["outer"])
+    loops.drop_inner_heads("outer", heads["outer"])
     assert sorted(loops.heads) == ["below", "entered", "next", "outer"] and loops.has_dropped
     assert [it for _, it in queue] == [heads[name] for name in ("outer", "entered", "below", "next")]
     assert heads["next"].sources == {"outer"} and heads["outer"].sources == {"", "outer"}

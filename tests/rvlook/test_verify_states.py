@@ -109,7 +109,7 @@ def rare_first(activations):
     """Returns a function that searches for rare branches alone."""
     def go(strategy, progress):
         from rvlook.symbolic.means import Means
-        strategy.run(strategy.another(Means(is_rare_first=True, is_far=activations == 1, merges=False, activations=activations)), 1, progress)
+        strategy.run(strategy.add_search(Means(is_rare_first=True, is_far=activations == 1, merges=False, activations=activations)), 1, progress)
     return go
 
 
@@ -118,7 +118,7 @@ def rare_first(activations):
 def test_rare_branches_find_a_planted_bug(bench, monkeypatch, elf, flags):
     program, what, activations = RARE[flags]
     search = searched(bench, monkeypatch, elf(program, *("-D" + it for it in flags)), 600, rare_first(activations))
-    assert {it.what for it in search.found.values()} == {what} and all(it.is_confirmed for it in search.found.values())
+    assert {it.what for it in search.findings.values()} == {what} and all(it.is_confirmed for it in search.findings.values())
 
 
 def test_each_index_and_value_is_a_place_of_its_own():
@@ -128,7 +128,7 @@ def test_each_index_and_value_is_a_place_of_its_own():
     schedule = Schedule(None, is_rare_first=True)
     for place in ((8, 0, 1), (8, 0, 1), (8, 0, 2), (8, 1, 1), (4, 0, 1)):
         pc, depth, target = place
-        schedule.add(SimpleNamespace(pc=pc, context=0, depth=depth, target=target, search=SimpleNamespace(indices=indices), place=place))
+        schedule.add(SimpleNamespace(pc=pc, context=0, depth=depth, value_followed=target, search=SimpleNamespace(indices=indices), place=place))
     assert [state.place for _ in range(5) for state in schedule.take()] == [(8, 0, 1), (8, 0, 2), (8, 1, 1), (4, 0, 1), (8, 0, 1)]
 
 
@@ -138,7 +138,7 @@ def test_loop_that_only_has_the_same_registers_is_not_confirmed(bench, monkeypat
     from rvlook.symbolic import endless, questions
     monkeypatch.setattr(endless, "rest_of", lambda state: ())
     search = searched(bench, monkeypatch, elf("verify_loops", "-DCOUNTED"), 20, rare_first(0))
-    assert [it.what for it in search.found.values()] == ["stuck"] and not any(it.is_confirmed for it in search.found.values())
+    assert [it.what for it in search.findings.values()] == ["stuck"] and not any(it.is_confirmed for it in search.findings.values())
     assert questions.untrusted(search)
 
 
@@ -150,12 +150,12 @@ def test_all_work_shares_one_deadline(bench, monkeypatch, elf):
     asked, replayed = [], []
     checked, go = Z3.checked, Replayer.go
     monkeypatch.setattr(Z3, "checked", lambda self, asts, timeout: asked.append(time.perf_counter() + timeout / 1000) or checked(self, asts, timeout))
-    monkeypatch.setattr(Replayer, "go", lambda self, *more, **named: replayed.append(self.until) or go(self, *more, **named))
+    monkeypatch.setattr(Replayer, "go", lambda self, *more, **named: replayed.append(self.deadline) or go(self, *more, **named))
     search = searched(bench, monkeypatch, elf("verify_parsers", "-DCBOR"), 4)
     ended = time.perf_counter()
     assert questions.gone(search) and not questions.is_complete(search)
-    (until,) = set(replayed)
-    assert asked and max(asked) < until and ended < until + 20
+    (deadline,) = set(replayed)
+    assert asked and max(asked) < deadline and ended < deadline + 20
 
 
 def test_replay_that_is_late_is_not_complete(bench, monkeypatch):
@@ -163,7 +163,7 @@ def test_replay_that_is_late_is_not_complete(bench, monkeypatch):
     from rvlook.symbolic import questions
     search = searched(bench, monkeypatch, EXAMPLES / "enclaves" / "adds" / "image", 60)
     assert questions.is_complete(search)
-    search.replayer.until, state = 0, search.first()
+    search.replayer.deadline, state = 0, search.first_state()
     state.step()
     search.replay(state, "exit")
     assert questions.gone(search) == ["the time is over before 1 paths were replayed"]
@@ -190,7 +190,7 @@ def test_search_without_a_doubt_goes_on_in_its_last_pass(monkeypatch, is_final, 
     runs, strategy = [], Strategy.__new__(Strategy)
     search = SimpleNamespace(loops=SimpleNamespace(is_final=is_final), undecided=undecided, is_outgrown=False)
     monkeypatch.setattr(Strategy, "is_done", lambda self: False)
-    monkeypatch.setattr(Strategy, "another", lambda self, means: search)
+    monkeypatch.setattr(Strategy, "add_search", lambda self, means: search)
     monkeypatch.setattr(Strategy, "run", lambda self, search, part, progress: runs.append(part) or search)
     strategy.search_merged(MERGED[0], .8, None)
     assert runs == [.8, 1][:count]

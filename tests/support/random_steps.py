@@ -115,9 +115,9 @@ class Program:
         world.memory[:4 * WORDS] = b"".join(it.to_bytes(4, "little") for it in self.words)
         world.memory[self.at - low:self.at - low + 256] = self.data
         search = Search(world, options())
-        search.later = search.left = search.answered = search.note_trap = search.take_stop = lambda *_: None
+        search.add_path = search.check_leaving = search.check_answer = search.note_trap = search.merge_at_stop = lambda *_: None
         search.report = search.doubt = search.check_target = lambda *_: None
-        state = search.first()
+        state = search.first_state()
         state.regs = self.regs[:]
         if self.is_symbolic:
             self.make_symbolic(state)
@@ -155,7 +155,7 @@ def on_bench(program):
     world = program.world
     if program.seed not in REPLIES:
         with world.run.replay() as replay:
-            replay.go(world.visits[0].position)
+            replay.go(world.own_activations[0].position)
             replay.bench.ask(*program.commands())
             asked = ["regs", "step 1", *("csr %x" % it for it in CSRS)]
             replies = replay.bench.ask(*asked * STEPS)

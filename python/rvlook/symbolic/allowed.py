@@ -13,11 +13,11 @@ WORD = 4  # bytes of an instruction, and of a place without a size
 
 
 class Allowed:
-    """The options --allow, each with its instructions."""
+    """The options --allow."""
 
     def __init__(self, texts: Sequence[str], symbols: Symbols, region: Tuple[int, int]) -> None:
-        self.pcs: Dict[str, FrozenSet[int]] = {it: instructions_of(it, symbols, region) for it in texts}
-        self.every = frozenset().union(*self.pcs.values())
+        self.pcs: Dict[str, FrozenSet[int]] = {text: instructions_of(text, symbols, region) for text in texts}  # of the instructions of each option
+        self.every = frozenset().union(*self.pcs.values())  # the pcs of the instructions of all options
 
     def has(self, pc: int) -> bool:
         """Returns whether an option names an instruction."""
@@ -29,7 +29,8 @@ class Allowed:
 
 
 def instructions_of(text: str, symbols: Symbols, region: Tuple[int, int]) -> FrozenSet[int]:
-    """Returns the instructions that PLACE, PLACE:BYTES or FILE:LINE names. Raises RvlookError if the enclave has none there."""
+    """Returns the pcs of the instructions that a text PLACE, PLACE:BYTES or FILE:LINE names. Raises RvlookError if the enclave has no instruction
+    there."""
     low, high = region
     if is_line(text, symbols):
         found = frozenset(pc for pc in range(low, high, WORD) if has_line(symbols, pc, text))
@@ -42,12 +43,12 @@ def instructions_of(text: str, symbols: Symbols, region: Tuple[int, int]) -> Fro
 
 
 def is_line(text: str, symbols: Symbols) -> bool:
-    """Returns whether a text is a file and a line: its first part is no place."""
+    """Returns whether a text is FILE:LINE: the part before the last colon is no place."""
     name, colon, line = text.rpartition(":")
     return bool(colon) and line.isascii() and line.isdigit() and symbols.address(name) is None
 
 
 def has_line(symbols: Symbols, pc: int, text: str) -> bool:
     """Returns whether an instruction belongs to a source line, also as a part of an inlined call there."""
-    lines = [it for it in (symbols.source(pc), symbols.caller(pc)) if it]
-    return any(it == text or it.endswith("/" + text) for it in lines)
+    lines = [line for line in (symbols.source(pc), symbols.caller(pc)) if line]
+    return any(line == text or line.endswith("/" + text) for line in lines)

@@ -14,9 +14,13 @@ if TYPE_CHECKING:
     from rvlook.symbolic.fields import AnyState as State
     from rvlook.symbolic.search import Search
 
-MOST_PLACES = 40  # words of one kind about which facts are learned
-LONGEST_ROW, NEAR = 16, 16  # elements of an array of bytes whose bounds are learned; bytes between two words whose sum is
-LONGEST_BOUND = 1000  # operations
+MOST_PLACES = 40  # words of one kind about which facts are proposed
+LONGEST_ROW = 16  # elements of an array of bytes or half-words about which facts are proposed
+NEAR = 16  # bytes between two words in memory about whose sum and order facts are proposed
+LONGEST_BOUND = 1000  # operations of a bound that is an expression
+LARGEST_SIZE = 4096  # bytes or elements of an object whose size may be a bound
+LARGEST_NUMBER = 2048  # the end of the positive immediates of an instruction
+WORD = 4  # bytes
 Assumed = Tuple[List[Node], Dict[str, int]]  # conditions, and values for which they hold
 
 
@@ -24,68 +28,80 @@ class Bounds:
     """The rules by which facts about the unknown words of merged states are found."""
 
     def __init__(self, search: Search) -> None:
-        self.search, self.extents = search, search.extents
+        self.search = search
+        self.extents = search.extents
         sizes = sizes_of(search.extents)
         self.limits = Limits(thresholds_of(numbers_of(search), sizes), sorted(sizes), self.are_ordered, self.is_near)
 
     def places(self, unknown: Sequence[Any]) -> List[WordPlace]:
-        """Returns the words to which unknown bytes belong: registers, words of memory, and bytes of small variables."""
-        found: Dict[WordPlace, None] = {}
+        """Returns the words to which unknown bytes belong: all registers, and at most 2 * MOST_PLACES words of memory and bytes of small variables.
+        `unknown` has the places of the bytes."""
+        registers: Dict[WordPlace, None] = {}
+        words: Dict[WordPlace, None] = {}
         stack = self.search.world.objects.stack
         for at in unknown:
             if isinstance(at, str):
                 if at.startswith("x"):
-                    found[at.split("_")[0]] = None
+                    registers[at.split("_")[0]] = None
                 continue
             member = self.extents.member(at) if at < stack else None
-            size = (member.element or member.size) if member else 4
-            if member and size < 4 and member.size <= LONGEST_ROW * size:
-                found["b%x" % at] = None
-            elif size >= 4:
-                found[at & -4] = None
-        registers: List[WordPlace] = [it for it in found if isinstance(it, str) and it.startswith("x")]
-        return registers + [it for it in found if it not in registers][:2 * MOST_PLACES]
+            size = (member.element or member.size) if member else WORD
+            if member and size < WORD and member.size <= LONGEST_ROW * size:
+                words["b%x" % at] = None
+            elif size >= WORD:
+                words[at & -4] = None
+        return [*registers, *list(words)[:2 * MOST_PLACES]]
 
     def is_near(self, x: WordPlace, y: WordPlace) -> bool:
         """Returns whether two words are close to each other in one variable."""
-        if not (isinstance(x, int) and isinstance(y, int) and abs(x - y) <= NEAR and max(x, y) < self.search.world.objects.stack):
+        if not isinstance(x, int) or not isinstance(y, int):
             return False
-        return self.extents.variable(x)[:2] == self.extents.variable(y)[:2]
+        if abs(x - y) > NEAR or max(x, y) >= self.search.world.objects.stack:
+            return False
+        return self.extents.variable(x).bounds == self.extents.variable(y).bounds
 
     def are_ordered(self, x: WordPlace, y: WordPlace) -> bool:
-        """Returns whether two words of the state that lasts may bound each other: variables of one word, or words that are close to each other."""
-        return self.is_near(x, y) or self.is_alone(x) and self.is_alone(y)
+        """Returns whether one of two words in memory may bound the other: two variables of one word, or words that are close to each other."""
+        return self.is_near(x, y) or (self.is_alone(x) and self.is_alone(y))
 
     def is_alone(self, x: WordPlace) -> bool:
         """Returns whether a word is a variable."""
         if not isinstance(x, int) or x >= self.search.world.objects.stack:
             return False
         extent = self.extents.variable(x)
-        return extent.high - extent.low <= 4
+        return extent.high - extent.low <= WORD
 
     def candidates(self, new: Sequence[WordPlace], others: Sequence[WordPlace], words: Words, tags: Dict[Any, Any], own: Optional[int]) -> List[Fact]:
-        """Returns what may hold for words that are not known any more, without long bounds such as results of a hash. `own` has the variables of the
-        loop, None outside a loop."""
-        bases = {at: it.base for at, it in tags.items() if it is not None and it.how in (How.SYMBOL, How.FRAME, How.MEMORY, How.UPPER)}
+        """Returns facts that may hold for words that became unknown (`new`), without long bounds such as results of a hash. `others` are the words to
+        which they may be related. `words` gives the values of words, and `tags` has their origins. `own` is the mask of the unknowns of a loop, on
+        which no bound may depend; None at a stop."""
+        bases = {at: tag.base for at, tag in tags.items() if tag is not None and tag.how in (How.SYMBOL, How.FRAME, How.MEMORY, How.UPPER)}
         found = candidates(new[:MOST_PLACES], others[:MOST_PLACES], words, bases, self.limits, own is not None)
-        return [it for it in found if type(it.bound) is not Node or it.bound.weight <= LONGEST_BOUND and not mask_of(it.bound) & (own or 0)]
+
+        def is_usable(bound: Any) -> bool:
+            return type(bound) is not Node or (bound.weight <= LONGEST_BOUND and not mask_of(bound) & (own or 0))
+        return [fact for fact in found if is_usable(fact.bound)]
 
     def holding(self, assumed: Assumed, facts: Sequence[Fact], words: Words) -> List[Fact]:
-        """Returns the facts that hold under conditions."""
-        return holding(self.search.solver, assumed[0], assumed[1], facts, words, self.search.is_late)
+        """Returns the facts that hold for all values for which some conditions hold. `words` gives the words of the facts."""
+        conditions, model = assumed
+        return holding(self.search.solver, conditions, model, facts, words, self.search.is_late)
 
     @staticmethod
     def conditions(facts: Sequence[Fact], words: Words) -> List[Node]:
-        """Returns facts as conditions."""
-        return [condition for condition in (condition_of(it, words) for it in active(facts)) if type(condition) is Node]
+        """Returns facts as conditions, without conditions that always hold. `words` gives the words of the facts."""
+        found = [condition_of(fact, words) for fact in active(facts)]
+        return [condition for condition in found if type(condition) is Node]
 
 
 def words_of(state: State) -> Words:
     """Returns the function that gives the words of a state."""
     def words(at: WordPlace) -> Word:
         if isinstance(at, int):
-            return state.load(at, 4, is_signed=False)
-        return state.regs[int(at[1:])] if at.startswith("x") else state.load(int(at[1:], 16), 1, is_signed=False)
+            return state.load(at, WORD, is_signed=False)
+        if at.startswith("x"):
+            return state.regs[int(at[1:])]
+        return state.load(int(at[1:], 16), 1, is_signed=False)
     return words
 
 
@@ -93,18 +109,22 @@ def words_of_cells(byte_at: Callable[[Any], Any]) -> Words:
     """Returns the function that gives the words of a merged state. `byte_at` gives its bytes."""
     def words(at: WordPlace) -> Word:
         if isinstance(at, int):
-            return word(*(byte_at(at + n) for n in range(4)))
-        return word(*(byte_at("%s_%d" % (at, n)) for n in range(4))) if at.startswith("x") else word(byte_at(int(at[1:], 16)), 0, 0, 0)
+            return word(*(byte_at(at + n) for n in range(WORD)))
+        if at.startswith("x"):
+            return word(*(byte_at("%s_%d" % (at, n)) for n in range(WORD)))
+        return word(byte_at(int(at[1:], 16)), 0, 0, 0)
     return words
 
 
 def numbers_of(search: Search) -> Set[int]:
-    """Returns the numbers that instructions of the enclave have."""
-    memory, found = search.world.memory, set()
+    """Returns the positive numbers with which instructions of the enclave compare or mask a register, or which they load into a register."""
+    memory = search.world.memory
+    found = set()
     for at in range(0, len(memory) - 3, 4):
         instruction = decode(int.from_bytes(memory[at:at + 4], "little"))
-        is_number = instruction.more in ("sltu", "slt", "and") or instruction.more == "add" and instruction.r1 == 0
-        if instruction.kind == "imm" and is_number and 0 < instruction.imm < 2048:
+        if instruction.kind != "imm" or not 0 < instruction.imm < LARGEST_NUMBER:
+            continue
+        if instruction.more in ("sltu", "slt", "and") or (instruction.more == "add" and instruction.r1 == 0):
             found.add(instruction.imm)
     return found
 
@@ -115,6 +135,8 @@ def sizes_of(extents: Extents) -> Set[int]:
     for symbol in extents.objects.own:
         if symbol.size and not symbol.is_function:
             found.add(symbol.size)
-    for start in extents.objects.fixed:
-        found |= {start.size, start.size // start.element if start.element else start.size}
-    return {n for n in found if n <= 4096}
+    for member in extents.objects.fixed:
+        found.add(member.size)
+        if member.element:
+            found.add(member.size // member.element)
+    return {size for size in found if size <= LARGEST_SIZE}

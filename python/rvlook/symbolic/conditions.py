@@ -1,4 +1,7 @@
-"""Conditions: equality with inverses of bijections, conjunctions, tables that are read at an index, and choices."""
+"""Conditions on words, simplified as they are made. Also makes tables, which are read at an index, and choices of bytes.
+
+An equation is simplified by the inverses of operations that are bijections: x + 3 == 5 becomes x == 2. `nodes` has a list of all operations. `x.may`
+are the bits of a node x that may be set, so it is also the largest value that x may have."""
 from __future__ import annotations
 
 from typing import Any, Callable, Dict, List, Optional, Tuple
@@ -8,7 +11,7 @@ from rvlook.symbolic.words import RULES, bool_, may_of, not_, operation
 
 
 def eq(x: Word, y: Word) -> Condition:
-    """Returns whether two words are equal."""
+    """Returns the condition that two words are equal."""
     if type(x) is int:
         if type(y) is int:
             return x == y
@@ -19,7 +22,7 @@ def eq(x: Word, y: Word) -> Condition:
 
 
 def equals_number(x: Node, y: int) -> Condition:
-    """Returns whether a node has a value."""
+    """Returns the condition that a node has a value."""
     if y & ~x.may:
         return False
     op, last = x.op, x.args[-1]
@@ -40,9 +43,11 @@ def equals_number(x: Node, y: int) -> Condition:
 
 
 def divided(condition: Node, one: Condition, two: Condition) -> Optional[Condition]:
-    """Returns whether one condition holds, or another if `c` does not hold; None if neither of them is known."""
+    """Returns the condition `one` if `condition` holds, else `two`. Returns None if both are nodes."""
     if type(one) is bool and type(two) is bool:
-        return one if one == two else condition if one else not_(condition)
+        if one == two:
+            return one
+        return condition if one else not_(condition)
     if type(one) is bool:
         return any_of(condition, two) if one else all_of(not_(condition), two)
     if type(two) is bool:
@@ -51,7 +56,7 @@ def divided(condition: Node, one: Condition, two: Condition) -> Optional[Conditi
 
 
 def word_equals(x: Node, y: int) -> Condition:
-    """Returns whether a word of bytes has a value: the constant bytes decide at once."""
+    """Returns the condition that a word of bytes has a value. A constant byte that differs decides it."""
     wanted = [y >> 8 * n & 255 for n in range(4)]
     if any(type(part) is int and part != expected for part, expected in zip(x.args, wanted)):
         return False
@@ -60,7 +65,7 @@ def word_equals(x: Node, y: int) -> Condition:
 
 
 def equals_node(x: Node, y: Node) -> Condition:
-    """Returns whether two nodes are equal."""
+    """Returns the condition that two nodes are equal."""
     last = x.args[-1]
     if x.op == y.op:
         if x.op == "mul" and type(last) is int and last & 1 and last == y.args[1]:
@@ -92,7 +97,7 @@ def is_shifted(x: Node) -> bool:
 
 
 def unshifted(y: int, n: int) -> int:
-    """Returns the x for which x ^ x >> n is y."""
+    """Returns the number x for which x ^ x >> n is y."""
     x = y
     for _ in range(32 // n + 1):
         x = y ^ x >> n
@@ -100,7 +105,7 @@ def unshifted(y: int, n: int) -> int:
 
 
 def ult(x: Word, y: Word) -> Condition:
-    """Returns whether a word is below another, without signs."""
+    """Returns the condition that a word is less than another one, as unsigned numbers."""
     if type(x) is int and type(y) is int:
         return x < y
     if x is y:
@@ -122,7 +127,8 @@ def ult(x: Word, y: Word) -> Condition:
 
 
 def by_choice(compare: Callable[[Word, Word], Condition], x: Word, y: Word) -> Optional[Condition]:
-    """Returns a comparison of a choice with a number, if at least one of the two cases is known; else None."""
+    """Returns a comparison of a choice with a number, if at least one of the two cases is known; else None. `compare` makes the comparison of two
+    words."""
     if type(y) is int and x.op == "ite":
         return divided(x.args[0], compare(x.args[1], y), compare(x.args[2], y))
     if type(x) is int and y.op == "ite":
@@ -131,7 +137,7 @@ def by_choice(compare: Callable[[Word, Word], Condition], x: Word, y: Word) -> O
 
 
 def lt(x: Word, y: Word) -> Condition:
-    """Returns whether a word is below another, with signs."""
+    """Returns the condition that a word is less than another one, as signed numbers."""
     if type(x) is int and type(y) is int:
         return signed(x) < signed(y)
     if x is y:
@@ -170,12 +176,17 @@ def distinct(conditions: List[Node]) -> List[Node]:
 
 
 def bound_of(condition: Node) -> Tuple[Any, int]:
-    """Returns what a condition bounds, and a number that is the greater the stricter it is."""
-    compared, is_not = (condition.args[0], True) if condition.op == "not" else (condition, False)
-    if compared.op == "ult" and type(compared.args[0]) is int:  # a < x, or x <= a
-        return (compared.args[1], is_not), -compared.args[0] if is_not else compared.args[0]
-    if compared.op == "ult" and type(compared.args[1]) is int:  # x < a, or a <= x
-        return (compared.args[0], not is_not), compared.args[1] - 1 if is_not else 1 - compared.args[1]
+    """Returns what a condition bounds, a word and whether from above, and a number that is the greater the stricter the bound is. Returns the
+    condition and 0 for another condition."""
+    is_not = condition.op == "not"
+    compared = condition.args[0] if is_not else condition
+    if compared.op != "ult":
+        return condition, 0
+    low, high = compared.args
+    if type(low) is int:  # low < word, or word <= low
+        return (high, is_not), -low if is_not else low
+    if type(high) is int:  # word < high, or high <= word
+        return (low, not is_not), high - 1 if is_not else 1 - high
     return condition, 0
 
 
@@ -185,12 +196,12 @@ def any_of(*conditions: Condition) -> Condition:
 
 
 def differ(x: Word, y: Word) -> Condition:
-    """Returns whether two words differ."""
+    """Returns the condition that two words differ."""
     return not_(eq(x, y))
 
 
 def within(x: Word, low: int, last: int) -> Condition:
-    """Returns whether a word is from `low` up to `last`."""
+    """Returns the condition that a word is from `low` up to `last`."""
     if last < low:
         return False
     if type(x) is Node and x.op == "add" and type(x.args[1]) is int:
@@ -201,7 +212,8 @@ def within(x: Word, low: int, last: int) -> Condition:
 
 
 def overlap(x: Word, width: int, y: Word, size: Word) -> Condition:
-    """Returns whether two accesses have a byte in common. The size of the second may be an expression: its end."""
+    """Returns the condition that two accesses have a byte in common. The first begins at `x` and has `width` bytes. The second begins at `y` and has
+    `size` bytes; if `size` is an expression, it is the end of the second."""
     if type(size) is Node:
         return all_of(not_(ult(operation("add", x, width - 1), y)), ult(x, size))
     distance = operation("add", operation("sub", x, y), width - 1)
@@ -212,10 +224,10 @@ class Table:
     """The bytes of an object that is read at an index."""
 
     def __init__(self, content: Tuple[Byte, ...]) -> None:
-        self.content = content
+        self.content = content  # from the first byte of the object on
 
 
-tables: Dict[Tuple[Byte, ...], Table] = {}
+tables: Dict[Tuple[Byte, ...], Table] = {}  # all tables, by content
 
 
 def element(at: Word, low: int, content: Tuple[Byte, ...]) -> Byte:
@@ -233,12 +245,12 @@ def element(at: Word, low: int, content: Tuple[Byte, ...]) -> Byte:
 
 
 def is_same(x: Byte, y: Byte) -> bool:
-    """Returns whether two bytes are the same number or the same node."""
-    return x is y or type(x) is int and type(y) is int and x == y
+    """Returns whether two bytes are equal numbers, or the same object."""
+    return x is y or (type(x) is int and type(y) is int and x == y)
 
 
 def choice8(condition: Condition, x: Byte, y: Byte) -> Byte:
-    """Returns one byte or another."""
+    """Returns the byte `x` if a condition holds, else `y`."""
     if type(condition) is bool:
         return x if condition else y
     if is_same(x, y):

@@ -1,4 +1,4 @@
-"""Conditions on one byte alone: the values that it may have, by trying all of them. The answer is exact, so no solver is needed."""
+"""Decides conditions on one byte alone: tries all 256 values of the byte. The answer is exact, so no solver is needed."""
 from __future__ import annotations
 
 from typing import Any, Dict, List, Optional, Sequence, Tuple
@@ -8,15 +8,14 @@ from rvlook.symbolic.nodes import M32, Node, mask_of, operands
 
 VALUES = 256  # of a byte
 LONGEST = 400  # operations of a condition that is tried, apart from those that were tried before
-ALL = (1 << VALUES) - 1
 
 
 class Domains:
-    """The values of bytes for which conditions hold, each a set of bits."""
+    """The values of bytes for which conditions hold. A set of values is a number: bit n is set if the value n is in the set."""
 
     def __init__(self) -> None:
         self.known: Dict[Node, List[Any]] = {}  # the values of a node, one for each value of its byte
-        self.sets: Dict[Node, int] = {}
+        self.sets: Dict[Node, int] = {}  # the values for which a condition holds
 
     def set_of(self, condition: Node) -> Optional[int]:
         """Returns the values of its byte for which a condition holds; None if it has not one byte, or is too long to be tried."""
@@ -26,14 +25,16 @@ class Domains:
             if not mask or mask & mask - 1 or not self.is_short(condition):
                 return None
             found = 0
-            for n, holds in enumerate(self.values(condition)):
-                found |= 1 << n if holds else 0
+            for value, holds in enumerate(self.values(condition)):
+                if holds:
+                    found |= 1 << value
             self.sets[condition] = found
         return found
 
     def is_short(self, condition: Node) -> bool:
         """Returns whether few operations of a condition have no values yet. An operation counts once, however often its result is used."""
-        new, stack = {condition}, [condition]
+        new = {condition}  # the operations without values
+        stack = [condition]
         while stack and len(new) <= LONGEST:
             more = [operand for operand in operands(stack.pop()) if operand not in self.known and operand not in new]
             new.update(more)
@@ -42,7 +43,8 @@ class Domains:
 
     def values(self, node: Node) -> List[Any]:
         """Returns the values of a node that depends on one byte, for each value of it."""
-        known, stack = self.known, [node]
+        known = self.known
+        stack = [node]  # nodes that need values, after their operands
         while stack:
             top = stack[-1]
             missing = [operand for operand in operands(top) if operand not in known]
@@ -72,9 +74,9 @@ class Domains:
         return found
 
     def answer(self, conditions: Sequence[Node]) -> Tuple[Optional[bool], Dict[Node, int]]:
-        """Returns whether conditions hold for some values, with the sets of values by byte, if all of them are about one byte each. Returns False
-        also if those about some byte contradict each other, and otherwise None."""
-        sets: Dict[int, Tuple[Node, int]] = {}
+        """Returns True if all conditions are about one byte each and can hold. The sets of values are those for which all conditions about a byte
+        hold, each with one of these conditions. Returns False if the conditions about some byte contradict each other, and otherwise None."""
+        sets: Dict[int, Tuple[Node, int]] = {}  # a condition and the values of a byte, by the mask of its variable
         is_whole = True
         for part in parts_of(conditions):
             own = self.set_of(part)
@@ -86,17 +88,23 @@ class Domains:
             if not left:
                 return False, {}
             sets[mask] = part, left
-        return (True if is_whole else None), {it: left for it, left in sets.values()}
+        return (True if is_whole else None), dict(sets.values())
 
 
 def parts_of(conditions: Sequence[Node]) -> List[Node]:
-    """Returns conditions with the parts of conjunctions one by one."""
+    """Returns conditions, with the parts of each conjunction in its place."""
     found: List[Node] = []
     for condition in conditions:
-        found += parts_of([operand for operand in condition.args if type(operand) is Node]) if condition.op == "and1" else [condition]
+        if condition.op == "and1":
+            found += parts_of([operand for operand in condition.args if type(operand) is Node])
+        else:
+            found.append(condition)
     return found
 
 
 def member_of(values: int, preferred: int) -> int:
-    """Returns a value of a set: the preferred one if it is in it, else the least."""
-    return preferred if values >> preferred & 1 else (values & -values).bit_length() - 1
+    """Returns a value of a set that is not empty: the preferred value if it is in the set, else the least value."""
+    if values >> preferred & 1:
+        return preferred
+    least_bit = values & -values
+    return least_bit.bit_length() - 1

@@ -4,7 +4,7 @@ Expressions are compared as they are. A loop whose state repeats only as numbers
 from __future__ import annotations
 
 from hashlib import blake2b
-from typing import Any, Dict, List, NamedTuple, Tuple, TYPE_CHECKING
+from typing import Any, Dict, List, NamedTuple, Set, Tuple, TYPE_CHECKING
 
 from rvlook.symbolic.fields import FINDING, Ended
 from rvlook.symbolic.words import plain
@@ -13,23 +13,23 @@ if TYPE_CHECKING:
     from rvlook.symbolic.fields import AnyState
     from rvlook.symbolic.search import Search
 
-TRIALS, TRIAL_STEPS = 8, 20000  # of a loop with numbers, to see whether it ends
+TRIALS = 8  # of a loop with the values of one model, to see whether it ends
+TRIAL_STEPS = 20000  # of each trial
 TRIED_AT = (8, 16, 32)  # rounds after which the first trials are made; the last one is made at the bound
 LONGEST = 2000  # steps of an endless loop that is noticed at the end of a long path
 
 
 class Mark(NamedTuple):
-    """The state of a path at a branch: its registers, the numbers of its inputs and activations, and the rest, or None if the registers were other
-    ones before."""
-    regs: List[Any]
-    counts: Tuple[int, int]
-    rest: Any
+    """The state of a path at a branch."""
+    regs: List[Any]  # x0 to x31
+    counts: Tuple[int, int]  # the numbers of inputs and of activations so far
+    rest: Any  # the rest of the state (`rest_of`); None if the registers were other ones the time before
 
 
 def rest_of(state: AnyState) -> Tuple[Any, ...]:
-    """Returns what a path has beside its registers: a digest of memory, the window as it is known, the mode, and the registers of mode S."""
+    """Returns the state of a path without x0 to x31: a digest of memory, the window as it is known, the mode, and the registers of S-mode."""
     digest = blake2b(state.mem).digest()
-    return digest, frozenset(state.sym.items()), frozenset(state.win.items()), state.mode, tuple(state.csr.values()), state.context
+    return digest, frozenset(state.sym.items()), frozenset(state.calm_window.items()), state.mode, tuple(state.csr.values()), state.context
 
 
 class Endless:
@@ -39,42 +39,48 @@ class Endless:
         self.search = search
 
     def at_branch(self, state: AnyState) -> None:
-        """Takes a path at a branch whose condition is an expression: reports it, and ends it, if its state is that of the last time. The memory is
-        compared only if the registers are the same."""
-        key, counts = (state.pc, state.context), (state.inputs, state.visit)
-        old = state.marks.get(key)
+        """Compares the state of a path at a branch on an expression with its state there the last time. If they are equal, reports and ends the path.
+        The memory is compared only if the registers are equal."""
+        key = state.pc, state.context
+        counts = state.input_count, state.activation
+        old = state.branch_states.get(key)
         if old is None or old.counts != counts or old.regs != state.regs:
-            state.marks[key] = Mark(state.regs[:], counts, None)
+            state.branch_states[key] = Mark(state.regs[:], counts, None)
             return
         rest = rest_of(state)
         if old.rest == rest and not state.is_merged and not self.search.is_trial:
-            self.found(state)
-        state.marks[key] = Mark(old.regs, counts, rest)
+            self.report_endless(state)
+        state.branch_states[key] = Mark(old.regs, counts, rest)
 
-    def found(self, state: AnyState) -> None:
+    def report_endless(self, state: AnyState) -> None:
         """Reports a path whose state repeats, and ends it."""
         self.search.report("stuck", state, "never returns", state.model)
         raise Ended(FINDING)
 
     def at_end(self, state: AnyState) -> None:
-        """Follows a long path for some steps: reports it if its state repeats."""
-        seen, counts, first = set(), (len(state.loads), len(state.answers)), state.pc
+        """Follows a long path for some steps. If its state repeats, reports and ends the path."""
+        seen: Set[Any] = set()  # the states at the first pc
+        first = state.pc
+        loads = len(state.loads)
+        answers = len(state.answers)
         for _ in range(LONGEST):
             if state.pc == first:
                 key = tuple(state.regs), rest_of(state)
-                if key in seen and (len(state.loads), len(state.answers)) == counts:
-                    self.found(state)
+                if key in seen and len(state.loads) == loads and len(state.answers) == answers:
+                    self.report_endless(state)
                 seen.add(key)
             state.step()
 
     def try_numbers(self, state: AnyState, tries: Dict[int, int]) -> None:
-        """Follows a loop with the values of one model: reports it if the state repeats without an input."""
+        """Follows a loop with the values of one model in a copy of a state. If the copy repeats without an input, reports the path. `tries` has the
+        number of trials of each loop, by pc."""
         search = self.search
-        if state.is_merged or search.is_trial or tries.get(state.pc, 0) >= TRIALS or ("stuck", state.pc) in search.found:
+        if state.is_merged or search.is_trial or tries.get(state.pc, 0) >= TRIALS or ("stuck", state.pc) in search.findings:
             return
         tries[state.pc] = tries.get(state.pc, 0) + 1
         trial: Any = state.fork(state.pc, is_again=True)
-        trial.regs, trial.csr = [state.value(x) for x in state.regs], {n: state.value(x) for n, x in state.csr.items()}
+        trial.regs = [state.value(word) for word in state.regs]
+        trial.csr = {number: state.value(word) for number, word in state.csr.items()}
         for at in list(trial.sym):
             trial.put(at, state.value(plain(trial.sym[at])))
         search.is_trial = True
@@ -89,7 +95,9 @@ class Endless:
 
     def repeats(self, trial: AnyState) -> bool:
         """Returns whether a state of numbers repeats without an input."""
-        seen, loads, first = set(), len(trial.loads), trial.pc
+        seen: Set[Any] = set()  # the states at the first pc
+        loads = len(trial.loads)
+        first = trial.pc
         for _ in range(TRIAL_STEPS):
             if trial.pc == first:
                 if self.search.is_late():

@@ -11,7 +11,8 @@ Model = Mapping[str, int]  # values of variables, by name
 
 
 def evaluate(node: Word, model: Model, memo: Dict[Node, Any]) -> Any:
-    """Returns the value of a node. `memo` has the values that are known for this model; it grows."""
+    """Returns the value of a node for the values of a model; 0 for a variable that the model does not have. `memo` has the values of nodes that are
+    known for this model; the function adds more."""
     if type(node) is not Node:
         return node
     if node in memo:
@@ -35,7 +36,7 @@ def evaluate(node: Word, model: Model, memo: Dict[Node, Any]) -> Any:
 
 
 def step(node: Node, memo: Dict[Node, Any], stack: List[Node]) -> None:
-    """Notes the value of a node if those of its operands are known, else adds one of them to the stack."""
+    """Adds the value of a node to `memo` if the values of its operands are known, else adds one of the operands to the stack."""
     values = []
     for operand in node.args:
         if type(operand) is Node:
@@ -50,7 +51,7 @@ def step(node: Node, memo: Dict[Node, Any], stack: List[Node]) -> None:
 
 
 def table_operand(node: Node, memo: Dict[Node, Any]) -> Optional[Node]:
-    """Returns an operand of a table whose value is not known yet: the address, or the byte there."""
+    """Returns an operand of a table node whose value is not in `memo` yet: the address, or the byte there. Returns None if both are known."""
     at, low, table = node.args
     if type(at) is Node and at not in memo:
         return at
@@ -60,7 +61,7 @@ def table_operand(node: Node, memo: Dict[Node, Any]) -> Optional[Node]:
 
 
 def table_value(node: Node, memo: Dict[Node, Any]) -> int:
-    """Returns the byte of a table at its address; 0 outside."""
+    """Returns the byte of a table node at its address; 0 outside. `memo` has the values of its operands."""
     at, low, table = node.args
     index = (memo[at] if type(at) is Node else at) - low & M32
     content_byte = table.content[index] if index < len(table.content) else 0
@@ -73,17 +74,27 @@ def value_of(op: str, values: Sequence[Any]) -> Any:
     return found(values) if found else concrete(op, values[0], values[1])
 
 
-VALUES: Dict[str, Any] = {
-    "word": lambda v: v[0] | v[1] << 8 | v[2] << 16 | v[3] << 24, "byte": lambda v: v[0] >> 8 * v[1] & 255, "eq": lambda v: v[0] == v[1],
-    "eq8": lambda v: v[0] == v[1], "ult": lambda v: v[0] < v[1], "lt": lambda v: signed(v[0]) < signed(v[1]), "not": lambda v: not v[0],
-    "and1": all, "bool": lambda v: int(v[0]), "sx8": lambda v: signed(v[0], 8) & M32, "sx16": lambda v: signed(v[0] | v[1] << 8, 16) & M32,
-    "ite8": lambda v: v[1] if v[0] else v[2], "ite": lambda v: v[1] if v[0] else v[2]}
+VALUES: Dict[str, Any] = {  # the value of an operation on the values `v` of its operands; `nodes.NUMBERS` has the operations on two words
+    "word": lambda v: v[0] | v[1] << 8 | v[2] << 16 | v[3] << 24,
+    "byte": lambda v: v[0] >> 8 * v[1] & 255,
+    "eq": lambda v: v[0] == v[1],
+    "eq8": lambda v: v[0] == v[1],
+    "ult": lambda v: v[0] < v[1],
+    "lt": lambda v: signed(v[0]) < signed(v[1]),
+    "not": lambda v: not v[0],
+    "and1": all,
+    "bool": lambda v: int(v[0]),
+    "sx8": lambda v: signed(v[0], 8) & M32,
+    "sx16": lambda v: signed(v[0] | v[1] << 8, 16) & M32,
+    "ite8": lambda v: v[1] if v[0] else v[2],
+    "ite": lambda v: v[1] if v[0] else v[2]}
 
 
 # ---- known values
 
 def rebuilt(node: Word, values: Mapping[Node, int], memo: Dict[Node, Any]) -> Any:
-    """Returns a node with values for some variables, simplified again. `memo` has what is known for these values; it grows."""
+    """Returns a node with values for some variables, simplified again. `memo` has the results that are known for these values; the function adds
+    more."""
     if type(node) is not Node:
         return node
     stack = [node]
@@ -103,7 +114,7 @@ def rebuilt(node: Word, values: Mapping[Node, int], memo: Dict[Node, Any]) -> An
 
 
 def remade(node: Node, memo: Mapping[Node, Any]) -> Any:
-    """Returns a node of the rebuilt operands."""
+    """Returns a node whose operands are rebuilt: `memo` has the results for them."""
     if node.op == "table":
         at, low, table = node.args
         at = memo[at] if type(at) is Node else at
@@ -117,16 +128,24 @@ def remade(node: Node, memo: Mapping[Node, Any]) -> Any:
     return maker(values) if maker else operation(node.op, *values)
 
 
-MAKERS: Dict[str, Any] = {
-    "word": lambda a: word(*a), "byte": lambda a: byte(*a), "eq": lambda a: eq(*a), "ult": lambda a: ult(*a), "lt": lambda a: lt(*a),
-    "eq8": lambda a: a[0] == a[1] if type(a[0]) is int else make("eq8", tuple(a), 1), "not": lambda a: not_(a[0]),
-    "and1": lambda a: all_of(*a), "bool": lambda a: bool_(a[0]), "sx8": lambda a: extended(a[0], 0, 1),
-    "sx16": lambda a: extended(a[0], a[1], 2), "ite8": lambda a: choice8(*a),
+MAKERS: Dict[str, Any] = {  # makes an operation of its operands `a`; `words.operation` makes the operations on two words
+    "word": lambda a: word(*a),
+    "byte": lambda a: byte(*a),
+    "eq": lambda a: eq(*a),
+    "eq8": lambda a: a[0] == a[1] if type(a[0]) is int else make("eq8", tuple(a), 1),
+    "ult": lambda a: ult(*a),
+    "lt": lambda a: lt(*a),
+    "not": lambda a: not_(a[0]),
+    "and1": lambda a: all_of(*a),
+    "bool": lambda a: bool_(a[0]),
+    "sx8": lambda a: extended(a[0], 0, 1),
+    "sx16": lambda a: extended(a[0], a[1], 2),
+    "ite8": lambda a: choice8(*a),
     "ite": lambda a: choice(*a)}
 
 
 def note_known(condition: Node, found: Dict[Node, int]) -> None:
-    """Adds the variables whose values a condition says."""
+    """Adds the variables to which a condition gives a value, with the values, to `found`."""
     if condition.op == "and1":
         for part in condition.args:
             note_known(part, found)
@@ -139,7 +158,8 @@ def note_known(condition: Node, found: Dict[Node, int]) -> None:
 
 
 def reduced(conditions: Sequence[Condition]) -> Tuple[Optional[List[Condition]], Dict[Node, int]]:
-    """Returns conditions with the values put in that they say, and these values; None for the conditions if they contradict each other."""
+    """Returns conditions in which the variables are replaced to which some of the conditions give a value, and these values. Returns None for the
+    conditions if they contradict each other."""
     values: Dict[Node, int] = {}
     left = list(conditions)
     while True:

@@ -12,25 +12,27 @@ if TYPE_CHECKING:
     from rvlook.symbolic.fields import AnyState as State
     from rvlook.symbolic.world import World
 
-Bounds = Tuple[int, int]  # first address, and end
+SP = 2  # the number of the register
+LARGEST_MEMBER = 65536  # bytes; a member that begins further before an address is not searched
+Bounds = Tuple[int, int]  # the first address, and the end
 
 
 class LocalVariable(NamedTuple):
-    """A local variable: the instructions from `first` up to before `end`, its offsets from sp (or from the end of the frame), and its name."""
-    first: int
-    end: int
-    is_sp: bool
-    low: int
-    high: int
+    """A local variable of a function."""
+    first: int  # the first instruction for which it is at this place
+    end: int  # the end of these instructions
+    is_sp: bool  # whether its offsets are from sp, and not from the end of the frame
+    low: int  # the offset of its first byte
+    high: int  # the offset of its end
     name: str
 
 
 class Extent(NamedTuple):
-    """An object: its bytes from `low` up to before `high`, its name, and whether an address is exactly where it begins."""
-    low: int
-    high: int
+    """An object, as it was found at an address."""
+    low: int  # its first address
+    high: int  # its end
     name: str
-    is_start: bool
+    is_start: bool  # whether the address is where the object, or one of its members, begins
 
     @property
     def bounds(self) -> Bounds:
@@ -43,21 +45,23 @@ class Extent(NamedTuple):
 
 
 class Frame(NamedTuple):
-    """A frame: the number of its call, sp, the sp of the caller (or the end of the stack), and the instruction that is executed in it."""
-    call: int
-    sp: int
-    top: int
-    pc: int
+    """The stack frame of a call."""
+    call: int  # the number of the call
+    sp: int  # its first address
+    top: int  # its end: sp of the caller, or the end of the stack
+    pc: int  # the present instruction of the call
 
 
 class Extents:
     """The objects of an enclave."""
 
     def __init__(self, world: World) -> None:
-        self.world, self.objects = world, world.objects
-        self.stacks: List[Stack] = [it for kind in stacks_of(world.symbols).values() for it in kind if world.region[0] <= it.bottom < world.region[1]]
+        self.world = world
+        self.objects = world.objects
+        low, high = world.region
+        self.stacks: List[Stack] = [stack for stacks in stacks_of(world.symbols).values() for stack in stacks if low <= stack.bottom < high]
         self.locals = variables_of(world.objects.locals)
-        self.member_starts = {it.at for it in self.objects.fixed}
+        self.member_starts = {member.at for member in self.objects.fixed}  # the addresses at which members of variables begin
         self.reaches: Dict[Member, int] = {}  # the size of the largest object that begins with a member
 
     def stack_of(self, sp: int) -> Bounds:
@@ -69,8 +73,9 @@ class Extents:
 
     def variable(self, at: int) -> Extent:
         """Returns the variable at an address of the region below the stacks: by its symbol, else the bytes between two symbols."""
-        symbol, starts = self.objects.symbol_at(at), self.objects.own_starts
-        index = bisect_right(starts, at)
+        symbol = self.objects.symbol_at(at)
+        starts = self.objects.own_starts
+        index = bisect_right(starts, at)  # of the next symbol
         end = starts[index] if index < len(starts) else self.objects.stack
         if symbol:
             high = symbol.address + symbol.size if symbol.size else end
@@ -81,8 +86,9 @@ class Extents:
 
     def member(self, at: int) -> Optional[Member]:
         """Returns the member of a variable at an address below the stacks, or None without DWARF."""
-        fixed, index = self.objects.fixed, bisect_right(self.objects.starts, at) - 1
-        while index >= 0 and fixed[index].at > at - 65536:
+        fixed = self.objects.fixed
+        index = bisect_right(self.objects.starts, at) - 1
+        while index >= 0 and fixed[index].at > at - LARGEST_MEMBER:
             if at < fixed[index].at + fixed[index].size:
                 return fixed[index]
             index -= 1
@@ -97,19 +103,24 @@ class Extents:
 
     def frames(self, state: State) -> Iterator[Frame]:
         """Yields the frames of a state, the innermost first."""
-        call, sp, pc = state.call, state.regs[2], state.pc
-        for it in state.open_calls():
-            yield Frame(call, sp, self.top_of(sp, it.sp), pc)
-            call, sp, pc = it.caller, it.sp, it.back - 4
+        call = state.call
+        sp = state.regs[SP]
+        pc = state.pc
+        for open_call in state.open_calls():
+            yield Frame(call, sp, self.top_of(sp, open_call.sp), pc)
+            call = open_call.caller
+            sp = open_call.sp
+            pc = open_call.back - 4
         yield Frame(call, sp, self.stack_of(sp)[1], pc)
 
-    def top_of(self, sp: int, callers: int) -> int:
+    def top_of(self, sp: int, caller_sp: int) -> int:
         """Returns the end of a frame: the sp of its caller, unless that is on another stack."""
         _, top = self.stack_of(sp)
-        return callers if sp <= callers <= top else top
+        return caller_sp if sp <= caller_sp <= top else top
 
     def at(self, state: State, at: int, origin: Optional[Origin]) -> Optional[Extent]:
-        """Returns the object at an address; None outside region and window, and where no frame is."""
+        """Returns the object at an address; None outside region and window, and between two frames. For a local variable, the instruction of an
+        origin decides which variable of the frame is there."""
         world = self.world
         if world.window[0] <= at < world.window[1]:
             return Extent(*world.window, name="the window", is_start=True)
@@ -119,38 +130,45 @@ class Extents:
             return self.variable(at)
         for frame in self.frames(state):
             if frame.sp <= at < frame.top:
-                return self.in_frame(state, at, frame, origin.pc if origin and origin.pc and origin.call == frame.call else frame.pc)
+                pc = frame.pc
+                if origin is not None and origin.pc and origin.call == frame.call:
+                    pc = origin.pc
+                return self.in_frame(state, at, frame, pc)
         return None
 
     def in_frame(self, state: State, at: int, frame: Frame, pc: int) -> Extent:
-        """Returns the local variable at an address in a frame, a saved register, or the bytes between these."""
+        """Returns the local variable at an address in a frame, a saved register, or the bytes between these. `pc` is the instruction that has
+        computed the address."""
         function = self.world.symbols.function(pc) or "%08x" % pc
-        low, high = frame.sp, frame.top
-        saved = state.search.saved.get(frame.call, ())
-        parts = [(n, n + 4, "a saved register of " + function) for n in saved]
-        for it in self.locals:
-            if it.first <= pc < it.end:
-                base = frame.sp if it.is_sp else frame.top
-                parts.append((base + it.low, base + it.high, "%s in %s" % (it.name, function)))
-        areas = [(it.low, it.high, "the variable-length array in " + function) for it in state.areas if it.call == frame.call]
-        for start, stop, name in parts + areas:
+        parts = [(saved, saved + 4, "a saved register of " + function) for saved in state.search.saved.get(frame.call, ())]
+        for variable in self.locals:
+            if variable.first <= pc < variable.end:
+                base = frame.sp if variable.is_sp else frame.top
+                parts.append((base + variable.low, base + variable.high, "%s in %s" % (variable.name, function)))
+        parts += [(area.low, area.high, "the variable-length array in " + function) for area in state.areas if area.call == frame.call]
+        for start, stop, name in parts:
             if start <= at < stop:
                 return Extent(start, stop, name, at == start)
-        for start, stop, _ in parts + areas:
-            low, high = (max(low, stop) if stop <= at else low), (min(high, start) if start > at else high)
+        low = max([frame.sp, *(stop for _, stop, _ in parts if stop <= at)])
+        high = min([frame.top, *(start for start, _, _ in parts if start > at)])
         return Extent(low, high, "the frame of " + function, is_start=False)
 
 
 def variables_of(members: Sequence[Local]) -> List[LocalVariable]:
-    """Returns the local variables as a whole: members of one variable are joined."""
-    found: Dict[Tuple[int, int, bool, str, int], Bounds] = {}
-    last: Dict[Tuple[int, int, bool, str], Tuple[int, int]] = {}
+    """Returns the local variables as a whole: members of one variable are joined. A variable with the same name as the one before is another variable
+    if it has no members, or if its offset is less than that of the member before."""
+    found: Dict[Tuple[int, int, bool, str, int], Bounds] = {}  # the offsets of each variable, by its instructions, its base, its name and a number
+    last: Dict[Tuple[int, int, bool, str], Tuple[int, int]] = {}  # the number of the last variable of a name, and the end of its last member
     for member in members:
-        name, at, size = member.member.name.partition(".")[0].partition("[")[0], member.member.at, member.member.size
+        full_name = member.member.name
+        name = full_name.partition(".")[0].partition("[")[0]
+        at = member.member.at
+        size = member.member.size
         key = member.first, member.end, member.is_sp, name
         number, end = last.get(key, (0, at))
-        if "." not in member.member.name and "[" not in member.member.name or at < end - size:
-            number += 1  # another variable of this name
+        is_whole = "." not in full_name and "[" not in full_name
+        if is_whole or at < end - size:
+            number += 1
         last[key] = number, at + size
         low, high = found.get((*key, number), (at, at + size))
         found[(*key, number)] = min(low, at), max(high, at + size)

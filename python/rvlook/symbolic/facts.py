@@ -19,23 +19,30 @@ if TYPE_CHECKING:
 WordPlace = Union[int, str]  # the address of a word, a register x1 to x31, or b and the address of a byte
 Words = Callable[[WordPlace], Word]
 Ranges = Dict[WordPlace, Tuple[int, int]]  # the least and the greatest number that a word may be
-MOST, LEAST, ORDER, BELOW, SUM, DIFFERENCE, TOTAL, ADDED = "most", "least", "order", "below", "sum", "difference", "total", "added"
-POWERS = tuple((1 << n) - 1 for n in (0, 1, 2, 3, 4, 5, 6, 7, 8, 9, 10, 12, 16, 31))
+MOST = "most"  # kinds of facts: x + offset <= bound,
+LEAST = "least"  # x >= bound,
+ORDER = "order"  # x <= y,
+BELOW = "below"  # x < y,
+SUM = "sum"  # x + y <= bound, without a carry,
+DIFFERENCE = "difference"  # x - y == bound,
+TOTAL = "total"  # x + y == bound,
+ADDED = "added"  # x == bound + the sum of the words `y`, each with its sign
+POWERS = tuple((1 << n) - 1 for n in (0, 1, 2, 3, 4, 5, 6, 7, 8, 9, 10, 12, 16, 31))  # bounds that are tried for each word
+LARGEST_BOUND = 1 << 16  # the end of the numbers of instructions and objects that may bound a word
 TIMEOUT = 2000  # milliseconds of a question about the facts of a state
 
 
 class Fact(NamedTuple):
-    """A fact. MOST: x + offset <= bound; LEAST: x >= bound; ORDER: x <= y; BELOW: x < y; SUM: x + y <= bound; DIFFERENCE and TOTAL: x - y and x + y
-    are bound; ADDED: x is bound and the sum of the words y, each with its sign."""
-    kind: str
-    x: WordPlace
-    y: Any = 0
-    offset: int = 0
-    bound: Any = 0
+    """A fact about words of a merged state."""
+    kind: str  # MOST, LEAST, ORDER, BELOW, SUM, DIFFERENCE, TOTAL or ADDED
+    x: WordPlace  # the place of the word
+    y: Any = 0  # the place of a second word; for ADDED, pairs of a place and a sign (1 or -1)
+    offset: int = 0  # a number that is added to x
+    bound: Any = 0  # a number or an expression
 
 
 def condition_of(fact: Fact, words: Words) -> Condition:
-    """Returns a fact as a condition on words."""
+    """Returns a fact as a condition. `words` gives the word at a place."""
     x = words(fact.x)
     if fact.kind == MOST:
         return not_(ult(fact.bound, operation("add", x, fact.offset)))
@@ -54,7 +61,7 @@ def condition_of(fact: Fact, words: Words) -> Condition:
 
 
 def sum_of(fact: Fact, words: Words) -> Word:
-    """Returns the sum to which a word is equal."""
+    """Returns the sum to which a word is equal by a fact of the kind ADDED. `words` gives the word at a place."""
     total: Word = fact.bound
     for at, sign in fact.y:
         total = operation("add" if sign > 0 else "sub", total, words(at))
@@ -67,30 +74,39 @@ def form_of(fact: Fact) -> Fact:
 
 
 def active(facts: Sequence[Fact]) -> List[Fact]:
-    """Returns the facts that others do not imply: of the bounds of one word only the least, and of two words only what their bounds leave open."""
-    found: List[Fact] = []
-    least: Dict[Tuple[WordPlace, WordPlace, int], Fact] = {}
+    """Returns the facts that no others imply. If a word has several bounds, these include only the least. A fact about two words is left out if it
+    follows from their bounds."""
+    others: List[Fact] = []
+    least: Dict[Tuple[WordPlace, WordPlace, int], Fact] = {}  # the least bounds, by their words and their offset
     for fact in facts:
         if fact.kind in (MOST, SUM) and type(fact.bound) is int:
             key = fact.x, fact.y if fact.kind == SUM else "", fact.offset
             if key not in least or fact.bound < least[key].bound:
                 least[key] = fact
         else:
-            found.append(fact)
-    left = [*least.values(), *found]
-    ranges, below = ranges_of(left), {(it.x, it.y) for it in found if it.kind == BELOW}
-    return [it for it in left if not (it.kind == ORDER and (it.x, it.y) in below or follows(it, ranges))]
+            others.append(fact)
+    left = [*least.values(), *others]
+    ranges = ranges_of(left)
+    below = {(fact.x, fact.y) for fact in others if fact.kind == BELOW}
+
+    def is_implied(fact: Fact) -> bool:
+        return (fact.kind == ORDER and (fact.x, fact.y) in below) or follows(fact, ranges)
+    return [fact for fact in left if not is_implied(fact)]
 
 
 def ranges_of(facts: Iterable[Fact]) -> Ranges:
     """Returns the least and the greatest number that a word may be, by the bounds that are numbers."""
     ranges: Ranges = {}
     for fact in facts:
-        base = -fact.offset & M32  # x + offset <= bound: x is in base to base + bound, unless that wraps
-        if fact.kind not in (MOST, LEAST) or type(fact.bound) is not int or fact.kind == MOST and base + fact.bound > M32:
+        if fact.kind not in (MOST, LEAST) or type(fact.bound) is not int:
             continue
         low, high = ranges.get(fact.x, (0, M32))
-        ranges[fact.x] = (max(low, base), min(high, base + fact.bound)) if fact.kind == MOST else (max(low, fact.bound), high)
+        if fact.kind == LEAST:
+            ranges[fact.x] = max(low, fact.bound), high
+            continue
+        base = -fact.offset & M32  # x + offset <= bound: x is from base to base + bound, unless that wraps around
+        if base + fact.bound <= M32:
+            ranges[fact.x] = max(low, base), min(high, base + fact.bound)
     return ranges
 
 
@@ -98,14 +114,28 @@ def follows(fact: Fact, ranges: Ranges) -> bool:
     """Returns whether a fact about two words follows from the ranges of the two."""
     if fact.kind not in (ORDER, BELOW, SUM):
         return False
-    (_, most), (least, other) = ranges.get(fact.x, (0, M32)), ranges.get(fact.y, (0, M32))
-    return most + other <= fact.bound if fact.kind == SUM else most < least if fact.kind == BELOW else most <= least
+    _, most_x = ranges.get(fact.x, (0, M32))
+    least_y, most_y = ranges.get(fact.y, (0, M32))
+    if fact.kind == SUM:
+        return most_x + most_y <= fact.bound
+    return most_x < least_y if fact.kind == BELOW else most_x <= least_y
 
 
 def hulls_of(lost: Iterable[Fact], words: Words, own: int) -> List[Fact]:
-    """Returns looser bounds in place of those that a state does not fulfil: its own words. `own` has the variables of the loop."""
-    found = [it._replace(bound=words(it.x)) for it in lost if it.kind == LEAST or it.kind == MOST and type(it.bound) is Node]
-    return [it for it in found if not (type(it.bound) is Node and mask_of(it.bound) & own) and (it.kind == LEAST or type(it.bound) is Node)]
+    """Returns looser bounds in place of bounds that a state does not fulfil (`lost`): the words of the state itself, which `words` gives. `own` is
+    the mask of the unknowns of the loop, on which a bound must not depend."""
+    found = []
+    for fact in lost:
+        if fact.kind != LEAST and not (fact.kind == MOST and type(fact.bound) is Node):
+            continue
+        bound = words(fact.x)
+        if type(bound) is Node:
+            is_bound = not mask_of(bound) & own
+        else:
+            is_bound = fact.kind == LEAST
+        if is_bound:
+            found.append(fact._replace(bound=bound))
+    return found
 
 
 def holding(solver: Solver, conds: Sequence[Node], model: Dict[str, int], facts: Iterable[Fact], words: Words,
@@ -113,19 +143,23 @@ def holding(solver: Solver, conds: Sequence[Node], model: Dict[str, int], facts:
     """Returns the facts that hold for all values for which the conditions hold, without facts about results of a hash. `model` is one of these
     values. Asks nothing once the time is over."""
     known = set(conds)
-    found = [(it, condition_of(it, words)) for it in dict.fromkeys(facts)]
-    light = [(it, c) for it, c in found if c is True or c in known or type(c) is Node and c.weight <= HEAVY]
-    numbers = {it: n for n, (it, _) in enumerate(light)}
+    light: List[Fact] = []
+    wanted: List[Condition] = []
+    for fact in dict.fromkeys(facts):
+        condition = condition_of(fact, words)
+        if condition is True or condition in known or (type(condition) is Node and condition.weight <= HEAVY):
+            light.append(fact)
+            wanted.append(condition)
+    numbers = {fact: n for n, fact in enumerate(light)}
 
     def strongest(left: List[int]) -> List[int]:
-        return [numbers[it] for it in active([light[n][0] for n in left])]
-    wanted = [c for _, c in light]
+        return [numbers[fact] for fact in active([light[n] for n in left])]
     session = Session(solver.within(TIMEOUT), conds, wanted, model)
-    return [it for (it, _), holds in zip(light, session.implied(wanted, is_late, strongest)) if holds]
+    return [fact for fact, holds in zip(light, session.implied(wanted, is_late, strongest)) if holds]
 
 
 def mask_of_all(conditions: Iterable[Condition]) -> int:
-    """Returns the variables of conditions."""
+    """Returns the mask of the variables of conditions."""
     mask = 0
     for condition in conditions:
         mask |= mask_of(condition)
@@ -133,44 +167,57 @@ def mask_of_all(conditions: Iterable[Condition]) -> int:
 
 
 class Limits(NamedTuple):
-    """Numbers that may bound a word, those that may bound a sum, and whether two words may bound each other, alone and as a sum."""
-    numbers: Sequence[int]
-    sums: Sequence[int]
-    are_ordered: Callable[[WordPlace, WordPlace], bool]
-    are_added: Callable[[WordPlace, WordPlace], bool]
+    """The bounds that are proposed for words."""
+    numbers: Sequence[int]  # that may bound a word
+    sums: Sequence[int]  # numbers that may bound the sum of two words
+    are_ordered: Callable[[WordPlace, WordPlace], bool]  # returns whether one of two words may bound the other
+    are_added: Callable[[WordPlace, WordPlace], bool]  # returns whether the sum of two words may be bounded
 
 
 def candidates(new: Sequence[WordPlace], others: Sequence[WordPlace], words: Words, bases: Dict[WordPlace, int], limits: Limits,
                is_loop: bool) -> List[Fact]:
-    """Returns what may hold for words that are not known any more. `words` has their first values, and `bases` the object of a pointer."""
+    """Returns facts that may hold for words that became unknown (`new`). `others` are the words to which they may be related. `words` gives the first
+    values of the words, and `bases` has the first address of the object for each word that is a pointer. `is_loop` says whether the state is merged
+    at the head of a loop: then more facts are proposed."""
     found: List[Fact] = []
     for x in new:
-        for offset in (0, 1) if x not in bases else (-bases[x] & M32,):
+        offsets = (-bases[x] & M32,) if x in bases else (0, 1)  # x - base, for a pointer; else x and x + 1
+        for offset in offsets:
             found += [Fact(MOST, x, 0, offset, bound) for bound in limits.numbers]
         if is_loop:
             first = words(x)
-            found += [Fact(LEAST, x, y=0, offset=0, bound=bound) for bound in (first, 1)]
-            found += [Fact(MOST, x, y=0, offset=0, bound=first)] if type(first) is Node else []
-        if isinstance(x, str) and x.startswith("b"):
+            found += [Fact(LEAST, x, bound=first), Fact(LEAST, x, bound=1)]
+            if type(first) is Node:
+                found.append(Fact(MOST, x, bound=first))
+        if is_byte(x):
             continue
         for y in others:
-            if x == y or isinstance(y, str) and y.startswith("b"):
+            if x == y or is_byte(y):
                 continue
-            is_close = is_loop and (isinstance(x, str) or isinstance(y, str)) or limits.are_ordered(x, y)
+            has_register = isinstance(x, str) or isinstance(y, str)
+            is_close = (is_loop and has_register) or limits.are_ordered(x, y)
             if is_close:
-                found += [Fact(ORDER, x, y), Fact(ORDER, y, x)] + ([Fact(BELOW, x, y), Fact(BELOW, y, x)] if is_loop else [])
+                found += [Fact(ORDER, x, y), Fact(ORDER, y, x)]
+                if is_loop:
+                    found += [Fact(BELOW, x, y), Fact(BELOW, y, x)]
             if limits.are_added(x, y):
                 found += [Fact(SUM, x, y, 0, bound) for bound in limits.sums]
-            if is_loop and is_close and y in new and str(x) < str(y):
-                one, two = words(x), words(y)
-                found += [Fact(DIFFERENCE, x, y, 0, operation("sub", one, two)), Fact(TOTAL, x, y, 0, operation("add", one, two))]
+            if is_loop and is_close and y in new and str(x) < str(y):  # each pair once
+                found.append(Fact(DIFFERENCE, x, y, bound=operation("sub", words(x), words(y))))
+                found.append(Fact(TOTAL, x, y, bound=operation("add", words(x), words(y))))
     return found
 
 
+def is_byte(place: WordPlace) -> bool:
+    """Returns whether a place is that of a byte, such as "b80001000"."""
+    return isinstance(place, str) and place.startswith("b")
+
+
 def thresholds_of(words: Iterable[int], sizes: Iterable[int]) -> List[int]:
-    """Returns numbers that may bound a word, in ascending order: those of the instructions and of objects, and powers of two."""
+    """Returns numbers that may bound a word, in ascending order: those of the instructions (`words`), the sizes of objects, the numbers before these,
+    and powers of two."""
     found = set(POWERS)
-    for n in (*words, *sizes):
-        if 0 < n < 1 << 16:
-            found |= {n, n - 1}
+    for number in (*words, *sizes):
+        if 0 < number < LARGEST_BOUND:
+            found |= {number, number - 1}
     return sorted(found)

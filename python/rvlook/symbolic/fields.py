@@ -1,4 +1,7 @@
-"""The state of a path: registers and memory as numbers or expressions, what it has loaded and stored, and its conditions."""
+"""The state of a path: registers and memory as numbers or expressions, what the path has loaded and stored, and its conditions.
+
+A *pc* is the address of an instruction. A *context* is the number of a chain of callers (`World.contexts`). The *model* of a path gives each variable
+a value, so that all conditions of the path hold. A byte that is an expression is a Node, or a pair (word, n): byte n of a word (`words.plain`)."""
 from __future__ import annotations
 
 from typing import Any, Dict, Iterator, List, NamedTuple, Optional, Set, Tuple, TYPE_CHECKING
@@ -8,194 +11,270 @@ from rvlook.symbolic.nodes import Condition, Node, Word
 from rvlook.symbolic.origins import Tag
 
 if TYPE_CHECKING:
-    from rvlook.symbolic.search import Search
     from rvlook.symbolic.endless import Mark
+    from rvlook.symbolic.history import Join
+    from rvlook.symbolic.search import Search
 
-CSRS = {0x100: 0x00080122, 0x104: 0, 0x105: 0xFFFFFFFD, 0x106: 0, 0x10A: 0, 0x140: 0xFFFFFFFF, 0x141: 0xFFFFFFFC, 0x142: 0xFFFFFFFF,
-        0x143: 0xFFFFFFFF, 0x144: 0, 0x180: 0}  # the registers of mode S by number, with the bits that can be written (docs/ISA.md)
-SSTATUS, STVEC, SSCRATCH, SEPC, SCAUSE, STVAL = 0x100, 0x105, 0x140, 0x141, 0x142, 0x143
-MERGED_STOPS, MERGED_LOOP = -1, -2  # in `first_visit`: the path begins in a state that was merged
-LATE = "late"  # the end of a part of a path that may be continued
-FINDING, EXITED, STOPPED, CODE, MERGED, IMPOSSIBLE = "finding", "exit", "stop", "code", "merged", "impossible"  # other ends of a path
-AnyState = Any  # a State; its bases call functions that take one
+SSTATUS = 0x100  # the numbers of the control and status registers of S-mode (Privileged ISA)
+STVEC = 0x105
+SSCRATCH = 0x140
+SEPC = 0x141
+SCAUSE = 0x142
+STVAL = 0x143
+CSRS = {SSTATUS: 0x00080122, 0x104: 0, STVEC: 0xFFFFFFFD, 0x106: 0, 0x10A: 0, SSCRATCH: 0xFFFFFFFF, SEPC: 0xFFFFFFFC, SCAUSE: 0xFFFFFFFF,
+        STVAL: 0xFFFFFFFF, 0x144: 0, 0x180: 0}  # the registers of S-mode by number, each with the mask of the bits that can be written (docs/ISA.md)
+
+ENTRY = 0  # values of `start_kind`: the path begins at the first entry of the enclave,
+MERGED_STOPS = -1  # in a state that was merged from stops,
+MERGED_LOOP = -2  # or in a state that was merged at the head of a loop
+
+LATE = "late"  # why `State.go` returns: the time is over, and the path may be continued
+FINDING = "finding"  # the path ends since a finding was reported
+EXITED = "exit"  # the enclave exits
+STOPPED = "stop"  # the enclave stops, and the path is not followed into the next activation
+CODE = "code"  # the path executes or changes code that was written
+MERGED = "merged"  # a merged state includes the rest of the path
+IMPOSSIBLE = "impossible"  # no values of the variables fulfil the conditions of the path
+AnyState = Any  # a State; the classes from which State inherits call functions that take one
 
 
 class Load(NamedTuple):
-    """A load of inputs: the step, the address, and the offset and the variable of each byte."""
-    step: int
-    at: Word
-    names: Tuple[Tuple[int, str], ...]
+    """A load of inputs."""
+    step: int  # the number of the step that loads
+    at: Word  # the address of the first byte
+    names: Tuple[Tuple[int, str], ...]  # for each input byte, its offset from the address and the name of its variable
 
 
 class Store(NamedTuple):
-    """A store to the window: the step, the address, the width and the value."""
-    step: int
-    at: Word
-    width: int
+    """A store to the window."""
+    step: int  # the number of the step that stores
+    at: Word  # the address of the first byte
+    width: int  # bytes
     value: Word
 
 
 class Answer(NamedTuple):
-    """A stop or an exit of the enclave: the step, the function of its call, the value, and the numbers of loads and stores before."""
-    step: int
-    call: int
-    value: Word
-    loads: int
-    stores: int
+    """A stop or an exit of the enclave."""
+    step: int  # the number of the step that leaves the enclave
+    call: int  # the function of the monitor that the enclave calls: STOP or EXIT
+    value: Word  # a0, which the host receives
+    loads: int  # how many loads of inputs the path has made before
+    stores: int  # how many stores to the window the path has made before
 
 
-class FetchedAt(NamedTuple):
-    """A load of the window at an expression: the address, the width, the instruction, its call context, and the conditions of joined paths. If
-    `width` is an expression, it is the end."""
-    at: Word
-    width: Word
-    pc: int
+class SymbolicFetch(NamedTuple):
+    """A load of the window at an address that is an expression, or a range of such loads."""
+    at: Word  # the first address
+    width: Word  # the number of bytes; if it is an expression, the end of the range
+    pc: int  # the instruction that loads
     context: int
-    joined: Tuple[Node, ...] = ()
+    joined: Tuple[Node, ...] = ()  # if only one of several joined paths made this load: the conditions of that path
 
 
 class Area(NamedTuple):
-    """A variable-length array: the call that has it, its first address, and its end."""
-    call: int
-    low: int
-    high: int
+    """A variable-length array on the stack."""
+    call: int  # the number of the call that has the array
+    low: int  # its first address
+    high: int  # its end
 
 
 class OpenCall(NamedTuple):
-    """A call that has not returned: the call around it, the number and the entry of its caller, the return address, and sp."""
-    outer: Optional[OpenCall]
-    caller: int
-    back: int
-    sp: int
-    entry: int
+    """A call that has not returned."""
+    outer: Optional[OpenCall]  # the call around it
+    caller: int  # the number of the call that makes this one
+    back: int  # the return address
+    sp: int  # the stack pointer of the caller
+    entry: int  # the address of the first instruction of the caller
 
 
 class Ended(Exception):
-    """The end of a path, with the reason."""
+    """The end of a path. The text of the exception is the reason."""
 
 
 class TimeIsOver(Ended):
-    """The end of the time of a whole run, in the middle of a step."""
+    """The end of the time of a whole run of `verify`, in the middle of a step."""
 
     def __init__(self) -> None:
         super().__init__(LATE)
 
 
+# How `fork` copies the fields of a state: values that are never changed in place, lists, and dictionaries or sets. `fork` sets all others one by one.
+SHARED = ("search", "mode", "model", "context", "calls", "call", "activation", "earlier_pcs", "steps_before", "start_kind", "values_followed",
+          "areas", "stack_bottom", "pending_outputs", "is_released", "source_head", "join", "joined_steps", "input_count", "entry", "start_number",
+          "is_covered")
+LISTS = ("loads", "stores", "answers", "conds", "regs", "tags", "symbolic_fetches")
+MAPPINGS = ("sym", "csr", "branch_counts", "calm_window", "last_objects", "fetched", "mem_tags", "csr_tags", "public", "rounds", "branch_states")
+
+
 class Fields:
-    """The parts of a state. `sym` has the bytes of the region that are expressions, by address, and `mem` the others. `fetched` has the bytes of
-    the window that were loaded in this activation, each with its instruction and call context, and `fetched_at` the loads at expressions."""
-    __slots__ = ("search", "regs", "mem", "sym", "pc", "mode", "csr", "conds", "public", "model", "memo", "context", "calls", "call", "visit",
-                 "loads", "stores", "answers", "trail", "pcs", "before", "counts", "winmem", "win", "inside", "is_base", "first_visit", "fetched",
-                 "fetched_at", "number", "rejoined", "head", "round", "tags", "mem_tags", "csr_tags", "areas", "bottom", "pending", "released",
-                 "past", "earlier", "inputs", "rounds", "entry", "opening", "resumed", "is_covered", "marks", "target")
-    search: Search
-    regs: List[Word]
-    mem: bytearray
-    sym: Dict[int, Any]
+    """The data of a path: the machine, the conditions, and the actions of the path so far."""
+    __slots__ = (*SHARED, *LISTS, *MAPPINGS, "mem", "window_memory", "memo", "is_base", "start_head", "resumed_at", "value_followed", "pcs", "pc")
+    search: Search  # the search to which the path belongs
+
+    # ---- the machine
     pc: int
-    mode: int  # 1 in S, 0 in U
-    csr: Dict[int, Word]
-    conds: List[Node]
-    public: Set[Node]
-    model: Dict[str, int]
-    memo: Dict[Node, Any]
-    context: int
-    calls: Optional[OpenCall]
-    call: int  # the number of the innermost call
-    visit: int  # the number of earlier activations
+    mode: int  # 1 in S-mode, 0 in U-mode
+    regs: List[Word]  # x0 to x31
+    csr: Dict[int, Word]  # the control and status registers of S-mode, by their number
+    mem: bytearray  # the bytes of the region that are numbers
+    sym: Dict[int, Any]  # the bytes of the region that are expressions, by address
+    window_memory: bytearray  # the bytes of the window that the host gives in the run itself in this activation, with the stores of the path
+    calm_window: Dict[int, Any]  # with --calm: the bytes of the window that this activation has loaded or stored, by address
+
+    # ---- origins of pointers
+    tags: List[Tag]  # of x0 to x31
+    mem_tags: Dict[int, Tag]  # of words of the region, by address
+    csr_tags: Dict[int, Tag]  # of the registers of S-mode, by their number
+    last_objects: Dict[int, Tuple[Tag, int, int]]  # by pc: the origin of the last address of this access, and the first address and end of its object
+
+    # ---- calls
+    context: int  # the chain of callers
+    calls: Optional[OpenCall]  # the innermost call that has not returned
+    call: int  # the number of the present call
+    entry: int  # the address of the first instruction of the present function
+    areas: Tuple[Area, ...]  # the variable-length arrays of the open calls
+    stack_bottom: int  # the lowest address of the stack to which sp belongs
+
+    # ---- conditions
+    conds: List[Node]  # the conditions of the path, in the order of its steps
+    model: Dict[str, int]  # values of the variables, by name, for which all conditions hold
+    memo: Dict[Node, Any]  # the values of nodes in `model`, as far as they were computed
+    public: Set[Node]  # nodes that have come out: they are taken to be equal for two secrets
+    is_base: bool  # whether the path is that of the run itself
+    branch_counts: Dict[Tuple[int, int], int]  # how often the path has divided at a branch. (pc, context): in the present rounds of the loops around
+    # the branch; (pc, ~context): since the path began. (-pc, context): how often only one side of the branch was possible
+    branch_states: Dict[Tuple[int, int], Mark]  # the last state at each branch on an expression, by pc and context
+
+    # ---- the beginning of the path
+    start_kind: int  # ENTRY, MERGED_STOPS or MERGED_LOOP
+    start_number: int  # the number of the merged state in which the path begins, 0 for the first entry
+    source_head: Optional[str]  # the prefix of the head of a merged loop in which the path begins
+    start_head: Optional[int]  # the pc of a merged head at which the path goes on: it passes this head once, and is not merged there
+    is_covered: bool  # whether a merged state includes the path, so that only the run itself is followed further
+
+    # ---- actions since the last join
+    join: Optional[Join]  # what the path did before paths were joined
+    joined_steps: int  # the number of steps before the last join, at most
+    earlier_pcs: Any  # the pcs of the steps before the path was last copied, as nested pairs (earlier pairs, list of pcs); None at the beginning
+    steps_before: int  # the number of steps in `earlier_pcs`
+    pcs: List[int]  # the pcs of the steps after those
     loads: List[Load]
     stores: List[Store]
     answers: List[Answer]
-    trail: Any  # the pcs of earlier parts of the path
-    pcs: List[int]
-    before: int  # the number of steps in `trail`
-    counts: Dict[Tuple[int, int], int]
-    winmem: bytearray
-    win: Dict[int, Any]
-    inside: Dict[int, Tuple[Tag, int, int]]  # the object of the last access of each instruction
-    is_base: bool  # whether the path is that of the run itself
-    first_visit: int
-    fetched: Dict[int, Tuple[int, int]]
-    fetched_at: List[FetchedAt]
-    number: int
-    rejoined: Optional[Tuple[int, int]]
-    head: Optional[int]
-    round: Optional[Tuple[str, int]]  # the head of a loop at which the path began, and how often that had changed
-    tags: List[Tag]
-    mem_tags: Dict[int, Tag]
-    csr_tags: Dict[int, Tag]
-    areas: Tuple[Area, ...]
-    bottom: int  # of the stack to which sp belongs
-    pending: Tuple[Tuple[int, Word, int], ...]  # outputs that are public only with an answer: the answer, the word, the instruction
-    released: bool  # whether the secret has come out in this activation
-    past: Any  # what the path did before paths were joined, a Join or None; trail, pcs, loads, stores and answers are those since then
-    earlier: int  # the number of steps before, at most
-    inputs: int  # the number of loads of inputs so far
-    rounds: Dict[Tuple[int, int], int]  # of loops, by call and head
-    entry: int  # of the present function
-    opening: int  # the number of the merged state in which the path begins
-    resumed: Optional[int]  # the place at which the path has waited
-    is_covered: bool  # whether a merged state that is explored includes the path
-    marks: Dict[Tuple[int, int], Mark]  # the states at branches
-    target: int  # the value that a word has in the step at which the path begins, if it is followed value by value
+
+    # ---- the present activation
+    activation: int  # the number of earlier activations
+    input_count: int  # the number of loads of inputs so far, which numbers the variables of inputs
+    fetched: Dict[int, Tuple[int, int]]  # the bytes of the window that were loaded in this activation: the pc and the context, by address
+    symbolic_fetches: List[SymbolicFetch]  # the loads of the window at expressions in this activation
+    pending_outputs: Tuple[Tuple[int, Word, int], ...]  # outputs that are public only with some answer: the answer, the word, and the pc of its store
+    is_released: bool  # whether the secret has come out in this activation
+
+    # ---- the order in which paths are continued
+    rounds: Dict[Tuple[int, int], int]  # the rounds of loops, by the number of the call and the pc of the head
+    resumed_at: Optional[int]  # the pc at which the path has waited for others
+    values_followed: Optional[Tuple[int, int]]  # if a word or an object is followed value by value: the step, and how many values other paths have
+    value_followed: int  # the value that the word or the object has on this path, in the step at which the path begins
+
+    def begin_path(self, start_kind: int, activation: int, start_number: int) -> None:
+        """Makes this state the beginning of a path: clears what an earlier path has done. The machine and the conditions stay."""
+        self.start_kind = start_kind
+        self.start_number = start_number
+        self.activation = activation
+        self.memo = {}
+        self.loads = []
+        self.stores = []
+        self.answers = []
+        self.earlier_pcs = None
+        self.steps_before = 0
+        self.pcs = []
+        self.join = None
+        self.joined_steps = 0
+        self.input_count = 0
+        self.fetched = {}
+        self.symbolic_fetches = []
+        self.calm_window = {}
+        self.pending_outputs = ()
+        self.is_released = False
+        self.last_objects = {}
+        self.branch_counts = {}
+        self.branch_states = {}
+        self.rounds = {}
+        self.values_followed = None
+        self.source_head = None
+        self.resumed_at = None
+        self.is_covered = False
 
     def fork(self, pc: int, is_again: bool = False) -> Any:
-        """Returns a copy that goes on at a pc. The present step belongs to it unless it is done again."""
+        """Returns a copy of the state that goes on at a pc. With `is_again`, the copy executes the present step again; else the copy has made it."""
         if self.pcs:
-            self.trail = self.trail, self.pcs
-            self.before += len(self.pcs)
+            self.earlier_pcs = self.earlier_pcs, self.pcs
+            self.steps_before += len(self.pcs)
             self.pcs = []
         copy = type(self).__new__(type(self))
-        for name in ("search", "mode", "model", "context", "calls", "call", "visit", "trail", "before", "first_visit", "rejoined", "areas", "bottom",
-                     "pending", "released", "round", "past", "earlier", "inputs", "entry", "opening", "is_covered"):
+        for name in SHARED:
             setattr(copy, name, getattr(self, name))
-        for name in ("loads", "stores", "answers", "conds", "regs", "tags", "fetched_at"):
+        for name in LISTS:
             setattr(copy, name, getattr(self, name)[:])
-        for name in ("sym", "csr", "counts", "win", "inside", "fetched", "mem_tags", "csr_tags", "public", "rounds", "marks"):
+        for name in MAPPINGS:
             setattr(copy, name, getattr(self, name).copy())
-        copy.mem, copy.winmem, copy.memo, copy.is_base, copy.number, copy.head = bytearray(self.mem), bytearray(self.winmem), {}, False, 0, None
-        copy.resumed, copy.target = None, 0
-        copy.pcs, copy.pc = [] if is_again else [self.pc], pc
+        copy.mem = bytearray(self.mem)
+        copy.window_memory = bytearray(self.window_memory)
+        copy.memo = {}
+        copy.is_base = False
+        copy.start_head = None
+        copy.resumed_at = None
+        copy.value_followed = 0
+        copy.pcs = [] if is_again else [self.pc]
+        copy.pc = pc
         return copy
+
+    def values_tried(self) -> int:
+        """Returns how many values of a word or an object other paths have in this very step."""
+        if self.values_followed is None:
+            return 0
+        step, count = self.values_followed
+        return count if step == self.steps else 0
 
     def open_calls(self) -> Iterator[OpenCall]:
         """Yields the calls that have not returned, the innermost first."""
-        found = self.calls
-        while found:
-            yield found
-            found = found.outer
+        open_call = self.calls
+        while open_call:
+            yield open_call
+            open_call = open_call.outer
 
     def call_numbers(self) -> List[int]:
         """Returns the numbers of the calls that have not returned, the innermost first."""
-        return [self.call, *(it.caller for it in self.open_calls())]
+        return [self.call, *(open_call.caller for open_call in self.open_calls())]
 
     @property
     def is_merged(self) -> bool:
         """Returns whether the path begins in a merged state."""
-        return self.first_visit < 0
+        return self.start_kind < ENTRY
 
     @property
     def steps(self) -> int:
-        """Returns the number of steps so far."""
-        return self.before + len(self.pcs)
+        """Returns the number of steps since the last join."""
+        return self.steps_before + len(self.pcs)
 
     def all_pcs(self) -> List[int]:
-        """Returns the pcs of all steps."""
-        parts, trail = [self.pcs], self.trail
-        while trail:
-            trail, part = trail
+        """Returns the pcs of all steps since the last join."""
+        parts = [self.pcs]
+        earlier = self.earlier_pcs
+        while earlier:
+            earlier, part = earlier
             parts.append(part)
         return [pc for part in reversed(parts) for pc in part]
 
-    def value(self, x: Word) -> int:
-        """Returns the value of a word on this path."""
-        return x if type(x) is int else evaluate(x, self.model, self.memo)
+    def value(self, word: Word) -> int:
+        """Returns the value of a word in the model of this path."""
+        return word if type(word) is int else evaluate(word, self.model, self.memo)
 
     def holds(self, condition: Condition) -> bool:
-        """Returns whether a condition holds on this path."""
+        """Returns whether a condition holds in the model of this path."""
         return bool(evaluate(condition, self.model, self.memo))
 
     def assume(self, condition: Condition) -> None:
-        """Adds a condition, which holds in the model."""
+        """Adds a condition to the path. The caller makes sure that it holds in the model."""
         if type(condition) is Node:
             self.conds.append(condition)

@@ -15,27 +15,34 @@ MOST_INVERTED = 60  # operations that are inverted one after another
 
 
 def solutions(question: Node, model: Model, memo: Dict[Node, Any], is_far: bool = False) -> Iterator[Part]:
-    """Yields values of variables for which a condition may hold. The caller evaluates it. If `is_far`, values that are larger by some steps come
-    early: a loop that goes on for one more round then goes on for several."""
-    question_part, is_not = (question.args[0], True) if question.op == "not" else (question, False)
-    if question_part.op == "and1":
-        yield from parts_of_conjunction(question_part, is_not, model, memo, is_far)
-    elif question_part.op in COMPARISONS:
-        x, y = question_part.args
-        if question_part.op == "eq8" and x.op == "byte" and x.args[0].op == "or":
+    """Yields values of variables for which a condition may hold. The caller evaluates the condition. `model` has the present values of all variables,
+    and `memo` the values of nodes in it. With `is_far`, values that are larger by some steps come early: a loop that goes on for one more round then
+    goes on for several."""
+    is_not = question.op == "not"
+    compared = question.args[0] if is_not else question
+    if compared.op == "and1":
+        yield from parts_of_conjunction(compared, is_not, model, memo, is_far)
+    elif compared.op in COMPARISONS:
+        x, y = compared.args
+        if compared.op == "eq8" and x.op == "byte" and x.args[0].op == "or":
             x = x.args[0]
-        if not is_not and type(y) is int and not y and x.op == "or":
+        if not is_not and type(y) is int and y == 0 and x.op == "or":
             yield zeros(x, model, memo)
         for one, two in ((x, y), (y, x)):
-            if type(one) is Node:
-                value, step = evaluate(two, model, memo), may_of(one) & -may_of(one)
-                further = (value + LEAP * step,) if is_far else ()
-                targets = (value, *further, value + step, value - step, value ^ FLIPPED & may_of(one))
-                yield from (part for part in (inverse(one, target & M32, model, memo) for target in targets) if part)
+            if type(one) is not Node:
+                continue
+            value = evaluate(two, model, memo)
+            step = may_of(one) & -may_of(one)  # the least distance between two values
+            further = (value + LEAP * step,) if is_far else ()
+            for target in (value, *further, value + step, value - step, value ^ FLIPPED & may_of(one)):
+                part = inverse(one, target & M32, model, memo)
+                if part:
+                    yield part
 
 
 def parts_of_conjunction(node: Node, is_not: bool, model: Model, memo: Dict[Node, Any], is_far: bool) -> Iterator[Part]:
-    """Yields values for which all parts of a conjunction may hold, or for which one may not."""
+    """Yields values for which all parts of a conjunction may hold; if `is_not`, values for which one of them may not hold. The other arguments are
+    those of `solutions`."""
     if is_not:
         for part in node.args:
             yield from solutions(part.args[0] if part.op == "not" else not_(part), model, memo, is_far)
@@ -50,7 +57,8 @@ def parts_of_conjunction(node: Node, is_not: bool, model: Model, memo: Dict[Node
 
 
 def zeros(x: Node, model: Model, memo: Dict[Node, Any]) -> Part:
-    """Returns values for which each part of an or is zero: a comparison of many bytes."""
+    """Returns values of variables for which each part of an or is 0, as in a comparison of many bytes. `model` and `memo` are those of
+    `solutions`."""
     chosen: Part = {}
     leaves: List[Word] = [x]
     while leaves:
@@ -64,13 +72,13 @@ def zeros(x: Node, model: Model, memo: Dict[Node, Any]) -> Part:
         pairs = ((leaf.args[0], leaf.args[1]), (leaf.args[1], leaf.args[0])) if leaf.op == "xor" else ((leaf, 0),)
         known = {} if chosen else memo
         found = (inverse(one, evaluate(two, values, known), values, known) for one, two in pairs if type(one) is Node)
-        chosen.update(next((it for it in found if it), {}))
+        chosen.update(next((part for part in found if part), {}))
     return chosen
 
 
 def inverse(node: Word, value: int, model: Model, memo: Dict[Node, Any]) -> Optional[Part]:
-    """Returns values of variables for which a node has a value, or None if it is not that simple: the results of a hash are not. A choice keeps to
-    its side, and an index to its value."""
+    """Returns values of variables for which a node has a value, or None if they are not that simple to find, as for the result of a hash. A choice
+    keeps to its side, and an index keeps its value. `model` and `memo` are those of `solutions`."""
     for _ in range(MOST_INVERTED):
         if type(node) is int:
             return {} if node == value else None
@@ -93,7 +101,8 @@ def inverse(node: Word, value: int, model: Model, memo: Dict[Node, Any]) -> Opti
 
 
 def inner(node: Node, value: int, model: Model, memo: Dict[Node, Any]) -> Optional[Tuple[Word, int]]:
-    """Returns an operand and its value for which a node has a value, with the present values of the other operands; or None."""
+    """Returns an operand, and a value of it for which a node has a value while the other operands keep their values; or None. `model` and `memo` are
+    those of `solutions`."""
     op, args = node.op, node.args
     if op in ("ite8", "ite"):
         return args[1] if evaluate(args[0], model, memo) else args[2], value
@@ -125,7 +134,7 @@ def inner(node: Node, value: int, model: Model, memo: Dict[Node, Any]) -> Option
 
 
 def joined(one: Optional[Part], two: Optional[Part]) -> Optional[Part]:
-    """Returns the values of two parts, or None if they contradict each other."""
+    """Returns the values of variables in two parts together. Returns None if one part is None, or if the parts contradict each other."""
     if one is None or two is None or any(one.get(name, value) != value for name, value in two.items()):
         return None
     return {**one, **two}

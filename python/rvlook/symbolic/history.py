@@ -1,8 +1,8 @@
-"""The steps, loads, stores and answers of a path. Those of joined paths depend on the inputs."""
+"""The steps, loads, stores and answers of a path. If paths were joined, the values of the inputs decide which of them was executed."""
 from __future__ import annotations
 
 from dataclasses import dataclass, field
-from typing import Any, Dict, List, Mapping, NamedTuple, Optional, Tuple, TYPE_CHECKING
+from typing import Any, Dict, List, Mapping, NamedTuple, Optional, TYPE_CHECKING
 
 from rvlook.symbolic.evaluation import evaluate
 
@@ -10,10 +10,14 @@ if TYPE_CHECKING:
     from rvlook.symbolic.fields import AnyState, Answer, Load, Store
     from rvlook.symbolic.nodes import Node
 
+ANSWERED = 0  # kinds of events of a path: the enclave leaves,
+LOADED = 1  # loads inputs,
+STORED = 2  # or stores to the window
+
 
 class Part(NamedTuple):
-    """The actions of a path after the last join. Steps and numbers of loads and stores count from there."""
-    past: Optional[Join]
+    """The actions of a path after its last join. The numbers of steps, loads and stores count from there."""
+    join: Optional[Join]  # the actions before; None if paths were never joined
     pcs: List[int]
     loads: List[Load]
     stores: List[Store]
@@ -21,56 +25,77 @@ class Part(NamedTuple):
 
 
 class Join(NamedTuple):
-    """The actions of joined paths before: those of one if the condition holds, else those of the other."""
-    condition: Node
-    one: Part
-    two: Part
+    """The actions of two paths before they were joined."""
+    condition: Node  # holds if the first path was executed
+    one: Part  # the actions of the first path
+    two: Part  # the actions of the second path
 
 
 @dataclass
 class History:
-    """The steps of a path, with what they load, store and answer."""
+    """The actions of a path for certain values of its inputs. The numbers of steps, loads and stores count from the beginning."""
     pcs: List[int] = field(default_factory=list)
     loads: List[Load] = field(default_factory=list)
     stores: List[Store] = field(default_factory=list)
     answers: List[Answer] = field(default_factory=list)
 
 
+class Event(NamedTuple):
+    """An action of a path that shows or changes bytes of the window."""
+    step: int
+    kind: int  # ANSWERED, LOADED or STORED
+    values: Mapping[int, int]  # the bytes that are loaded or stored, by address
+
+
 def part_of(state: AnyState) -> Part:
-    """Returns what a path did after the last join."""
-    return Part(state.past, state.all_pcs(), state.loads, state.stores, state.answers)
+    """Returns the actions of a path after its last join."""
+    return Part(state.join, state.all_pcs(), state.loads, state.stores, state.answers)
 
 
 def history_of(state: AnyState, model: Mapping[str, int]) -> History:
-    """Returns what a path did with the values of a model."""
-    parts, found, memo = [part_of(state)], History(), {}  # type: List[Part], History, Any
+    """Returns the actions of a path for the values of a model."""
+    memo: Dict[Node, Any] = {}
+    parts: List[Part] = [part_of(state)]  # the last part first
     while True:
-        join = parts[-1].past
+        join = parts[-1].join
         if join is None:
             break
         parts.append(join.one if evaluate(join.condition, model, memo) else join.two)
+    found = History()
     for part in reversed(parts):
-        steps, loads, stores = len(found.pcs), len(found.loads), len(found.stores)
+        steps = len(found.pcs)
+        loads = len(found.loads)
+        stores = len(found.stores)
         found.pcs += part.pcs
-        found.loads += [it._replace(step=it.step + steps) for it in part.loads]
-        found.stores += [it._replace(step=it.step + steps) for it in part.stores]
+        found.loads += [load._replace(step=load.step + steps) for load in part.loads]
+        found.stores += [store._replace(step=store.step + steps) for store in part.stores]
         found.answers += [it._replace(step=it.step + steps, loads=it.loads + loads, stores=it.stores + stores) for it in part.answers]
     return found
 
 
-def is_calm(path: History, model: Mapping[str, int]) -> bool:
-    """Returns whether the host changes no byte of the window during an activation: each load of a byte gives what was loaded or stored last."""
-    memo: Any = {}
-    changes: List[Tuple[int, int, Mapping[int, int]]] = [(it.step, 0, {}) for it in path.answers]
-    changes += [(step, 1, {evaluate(at, model, memo) + n: model[name] for n, name in names}) for step, at, names in path.loads]
-    for step, at, width, value in path.stores:
-        first, number = evaluate(at, model, memo), evaluate(value, model, memo)
-        changes.append((step, 2, {first + n: number >> 8 * n & 255 for n in range(width)}))
-    window: Dict[int, int] = {}
-    for _, kind, values in sorted(changes, key=lambda it: it[0]):
-        if kind == 1 and any(window.get(at, stored_value) != stored_value for at, stored_value in values.items()):
-            return False
-        window.update(values)
-        if not kind:
+def events_of(history: History, model: Mapping[str, int]) -> List[Event]:
+    """Returns the answers, loads and stores of a path in the order of its steps."""
+    memo: Dict[Node, Any] = {}
+    found = [Event(answer.step, ANSWERED, {}) for answer in history.answers]
+    for load in history.loads:
+        first = evaluate(load.at, model, memo)
+        found.append(Event(load.step, LOADED, {first + n: model[name] for n, name in load.names}))
+    for store in history.stores:
+        first = evaluate(store.at, model, memo)
+        value = evaluate(store.value, model, memo)
+        found.append(Event(store.step, STORED, {first + n: value >> 8 * n & 255 for n in range(store.width)}))
+    return sorted(found, key=lambda event: event.step)
+
+
+def is_calm(history: History, model: Mapping[str, int]) -> bool:
+    """Returns whether the host changes no byte of the window during an activation: each load of a byte gives what the activation has loaded or stored
+    there last."""
+    window: Dict[int, int] = {}  # the bytes of the window that the present activation has loaded or stored
+    for event in events_of(history, model):
+        if event.kind == ANSWERED:
             window = {}
+            continue
+        if event.kind == LOADED and any(window.get(at, value) != value for at, value in event.values.items()):
+            return False
+        window.update(event.values)
     return True

@@ -1,11 +1,11 @@
 """Registers that decide into how many parts the merged state at the head of a loop is divided: indices of short arrays.
 
 A parser of nested containers has the end of each container in an array, at the index of its depth. The order of the ends depends on the depth, so
-paths at the head of a loop are merged only with those of the same depth. Each path belongs to one part, which includes it: no answer depends on how
-a head is divided."""
+paths at the head of a loop are merged only with paths of the same depth. Each path belongs to one part, which includes it: no answer depends on how a
+head is divided."""
 from __future__ import annotations
 
-from typing import Dict, FrozenSet, Tuple, TYPE_CHECKING
+from typing import Dict, FrozenSet, Set, Tuple, TYPE_CHECKING
 
 from rvlook.symbolic.decode import decode
 from rvlook.symbolic.liveness import is_read
@@ -15,9 +15,12 @@ if TYPE_CHECKING:
     from rvlook.symbolic.fields import AnyState as State
     from rvlook.symbolic.flow import Flow, Flows
 
-WORD, NEAR, SOON = 2, 8, 4  # bits by which an index of words is shifted; instructions up to the load, and from there to a jump
-MOST_INDEX, MOST_PARTS = 8, 8  # an index with a part of its own is below; parts of one head
-Part = Tuple[int, ...]  # the values of the registers, or -1
+WORD_SHIFT = 2  # bits by which an index of words is shifted to an offset
+NEAR = 8  # instructions after the shift within which the word is loaded
+SOON = 4  # instructions after the load within which a jump to the word makes it a target
+MOST_INDEX = 8  # the end of the values of an index that have a part of their own
+MOST_PARTS = 8  # of one head
+Part = Tuple[int, ...]  # the values of the index registers of a path; -1 for a value that has no part of its own
 
 
 class Indices:
@@ -25,17 +28,19 @@ class Indices:
 
     def __init__(self, flows: Flows) -> None:
         self.flows = flows
-        self.known: Dict[int, Tuple[int, ...]] = {}
-        self.lives: Dict[int, FrozenSet[int]] = {}
-        self.parts: Dict[Tuple[object, ...], Dict[Part, None]] = {}
+        self.known: Dict[int, Tuple[int, ...]] = {}  # the index registers at each pc that was examined
+        self.lives: Dict[int, FrozenSet[int]] = {}  # the live registers at each pc that was examined
+        self.parts: Dict[Tuple[object, ...], Dict[Part, None]] = {}  # the parts of each head, by the key of the head
 
     def part(self, key: Tuple[object, ...], state: State) -> Part:
-        """Returns the part to which a path at a head belongs. `key` names the head."""
-        found, parts = self.values(state), self.parts.setdefault(key, {})
-        if found not in parts and len(parts) >= MOST_PARTS:
-            return tuple(-1 for _ in found)
-        parts[found] = None
-        return found
+        """Returns the part to which a path at a head belongs. `key` names the head. If the head has MOST_PARTS parts, a path with other values
+        belongs to the part of all other values."""
+        values = self.values(state)
+        parts = self.parts.setdefault(key, {})
+        if values not in parts and len(parts) >= MOST_PARTS:
+            return tuple(-1 for _ in values)
+        parts[values] = None
+        return values
 
     def values(self, state: State) -> Part:
         """Returns the values of the registers of a path that are indices."""
@@ -49,40 +54,52 @@ class Indices:
         return self.lives[pc]
 
     def of(self, entry: int, pc: int) -> Tuple[int, ...]:
-        """Returns the live registers that are an index of words that are loaded, in a loop around an instruction."""
+        """Returns the live index registers at a pc of the function with an entry."""
         if pc not in self.known:
             flow = self.flows.of(entry)
-            self.known[pc] = tuple(sorted(self.used(flow, pc) & self.live(pc))) if flow else ()
+            self.known[pc] = tuple(sorted(self.index_registers(flow, pc) & self.live(pc))) if flow else ()
         return self.known[pc]
 
     def is_changed(self, entry: int, head: int) -> bool:
-        """Returns whether a round of a loop writes an index."""
-        flow, own = self.flows.of(entry), self.of(entry, head)
-        return flow is not None and any(self.at(pc).rd in own for pc, around in flow.heads.items() if head in around)
+        """Returns whether the loop with a head, in the function with an entry, writes an index register."""
+        flow = self.flows.of(entry)
+        own = self.of(entry, head)
+        return flow is not None and any(self.at(pc).rd in own for pc, heads in flow.heads.items() if head in heads)
 
-    def used(self, flow: Flow, inside: int) -> FrozenSet[int]:
-        """Returns the registers that are an index of words that are loaded, in a loop around an instruction."""
-        around = set(flow.heads.get(inside, ()))
-        places = [pc for pc in flow.order if around & set(flow.heads.get(pc, ()))]
-        found = ((self.at(pc), pc) for pc in places)
-        return frozenset(it.r1 for it, pc in found if it.kind == "imm" and it.more == "sll" and it.imm == WORD and self.is_loaded(pc + 4, it.rd))
+    def index_registers(self, flow: Flow, pc: int) -> FrozenSet[int]:
+        """Returns the registers that are shifted to the offset of a word which is then loaded, in any loop around an instruction."""
+        around = set(flow.heads.get(pc, ()))
+        found: Set[int] = set()
+        for place in flow.order:
+            if around.isdisjoint(flow.heads.get(place, ())):
+                continue
+            instruction = self.at(place)
+            is_word_offset = instruction.kind == "imm" and instruction.more == "sll" and instruction.imm == WORD_SHIFT
+            if is_word_offset and self.is_loaded(place + 4, instruction.rd):
+                found.add(instruction.r1)
+        return frozenset(found)
 
     def at(self, pc: int) -> Decoded:
-        """Returns the instruction at a pc."""
-        n = pc - self.flows.low
-        return decode(int.from_bytes(bytes(self.flows.memory[n:n + 4]), "little"))  # no instruction behind the end
+        """Returns the instruction at a pc; after the end of the image, an illegal instruction."""
+        offset = pc - self.flows.low
+        return decode(int.from_bytes(bytes(self.flows.memory[offset:offset + 4]), "little"))
 
     def is_loaded(self, pc: int, register: int) -> bool:
-        """Returns whether a word is loaded soon at the address that begins with an offset in a register. A target of a jump does not count."""
-        own = {register}
+        """Returns whether a word is loaded soon after a pc at an address that was computed from the offset in a register. A word that is the target
+        of a jump does not count."""
+        derived = {register}  # the registers that have the offset, or a sum with it
         for at in range(pc, pc + 4 * NEAR, 4):
             instruction = self.at(at)
             kind, rd, r1 = instruction.kind, instruction.rd, instruction.r1
-            if kind == "load" and r1 in own:
-                is_target = any(later.kind == "jalr" and later.r1 == rd for later in map(self.at, range(at + 4, at + 4 * SOON, 4)))
+            if kind == "load" and r1 in derived:
+                following = map(self.at, range(at + 4, at + 4 * SOON, 4))
+                is_target = any(later.kind == "jalr" and later.r1 == rd for later in following)
                 return instruction.more[0] == 4 and not is_target
-            is_sum = instruction.more == "add" and (kind in ("op", "imm") and r1 in own or kind == "op" and instruction.r2 in own)
-            own = own | {rd} if is_sum else own - {rd}
-            if not own or kind in ("jal", "jalr", "ecall"):
+            has_derived = (kind in ("op", "imm") and r1 in derived) or (kind == "op" and instruction.r2 in derived)
+            if instruction.more == "add" and has_derived:
+                derived = derived | {rd}
+            else:
+                derived = derived - {rd}
+            if not derived or kind in ("jal", "jalr", "ecall"):
                 break
         return False

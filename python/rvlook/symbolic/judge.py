@@ -6,10 +6,10 @@ from typing import Dict, List, NamedTuple, Sequence, Set, Tuple, TYPE_CHECKING
 from rvlook.protocol.names import MARKS
 from rvlook.symbolic.conditions import all_of, any_of, differ, eq, overlap, within
 from rvlook.symbolic.evaluation import evaluate
-from rvlook.symbolic.fields import CODE, FINDING, Ended, FetchedAt
-from rvlook.symbolic.nodes import Condition, Node, Word
+from rvlook.symbolic.fields import CODE, FINDING, Ended, SymbolicFetch
+from rvlook.symbolic.nodes import M32, Condition, Node, Word
 from rvlook.symbolic.origins import How
-from rvlook.symbolic.outputs import Outputs
+from rvlook.symbolic.leaving import Leaving
 from rvlook.symbolic.words import not_
 
 if TYPE_CHECKING:
@@ -18,47 +18,54 @@ if TYPE_CHECKING:
     from rvlook.symbolic.origins import Tag
     from rvlook.symbolic.fields import AnyState as State
 
-Place = Tuple[int, int]  # an instruction and its call context
-ILLEGAL, ASSUMPTION = 2, MARKS["4153000b"]
+Place = Tuple[int, int]  # the pc of an instruction, and its call context
+Bounds = Tuple[int, int]  # the first address of an object, and its end
+ILLEGAL = 2  # causes of traps: an illegal instruction,
+ECALL = 8  # or an ecall in U-mode
+ASSUMPTION = MARKS["4153000b"]  # the mark of an `assume` in the enclave that does not hold
 CONSOLE_STATE = 16  # bytes before the text of a console (examples/shared/console.h)
-ECALL, WAITS = 8, "one instruction loads a byte again, as a loop that waits does"
+WAITS = "one instruction loads a byte again, as a loop that waits does"
 MEETS = "an index of the host may lead to a byte that was loaded before"
 
 
 class EarlierLoad(NamedTuple):
-    """A load before another one: whether the two have a byte in common, its instruction and call context, and the conditions of joined paths."""
-    overlaps: Condition
-    site: Place
-    joined: Tuple[Node, ...] = ()
+    """A load of the window before another load in one activation."""
+    overlaps: Condition  # whether the two loads have a byte in common
+    site: Place  # the earlier load
+    joined: Tuple[Node, ...] = ()  # if only one of several joined paths made the earlier load: the conditions of that path
 
 
-class Judge(Outputs):
+class Judge(Leaving):
     """A search that asks about steps."""
     extents: Extents
 
     def __init__(self) -> None:
         super().__init__()
-        self.code: Dict[int, Step] = {}  # the decoded instructions
-        self.written: Set[int] = set()  # the words of the region that any path stores to
-        self.written_before: Set[int] = set()  # those that a path of an earlier search stores to
-        self.stored_words: Set[int] = set()  # those that a path stores as a word, and not only byte by byte
-        self.loaded: Set[int] = set()  # the words of the region that any path loads
+        self.code: Dict[int, Step] = {}  # the functions of the instructions that were executed, by pc
+        self.is_outgrown = False  # whether another search has to begin with what this search knows
+        # ---- words of the region, by the address of the word
+        self.written: Set[int] = set()  # words to which any path stores
+        self.written_before: Set[int] = set()  # words to which a path of an earlier search stores
+        self.stored_words: Set[int] = set()  # words that a path stores as a whole, and not only byte by byte
+        self.loaded: Set[int] = set()  # words that any path loads
         self.unread: Set[int] = set()  # words without facts in a merged state, since no path had loaded them
-        self.is_outgrown = False  # whether another search has to begin with what this one knows
-        self.saved: Dict[int, Set[int]] = {}  # the addresses at which a call saves registers
-        self.assumptions: Set[int] = set()  # the assumptions of the enclave that some input does not fulfil
-        self.not_assumed: Set[int] = set()  # those that the run itself does not fulfil
-        self.usual_moves: Set[Place] = set()
-        self.usual_members: Set[Tuple[int, int, int]] = set()  # a context, a pc, and a member that the run itself reaches by it
-        self.landed: Set[Tuple[int, Tuple[int, int]]] = set()  # an instruction, and an object that it reaches
-        self.reached: Dict[Tuple[int, int], Tuple[int, int]] = {}  # the variable that an instruction reaches from an address, on all paths
-        self.again: Set[Tuple[Place, Place]] = set()
-        self.allowed: Dict[int, Set[str]] = {}  # the accesses that only --allow makes right, with what is not known about them
+        # ---- the objects of accesses
+        self.saved: Dict[int, Set[int]] = {}  # the addresses at which a call saves registers, by the number of the call
+        self.usual_moves: Set[Tuple[int, int]] = set()  # context and pc of accesses that leave a member in the run itself
+        self.usual_members: Set[Tuple[int, int, int]] = set()  # context and pc of an access, and a member that it reaches in the run itself
+        self.landed: Set[Tuple[int, Bounds]] = set()  # the pc of an access, and an object that it reaches
+        self.reached: Dict[Tuple[int, int], Bounds] = {}  # the variable that an access reaches on all paths, by its pc and the origin of its address
+        self.allowed: Dict[int, Set[str]] = {}  # what is not known about accesses that only --allow makes right, by pc
+        # ---- other answers
+        self.assumptions: Set[int] = set()  # the pcs of assumptions of the enclave that some input does not fulfil
+        self.not_assumed: Set[int] = set()  # the pcs of assumptions that the run itself does not fulfil
+        self.rereads_seen: Set[Tuple[Place, Place]] = set()  # pairs of loads that load the same byte in one activation
 
     # ---- accesses
 
     def doubt_access(self, what: str, state: State, reason: str) -> bool:
-        """Takes an access that the rule of objects does not decide: it is not decided unless --allow names it. Returns whether it is allowed."""
+        """Notes an access that the rule of objects does not decide: the question is not decided unless --allow names the access. Returns whether
+        --allow names it."""
         if not self.world.allowed.has(state.pc):
             self.doubt(what, state, reason)
             return False
@@ -69,7 +76,8 @@ class Judge(Outputs):
     # ---- code
 
     def note_written(self, state: State, at: int, width: int, is_word: bool) -> None:
-        """Takes a store to the region. A store to an instruction that any path executes ends the path, which is then not complete."""
+        """Notes a store of `width` bytes to the region, as a word if `is_word`. A store to an instruction that any path executes ends this path, and
+        the search is not complete."""
         for place in range(at & -4, at + width, 4):
             self.written.add(place)
             if is_word:
@@ -79,26 +87,31 @@ class Judge(Outputs):
                 raise Ended(CODE)
 
     def note_loaded(self, low: int, high: int) -> None:
-        """Takes a load of the region. A merged state needs facts about its words from now on."""
+        """Notes a load of the region from `low` up to before `high`. If a merged state has no facts about one of its words, the next search has to
+        propose them from the beginning on."""
         new = set(range(low & -4, high, 4)) - self.loaded
         self.loaded |= new
-        self.is_outgrown |= bool(new & self.unread)
+        if not new.isdisjoint(self.unread):
+            self.is_outgrown = True
 
     # ---- the window
 
     def is_given(self, at: int, width: int) -> bool:
-        """Returns whether the host gives bytes as in the run itself."""
+        """Returns whether bytes of the window are those of the run itself (--given)."""
         given = self.world.given
         return given is not None and all(given.has(at + n) for n in range(width))
 
     def is_console(self, at: int, width: int) -> bool:
-        """Returns whether bytes are those in which a console in the window keeps its state: it reads back how much it has printed."""
+        """Returns whether bytes of the window are those in which a console keeps its state: a program loads from there how much it has printed."""
         console = self.world.symbols.by_name.get("window_console")
         return console is not None and console.address <= at and at + width <= console.address + CONSOLE_STATE
 
     def note_fetch(self, state: State, place: Word, width: int, names: Sequence[Tuple[int, str]]) -> None:
-        """Takes a load of the window: no byte of it may be loaded twice in an activation."""
-        if self.options.calm or type(place) is int and self.is_console(place, width):
+        """Notes a load of the window, and asks whether this activation has loaded one of its bytes before. `place` is the address, and `names` has
+        the loaded bytes: offsets and variables."""
+        if self.options.calm:
+            return
+        if type(place) is int and self.is_console(place, width):
             return
         here = state.pc, state.context
         if type(place) is int:
@@ -106,27 +119,31 @@ class Judge(Outputs):
                 first = state.fetched.setdefault(place + n, here)
                 if state.fetched[place + n] is not here:
                     self.fetched_again(state, first, place + n, state.model)
-        if (type(place) is not int or state.fetched_at) and ("reread", state.pc) not in self.found:
+        if (type(place) is not int or state.symbolic_fetches) and ("reread", state.pc) not in self.findings:
             self.ask_overlap(state, place, width)
         if type(place) is not int:
-            state.fetched_at.append(FetchedAt(place, width, *here))
+            state.symbolic_fetches.append(SymbolicFetch(place, width, *here))
 
     def fetched_again(self, state: State, first: Place, at: int, model: Dict[str, int]) -> None:
-        """Takes a byte of the window that is loaded a second time in an activation."""
+        """Reports a byte of the window that is loaded a second time in an activation. `first` is the earlier load, and `at` the address of the
+        byte."""
         here = state.pc, state.context
-        if self.is_trial or (first, here) in self.again and not state.is_merged:
+        if self.is_trial:
             return
         if not state.is_merged:
-            self.again.add((first, here))
+            if (first, here) in self.rereads_seen:
+                return
+            self.rereads_seen.add((first, here))
         if first == here:
             self.doubt("reread", state, WAITS)
         else:
             self.report("reread", state, "loads %08x again, which %s has loaded" % (at, self.world.place(first[0])), model)
 
     def ask_overlap(self, state: State, place: Word, width: int) -> None:
-        """Asks whether a load has a byte that an earlier one had, where one of them is at an expression. If it must have one, it is a double fetch.
-        If it only can, that is not decided, unless the place is a pointer of the host, which may meet any other place."""
-        earlier = [EarlierLoad(overlap(place, width, it.at, it.width), (it.pc, it.context), it.joined) for it in state.fetched_at]
+        """Asks whether a load has a byte in common with an earlier load, if one of the two is at an expression. If they always have, it is a double
+        fetch. If they have only for some inputs, that is not decided. The address `place` may also be a pointer of the host, which may lead to any
+        byte: then it is no finding."""
+        earlier = [EarlierLoad(overlap(place, width, it.at, it.width), (it.pc, it.context), it.joined) for it in state.symbolic_fetches]
         if type(place) is not int:
             earlier += [EarlierLoad(within(place, low - width + 1, high - 1), first) for low, high, first in ranges_of(state.fetched)]
         earlier = [it for it in earlier if it.overlaps is not False]
@@ -135,10 +152,11 @@ class Judge(Outputs):
             self.ask_overlap_of(state, place, own, all_of(*joined))
 
     def ask_overlap_of(self, state: State, place: Word, earlier: List[EarlierLoad], joined: Condition) -> None:
-        """Asks the same for one of the paths that were joined: that of a condition."""
-        here, question = (state.pc, state.context), any_of(*(it.overlaps for it in earlier))
+        """Asks whether a load has a byte in common with one of `earlier`, for those of the joined paths for which the condition `joined` holds."""
+        here = state.pc, state.context
+        question = any_of(*(it.overlaps for it in earlier))
         can, model = self.solver.satisfiable(state.conds, all_of(joined, question), state.model)
-        if can is False or ("reread", state.pc) in self.found:
+        if can is False or ("reread", state.pc) in self.findings:
             return
         must_not, _ = self.solver.satisfiable(state.conds, all_of(joined, not_(question)), state.model)
         if can is None or must_not is None:
@@ -154,7 +172,8 @@ class Judge(Outputs):
     # ---- traps and jumps
 
     def note_trap(self, state: State, cause: int, value: Word) -> None:
-        """Takes a trap of the enclave that is no call: a fault, or a mark of enclave_check.h."""
+        """Reports a trap of the enclave that is a fault, or a mark of enclave_check.h: a check or an assumption that does not hold. A mark is an
+        illegal instruction, and `value` is its word."""
         mark = MARKS.get("%08x" % value) if cause == ILLEGAL and type(value) is int else None
         if mark == ASSUMPTION:
             self.assumptions.add(state.pc)
@@ -166,38 +185,39 @@ class Judge(Outputs):
         elif cause != ECALL:
             self.report("fault", state, "traps: cause %d, value %08x" % (cause, state.value(value)), state.model)
 
-    def jump(self, state: State, x: Node, is_return: bool) -> int:
-        """Takes a jump to an address that is an expression; returns the address at which this path goes on. The host may choose among functions
-        that the enclave has compared it with."""
+    def jump(self, state: State, target: Node, is_return: bool) -> int:
+        """Asks about a jump to an address that is an expression. The host may choose the target only among functions with which the enclave has
+        compared it. Returns the address at which this path goes on."""
         what = "return" if is_return else "jump"
-        if (what, state.pc) not in self.found:
-            known: List[Condition] = [eq(x, at) for at in sorted(self.world.functions)]
-            outside = differ(x, state.value(x)) if is_return else all_of(*(not_(it) for it in known))
+        if (what, state.pc) not in self.findings:
+            known: List[Condition] = [eq(target, entry) for entry in sorted(self.world.functions)]
+            outside = differ(target, state.value(target)) if is_return else all_of(*(not_(is_function) for is_function in known))
             answer, model = self.solver.satisfiable(state.conds, outside, state.model)
             if answer:
-                self.report(what, state, "the host chooses the target: %08x" % evaluate(x, model, {}), model)
+                self.report(what, state, "the host chooses the target: %08x" % evaluate(target, model, {}), model)
             elif answer is None:
                 self.undecided[what, state.pc] += 1
             if not answer:
-                return state.fixed(x)
+                return state.fixed(target)
         if not state.is_base:
             raise Ended(FINDING)
         self.assumed_inside[state.pc] += 1
-        state.assume(eq(x, state.value(x)))
-        return state.value(x)
+        state.assume(eq(target, state.value(target)))
+        return state.value(target)
 
     def check_target(self, state: State, target: int, tag: Tag, offset: int) -> None:
-        """Takes a jump to a number that is no return: it must be a function, or what the program has as an address."""
+        """Asks about a jump to a number that is no return: the target must be a function, or an address of the program. `tag` is the origin of the
+        register with the address, and `offset` that of the instruction."""
         if target in self.world.functions:
             return
-        if tag is None or target not in (tag.base, tag.base + offset & 0xFFFFFFFF):
+        if tag is None or target not in (tag.base, tag.base + offset & M32):
             self.doubt("jump", state, "a target that is no function and no address of the program")
         elif tag.how in (How.FRAME, How.STACK) or target & 3:
             self.doubt("jump", state, "a target that is no instruction")
 
 
 def ranges_of(fetched: Dict[int, Place]) -> List[Tuple[int, int, Place]]:
-    """Returns bytes as ranges, each loaded by one instruction."""
+    """Returns bytes as ranges: the first address, the end, and the one instruction that has loaded the range."""
     found: List[Tuple[int, int, Place]] = []
     for at in sorted(fetched):
         if found and found[-1][1] == at and found[-1][2] == fetched[at]:

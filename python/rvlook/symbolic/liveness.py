@@ -1,18 +1,21 @@
-"""Registers that are not read any more. It only decides which paths are joined, and which words of merged loops have facts: no answer depends on
-it."""
+"""Finds registers that are not read any more. This only decides which paths are joined, and which words of merged loops have facts: no answer of
+`verify` depends on it."""
 from __future__ import annotations
 
 from typing import List, Set, Tuple, TYPE_CHECKING
 
 from rvlook.finders.inputs.code import LINKS
 from rvlook.symbolic.decode import Decoded, decode
+from rvlook.symbolic.nodes import M32
 
 if TYPE_CHECKING:
     from rvlook.symbolic.flow import Flows
 
-MOST_LOOKED_AT = 400  # instructions, before a register counts as read
-RESULTS, ARGUMENTS, TEMPORARIES = (10, 11), range(10, 18), (1, 5, 6, 7, 28, 29, 30, 31)  # of the calling convention
-BOTH, FIRST = ("op", "store", "branch"), ("imm", "load", "jalr", "csr")
+MOST_LOOKED_AT = 400  # instructions that are examined, before a register counts as read
+ARGUMENTS = range(10, 18)  # a0 to a7 of the calling convention; a0 and a1 have the results of a call
+TEMPORARIES = (1, 5, 6, 7, 28, 29, 30, 31)  # ra and t0 to t6, which a call may change
+BOTH = ("op", "store", "branch")  # kinds of instructions that read two registers
+FIRST = ("imm", "load", "jalr", "csr")  # kinds that read one register
 
 
 def reads(instruction: Decoded, register: int, is_saved: bool) -> bool:
@@ -21,13 +24,16 @@ def reads(instruction: Decoded, register: int, is_saved: bool) -> bool:
         return is_saved or register in ARGUMENTS
     if instruction.kind in BOTH:
         return register in (instruction.r1, instruction.r2)
-    return register == instruction.r1 if instruction.kind in FIRST else instruction.kind in ("sret", "illegal")
+    if instruction.kind in FIRST:
+        return register == instruction.r1
+    return instruction.kind in ("sret", "illegal")  # the code at the target may read each register
 
 
 def is_read(flows: Flows, pc: int, register: int, is_saved: bool = True) -> bool:
-    """Returns whether a register may be read from a pc on before it is written. Calls keep to the calling convention. `is_saved`: an `ecall` reads
-    all registers."""
-    stack, seen = [(pc, 0)], set()  # type: List[Tuple[int, int]], Set[Tuple[int, int]]
+    """Returns whether a register may be read from a pc on before it is written. Calls keep to the calling convention. `is_saved` says whether an
+    `ecall` reads all registers."""
+    stack: List[Tuple[int, int]] = [(pc, 0)]  # pcs, each with the number of calls around it
+    seen: Set[Tuple[int, int]] = set()
     while stack:
         at, depth = stack.pop()
         if (at, depth) in seen:
@@ -36,20 +42,26 @@ def is_read(flows: Flows, pc: int, register: int, is_saved: bool = True) -> bool
         found = flows.next_of(at)
         if found is None or len(seen) > MOST_LOOKED_AT:
             return True
-        n = at - flows.low
-        instruction = decode(int.from_bytes(bytes(flows.memory[n:n + 4]), "little"))
+        following, is_call = found
+        offset = at - flows.low
+        instruction = decode(int.from_bytes(bytes(flows.memory[offset:offset + 4]), "little"))
         if reads(instruction, register, is_saved):
             return True
         if instruction.rd == register and instruction.kind not in ("ecall", "sret"):
             continue
-        if instruction.kind == "jalr" and instruction.rd == 0 and not found[0]:  # a return, or a jump
-            if instruction.r1 not in LINKS or not depth and register not in TEMPORARIES and register not in ARGUMENTS[2:]:
+        if instruction.kind == "jalr" and instruction.rd == 0 and not following:  # a return, or a jump
+            is_return = instruction.r1 in LINKS
+            may_be_read_by_caller = register not in TEMPORARIES and register not in ARGUMENTS[2:]
+            if not is_return or (depth == 0 and may_be_read_by_caller):
                 return True
             continue
-        if found[1] and instruction.kind in ("jal", "jalr") and (register in TEMPORARIES or register in ARGUMENTS):
-            if register in ARGUMENTS and instruction.kind == "jalr":
-                return True
-            stack += [(at + instruction.imm & 0xFFFFFFFF, depth + 1)] if register in ARGUMENTS else []
-            continue
-        stack += [(to, depth) for to in found[0]]
+        if is_call and instruction.kind in ("jal", "jalr"):
+            if register in ARGUMENTS:  # the function that is called may read it
+                if instruction.kind == "jalr":
+                    return True
+                stack.append((at + instruction.imm & M32, depth + 1))
+                continue
+            if register in TEMPORARIES:
+                continue
+        stack += [(successor, depth) for successor in following]
     return False

@@ -1,4 +1,4 @@
-"""The means of a search."""
+"""The means of a search: the method by which it explores paths."""
 from __future__ import annotations
 
 from dataclasses import dataclass, replace
@@ -10,24 +10,22 @@ if TYPE_CHECKING:
 
 @dataclass(frozen=True)
 class Means:
-    """The means of a search. `is_rare_first`: rare branches come first. `is_far`: values that lead further, such as long messages, are tried first.
-    `loops_from`: after so many divisions in a loop its head is merged, 0 for never. `is_rough`: facts of merged states do not depend on the contents
-    of large tables. `merges` and `activations` replace --each and --activations. `rounds`: so many times the rounds of --bound are followed."""
-    is_rare_first: bool = False
-    is_far: bool = False
-    loops_from: int = 0
-    is_rough: bool = False
-    merges: Optional[bool] = None
-    activations: int = 0
-    rounds: int = 1
+    """The means of a search. Without arguments, these are the means of the exact search."""
+    is_rare_first: bool = False  # whether the branches that the fewest paths take come first, and paths are not joined
+    is_far: bool = False  # whether values that lead further are tried first, such as long messages
+    loops_from: int = 0  # after so many divisions of a path in a loop, paths are merged at its head; 0 for never
+    is_rough: bool = False  # whether facts of merged states do not depend on the contents of large tables
+    merges: Optional[bool] = None  # whether the states of stops are merged, in place of --each; None: as the options say
+    activations: int = 0  # the number of activations of a path, in place of --activations; 0: as the options say
+    rounds: int = 1  # so many times the rounds of --bound are followed in a loop
 
     @property
     def is_whole(self) -> bool:
-        """Returns whether the search answers the questions of the options."""
+        """Returns whether the search answers the questions of the options, for all activations that they ask about."""
         return self.merges is None
 
     def options(self, options: VerifyOptions) -> VerifyOptions:
-        """Returns the options of the search."""
+        """Returns the options of a run of `verify` as this search uses them."""
         merges = options.merges if self.merges is None else self.merges
         bound = self.rounds * options.bound
         return replace(options, merges=merges, activations=self.activations or options.activations, bound=bound)

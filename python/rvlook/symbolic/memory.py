@@ -3,8 +3,8 @@ from __future__ import annotations
 
 from typing import List, Optional, Tuple
 
-from rvlook.symbolic.accesses import Accesses
 from rvlook.errors import RvlookError
+from rvlook.symbolic.accesses import Accesses
 from rvlook.symbolic.conditions import choice8, element, eq, ult
 from rvlook.symbolic.extents import Extent
 from rvlook.symbolic.fields import Ended, Load, Store
@@ -12,11 +12,13 @@ from rvlook.symbolic.nodes import CHECK, INPUT, M32, SECRET, Byte, Node, Word, s
 from rvlook.symbolic.origins import NO_ORIGIN, How, Origin, Tag, known
 from rvlook.symbolic.words import byte, extended, not_, parts_of, plain, word
 
-MOST_TABLE, MOST_STORED = 4096, 1024  # bytes of an object that is read or written at an index as a whole
+MOST_TABLE = 4096  # bytes of an object from which a load at an index is one expression over all bytes
+MOST_STORED = 1024  # bytes of an object in which a store at an index changes all bytes to choices
+A0 = 10  # the number of the register with the first argument of `any_bytes`
 
 
 def assembled(parts: List[Byte], width: int, is_signed: bool) -> Word:
-    """Returns the word that a load makes of its bytes."""
+    """Returns the word that a load of `width` bytes makes of its bytes, the lowest first."""
     if width == 4:
         return word(*parts)
     if is_signed:
@@ -31,7 +33,7 @@ class Memory(Accesses):
     # ---- the region, at numbers
 
     def load(self, at: int, width: int, is_signed: bool) -> Word:
-        """Returns what the region or the window has at a number."""
+        """Loads `width` bytes of the region or the window at a number. Returns the word."""
         low, high = self.search.world.region
         if not (low <= at and at + width <= high):
             return assembled(self.received(at, width, at), width, is_signed)
@@ -47,7 +49,7 @@ class Memory(Accesses):
         return assembled([mem[at + n] if part is None else plain(part) for n, part in enumerate(parts)], width, is_signed)
 
     def store(self, at: int, width: int, value: Word, tag: Tag = None) -> None:
-        """Stores a word at a number."""
+        """Stores the lower `width` bytes of a word to the region or the window at a number. `tag` is the origin of the word."""
         low, high = self.search.world.region
         if not (low <= at and at + width <= high):
             self.sent(at, width, value, at)
@@ -76,7 +78,7 @@ class Memory(Accesses):
     # ---- origins of words in memory
 
     def note_origin(self, at: int, width: int, value: Word, tag: Tag) -> None:
-        """Notes where a stored word comes from. A part of a word, or a word that looks like a pointer, has no origin."""
+        """Notes the origin of a stored word. A part of a word has no origin, nor has a word that looks like a pointer and has no tag."""
         tags = self.mem_tags
         if width == 4 and not at & 3:
             if tag is not None:
@@ -91,21 +93,24 @@ class Memory(Accesses):
                 tags[place] = NO_ORIGIN
 
     def looks_like_pointer(self, at: int) -> bool:
-        """Returns whether a word of the region is an address, or may be one."""
-        world, low = self.search.world, self.search.world.region[0]
-        return at + 4 <= world.region[1] and world.is_pointer(int.from_bytes(self.mem[at - low:at - low + 4], "little"))
+        """Returns whether the bytes of a word of the region that are numbers look like an address of the region or the window."""
+        world = self.search.world
+        low, high = world.region
+        return at + 4 <= high and world.is_pointer(int.from_bytes(self.mem[at - low:at - low + 4], "little"))
 
     def origin_at(self, at: int, value: Word) -> Tag:
-        """Returns the origin of a word that was loaded at a number. A pointer that the image has in its data names the object there."""
+        """Returns the origin of a word that was loaded at a number. A pointer in the data of the image is the origin of itself."""
         if at & 3:
             return None
         if at in self.mem_tags:
             return known(self.mem_tags[at])
         world = self.search.world
-        return Origin(How.MEMORY, value) if type(value) is int and world.region[0] <= at < world.region[1] and world.is_pointer(value) else None
+        if type(value) is int and world.region[0] <= at < world.region[1] and world.is_pointer(value):
+            return Origin(How.MEMORY, value)
+        return None
 
     def has_pointers(self, low: int, high: int) -> bool:
-        """Returns whether an object has pointers, so that an index into it decides which."""
+        """Returns whether an object contains pointers, so that a word at an index may be one of several pointers."""
         first = low + 3 & -4
         for at in range(first, high - 3, 4):
             tag = self.mem_tags.get(at)
@@ -116,53 +121,66 @@ class Memory(Accesses):
     # ---- the window
 
     def received(self, at: int, width: int, place: Word) -> List[Byte]:
-        """Returns bytes of the window: new inputs, unless the host waits during an activation. `place` is the address, maybe an expression."""
-        search, own = self.search, self.search.world.window[0]
+        """Loads `width` bytes of the window. Returns new inputs, apart from bytes of --given, and from bytes that this activation has used before
+        with --calm. `place` is the address, maybe an expression, and `at` its value in the model."""
+        search = self.search
+        base = search.world.window[0]
         is_number = type(place) is int
-        if is_number and search.options.calm and all(at + n in self.win for n in range(width)):
-            return [self.win[at + n] for n in range(width)]
+        is_calm = is_number and search.options.calm
+        if is_calm and all(at + n in self.calm_window for n in range(width)):
+            return [self.calm_window[at + n] for n in range(width)]
         if is_number and search.is_given(at, width):
             return self.given(at, width)
-        number, found, names = self.inputs, [], []  # type: int, List[Byte], List[Tuple[int, str]]
+        found: List[Byte] = []
+        names: List[Tuple[int, str]] = []  # the new inputs: offsets and variables
         for n in range(width):
-            if is_number and search.options.calm and at + n in self.win:
-                found.append(self.win[at + n])
+            if is_calm and at + n in self.calm_window:
+                found.append(self.calm_window[at + n])
                 continue
-            name, value = "i%d_%d" % (number, n), self.winmem[at + n - own]
+            name = "i%d_%d" % (self.input_count, n)
+            self.set_value(name, self.window_memory[at + n - base])
             input_byte = variable(name, INPUT)
-            if self.model.get(name) != value:
-                self.memo = {} if name in self.model else self.memo
-                self.model = {**self.model, name: value}
             names.append((n, name))
             found.append(input_byte)
-            if is_number and search.options.calm:
-                self.win[at + n] = input_byte
+            if is_calm:
+                self.calm_window[at + n] = input_byte
         self.loads.append(Load(self.steps, place, tuple(names)))
-        self.inputs += 1
+        self.input_count += 1
         search.note_fetch(self, place, width, names)
         if is_number and at in search.world.lengths:
-            self.limit(at, assembled(found, width, is_signed=False))
+            self.limit_length(at, assembled(found, width, is_signed=False))
         return found
 
-    def limit(self, at: int, value: Word) -> None:
-        """Takes a length of --length: leaves out inputs with a greater one. Raises RvlookError if the run itself has one."""
-        search, most = self.search, self.search.world.lengths[at]
+    def set_value(self, name: str, value: int) -> None:
+        """Sets the value of a variable in the model."""
+        if self.model.get(name) != value:
+            if name in self.model:
+                self.memo = {}
+            self.model = {**self.model, name: value}
+
+    def limit_length(self, at: int, value: Word) -> None:
+        """Leaves out inputs for which a load of the window at a place of --length gives a number greater than the limit. `value` is the loaded
+        number. Raises RvlookError if the number of the run itself is greater."""
+        search = self.search
+        most = search.world.lengths[at]
         if self.is_base and self.value(value) > most:
             name = search.world.symbols.name(at) or "%08x" % at
             raise RvlookError("--length leaves out the run itself, which has %d at %s" % (self.value(value), name))
-        search.limited.add(at)
+        search.lengths_met.add(at)
         self.move_to(not_(ult(most, value)))
 
     def become_any(self, at: int, count: int) -> None:
-        """Makes bytes of the region inputs of their own, with their present values in the model."""
+        """Makes `count` bytes of the region new inputs, with their present values in the model: `any_bytes` of enclave_check.h. Ends the path if the
+        bytes are not all in the region."""
         low, high = self.search.world.region
         if not low <= at <= at + count <= high:
             raise Ended("any_bytes")
-        self.access(at, count, self.tags[10], 0, "store")
-        names = [(n, "a%d_%d" % (self.inputs, n)) for n in range(count)]
-        self.inputs += 1
-        values = {name: self.value(plain(self.sym[at + n])) if at + n in self.sym else self.mem[at + n - low] for n, name in names}
-        self.model, self.memo = {**self.model, **values}, {}
+        self.access(at, count, self.tags[A0], 0, "store")
+        names = [(n, "a%d_%d" % (self.input_count, n)) for n in range(count)]
+        self.input_count += 1
+        values = {name: self.value(plain(self.sym.get(at + n, self.mem[at + n - low]))) for n, name in names}
+        self.model = {**self.model, **values}
+        self.memo = {}
         self.search.note_written(self, at, count, True)
         for n, name in names:
             self.put(at + n, variable(name, INPUT))
@@ -170,80 +188,102 @@ class Memory(Accesses):
         self.loads.append(Load(self.steps, at, tuple(names)))
 
     def given(self, at: int, width: int) -> List[Byte]:
-        """Returns bytes of the window that the host gives as in the run itself."""
-        own = self.search.world.window[0]
-        values = list(self.winmem[at - own:at - own + width])
+        """Loads `width` bytes of --given, which the host gives as in the run itself. Returns them as numbers."""
+        offset = at - self.search.world.window[0]
+        values = list(self.window_memory[offset:offset + width])
         names = tuple((n, "g%02x" % value) for n, value in enumerate(values))
         self.model = {**self.model, **{name: value for (_, name), value in zip(names, values)}}
         self.loads.append(Load(self.steps, at, names))
         return values
 
     def sent(self, at: int, width: int, value: Word, place: Word) -> None:
-        """Stores to the window. Asks about bytes that depend on a secret, unless they are public."""
-        search, own, is_number = self.search, self.search.world.window[0], type(place) is int
+        """Stores `width` bytes of a word to the window, and asks whether they may depend on a secret. `place` is the address, maybe an expression,
+        and `at` its value in the model."""
+        search = self.search
+        base = search.world.window[0]
+        is_number = type(place) is int
         parts = [byte(value, n) for n in range(width)]
-        first = place if is_number else None
+        first: Optional[int] = place if is_number else None  # the address for --public; for an expression, the beginning of a public range
         if not is_number and type(value) is Node and value.taint & (SECRET | CHECK):
             first = search.public_place(self, place, width)
-        search.output(self, parts, [first + n if first is not None else None for n in range(width)], "window")
-        stored: Optional[int] = value if type(value) is int else self.value(value) if self.is_base else None
-        if stored is not None:
+        places: List[Optional[int]] = [None if first is None else first + n for n in range(width)]
+        search.check_output(self, parts, places, "window")
+        if type(value) is int or self.is_base:
+            stored = self.value(value)
             for n in range(width):
-                self.winmem[at + n - own] = stored >> 8 * n & 255
+                self.window_memory[at + n - base] = stored >> 8 * n & 255
         if search.options.calm and is_number:
             for n in range(width):
-                self.win[place + n] = parts[n]
+                self.calm_window[place + n] = parts[n]
         elif search.options.calm:
-            self.win.clear()
+            self.calm_window.clear()
         if search.world.given and (not is_number or search.is_given(at, width)):
-            search.given_written.add(self.pc)
+            search.stores_to_given.add(self.pc)
         self.stores.append(Store(self.steps, place, width, value))
 
     # ---- expressions as addresses
 
-    def read(self, x: Node, width: int, is_signed: bool, tag: Tag, offset: int) -> Tuple[Optional[Word], int]:
-        """Loads at an address that is an expression. Returns the word and its address if that was followed value by value, else 0; None for the word
-        if the load traps."""
-        extent = self.place_at(x, width, tag, offset, "load")
+    def read(self, address: Node, width: int, is_signed: bool, tag: Tag, offset: int) -> Tuple[Optional[Word], int]:
+        """Loads at an address that is an expression. `tag` is the origin of the register with the address, and `offset` that of the instruction.
+        Returns the word, or None if the load traps, and the number that the address has on this path; 0 if the address stays an expression."""
+        extent = self.place_at(address, width, tag, offset, "load")
         world = self.search.world
         if extent is not None and extent.low == world.window[0]:
-            return assembled(self.received(self.value(x), width, x), width, is_signed), 0
+            return assembled(self.received(self.value(address), width, address), width, is_signed), 0
         if extent is not None and extent.high - extent.low <= MOST_TABLE and not (width == 4 and self.has_pointers(extent.low, extent.high)):
             self.search.note_loaded(extent.low, extent.high)
-            raw, sym = self.mem[extent.low - world.region[0]:extent.high - world.region[0]], self.sym
-            content = tuple(plain(sym.get(at, raw[at - extent.low])) for at in range(extent.low, extent.high)) if sym else tuple(raw)
-            return assembled([element(x, extent.low - n, content) for n in range(width)], width, is_signed), 0
-        at = self.fixed(x, "address")
+            content = self.contents_of(extent)
+            return assembled([element(address, extent.low - n, content) for n in range(width)], width, is_signed), 0
+        at = self.fixed(address, "address")
         self.search.note_loaded(at, at + width)
         return (self.load(at, width, is_signed), at) if world.is_allowed(at, width) else (None, at)
 
-    def write(self, x: Node, width: int, value: Word, tags: Tuple[Tag, Tag], offset: int) -> Optional[int]:
-        """Stores at an address that is an expression; returns the address if the store traps. `tags` are the origins of the address and of the
-        value."""
-        extent, tag = self.place_at(x, width, tags[0], offset, "store"), tags[1]
+    def contents_of(self, extent: Extent) -> Tuple[Byte, ...]:
+        """Returns the bytes of an object of the region."""
+        base = self.search.world.region[0]
+        raw = self.mem[extent.low - base:extent.high - base]
+        if not self.sym:
+            return tuple(raw)
+        return tuple(plain(self.sym.get(at, raw[at - extent.low])) for at in range(extent.low, extent.high))
+
+    def write(self, address: Node, width: int, value: Word, tags: Tuple[Tag, Tag], offset: int) -> Optional[int]:
+        """Stores at an address that is an expression. `tags` are the origins of the register with the address and of the value, and `offset` that of
+        the instruction. Returns the address if the store traps, else None."""
+        address_tag, tag = tags
+        extent = self.place_at(address, width, address_tag, offset, "store")
         world = self.search.world
         if extent is not None and extent.low == world.window[0]:
-            self.sent(self.value(x), width, value, x)
+            self.sent(self.value(address), width, value, address)
             return None
         if extent is not None and extent.high - extent.low <= MOST_STORED and tag is None and not self.has_pointers(extent.low & -4, extent.high):
-            self.write_anywhere(x, width, value, extent)
+            self.write_anywhere(address, width, value, extent)
             return None
-        at = self.fixed(x, "address")
+        at = self.fixed(address, "address")
         if not world.is_allowed(at, width):
             return at
         self.store(at, width, value, tag)
         return None
 
-    def write_anywhere(self, x: Node, width: int, value: Word, extent: Extent) -> None:
-        """Stores at an expression: each byte of the object becomes a choice."""
+    def write_anywhere(self, address: Node, width: int, value: Word, extent: Extent) -> None:
+        """Stores at an expression that may be any address in an object: each byte of the object becomes a choice."""
         self.search.note_written(self, extent.low, extent.high - extent.low, width == 4)
-        step = width if x.op == "add" and type(x.args[1]) is int and not (x.args[0].may | x.args[1] - extent.low) & width - 1 else 1
+        step = width if is_aligned(address, width, extent.low) else 1
         low = self.search.world.region[0]
         for at in range(extent.low, extent.high - width + 1, step):
-            is_here = eq(x, at)
-            for n in range(width if is_here is not False else 0):
+            is_here = eq(address, at)
+            if is_here is False:
+                continue
+            for n in range(width):
                 old = plain(self.sym.get(at + n, self.mem[at + n - low]))
                 self.put(at + n, choice8(is_here, byte(value, n), old))
         for at in range(extent.low & -4, extent.high, 4):
             if at in self.mem_tags or type(value) is not int:
                 self.mem_tags[at] = NO_ORIGIN
+
+
+def is_aligned(address: Node, width: int, low: int) -> bool:
+    """Returns whether an address is a multiple of `width` away from `low`: the sum of a constant and an index whose lower bits are 0."""
+    if address.op != "add" or type(address.args[1]) is not int:
+        return False
+    index, constant = address.args
+    return not (index.may | constant - low) & width - 1

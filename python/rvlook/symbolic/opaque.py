@@ -20,18 +20,18 @@ def is_large_lookup(node: Node) -> bool:
 
 
 def is_none(_: Node) -> bool:
-    """Returns that no node is taken as a variable."""
+    """Returns False: no node is taken as a variable."""
     return False
 
 
 class Opaque(Translator):
-    """Makes expressions of z3 in which some nodes are variables: those for which `is_opaque` holds."""
+    """Makes expressions of z3 in which some nodes are taken as variables."""
 
     def __init__(self, is_opaque: Callable[[Node], bool] = is_lookup_or_choice) -> None:
         super().__init__()
-        self.is_opaque = is_opaque
-        self.masks: Dict[Node, int] = {}
-        self.bits: Dict[Node, int] = {}  # of the nodes that are taken as variables, and of variables
+        self.is_opaque = is_opaque  # returns whether a node is taken as a variable
+        self.masks: Dict[Node, int] = {}  # the masks of nodes that were computed
+        self.bits: Dict[Node, int] = {}  # the numbers of the bits in these masks: of nodes that are taken as variables, and of variables
 
     @staticmethod
     def name_of(node: Node) -> str:
@@ -43,8 +43,9 @@ class Opaque(Translator):
         return self.z3.variable(self.name_of(node)) if self.is_opaque(node) else None
 
     def mask_of(self, node: Node) -> int:
-        """Returns the variables of a node, and the nodes that are taken as variables, as a set of bits."""
-        stack, masks = [node], self.masks
+        """Returns the mask of the variables of a node, and of the nodes in it that are taken as variables."""
+        masks = self.masks
+        stack = [node]
         while stack:
             top = stack[-1]
             if top in masks:
@@ -63,21 +64,22 @@ class Opaque(Translator):
 
     def relevant(self, conditions: Sequence[Node], question: Node) -> Optional[List[Node]]:
         """Returns the conditions that share variables with a question, and the question; None if there is nothing to leave out."""
-        found, mask = self.sliced(conditions, self.mask_of(question))
+        found, mask = self.relevant_conditions(conditions, self.mask_of(question))
         return [*found, question] if self.within(mask) or len(found) < len(conditions) else None
 
-    def sliced(self, conditions: Sequence[Node], mask: int) -> Tuple[List[Node], int]:
-        """Returns the conditions that share variables with a set of them, directly or by others, and all these variables."""
-        left, found = list(conditions), []  # type: List[Node], List[Node]
+    def relevant_conditions(self, conditions: Sequence[Node], mask: int) -> Tuple[List[Node], int]:
+        """Returns the conditions that share variables with a mask, directly or through other conditions, and the mask of all their variables."""
+        left = list(conditions)
+        found: List[Node] = []
         while True:
-            more = [it for it in left if self.mask_of(it) & mask]
+            more = [condition for condition in left if self.mask_of(condition) & mask]
             if not more:
                 return found, mask
             found += more
-            left = [it for it in left if not self.mask_of(it) & mask]
-            for it in more:
-                mask |= self.mask_of(it)
+            left = [condition for condition in left if not self.mask_of(condition) & mask]
+            for condition in more:
+                mask |= self.mask_of(condition)
 
     def within(self, mask: int) -> List[Node]:
-        """Returns the nodes of a set of variables that are taken as such."""
-        return [it for it, bit in self.bits.items() if mask >> bit & 1 and self.is_opaque(it)]
+        """Returns the nodes of a mask that are taken as variables."""
+        return [node for node, bit in self.bits.items() if mask >> bit & 1 and self.is_opaque(node)]

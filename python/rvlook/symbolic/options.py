@@ -1,4 +1,4 @@
-"""The options of `verify`."""
+"""The options of `verify` (docs/VERIFY.md)."""
 from __future__ import annotations
 
 from dataclasses import dataclass
@@ -7,29 +7,24 @@ from typing import Optional, Sequence
 
 @dataclass(frozen=True)
 class VerifyOptions:
-    """The enclave is the one in `slot`. `at`, `must_know` and `must_matter` are places in its region, and `given` is places in its window. `length`
-    has places in its window, each with a largest value. `allow` has instructions whose objects are taken to be right. `public` may depend on the
-    secret. With `merges` the states of all stops are merged, and
-    otherwise `activations` are explored one by one. A loop is followed for `bound` rounds, or merged with `loops`. `seconds` limits the search,
-    `timeout` (milliseconds) a query, and `path_steps` a path. Every `replay`th path is replayed. `scripts` is the folder for the inputs of
-    findings, and `symbols` the file of the symbols, if the image has none."""
-    slot: int = 0
-    at: Sequence[str] = ()
-    public: Sequence[str] = ()
-    must_know: Sequence[str] = ()
-    must_matter: Sequence[str] = ()
-    wiped: bool = False
-    given: Sequence[str] = ()
-    length: Sequence[str] = ()
-    allow: Sequence[str] = ()
-    calm: bool = False
-    merges: bool = True
-    activations: Optional[int] = None
-    bound: int = 64
-    loops: bool = False
-    seconds: float = 60
-    timeout: int = 5000
-    replay: int = 10
-    path_steps: int = 2000000
-    scripts: Optional[str] = None
-    symbols: Optional[str] = None
+    """The options of `verify`. A *place* is a text PLACE or PLACE:BYTES with an address or a symbol."""
+    slot: int = 0  # of the enclave
+    at: Sequence[str] = ()  # the places of the secrets in the region
+    public: Sequence[str] = ()  # what may depend on the secret
+    must_know: Sequence[str] = ()  # the places of bytes that the host must know
+    must_matter: Sequence[str] = ()  # the places of bytes of the secret on which some output must depend
+    wiped: bool = False  # whether nothing may depend on the secret at a stop
+    given: Sequence[str] = ()  # the places in the window whose bytes are those of the run itself
+    length: Sequence[str] = ()  # places in the window, each with the largest value of a load: PLACE:N
+    allow: Sequence[str] = ()  # the places of instructions whose accesses are taken to be right
+    calm: bool = False  # whether the host changes the window only between two activations
+    merges: bool = True  # whether the states of all stops are merged, for any number of activations; False with --each
+    activations: Optional[int] = None  # the number of activations of a path; None: as many as the run itself has
+    bound: int = 64  # rounds of a loop that are followed
+    loops: bool = False  # whether paths are merged at the heads of loops whose number of rounds the host chooses
+    seconds: float = 60  # of the whole run of `verify`
+    timeout: int = 5000  # milliseconds of a query to z3
+    replay: int = 10  # so that every 10th path is replayed; 0: only findings are replayed
+    path_steps: int = 2000000  # of a path
+    scripts: Optional[str] = None  # the folder for the inputs of findings
+    symbols: Optional[str] = None  # the file of the symbols, if the image has none

@@ -22,22 +22,22 @@ class How(Enum):
 
 
 class Origin(NamedTuple):
-    """The first address of a pointer, and the call and the instruction in which it was computed. A call has a number. `more` is a constant in the
-    index that was added to sp, which the compiler may have taken from the offset."""
+    """The first address of a pointer, and where it was computed."""
     how: How
-    base: int
-    call: int = 0
-    pc: int = 0
-    more: int = 0
+    base: int  # the first address
+    call: int = 0  # the number of the call that has computed it
+    pc: int = 0  # the instruction that has computed it
+    more: int = 0  # a constant in the index that was added to sp, which the compiler may have taken from the offset
 
 
-NO_ORIGIN, MIXED = Origin(How.NONE, 0), Origin(How.MIXED, 0)
+NO_ORIGIN = Origin(How.NONE, 0)  # of a word in memory that is no pointer, although its value looks like one
+MIXED = Origin(How.MIXED, 0)  # of a word that has another origin on another of the paths that were joined
 LOST = Origin(How.NONE, 1)  # of a word that has an origin on some of the paths that were merged, and another or none on others
-Tag = Optional[Origin]
+Tag = Optional[Origin]  # None for a word that is no pointer, as far as is known
 
 
 def known(tag: Tag) -> Tag:
-    """Returns an origin, or None for the mark of a word that is no pointer."""
+    """Returns an origin as the tag of a register: None for NO_ORIGIN, which only words in memory have."""
     return None if tag is NO_ORIGIN else tag
 
 

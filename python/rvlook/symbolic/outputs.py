@@ -1,14 +1,17 @@
-"""Questions about what leaves an enclave: secrets in the window and in answers, codes that the host must know, what remains at a stop."""
+"""Questions about outputs: secrets in the window and in answers, and codes that the host must know.
+
+An *output* is what the host can read: bytes that the enclave stores to the window, and the *answer*, which is a0 when the enclave leaves. The *code*
+is the bytes that the host must know (--must-know), such as a PIN. A byte is *public* if --public names it, so that it may depend on the secret."""
 from __future__ import annotations
 
-from typing import Dict, List, NamedTuple, Optional, Sequence, Set, Tuple, TYPE_CHECKING
+from typing import Dict, List, Optional, Sequence, Set, Tuple, TYPE_CHECKING
 
-from rvlook.symbolic.conditions import all_of, any_of, differ, eq, overlap, within
+from rvlook.symbolic.conditions import differ, within
 from rvlook.symbolic.evaluation import evaluate
 from rvlook.symbolic.history import history_of, is_calm
-from rvlook.symbolic.nodes import CHECK, INPUT, SECRET, Byte, Condition, Node, Word, by_name, mask_of, names_of, operands, variable
+from rvlook.symbolic.nodes import CHECK, SECRET, Byte, Node, Word, mask_of, names_of, operands
 from rvlook.symbolic.record import Record
-from rvlook.symbolic.words import byte, not_, plain, word
+from rvlook.symbolic.words import byte, not_, word
 
 if TYPE_CHECKING:
     from rvlook.symbolic.means import Means
@@ -17,15 +20,13 @@ if TYPE_CHECKING:
     from rvlook.symbolic.options import VerifyOptions
     from rvlook.symbolic.world import World
 
-COMPARISONS = ("eq", "eq8", "and1")
+COMPARISONS = ("eq", "eq8", "and1")  # operations that compare words, bytes, or several of them
 BYTES = 256  # values of a byte
+OTHER_BITS = 0x55  # bits of a byte that are changed for another value
 CHANGES = "only known for a window that changes while the enclave runs"
-
-
-class Counts(NamedTuple):
-    """The numbers of loads and of stores of the window up to a stop."""
-    loads: int
-    stores: int
+MIXED_OUTPUT = "an output is computed of the secret and of what the host must know"
+OTHER_OUTPUT = "an output depends on what the host must know by something else than one comparison of all its bytes"
+OTHER_PATH = "a path depends on what the host must know by something else than one comparison of all its bytes"
 
 
 class Outputs(Record):
@@ -37,39 +38,41 @@ class Outputs(Record):
 
     def __init__(self) -> None:
         super().__init__()
-        self.usual_raw: Set[Tuple[int, Optional[int]]] = set()  # where the run itself shows bytes of the secret
-        self.declared_raw: Set[int] = set()  # the instructions with which it shows them at a public place
-        self.whole: Dict[Node, bool] = {}  # conditions on what the host must know: whether they are comparisons of all its bytes
-        self.matters: Set[str] = set()  # bytes of which an output is known to depend on them
-        self.appears = 0  # the variables of all outputs and of all conditions at stops
+        self.usual_copies: Set[Tuple[int, Optional[int]]] = set()  # where the run itself outputs bytes of the secret: the pc, and the address in the
+        # window or None
+        self.declared_copies: Set[int] = set()  # the pcs at which the run itself outputs bytes of the secret in public places
+        self.whole_comparisons: Dict[Node, bool] = {}  # conditions on the code: whether each compares all bytes of the code
+        self.influencing_bytes: Set[str] = set()  # the variables of the secret on which an output is known to depend
+        self.output_variables = 0  # the mask of the variables of all outputs, and of all conditions when the enclave leaves
 
     def report(self, what: str, state: State, text: str, one: Dict[str, int], two: Optional[Dict[str, int]] = None) -> None:
-        """Adds a finding. With --calm it is none if the window changes during an activation."""
-        is_new = self.options.calm and not state.is_merged and (what, state.pc) not in self.found
+        """Adds a finding as `Record.report` does. With --calm, a violation is not decided if the window changes during an activation."""
+        is_new = self.options.calm and not state.is_merged and (what, state.pc) not in self.findings
         if is_new and not is_calm(history_of(state, one), one):
             self.doubt(what, state, CHANGES)
         else:
             super().report(what, state, text, one, two)
 
-    def output(self, state: State, parts: Sequence[Byte], places: Sequence[Optional[int]], what: str) -> None:
-        """Takes bytes that the host can read afterwards. `places` has their addresses in the window, None for one that is not a number."""
+    def check_output(self, state: State, parts: Sequence[Byte], places: Sequence[Optional[int]], what: str) -> None:
+        """Asks whether bytes that the host can read may depend on the secret or on the code. `places` has the addresses of the bytes in the window,
+        None for an answer or for an address that is an expression. `what` is the kind of a finding: "window" or "answer"."""
         own = [n for n, part in enumerate(parts) if type(part) is Node and part.taint & (SECRET | CHECK)]
         if not own:
             return
-        public = self.world.public
-        shown = [n for n in own if public.answer] if what == "answer" else [n for n in own if (at := places[n]) is not None and public.has(at)]
-        self.raw(state, parts, places, own, [n for n in own if n in shown or self.condition_of([places[n]]) is not None])
-        self.shows_check(state, [parts[n] for n in own])
+        public = [n for n in own if self.is_public(places[n], what)]
+        maybe_public = [n for n in own if n in public or self.public_answer([places[n]]) is not None]
+        self.check_copies(state, parts, places, own, maybe_public)
+        self.check_shown_codes(state, [parts[n] for n in own])
         secret = [n for n in own if parts[n].taint & SECRET]
         if secret:
-            self.comes_out(state, any(parts[n].taint & CHECK for n in secret))
+            self.check_release(state, any(parts[n].taint & CHECK for n in secret))
             self.note_influence(state, parts)
-        self.solver.declared.update(parts[n] for n in secret if n in shown)
-        hidden = [n for n in secret if n not in shown and not (parts[n] in state.public and parts[n] in self.solver.declared)]
+        self.solver.declared.update(parts[n] for n in secret if n in public)
+        hidden = [n for n in secret if n not in public and not (parts[n] in state.public and parts[n] in self.solver.declared)]
         value = word(*[parts[n] if n in hidden else 0 for n in range(len(parts))], *[0] * (4 - len(parts)))
-        wanted = self.condition_of([places[n] for n in hidden])
-        if hidden and wanted is not None:
-            state.pending += ((wanted, value, state.pc),)
+        answer = self.public_answer([places[n] for n in hidden])
+        if hidden and answer is not None:
+            state.pending_outputs += ((answer, value, state.pc),)
         elif hidden:
             state.differs(what, value)
         for n in secret:
@@ -77,223 +80,157 @@ class Outputs(Record):
         if type(value) is Node and len(hidden) == len(parts) == 4:
             state.public.add(value)
 
+    def is_public(self, place: Optional[int], what: str) -> bool:
+        """Returns whether an output byte is public without a condition. `place` is its address in the window, or None."""
+        if what == "answer":
+            return bool(self.world.public.answer)
+        return place is not None and self.world.public.has(place)
+
     def public_place(self, state: State, place: Node, width: int) -> Optional[int]:
-        """Returns the beginning of a public range in which a store at an expression always stays, or None."""
-        for public in (self.world.public, *(it for it, _ in self.world.public_if)):
+        """Returns the beginning of a public range in which a store of `width` bytes at an expression always stays, or None."""
+        for public in (self.world.public, *(public for public, _ in self.world.public_if)):
             for low, count in public.ranges:
                 inside = within(place, low, low + count - width)
-                if inside is True or inside is not False and self.solver.satisfiable(state.conds, not_(inside), state.model)[0] is False:
+                if inside is True:
+                    return low
+                if inside is not False and self.solver.satisfiable(state.conds, not_(inside), state.model)[0] is False:
                     return low
         return None
 
-    def condition_of(self, places: Sequence[Optional[int]]) -> Optional[int]:
-        """Returns the answer with which bytes are public, or None."""
-        for public, wanted in self.world.public_if:
-            if places and all(at is not None and public.has(at) for at in places):
-                return wanted
+    def public_answer(self, places: Sequence[Optional[int]]) -> Optional[int]:
+        """Returns the answer of an activation for which bytes of the window are public (WHAT@answer=N), or None. `places` has their addresses."""
+        if not places:
+            return None
+        for public, answer in self.world.public_if:
+            if all(at is not None and public.has(at) for at in places):
+                return answer
         return None
 
-    def raw(self, state: State, parts: Sequence[Byte], places: Sequence[Optional[int]], own: Sequence[int], shown: Sequence[int]) -> None:
-        """Takes bytes of the secret that come out as they are, or changed so that one can compute them. A public place shows them only if the run
-        itself does so."""
-        bare = [n for n in own if parts[n].taint & SECRET and is_one_byte(parts[n], SECRET)]
-        key = state.pc, places[bare[0]] if bare else None
-        if state.is_base and bare:
-            self.usual_raw.add(key)
-            self.declared_raw |= {state.pc} if set(bare) <= set(shown) else set()
-        elif bare and set(bare) <= set(shown) and key not in self.usual_raw:
-            self.report("raw", state, "%d bytes of the secret itself, at a public place where the run has others" % len(bare), state.model)
+    def check_copies(self, state: State, parts: Sequence[Byte], places: Sequence[Optional[int]], own: Sequence[int], public: Sequence[int]) -> None:
+        """Reports bytes of the secret that come out as they are, or changed so that one can compute them, if the run itself outputs none there. Only
+        public bytes are reported here. `parts` and `places` are those of `check_output`; `own` and `public` are indices of them: of the bytes that
+        depend on the secret or the code, and of those that may be public."""
+        copies = [n for n in own if parts[n].taint & SECRET and is_one_byte(parts[n], SECRET)]
+        if not copies:
+            return
+        key = state.pc, places[copies[0]]
+        are_public = set(copies) <= set(public)
+        if state.is_base:
+            self.usual_copies.add(key)
+            if are_public:
+                self.declared_copies.add(state.pc)
+        elif are_public and key not in self.usual_copies:
+            self.report("raw", state, "%d bytes of the secret itself, at a public place where the run has others" % len(copies), state.model)
 
-    def shows_check(self, state: State, parts: Sequence[Node]) -> None:
-        """Takes bytes that depend on what the host must know: they may show whether it is right, and nothing else."""
+    def check_answer(self, state: State, value: Word) -> None:
+        """Asks about the answer with which the enclave leaves, and about the outputs that are public only with some answer."""
+        for answer, shown, pc in state.pending_outputs:
+            other = differ(value, answer)
+            is_possible, model = self.solver.satisfiable(state.conds, other, state.model)
+            if is_possible is False:
+                continue
+            conds = state.conds + ([other] if type(other) is Node else [])
+            differs, one, two = self.solver.secret_pair(conds, shown, set(), model)
+            if differs and one is not None:
+                self.report("window", state, "the output of %s is public only with the answer %d" % (self.world.place(pc), answer), one, two)
+            elif differs is None or is_possible is None:
+                self.undecided["window", pc] += 1
+        self.check_output(state, [byte(value, n) for n in range(4)], [None] * 4, "answer")
+        if type(value) is Node and value.taint & SECRET:
+            state.public.add(value)
+
+    def note_influence(self, state: State, parts: Sequence[Byte]) -> None:
+        """Notes the bytes of the secret on which an output depends: those for which another value gives another output. `parts` are the bytes of the
+        output."""
+        mask = 0
+        for part in parts:
+            mask |= mask_of(part)
+        self.output_variables |= mask
+        if not self.options.must_matter or state.is_merged:
+            return
+        for name in names_of(mask):
+            if not name.startswith("k_") or name in self.influencing_bytes:
+                continue
+            other = {**state.model, name: state.model.get(name, 0) ^ OTHER_BITS}
+            memo: Dict[Node, object] = {}
+            if not all(evaluate(condition, other, memo) for condition in state.conds):
+                continue
+            if any(evaluate(part, other, memo) != state.value(part) for part in parts):
+                self.influencing_bytes.add(name)
+
+    # ---- what the host must know
+
+    @property
+    def code_names(self) -> List[str]:
+        """The names of the variables of the code."""
+        return ["c_%08x" % at for at in self.world.check]
+
+    def check_shown_codes(self, state: State, parts: Sequence[Node]) -> None:
+        """Asks about output bytes that depend on the code: they may show whether the code of the host is right, and nothing else."""
         for part in parts:
             if not part.taint & CHECK:
                 continue
             if is_one_byte(part, CHECK):
                 self.report("check", state, "what the host must know comes out", state.model)
-            elif not self.is_compared(part):
-                self.doubt("check", state, "an output depends on what the host must know by something else than one comparison of all its bytes")
+                continue
+            comparison = comparison_with(part, CHECK)
+            if comparison is None or not self.is_whole_comparison(comparison):
+                self.doubt("check", state, OTHER_OUTPUT)
 
-    def compares(self, state: State, condition: Node) -> None:
-        """Takes a condition by which a path divides: it may compare all bytes that the host must know at once, and nothing else."""
-        if condition.taint & CHECK and not self.is_whole_comparison(condition.args[0] if condition.op == "not" else condition):
-            self.doubt("check", state, "a path depends on what the host must know by something else than one comparison of all its bytes")
-
-    def is_compared(self, byte: Node) -> bool:
-        """Returns whether a byte depends on what the host must know by one comparison of all its bytes only."""
-        comparison = comparison_with(byte, CHECK)
-        return comparison is not None and self.is_whole_comparison(comparison)
+    def check_comparison(self, state: State, condition: Node) -> None:
+        """Asks about a condition by which a path divides: it may compare all bytes of the code at once, and depend on the code in no other way."""
+        if not condition.taint & CHECK:
+            return
+        compared = condition.args[0] if condition.op == "not" else condition
+        if not self.is_whole_comparison(compared):
+            self.doubt("check", state, OTHER_PATH)
 
     def is_whole_comparison(self, condition: Node) -> bool:
-        """Returns whether a condition holds for only one value of the bytes that the host must know, for equal inputs."""
-        if condition not in self.whole:
-            self.whole[condition] = self.solver.is_free([condition], self.check_names) is False
-        return self.whole[condition]
+        """Returns whether a condition holds for only one value of the code, for equal inputs."""
+        if condition not in self.whole_comparisons:
+            self.whole_comparisons[condition] = self.solver.allows_other_codes([condition], self.code_names) is False
+        return self.whole_comparisons[condition]
 
-    @property
-    def check_names(self) -> List[str]:
-        """The variables of what the host must know."""
-        return ["c_%08x" % at for at in self.world.check]
-
-    def comes_out(self, state: State, is_mixed: bool) -> None:
-        """Takes a place where a secret comes out: asks whether the host must know what it is to know. An output in which both are mixed may be chosen
-        without a branch."""
-        if not self.world.check or state.released or ("check", state.pc) in self.found:
+    def check_release(self, state: State, is_mixed: bool) -> None:
+        """Asks, when the secret comes out for the first time in an activation, whether the host must know the code. `is_mixed` says whether the
+        output depends on the code, too: then it may be chosen without a branch."""
+        if not self.world.check or state.is_released or ("check", state.pc) in self.findings:
             return
-        state.released = True
-        answer = self.solver.is_free(state.conds, self.check_names)
+        state.is_released = True
+        answer = self.solver.allows_other_codes(state.conds, self.code_names)
         if answer and is_mixed:
-            self.doubt("check", state, "an output is computed of the secret and of what the host must know")
+            self.doubt("check", state, MIXED_OUTPUT)
         elif answer:
-            first, count = min(self.world.check), len(self.world.check)
-            self.report("check", state, "the secret comes out to a host that need not know %d bytes at %08x" % (count, first), state.model)
+            text = "the secret comes out to a host that need not know %d bytes at %08x" % (len(self.world.check), min(self.world.check))
+            self.report("check", state, text, state.model)
         elif answer is None:
             self.undecided["check", state.pc] += 1
 
-    def answered(self, state: State, value: Word) -> None:
-        """Takes the value with which the enclave leaves, and the outputs that are public only with some answer."""
-        for wanted, shown, pc in state.pending:
-            other = differ(value, wanted)
-            answer, model = self.solver.satisfiable(state.conds, other, state.model)
-            if answer is False:
-                continue
-            conds = state.conds + ([other] if type(other) is Node else [])
-            differs, one, two = self.solver.pair(conds, shown, set(), model)
-            if differs and one is not None:
-                self.report("window", state, "the output of %s is public only with the answer %d" % (self.world.place(pc), wanted), one, two)
-            elif differs is None or answer is None:
-                self.undecided["window", pc] += 1
-        self.output(state, [byte(value, n) for n in range(4)], [None] * 4, "answer")
-        if type(value) is Node and value.taint & SECRET:
-            state.public.add(value)
 
-    # ---- what must matter
-
-    def note_influence(self, state: State, parts: Sequence[Byte]) -> None:
-        """Notes the bytes of the secret on which an output depends, each with two values for which it differs."""
-        mask = 0
-        for part in parts:
-            mask |= mask_of(part)
-        self.appears |= mask
-        for name in names_of(mask) if self.options.must_matter and not state.is_merged else ():
-            if name.startswith("k_") and name not in self.matters:
-                other = {**state.model, name: state.model.get(name, 0) ^ 0x55}
-                memo: Dict[Node, object] = {}
-                is_possible = all(evaluate(it, other, memo) for it in state.conds)
-                if is_possible and any(evaluate(part, other, memo) != state.value(part) for part in parts):
-                    self.matters.add(name)
-
-    # ---- the end of an activation
-
-    def left(self, state: State) -> None:
-        """Takes an activation that leaves: older states, and what remains in the region."""
-        for it in state.conds if self.options.must_matter else ():
-            self.appears |= mask_of(it)
-        is_asked = self.means.is_whole and (state.is_base or not self.options.merges)
-        if state.visit >= 2 and is_asked and ("older", state.pc) not in self.found:
-            self.older(state)
-        if self.world.secret and self.options.wiped:
-            self.remains(state)
-
-    def remains(self, state: State) -> None:
-        """Asks what in the region and the registers depends on the secret at a stop."""
-        cells = {at: plain(it) for at, it in state.sym.items()}
-        places = sorted(at for at, it in cells.items() if is_secret(state, it) and not (at in self.world.secret and it.op == "var"))
-        registers = ["x%d" % n for n in range(1, 32) if is_secret(state, state.regs[n])]
-        registers += ["csr %x" % n for n, it in state.csr.items() if is_secret(state, it)]
-        text = "%d bytes of the region from %08x on" % (len(places), places[0]) if places else ""
-        if places or registers:
-            what = " and ".join(filter(None, (text, ("registers " if registers else "") + " ".join(registers))))
-            self.report("remains", state, "%s depend on the secret" % what, state.model)
-
-    def older(self, state: State) -> None:
-        """Asks whether the activation accepts a state of an earlier one as it does the latest."""
-        ends = [Counts(0, 0)] + [Counts(it.loads, it.stores) for it in state.answers]
-        loaded: Dict[int, str] = {}
-        for load in state.loads[ends[state.visit].loads:]:
-            for n, name in load.names if type(load.at) is int else ():
-                loaded.setdefault(load.at + n, name)
-        kept = kept_states(state, ends)
-        latest = kept[-1]
-        places = [at for at in loaded if at in latest]
-        now = all_of(*(eq(input_of(loaded[at]), as_word(latest[at])) for at in places))
-        for old in kept[:-1] if places and now is not False else ():
-            changed = [at for at in places if at in old and old[at] != latest[at]]
-            then = [eq(input_of(loaded[at]), as_word(old.get(at, latest[at]))) for at in places]
-            question = all_of(*then, any_of(*(differ(as_word(old[at]), as_word(latest[at])) for at in changed)))
-            if self.accepts(state, question, now, changed):
-                return
-        self.older_at_index(state, ends, sorted({at for old in kept[:-1] for at in old if old[at] != latest[at]}))
-
-    def older_at_index(self, state: State, ends: Sequence[Counts], changed: List[int]) -> None:
-        """Takes the loads and stores at expressions: it is not decided whether a load gives an older state if it may meet what an earlier activation
-        has stored. `changed` has the bytes that differ between two stops."""
-        stored = [(it.at, it.width) for it in state.stores[:ends[state.visit].stores] if type(it.at) is Node]
-        meets: List[Condition] = []
-        for load in state.loads[ends[state.visit].loads:]:
-            places = stored + ([(other, 1) for other in changed] if type(load.at) is Node else [])
-            meets += [overlap(load.at, len(load.names), other, width) for other, width in places]
-        if self.solver.satisfiable(state.conds, any_of(*meets), state.model)[0] is not False:
-            self.doubt("older", state, "an index of the host may lead to what an earlier activation has stored")
-
-    def accepts(self, state: State, question: Node, now: Node, changed: List[int]) -> bool:
-        """Reports an older state that is accepted; returns whether it is."""
-        answer, model = self.solver.satisfiable(state.conds, question, state.model)
-        latest, _ = self.solver.satisfiable(state.conds, now, state.model) if answer else (False, None)
-        if answer is None or latest is None:
-            self.undecided["older", state.pc] += 1
-        if answer and latest:
-            self.report("older", state, "the window at %08x may be that of an earlier stop" % min(changed), model)
-        return bool(answer and latest)
-
-
-def kept_states(state: State, ends: Sequence[Counts]) -> List[Dict[int, Byte]]:
-    """Returns the bytes that the enclave has stored to the window up to the end of each earlier activation, by address."""
-    found: List[Dict[int, Byte]] = []
-    contents: Dict[int, Byte] = {}
-    for visit in range(state.visit):
-        for store in state.stores[ends[visit].stores:ends[visit + 1].stores]:
-            contents.update({store.at + n: byte(store.value, n) for n in range(store.width)} if type(store.at) is int else {})
-        found.append(dict(contents))
-    return found
-
-
-def input_of(name: str) -> Word:
-    """Returns an input as a word."""
-    return as_word(by_name[name] if name in by_name else variable(name, INPUT))
-
-
-def as_word(byte: Byte) -> Word:
-    """Returns a byte as a word."""
-    return word(byte, 0, 0, 0)
-
-
-def is_secret(state: State, value: object) -> bool:
-    """Returns whether a word or a byte depends on the secret and is not public."""
-    return type(value) is Node and bool(value.taint & SECRET) and value not in state.public
-
-
-def is_one_byte(byte: Node, taint: int) -> bool:
-    """Returns whether a byte depends on one byte of a secret alone, and shows it: it has another value for each of its values."""
-    mask = mask_of(byte)
-    if byte.taint & ~taint or mask & mask - 1 or not mask:
+def is_one_byte(output: Node, taint: int) -> bool:
+    """Returns whether an output byte depends on one byte with a taint alone, and has another value for each value of this byte."""
+    mask = mask_of(output)
+    has_one_variable = mask and not mask & mask - 1
+    if output.taint & ~taint or not has_one_variable:
         return False
     name = names_of(mask)[0]
-    return len({evaluate(byte, {name: variable}, {}) for variable in range(BYTES)}) == BYTES
+    return len({evaluate(output, {name: value}, {}) for value in range(BYTES)}) == BYTES
 
 
 def comparison_with(node: Node, taint: int) -> Optional[Node]:
-    """Returns the comparison through which a node depends on a secret; None if there are several, or if it depends on it otherwise."""
+    """Returns the one comparison through which a node depends on variables with a taint. Returns None if there are several, or if the node depends on
+    the variables in another way."""
     found: List[Node] = []
-    stack, seen = [node], {node}
+    stack = [node]
+    seen = {node}
     while stack:
-        it = stack.pop()
-        if it.op == "var" and it.taint & taint:
+        top = stack.pop()
+        if top.op == "var" and top.taint & taint:
             return None
-        if it.op in COMPARISONS and it.taint & taint:
-            found.append(it)
+        if top.op in COMPARISONS and top.taint & taint:
+            found.append(top)
             continue
-        new = [operand for operand in operands(it) if operand.taint & taint and operand not in seen]
+        new = [operand for operand in operands(top) if operand.taint & taint and operand not in seen]
         seen.update(new)
         stack += new
     return found[0] if len(found) == 1 else None

@@ -9,15 +9,15 @@ from rvlook.symbolic.nodes import SECRET, Condition, Node, Word
 from rvlook.symbolic.words import not_
 
 MOST_VALUES = 48  # of a word that is followed value by value
-NESTED = 16  # times as many rounds of a loop are followed in all rounds of the loops around it
+NESTED = 16  # a loop is followed for so many times the rounds of --bound in all rounds of the loops around it together
 
 
 class Paths(Fields):
-    """A state that can divide."""
+    """A state that can divide into several paths."""
     __slots__ = ()
 
     def move_to(self, condition: Condition) -> None:
-        """Changes the model to one in which a condition holds, and adds it. Ends the path if there is none."""
+        """Adds a condition, and changes the model if the condition does not hold in it. Ends the path if no values fulfil the condition."""
         if condition is False:
             raise Ended(IMPOSSIBLE)
         if not self.holds(condition):
@@ -26,19 +26,22 @@ class Paths(Fields):
                 self.search.undecided["value", self.pc] += 1
             if not answer:
                 raise Ended(IMPOSSIBLE)
-            self.model, self.memo = model, {}
+            self.model = model
+            self.memo = {}
         self.assume(condition)
 
     def differs(self, what: str, word: Word) -> bool:
-        """Asks whether two secrets can give different values of a word, for equal inputs. Returns whether it is known that they can."""
+        """Asks whether two secrets can give different values of a word, for equal inputs, and reports a finding of the kind `what`. Returns whether
+        such secrets are known."""
         if type(word) is not Node or not word.taint & SECRET:
             return False
-        search, key = self.search, (what, self.pc)
+        search = self.search
+        key = what, self.pc
         if search.world.public.has(self.pc):
             return False
-        if key in search.found:
+        if key in search.findings:
             return True
-        answer, one, two = search.solver.pair(self.conds, word, self.public, self.model)
+        answer, one, two = search.solver.secret_pair(self.conds, word, self.public, self.model)
         if answer and one is not None:
             search.report(what, self, "", one, two)
             return True
@@ -47,93 +50,110 @@ class Paths(Fields):
         return False
 
     def branch(self, condition: Node, target: int, following: int) -> int:
-        """Goes on where a condition says, and leaves the other side to another path if it is possible. Returns the pc."""
-        search, pc = self.search, self.pc
-        if self.first_visit == MERGED_LOOP and (pc, self.context) in search.heads:
-            if self.head != pc:
-                search.take_loop(self)
+        """Executes a branch to `target`, or else to the instruction `following`, by a condition. The path takes the side of its model, and leaves the
+        other side to another path if that side is possible. Returns the next pc."""
+        search = self.search
+        pc = self.pc
+        if self.start_kind == MERGED_LOOP and (pc, self.context) in search.heads:
+            if self.start_head != pc:
+                search.merge_at_head(self)
                 raise Ended(MERGED)
-            self.head = None
+            self.start_head = None
         search.endless.at_branch(self)
-        taken = self.holds(condition)
+        is_taken = self.holds(condition)
         is_leak = bool(condition.taint & SECRET) and self.differs("pc", condition)
-        search.compares(self, condition)
-        here = condition if taken else not_(condition)
-        is_known = (pc, not taken) in search.sides
-        search.sides.add((pc, taken))
-        if is_leak and is_known:
+        search.check_comparison(self, condition)
+        if is_taken:
+            here, next_pc, other_pc = condition, target, following
+        else:
+            here, next_pc, other_pc = not_(condition), following, target
+        other_side = pc, not is_taken
+        is_other_side_known = other_side in search.sides_taken
+        search.sides_taken.add((pc, is_taken))
+        if is_leak and is_other_side_known:
             search.left_after_leak[pc] += 1
         else:
             answer, model = search.solver.satisfiable(self.conds, not_(here), self.model)
             if answer is False:  # the conditions imply this side
                 self.count_implied()
-                if self.first_visit == MERGED_LOOP:
-                    self.conds.append(here)  # it may not be implied by a wider bound
-                return target if taken else following
+                if self.start_kind == MERGED_LOOP:
+                    self.conds.append(here)  # a wider bound of the merged state may not imply it
+                return next_pc
             if answer:
-                self.leave_other_side(here, model, following if taken else target)
+                self.leave_other_side(here, model, other_pc)
             else:
                 search.undecided["branch", pc] += 1
         self.conds.append(here)
-        return target if taken else following
+        return next_pc
 
     def count_implied(self) -> None:
-        """Counts the rounds of a loop whose end is not possible any more. After as many as are followed, the state may repeat."""
-        search, key = self.search, (-self.pc, self.context)
-        count = self.counts[key] = self.counts.get(key, 0) + 1
+        """Counts the rounds of a loop whose end is not possible any more. After some rounds, tries with numbers whether the state repeats."""
+        search = self.search
+        key = -self.pc, self.context
+        count = self.branch_counts[key] = self.branch_counts.get(key, 0) + 1
         if count == search.options.bound or count in TRIED_AT:
-            search.endless.try_numbers(self, search.tries)
-            if count >= search.options.bound and ("stuck", self.pc) in search.found and not self.is_base:
+            search.endless.try_numbers(self, search.trial_counts)
+            if count >= search.options.bound and ("stuck", self.pc) in search.findings and not self.is_base:
                 raise Ended(FINDING)
 
-    def leave_other_side(self, here: Node, model: dict[str, int], other: int) -> None:
-        """Leaves the other side of a branch to a path of its own, unless this is one round of a loop too many. A misaligned target traps at the
-        branch, which that path executes again."""
-        search, key, whole = self.search, (self.pc, self.context), (self.pc, ~self.context)
-        count = self.counts[key] = self.counts.get(key, 0) + 1
-        total = self.counts[whole] = self.counts.get(whole, 0) + 1
+    def leave_other_side(self, here: Node, model: dict[str, int], other_pc: int) -> None:
+        """Leaves the other side of a branch to a path of its own, unless this is one round of a loop too many. `here` is the condition of this side,
+        and `model` has values for the other side, which goes on at `other_pc`. If this address is misaligned, the branch traps: the other path then
+        executes the branch again."""
+        search = self.search
+        key = self.pc, self.context
+        whole = self.pc, ~self.context
+        count = self.branch_counts[key] = self.branch_counts.get(key, 0) + 1
+        total = self.branch_counts[whole] = self.branch_counts.get(whole, 0) + 1
         if count in TRIED_AT:
-            search.endless.try_numbers(self, search.tries)
+            search.endless.try_numbers(self, search.trial_counts)
         if count <= search.options.bound and total <= search.options.bound * NESTED:
-            is_trap = bool(other & 3)
-            branch = self.fork(self.pc if is_trap else other, is_trap)
-            branch.model, branch.head = model, self.pc if is_trap and key in search.heads else None
+            is_trap = bool(other_pc & 3)
+            branch = self.fork(self.pc if is_trap else other_pc, is_trap)
+            branch.model = model
+            branch.start_head = self.pc if is_trap and key in search.heads else None
             branch.conds.append(not_(here))
-            search.divide(branch)
+            search.add_divided_path(branch)
         elif search.options.loops and search.merger:
             search.heads.add(key)
-            search.take_loop(self)
+            search.merge_at_head(self)
             if not self.is_base:
                 raise Ended(MERGED)
         else:
             search.cut_loops[self.pc] += 1
-            search.endless.try_numbers(self, search.tries)
+            search.endless.try_numbers(self, search.trial_counts)
             if not self.is_base:
                 raise Ended("bound")
 
-    def fixed(self, x: Word, what: str = "pc") -> int:
-        """Returns the value of a word as a number. Other values are left to other paths. `what` is the channel by which the host sees the value."""
-        if type(x) is int:
-            return x
-        search, value = self.search, self.value(x)
-        is_leak = bool(x.taint & SECRET) and self.differs(what, x)
-        tried = self.rejoined[1] if self.rejoined and self.rejoined[0] == self.steps else 0  # values of this very step
-        other = differ(x, value)
+    def fixed(self, word: Word, what: str = "pc") -> int:
+        """Returns the value of a word in the model as a number, which the word then has on this path. Leaves other values to other paths. `what` is
+        the kind of a finding if the value depends on the secret: how the host can observe it."""
+        if type(word) is int:
+            return word
+        search = self.search
+        value = self.value(word)
+        is_leak = bool(word.taint & SECRET) and self.differs(what, word)
+        tried = self.values_tried()
+        other = differ(word, value)
         answer, model = search.solver.satisfiable(self.conds, other, self.model)
         if answer is None:
             search.undecided["value", self.pc] += 1
         elif answer and is_leak:
             search.left_after_leak[self.pc] += 1
         elif answer and tried >= MOST_VALUES:
-            search.many[self.pc] += 1
+            search.words_with_many_values[self.pc] += 1
         elif answer:
-            self.again(other, model, tried + 1, evaluate(x, model, {}))
-        self.assume(eq(x, value))
+            self.add_path_again(other, model, tried + 1, evaluate(word, model, {}))
+        self.assume(eq(word, value))
         return value
 
-    def again(self, condition: Node, model: dict[str, int], tried: int, target: int) -> None:
-        """Leaves this step to another path, with another condition, and with a value of a word or an object."""
+    def add_path_again(self, condition: Node, model: dict[str, int], tried: int, value: int) -> None:
+        """Adds a path that executes this step again under another condition, which holds in `model`. `tried` is how many values of a word other paths
+        have in this step, and `value` the value on the new path."""
         other = self.fork(self.pc, is_again=True)
-        other.model, other.rejoined, other.head, other.target = model, (other.before, tried), self.head, target
+        other.model = model
+        other.values_followed = other.steps_before, tried
+        other.start_head = self.start_head
+        other.value_followed = value
         other.conds.append(condition)
-        self.search.divide(other)
+        self.search.add_divided_path(other)

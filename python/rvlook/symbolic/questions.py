@@ -11,8 +11,12 @@ if TYPE_CHECKING:
     from rvlook.symbolic.record import Counterexample
     from rvlook.symbolic.search import Search
 
-PROVED, FOUND, NOT_DECIDED, NONE_FOUND = "PROVED", "FOUND", "NOT DECIDED", "none found"
-QUESTIONS: Dict[str, Tuple[str, Sequence[str]]] = {
+PROVED = "PROVED"  # verdicts (docs/VERIFY.md)
+FOUND = "FOUND"
+NOT_DECIDED = "NOT DECIDED"
+NONE_FOUND = "none found"
+LEAST_STATES = 3  # activations from which on the question `state` is asked
+QUESTIONS: Dict[str, Tuple[str, Sequence[str]]] = {  # by name: the statement, and the kinds of findings and doubts that belong to it
     "memory": ("no access leaves its object, no jump has a target that the host chooses, no saved return address is overwritten",
                ("load", "store", "return", "jump", "value", "branch")),
     "traps": ("no step of the enclave faults", ("fault",)),
@@ -25,35 +29,43 @@ QUESTIONS: Dict[str, Tuple[str, Sequence[str]]] = {
     "remains": ("nothing in the region or the registers depends on the secret at a stop", ("remains",)),
     "influence": ("what comes out depends on each byte of the secret that must matter", ("influence",)),
     "state": ("no older state is accepted as the latest", ("older",))}
-DIVIDING = ("branch", "value")  # kinds of questions about the paths that exist
-LIMITS = {"memory": "; what it cannot know about the accesses of --allow is taken to be right",  # of an answer, by question
-          "state": ", in the activations of the run itself; use --each for others"}
-REASONS = {"any_bytes": "any_bytes names bytes outside the region",
+DIVIDING = ("branch", "value")  # kinds of doubts about which paths exist
+LIMITS = {"memory": "; what it cannot know about the accesses of --allow is taken to be right",
+          "state": ", in the activations of the run itself; use --each for others"}  # what the statement does not cover, by question
+REASONS = {"any_bytes": "any_bytes names bytes outside the region",  # why a path is not complete, by the reason for which it ended
            CODE: "a path reaches code that changes", "outside": "a path leaves the region", "steps": "a path is too long",
-           "sp": "the stack pointer depends on the host", "bound": ""}
+           "sp": "the stack pointer depends on the host"}
 
 
 @dataclass
 class Answer:
-    """The answer to a question, with the places where it is not decided."""
-    name: str
+    """The answer to a question."""
+    name: str  # of the question
     verdict: str
-    title: str
-    findings: List[Counterexample] = field(default_factory=list)
-    places: List[str] = field(default_factory=list)
+    title: str  # the statement
+    findings: List[Counterexample] = field(default_factory=list)  # the confirmed findings
+    places: List[str] = field(default_factory=list)  # where the question is not decided, and why
 
 
 def asked(search: Search) -> List[str]:
-    """Returns the questions that the options ask."""
-    options, has_secret = search.options, bool(search.world.secret)
-    left_out = {"checks": not search.world.check, "remains": not (has_secret and options.wiped), "influence": not options.must_matter,
-                "state": search.activations < 3, "assertions": not search.world.has_checks, "time": not has_secret, "outputs": not has_secret}
-    return [name for name in QUESTIONS if not left_out.get(name)]
+    """Returns the names of the questions that the options ask."""
+    options = search.options
+    has_secret = bool(search.world.secret)
+    is_asked = {  # the other questions are always asked
+        "assertions": search.world.has_checks,
+        "time": has_secret,
+        "outputs": has_secret,
+        "checks": bool(search.world.check),
+        "remains": has_secret and options.wiped,
+        "influence": bool(options.must_matter),
+        "state": search.activations >= LEAST_STATES}
+    return [name for name in QUESTIONS if is_asked.get(name, True)]
 
 
 def gone(search: Search) -> List[str]:
-    """Returns why not all paths were covered."""
-    place, found = search.world.place, ["Ctrl-C ended the search"] if search.is_cut else []
+    """Returns why not all paths were covered; an empty list if they were."""
+    place = search.world.place
+    found = ["Ctrl-C ended the search"] if search.is_cut else []
     for count, what in ((search.not_replayed, "paths"), (search.not_confirmed, "findings")):
         if count:
             found.append("the time is over before %d %s were replayed" % (count, what))
@@ -73,71 +85,95 @@ def gone(search: Search) -> List[str]:
         found.append("the run itself does not fulfil the assumption at %s" % place(pc))
     for pc in search.left_after_leak:
         found.append("after the leak at %s other secrets are left out" % place(pc))
-    for pc in search.many:
+    for pc in search.words_with_many_values:
         found.append("the word at %s has more than %d values" % (place(pc), MOST_VALUES))
     for pc in search.assumed_inside:
         found.append("after the finding at %s the access stays inside" % place(pc))
     for pc in sorted(search.changed_code):
         found.append("code changes, at %s" % place(pc))
-    for pc in sorted(search.given_written):
+    for pc in sorted(search.stores_to_given):
         found.append("%s stores to bytes of --given" % place(pc))
-    found += ["%s (%d paths)" % (text, search.ends[why]) for why, text in REASONS.items() if text and search.ends[why]]
-    if search.ends[FINDING]:
-        found.append("%d paths end at a finding" % search.ends[FINDING])
+    for why, text in REASONS.items():
+        if search.end_counts[why]:
+            found.append("%s (%d paths)" % (text, search.end_counts[why]))
+    if search.end_counts[FINDING]:
+        found.append("%d paths end at a finding" % search.end_counts[FINDING])
     return found
 
 
 def untrusted(search: Search) -> List[str]:
-    """Returns which replays differ from what the search predicts."""
-    found = ["the replay of %s" % it for it in search.wrong]
-    return found + ["the replay of the finding %s at %s: %s" % (it.what, search.world.place(it.pc), it.answer)
-                    for it in search.found.values() if it.answer and not it.is_confirmed]
+    """Returns which replays differ from what the search predicts; an empty list if none does."""
+    found = ["the replay of %s" % text for text in search.wrong_replays]
+    for example in search.findings.values():
+        if example.answer and not example.is_confirmed:
+            found.append("the replay of the finding %s at %s: %s" % (example.what, search.world.place(example.pc), example.answer))
+    return found
 
 
 def answers(search: Search) -> List[Answer]:
     """Returns the answer to each question."""
-    is_complete = not gone(search) and not untrusted(search)
+    has_all_paths = not gone(search) and not untrusted(search)
     found = []
     for name in asked(search):
         title, kinds = QUESTIONS[name]
-        is_limited = {"memory": bool(search.allowed), "state": search.merger is not None}.get(name, False)
-        more = LIMITS[name] if is_limited else ""
-        answer = Answer(name, PROVED if is_complete else NONE_FOUND, title + more)
-        answer.findings = sorted((x for x in search.found.values() if x.what in kinds and x.is_confirmed), key=lambda x: (x.pc, x.what))
-        for (what, pc), count in sorted(search.undecided.items(), key=lambda x: (x[0][1], x[0][0])):
-            if what in kinds and (what, pc) not in search.found:
-                why = "; ".join(sorted(search.reasons.get((what, pc), ())))
-                answer.places.append("%s at %s%s, %d times" % (what, search.world.place(pc), ": " + why if why else "", count))
-        late = [x for x in search.found.values() if x.what in kinds and not x.answer]
-        answer.places += ["%s at %s: not replayed" % (x.what, search.world.place(x.pc)) for x in late]
-        answer.places += ["the end of the loop at %s" % search.world.place(pc) for pc in search.loops.endless()] if name == "returns" else []
-        answer.places += influences(search) if name == "influence" else []
-        answer.verdict = FOUND if answer.findings else NOT_DECIDED if answer.places else answer.verdict
+        is_limited = (name == "memory" and bool(search.allowed)) or (name == "state" and search.merger is not None)
+        answer = Answer(name, PROVED if has_all_paths else NONE_FOUND, title + LIMITS[name] if is_limited else title)
+        own = [example for example in search.findings.values() if example.what in kinds]
+        answer.findings = sorted((example for example in own if example.is_confirmed), key=lambda example: (example.pc, example.what))
+        answer.places = undecided_places(search, kinds)
+        answer.places += ["%s at %s: not replayed" % (example.what, search.world.place(example.pc)) for example in own if not example.answer]
+        if name == "returns":
+            answer.places += ["the end of the loop at %s" % search.world.place(pc) for pc in search.loops.endless()]
+        if name == "influence":
+            answer.places += missing_influences(search)
+        if answer.findings:
+            answer.verdict = FOUND
+        elif answer.places:
+            answer.verdict = NOT_DECIDED
         found.append(answer)
     return found
 
 
-def influences(search: Search) -> List[str]:
-    """Returns the bytes of the secret that no output is known to depend on."""
-    missing = [at for at in search.world.must_matter if "k_%08x" % at not in search.matters]
+def undecided_places(search: Search, kinds: Sequence[str]) -> List[str]:
+    """Returns where questions of some kinds are not decided, and why, in the order of the pcs."""
+    found = []
+    for (what, pc), count in sorted(search.undecided.items(), key=lambda item: (item[0][1], item[0][0])):
+        if what in kinds and (what, pc) not in search.findings:
+            why = "; ".join(sorted(search.reasons.get((what, pc), ())))
+            place = search.world.place(pc)
+            found.append("%s at %s%s, %d times" % (what, place, ": " + why if why else "", count))
+    return found
+
+
+def missing_influences(search: Search) -> List[str]:
+    """Returns a text about the bytes of --must-matter on which no output is known to depend, in a list. The list is empty if there are none."""
+    missing = [at for at in search.world.must_matter if "k_%08x" % at not in search.influencing_bytes]
     return ["no output is known to depend on %d bytes, the first at %08x" % (len(missing), missing[0])] if missing else []
 
 
 def is_complete(search: Search) -> bool:
     """Returns whether all questions are answered for all paths."""
-    is_open = search.undecided or search.loops.endless() or search.options.must_matter and influences(search)
-    return not gone(search) and not untrusted(search) and not is_open
+    if search.undecided or search.loops.endless():
+        return False
+    if search.options.must_matter and missing_influences(search):
+        return False
+    return not gone(search) and not untrusted(search)
 
 
 def open_texts(search: Search) -> List[str]:
-    """Returns why a result is not COMPLETE; empty if it is. An option --allow that is not needed may be a wrong one."""
+    """Returns why a result is not COMPLETE; an empty list if it is. An option --allow that no access needs is a reason: it may name a wrong place."""
     found = [*gone(search), *untrusted(search)]
-    return (found if is_complete(search) else found or ["places are not decided"]) + unused(search)
+    if not found and not is_complete(search):
+        found = ["places are not decided"]
+    return found + unused_options(search)
 
 
 def covered(search: Search) -> str:
     """Returns what a complete search has covered."""
-    number = "any number of activations" if search.merger else "1 activation" if search.activations == 1 else "%d activations" % search.activations
+    if search.merger:
+        number = "any number of activations"
+    else:
+        number = "1 activation" if search.activations == 1 else "%d activations" % search.activations
     given = ", with the bytes of --given" if search.world.given else ""
     calm = ", for a host that waits while the enclave runs" if search.options.calm else ""
     secrets = ", all secrets" if search.world.secret else ""
@@ -145,7 +181,7 @@ def covered(search: Search) -> str:
     places = ", ".join(search.world.place(pc) for pc in sorted(search.assumptions))
     assumed = ", if the assumptions hold at %s" % places if places else ""
     allowed = ", if the allowed accesses are right: %s" % "; ".join(allowed_texts(search)) if search.allowed else ""
-    copies = ", ".join(search.world.place(pc) for pc in sorted(search.declared_raw))
+    copies = ", ".join(search.world.place(pc) for pc in sorted(search.declared_copies))
     shown = ", if copies of the secret may come out at %s" % copies if copies else ""
     return "%sall paths, all inputs%s%s, %s%s%s%s%s%s" % (limits(search), secrets, given, number, calm, assumed, allowed, shown, types)
 
@@ -155,13 +191,13 @@ def allowed_texts(search: Search) -> List[str]:
     return ["%s (%s)" % (search.world.place(pc), ", ".join(sorted(reasons))) for pc, reasons in sorted(search.allowed.items())]
 
 
-def unused(search: Search) -> List[str]:
-    """Returns the options --allow that a search did not need."""
-    return ["--allow %s names no access that needs it" % it for it in search.world.allowed.unused(set(search.allowed))]
+def unused_options(search: Search) -> List[str]:
+    """Returns a text about each option --allow that a search did not need."""
+    return ["--allow %s names no access that needs it" % text for text in search.world.allowed.unused(set(search.allowed))]
 
 
 def limits(search: Search) -> str:
-    """Returns up to which lengths a search has gone, or nothing."""
+    """Returns a text about the lengths up to which a search has gone (--length); an empty text if there are none."""
     world = search.world
-    places = ["%d at %s" % (world.lengths[at], world.symbols.name(at) or "%08x" % at) for at in sorted(search.limited)]
+    places = ["%d at %s" % (world.lengths[at], world.symbols.name(at) or "%08x" % at) for at in sorted(search.lengths_met)]
     return "up to %s: " % " and ".join(places) if places else ""

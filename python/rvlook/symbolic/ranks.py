@@ -16,8 +16,8 @@ MOST_COMPARED = 8  # numbers with which a word is compared
 
 class Measure(NamedTuple):
     """A word that may grow or fall in each round. With a number, the measure is whether the word is above this number."""
-    place: Union[int, str]
-    grows: bool
+    place: Union[int, str]  # the address of a word, or a register such as "x10"
+    grows: bool  # whether the word grows
     number: Optional[int] = None
 
 
@@ -25,61 +25,73 @@ Change = Tuple[Union[int, str], Word, Word]  # a place, and its word before and 
 
 
 class Edge(NamedTuple):
-    """A way from one head to the next: the words that change in one direction on it, and those that do or are the same."""
+    """A way from one head to the next. The heads are named by their prefixes."""
     source: str
     target: str
-    strict: Set[Measure]
-    weak: Set[Measure]
+    strict: Set[Measure]  # the measures that change in their direction on this way
+    weak: Set[Measure]  # the measures that do so or stay the same
 
 
 class Passage(NamedTuple):
-    """A path that arrives at a head. `last` is the head that it passed last. `edges` has the ways to this head from the last one, and from those
-    around it, by where each begins."""
-    last: str
-    edges: Dict[str, Edge]
+    """A path that arrives at a head."""
+    last: str  # the prefix of the head that it has passed last
+    edges: Dict[str, Edge]  # the ways to this head from the last one, and from the heads around that one, by where each begins
 
 
 def directions(changes: Sequence[Change], equations: Iterable[Node],
                implied: Callable[[Sequence[Condition]], Sequence[bool]]) -> Tuple[Set[Measure], Set[Measure]]:
-    """Returns what changes in one direction, and what does so or is the same. `equations` compare words with numbers. `implied` returns which of some
-    conditions hold."""
-    found = list(measured(changes, equations))
-    answers = implied([condition for _, *pair in found for condition in pair])
-    strict = {measure for (measure, _, _), holds in zip(found, answers[::2]) if holds}
-    return strict, strict | {measure for (measure, _, _), holds in zip(found, answers[1::2]) if holds}
+    """Returns the measures that change in their direction, and the measures that do so or stay the same. `changes` has the words before and now.
+    `equations` compare words with numbers. `implied` returns which of some conditions always hold."""
+    measures = list(measured(changes, equations))
+    answers = implied([condition for _, *pair in measures for condition in pair])  # two for each measure
+    strict: Set[Measure] = set()
+    weak: Set[Measure] = set()
+    for (measure, _, _), is_strict, is_weak in zip(measures, answers[::2], answers[1::2]):
+        if is_strict:
+            strict.add(measure)
+        if is_strict or is_weak:
+            weak.add(measure)
+    return strict, weak
 
 
 def measured(changes: Sequence[Change], equations: Iterable[Node]) -> Iterator[Tuple[Measure, Condition, Condition]]:
-    """Yields each measure with the condition that it changes in its direction, and the condition that it does so or is the same. An index that
-    begins again at 0 has passed the number with which it is compared, and does not pass it again."""
+    """Yields each measure of changed words with the condition that it changes in its direction, and the condition that it does so or stays the same.
+    An index that begins again at 0 has passed the number with which it is compared, and does not pass it again."""
     for place, before, now in changes:
         for grows in (True, False):
             less, more = (before, now) if grows else (now, before)
             yield Measure(place, grows), ult(less, more), not_(ult(more, less))
         for number in numbers_compared(equations, before):
-            was_above, is_above = ult(number, before), ult(number, now)
+            was_above = ult(number, before)
+            is_above = ult(number, now)
             yield Measure(place, False, number), all_of(was_above, not_(is_above)), any_of(was_above, not_(is_above))
 
 
 def comparisons(conds: Iterable[Node]) -> List[Node]:
-    """Returns the equations with a number that hold, or do not hold, by conditions."""
-    found = (it.args[0] if it.op == "not" else it for it in conds)
-    return [it for it in found if it.op in ("eq", "eq8") and type(it.args[1]) is int]
+    """Returns the equations with a number that are conditions, or whose negations are conditions."""
+    compared = (condition.args[0] if condition.op == "not" else condition for condition in conds)
+    return [equation for equation in compared if equation.op in ("eq", "eq8") and type(equation.args[1]) is int]
 
 
 def numbers_compared(equations: Iterable[Node], word: Word) -> List[int]:
     """Returns numbers with which a word, or a part of it, is compared in equations, and the numbers before them: a round may compare the word after
-    it has grown."""
-    found = dict.fromkeys(n for it in equations if mask_of(it.args[0]) & mask_of(word) for n in (it.args[1], it.args[1] - 1) if n >= 0)
+    it has grown. Returns at most MOST_COMPARED numbers."""
+    found: Dict[int, None] = {}
+    for equation in equations:
+        compared, number = equation.args
+        if mask_of(compared) & mask_of(word):
+            found[number] = None
+            if number > 0:
+                found[number - 1] = None
     return list(found)[:MOST_COMPARED]
 
 
 def is_ranked(rounds: List[Edge]) -> bool:
-    """Returns whether the rounds of a loop end. In some rounds a word changes in one direction, and in the others it is the same or does so too.
+    """Returns whether the rounds of a loop end. In some rounds a word changes in one direction, and in the others it stays the same or does so too.
     These others are ranked in turn."""
     while rounds:
-        common = set.intersection(*(it.weak for it in rounds))
-        left = [it for it in rounds if not it.strict & common]
+        common = set.intersection(*(edge.weak for edge in rounds))
+        left = [edge for edge in rounds if edge.strict.isdisjoint(common)]
         if len(left) == len(rounds):
             return False
         rounds = left
@@ -87,22 +99,24 @@ def is_ranked(rounds: List[Edge]) -> bool:
 
 
 def circular(edges: List[Edge]) -> Set[str]:
-    """Returns the heads that may be passed for ever."""
+    """Returns the heads that may be passed forever, by ways between heads."""
     while edges:
         left: List[Edge] = []
-        for part in components(edges):
-            common = set.intersection(*(it.weak for it in part))
-            left += [it for it in part if not it.strict & common]
+        for component in components(edges):
+            common = set.intersection(*(edge.weak for edge in component))
+            left += [edge for edge in component if edge.strict.isdisjoint(common)]
         if len(left) == len(edges):
             break
         edges = left
-    return {it.source for it in edges}
+    return {edge.source for edge in edges}
 
 
 def origins(sources: Dict[str, Set[str]], inside: Set[str], name: str) -> Set[str]:
-    """Returns the heads from which paths come to a head that is inside another loop, through no others than such heads. `sources` has those from
-    which paths come to a head directly, and `inside` the heads that are inside others."""
-    found, seen, stack = set(), {name}, [name]  # type: Set[str], Set[str], List[str]
+    """Returns the heads from which paths come to the head `name`, directly or through heads in `inside` alone. `sources` has the heads from which
+    paths come to each head directly, and `inside` has heads inside other loops."""
+    found: Set[str] = set()
+    seen = {name}
+    stack = [name]
     while stack:
         for source in sources[stack.pop()] - seen:
             seen.add(source)
@@ -114,30 +128,35 @@ def origins(sources: Dict[str, Set[str]], inside: Set[str], name: str) -> Set[st
 
 
 def outer_ways(passages: Dict[str, List[Passage]], sources: Dict[str, Set[str]], inside: Set[str]) -> List[Edge]:
-    """Returns the ways between the heads that are inside no other. Each goes from one of them to the next, and maybe through heads inside."""
+    """Returns the ways between the heads that are not in `inside`. Each goes from one of them to the next, directly or through heads in `inside`.
+    `passages` has the paths that arrive at each head, and `sources` the heads from which paths come."""
     found: List[Edge] = []
     for name in passages.keys() - inside:
         for passage in passages[name]:
             starts = origins(sources, inside, passage.last) if passage.last in inside else {passage.last} & passages.keys()
-            found += [passage.edges.get(it, Edge(it, name, set(), set())) for it in sorted(starts)]
+            found += [passage.edges.get(start, Edge(start, name, set(), set())) for start in sorted(starts)]
     return found
 
 
 def components(edges: List[Edge]) -> List[List[Edge]]:
-    """Returns the edges between heads from which each reaches the other, by component."""
-    reached = {it.source: {it.source} for it in edges}
-    while any([extends(reached, it) for it in edges]):
-        pass
-    parts: Dict[FrozenSet[str], List[Edge]] = {}
+    """Returns the edges of each strongly connected component."""
+    reached = {edge.source: {edge.source} for edge in edges}  # the heads that each head reaches
+    is_changed = True
+    while is_changed:
+        is_changed = False
+        for edge in edges:
+            if extends(reached, edge):
+                is_changed = True
+    found: Dict[FrozenSet[str], List[Edge]] = {}  # by the heads of the component
     for edge in edges:
         if edge.source in reached.get(edge.target, ()):
-            key = frozenset(n for n in reached[edge.source] if edge.source in reached.get(n, ()))
-            parts.setdefault(key, []).append(edge)
-    return list(parts.values())
+            key = frozenset(name for name in reached[edge.source] if edge.source in reached.get(name, ()))
+            found.setdefault(key, []).append(edge)
+    return list(found.values())
 
 
 def extends(reached: Dict[str, Set[str]], edge: Edge) -> bool:
-    """Adds what the end of an edge reaches to each head that reaches its beginning; returns whether anything is new."""
+    """Adds what the end of an edge reaches to each head that reaches its beginning. Returns whether anything was added."""
     new = reached.get(edge.target, set()) | {edge.target}
     grown = [own for own in reached.values() if edge.source in own and not new <= own]
     for own in grown:

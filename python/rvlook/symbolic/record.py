@@ -1,4 +1,6 @@
-"""The record of a search: its findings, the questions that it has not decided, and the paths that it has left out."""
+"""The record of a search: its findings, the questions that it has not decided, and the paths that it has left out.
+
+A *kind* of finding or doubt is a word such as `load` or `reread`; `questions.QUESTIONS` lists the kinds of each question."""
 from __future__ import annotations
 
 from collections import Counter
@@ -13,43 +15,44 @@ if TYPE_CHECKING:
     from rvlook.symbolic.fields import AnyState as State, Answer, Load, Store
     from rvlook.symbolic.nodes import Node
 
-LAST = 8  # conditions of a path on which a finding without an address depends
+LAST = 8  # the last conditions of a path, on which a finding without an address is taken to depend
 IN_MERGED = "only in a merged state: no sequence of activations is known that reaches it"
-Key = Tuple[str, int]  # a kind and an instruction
+Key = Tuple[str, int]  # a kind and the pc of an instruction
+MergedPlace = Union[int, str]  # a place in a merged state: the address of a byte, or a register such as "x10"
 
 
-def unknown_place(name: str) -> Optional[Union[int, str]]:
-    """Returns the place of an unknown of a state that was merged at a stop, by its name: an address, or a byte of a register. Returns None for
-    another variable."""
+def unknown_place(name: str) -> Optional[MergedPlace]:
+    """Returns the place of an unknown of a state that was merged at a stop, by the name of its variable. The place is the address of a byte, or a
+    byte of a register such as "x10_0". Returns None for another variable."""
     if not name.startswith("u"):
         return None
     place = name.split("_", 2)[2]
     return place if "_" in place else int(place, 16)
 
 
-def merged_place(name: str) -> Optional[Union[int, str]]:
-    """Returns the address or the register of an unknown of a state that was merged at a stop, by its name; None for another variable."""
+def merged_place(name: str) -> Optional[MergedPlace]:
+    """Returns the place of an unknown of a state that was merged at a stop, by the name of its variable. The place is the address of a byte, or a
+    register such as "x10". Returns None for another variable."""
     place = unknown_place(name)
     return place.partition("_")[0] if isinstance(place, str) else place
 
 
 @dataclass
 class Counterexample:
-    """A finding: its kind, its instruction, a text, the path up to it, and the model, or two that differ in the secret. `answer` says what a replay
-    showed."""
-    what: str
-    pc: int
-    text: str
-    pcs: List[int]
+    """A finding with the path that leads to it."""
+    what: str  # its kind
+    pc: int  # the instruction at which it was found
+    text: str  # what was found; empty for kinds that have one text (`text.HEADINGS`)
+    pcs: List[int]  # the pcs of the path, up to and with `pc`
     loads: List[Load]
     stores: List[Store]
     answers: List[Answer]
-    one: Dict[str, int]
-    two: Optional[Dict[str, int]]
-    conds: List[Node] = field(default_factory=list)
-    address: Any = None
-    count: int = 1
-    answer: str = ""
+    one: Dict[str, int]  # the values of the variables, by name
+    two: Optional[Dict[str, int]]  # for a difference between two secrets: the values with the second secret
+    conds: List[Node] = field(default_factory=list)  # the conditions of the path
+    address: Any = None  # the address that a load or store accesses, as an expression
+    count: int = 1  # how often it was found
+    answer: str = ""  # what a replay showed; empty before the replay
     log: List[str] = field(default_factory=list)  # the commands of its replay, up to its last step
 
     def copy_without_stores(self) -> Counterexample:
@@ -63,63 +66,69 @@ class Counterexample:
 
 
 class Record:
-    """The results of a search. Those of a trial are dropped."""
+    """The results of a search. The results of a trial are dropped."""
 
     def __init__(self) -> None:
-        self.found: Dict[Key, Counterexample] = {}
-        self.undecided: Counts[Key] = Counter()
-        self.reasons: Dict[Key, Set[str]] = {}
-        self.left_after_leak: Counts[int] = Counter()
-        self.cut_loops: Counts[int] = Counter()
-        self.many: Counts[int] = Counter()
-        self.assumed_inside: Counts[int] = Counter()
-        self.ends: Counts[str] = Counter()
-        self.changed_code: Set[int] = set()
-        self.given_written: Set[int] = set()
-        self.limited: Set[int] = set()  # the places of --length that were loaded
-        self.is_trial = False
-        self.rereads: List[int] = []  # the instructions of doubts about loads in merged loops
-        self.wanted: Set[Union[int, str]] = set()  # places of merged states whose bounds decide something
+        self.is_trial = False  # whether the present steps are a trial with the values of one model
+        self.findings: Dict[Key, Counterexample] = {}  # the first finding of each kind at each instruction
+        self.undecided: Counts[Key] = Counter()  # how often a question of a kind was not decided at an instruction
+        self.reasons: Dict[Key, Set[str]] = {}  # why it was not decided, as far as that is known
+        self.rereads: List[int] = []  # the pcs of doubts about loads in merged loops
+        self.wanted_places: Set[MergedPlace] = set()  # places of merged states whose bounds decide a question
+        # ---- which paths are left out, by the pc of an instruction
+        self.left_after_leak: Counts[int] = Counter()  # after an instruction that leaks the secret: paths of other secrets
+        self.cut_loops: Counts[int] = Counter()  # after a branch: more rounds of its loop than --bound
+        self.words_with_many_values: Counts[int] = Counter()  # after an instruction: further values of a word that is followed value by value
+        self.assumed_inside: Counts[int] = Counter()  # after a finding: paths on which the access leaves its object
+        self.end_counts: Counts[str] = Counter()  # how many paths ended, by the reason (`fields`)
+        # ---- assumptions that were used
+        self.changed_code: Set[int] = set()  # pcs that change code, or that were changed
+        self.stores_to_given: Set[int] = set()  # pcs that store to bytes of --given
+        self.lengths_met: Set[int] = set()  # the addresses of --length that were loaded
 
     def report(self, what: str, state: State, text: str, one: Dict[str, int], two: Optional[Dict[str, int]] = None) -> None:
-        """Adds a finding, once for each kind and instruction. In a merged state it is none: it is not decided."""
+        """Adds a finding of a kind at the pc of a state, once for each kind and instruction. `one` has values of the variables that show it, and
+        `two` those with a second secret. In a merged state it is no finding: the question is not decided."""
         key = what, state.pc
         if self.is_trial:
             return
         if state.is_merged:
             self.note_wanted(state, what)
-            if key not in self.found:
+            if key not in self.findings:
                 self.note(key, "%s: %s" % (text, IN_MERGED) if text else IN_MERGED)
             return
-        old = self.found.get(key)
-        if old:
-            old.count += 1
+        known = self.findings.get(key)
+        if known:
+            known.count += 1
             return
         address = state.access_address() if what in ("load", "store") else None
         history = history_of(state, one)
-        self.found[key] = Counterexample(what, state.pc, text, history.pcs + [state.pc], history.loads, history.stores, history.answers, dict(one),
-                                         dict(two) if two else None, state.conds[:], address)
+        second = dict(two) if two else None
+        self.findings[key] = Counterexample(what, state.pc, text, [*history.pcs, state.pc], history.loads, history.stores, history.answers, dict(one),
+                                            second, state.conds[:], address)
 
     def note_wanted(self, state: State, what: str) -> None:
-        """Notes the places of a merged state on which a finding depends: those of the address, and of conditions that share a variable with it."""
+        """Notes the places of a merged state on which a finding depends: the variables of the accessed address, and of all conditions that share a
+        variable with it. A finding without an address depends on the last conditions."""
         address = state.access_address() if what in ("load", "store") else None
         mask = mask_of(address) if address is not None else 0
-        for condition in state.conds[-LAST:] if not mask else ():
-            mask |= mask_of(condition)
+        if not mask:
+            for condition in state.conds[-LAST:]:
+                mask |= mask_of(condition)
         for condition in [it for it in state.conds if mask_of(it) & mask]:
             mask |= mask_of(condition)
-        self.wanted |= {place for place in map(merged_place, names_of(mask)) if place is not None}
+        self.wanted_places |= {place for place in map(merged_place, names_of(mask)) if place is not None}
 
     def doubt(self, what: str, state: State, reason: str) -> None:
-        """Notes that a question is not decided at an instruction, and why."""
+        """Notes that a question of a kind is not decided at the pc of a state, and why."""
         if not self.is_trial:
             self.note((what, state.pc), reason)
-            if what == "reread" and state.first_visit == MERGED_LOOP:
+            if what == "reread" and state.start_kind == MERGED_LOOP:
                 self.rereads.append(state.pc)
 
     def forget_rereads(self) -> None:
-        """Drops the doubts about loads in merged loops, before these are explored for the last time. Only then it is known which ranges of the window
-        the rounds load."""
+        """Drops the doubts about loads in merged loops, before these loops are explored for the last time. Only then does the search know which
+        ranges of the window the rounds load."""
         for pc in self.rereads:
             self.undecided["reread", pc] -= 1
             if not self.undecided["reread", pc]:
@@ -127,6 +136,6 @@ class Record:
         self.rereads = []
 
     def note(self, key: Key, reason: str) -> None:
-        """Notes that a question is not decided at an instruction."""
+        """Notes that a question of a kind is not decided at an instruction, and why."""
         self.undecided[key] += 1
         self.reasons.setdefault(key, set()).add(reason)

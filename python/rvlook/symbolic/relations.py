@@ -1,32 +1,42 @@
-"""Linear relations of the words of a merged state: a word that is the sum or the difference of two others, and a number (Karr, 1976). Such a word is
-no unknown of its own, so the end of a part stays known as its beginning and its length."""
+"""Linear relations of the words of a merged state: a word that is the sum or the difference of two other words, and a number (Karr, 1976).
+
+Such a word is no unknown of its own. For example, the end of a part of a message stays known as the sum of its beginning and its length."""
 from __future__ import annotations
 
 from typing import Dict, FrozenSet, Iterable, List, Optional, Sequence, Set, Tuple
 
-from rvlook.symbolic.facts import ADDED, Fact, WordPlace, Words
+from rvlook.symbolic.facts import ADDED, Fact, WordPlace, Words, is_byte
 from rvlook.symbolic.linear import Linear, linear, plus
 from rvlook.symbolic.nodes import M32, Node
 
 
 def relations_of(new: Iterable[WordPlace], unknown: Iterable[WordPlace], others: Sequence[WordPlace], words: Words,
                  known: Iterable[Fact]) -> List[Fact]:
-    """Returns the relations of three words. At least one of the three is new. Each relation is solved for an unknown word that is in no other one."""
-    values = [(at, words(at)) for at in others if not (isinstance(at, str) and at.startswith("b"))]
+    """Returns the relations of three words. At least one of the three is in `new`. Each relation is solved for a word in `unknown` that is in no
+    other relation. `others` are all words that may be in a relation, `words` gives their values, and `known` has the facts so far."""
+    values = [(at, words(at)) for at in others if not is_byte(at)]
     forms = [(at, linear(value)) for at, value in values if type(value) is Node]
-    by_atoms: Dict[FrozenSet[Tuple[Node, int]], List[Tuple[WordPlace, Linear]]] = {}
+    by_atoms: Dict[FrozenSet[Tuple[Node, int]], List[Tuple[WordPlace, Linear]]] = {}  # the words by the terms of their linear forms
     for at, form in forms:
         by_atoms.setdefault(form.atoms, []).append((at, form))
-    used: Set[WordPlace] = {at for it in known if it.kind == ADDED for at in (it.x, *(place for place, _ in it.y))}
+    used: Set[WordPlace] = set()  # the words that are in a relation
+    for fact in known:
+        if fact.kind == ADDED:
+            used |= {fact.x, *(place for place, _ in fact.y)}
+    new_words = {*new}
+    unknown_words = {*unknown}
     found: List[Fact] = []
     for n, (y, one) in enumerate(forms):
         for z, two in forms[:n]:
             total = plus(one, two, 1)
-            for x, form in by_atoms.get(total.atoms, ()) if total.atoms else ():
-                solved = solve(x, y, z, form.number - total.number & M32, {*unknown} - used)
-                if solved and len({x, y, z}) == 3 and {x, y, z} & {*new}:
+            if not total.atoms:
+                continue
+            for x, form in by_atoms.get(total.atoms, ()):
+                related = {x, y, z}
+                solved = solve(x, y, z, form.number - total.number & M32, unknown_words - used)
+                if solved and len(related) == 3 and not related.isdisjoint(new_words):
                     found.append(solved)
-                    used |= {x, y, z}
+                    used |= related
     return found
 
 

@@ -17,14 +17,20 @@ if TYPE_CHECKING:
     from rvlook.symbolic.fields import Answer, Load, Store
     from rvlook.symbolic.world import World
 
-RESUME, ECALL = 4, 0x73
-PART = 20000  # steps between two looks at the time
-FURTHER, WATCHED = 20000, 40000  # steps of an endless loop after its finding, and those after them that are looked at one by one
-FURTHER_PART = 2000  # of FURTHER, between two looks at the time
+RESUME = 4  # the function of the monitor that resumes an enclave
+ECALL = 0x73  # the instruction word of an ecall, whose other bytes are 0
+A0 = 10  # numbers of registers
+A1 = 11
+A6 = 16
+A7 = 17
+PART = 20000  # steps between two checks of the time
+FURTHER = 20000  # steps of an endless loop that are executed after its finding
+FURTHER_PART = 2000  # of these, between two checks of the time
+WATCHED = 40000  # further steps that are executed one by one, until the registers repeat
 
 
 class Path(Protocol):
-    """The loads, the stores and the answers of a path."""
+    """The loads, the stores and the answers of a path: a History or a Counterexample."""
     loads: List[Load]
     stores: List[Store]
     answers: List[Answer]
@@ -32,121 +38,147 @@ class Path(Protocol):
 
 @dataclass
 class Replayed:
-    """The results of a replay: the pcs, the registers before the last step, the pc and the trap after it, and the first difference."""
-    pcs: List[int] = field(default_factory=list)
-    regs: List[int] = field(default_factory=list)
-    after: int = 0
-    world: str = ""
-    trap: str = "-"
-    wrong: str = ""
-    expected: Dict[int, int] = field(default_factory=dict)  # bytes of the window
+    """The results of a replay."""
+    pcs: List[int] = field(default_factory=list)  # of the steps that were executed
+    regs: List[int] = field(default_factory=list)  # x0 to x31 before the last step, if the path is not whole
+    after: int = 0  # the pc after the last step
+    world: str = ""  # the world after the last step
+    trap: str = "-"  # the cause and the value of the trap in the last step
+    wrong: str = ""  # the first difference from the prediction; empty if there is none
+    expected: Dict[int, int] = field(default_factory=dict)  # the bytes of the window that the path has loaded or stored, by address
     log: List[str] = field(default_factory=list)  # the commands that change the state, and the steps
     is_late: bool = False  # whether the time was over before its end
     is_again: bool = False  # whether the registers at the last pc were the same again after further steps
 
     def note(self, line: str) -> None:
-        """Takes the reply to a step."""
+        """Notes the reply to a step."""
         ran = step_of(line)
-        self.after, self.world, self.trap = int(ran.pc, 16), ran.world, "%s:%s" % (ran.trap.cause, ran.trap.value) if ran.trap else "-"
+        self.after = int(ran.pc, 16)
+        self.world = ran.world
+        self.trap = "%s:%s" % (ran.trap.cause, ran.trap.value) if ran.trap else "-"
 
 
 class Plan:
-    """The inputs and the outputs of a path for one model: bytes to poke and bytes that are stored, by step, and the answers."""
+    """The inputs and the outputs of a path for one model."""
 
     def __init__(self, path: Path, model: Mapping[str, int], window: Tuple[int, int]) -> None:
-        self.window = window
+        self.window = window  # the first address, and the end
         memo: Dict[Any, Any] = {}
-        self.pokes: Dict[int, List[Tuple[int, int]]] = {}
-        self.stored: Dict[int, List[Tuple[int, int]]] = {}
+        self.pokes: Dict[int, List[Tuple[int, int]]] = {}  # the bytes that the host gives before a step, by its number: addresses and values
+        self.stored: Dict[int, List[Tuple[int, int]]] = {}  # the bytes that a step stores, by its number: addresses and values
         for step, at, names in path.loads:
             first = evaluate(at, model, memo)
             self.pokes.setdefault(step, []).extend((first + n, model[name]) for n, name in names)
-        for step, at, width, stored_value in path.stores:
-            first, value = evaluate(at, model, memo), evaluate(stored_value, model, memo)
-            self.stored.setdefault(step, []).extend((first + n, value >> 8 * n & 255) for n in range(width))
-        self.ends = {it.step: (it.call, evaluate(it.value, model, memo)) for it in path.answers}
+        for store in path.stores:
+            first = evaluate(store.at, model, memo)
+            value = evaluate(store.value, model, memo)
+            self.stored.setdefault(store.step, []).extend((first + n, value >> 8 * n & 255) for n in range(store.width))
+        self.leaves = {answer.step: (answer.call, evaluate(answer.value, model, memo)) for answer in path.answers}  # the call and the answer of a
+        # step that leaves the enclave, by its number
 
 
 class Replayer:
     """Replays paths of an enclave."""
 
-    def __init__(self, world: World, until: float = inf) -> None:
-        self.world, self.until = world, until  # `until`: by time.perf_counter()
+    def __init__(self, world: World, deadline: float = inf) -> None:
+        self.world = world
+        self.deadline = deadline  # by time.perf_counter()
 
     def secrets(self, model: Mapping[str, int]) -> List[str]:
-        """Returns the commands that set the secrets of a model."""
-        world = self.world
-        return ["poke %x %02x" % (at, model[name % at]) for places, name in ((world.secret, "k_%08x"), (world.check, "c_%08x")) for at in places]
+        """Returns the commands that set the secrets of a model, and the bytes that the host must know."""
+        found = ["poke %x %02x" % (at, model["k_%08x" % at]) for at in self.world.secret]
+        return found + ["poke %x %02x" % (at, model["c_%08x" % at]) for at in self.world.check]
 
     def go(self, pcs: Sequence[int], path: Path, model: Mapping[str, int], is_whole: bool, is_endless: bool = False) -> Replayed:
-        """Replays the steps of a path with the inputs and the secrets of a model. Stops before the last step unless the path is whole, and then
-        executes it alone. If the path is endless, it goes on."""
-        replayed, plan = Replayed(), Plan(path, model, self.world.window)
-        first, last = 0, len(pcs) - 1
+        """Replays the steps of a path with the inputs and the secrets of a model. `pcs` has the predicted pcs. If the path is not whole, executes the
+        last step alone, and keeps the registers before it. If the path is endless, executes further steps after it. Returns the results."""
+        replayed = Replayed()
+        plan = Plan(path, model, self.world.window)
+        first = 0  # the number of the next step
+        last = len(pcs) - 1
         with self.world.run.replay() as replay:
-            bench, replayed.after = replay.bench, self.world.pc
-            replayed.log = replay.lines_to(self.world.visits[0].position)
-            replayed.log += ["hart %d" % self.world.hart] * (self.world.run.setup.harts > 1) + self.secrets(model)
-            bench.ask(*replayed.log)
+            bench = replay.bench
+            replayed.after = self.world.pc
+            self.begin(bench, replayed, replay.lines_to(self.world.own_activations[0].position), model)
             while first <= last and not replayed.wrong:
-                replayed.is_late = time.perf_counter() > self.until
+                replayed.is_late = time.perf_counter() > self.deadline
                 if replayed.is_late:
                     return replayed
                 most = min(first + PART - 1, last)
-                end = next((n for n in range(first, most + 1) if n in plan.ends), most)
-                is_open = end == last and not is_whole
-                steps(bench, plan, replayed, range(first, end + (not is_open)))
-                if is_open:
-                    last_step(bench, plan, replayed, last)
-                elif end in plan.ends:
-                    self.leave(bench, replayed, plan.ends[end], end == last)
+                end = next((n for n in range(first, most + 1) if n in plan.leaves), most)
+                if end == last and not is_whole:
+                    execute_steps(bench, plan, replayed, range(first, end))
+                    execute_last_step(bench, plan, replayed, last)
+                else:
+                    execute_steps(bench, plan, replayed, range(first, end + 1))
+                    if end in plan.leaves:
+                        self.leave(bench, replayed, plan.leaves[end], end == last)
                 first = end + 1
             if is_whole and not replayed.wrong:
                 check_window(bench, replayed)
             if is_endless and not replayed.wrong:
-                go_on(bench, replayed, pcs[-1], self.until)
+                execute_further(bench, replayed, pcs[-1], self.deadline)
         if not replayed.wrong and replayed.pcs[:len(pcs)] != list(pcs[:len(replayed.pcs)]):
-            n = next(n for n, (x, y) in enumerate(zip(replayed.pcs, pcs)) if x != y)
+            n = next(n for n, (pc, predicted) in enumerate(zip(replayed.pcs, pcs)) if pc != predicted)
             replayed.wrong = "step %d is at %08x, predicted %08x" % (n, replayed.pcs[n], pcs[n])
         return replayed
 
+    def begin(self, bench: Bench, replayed: Replayed, lines: List[str], model: Mapping[str, int]) -> None:
+        """Executes the commands up to the first entry of the enclave, and sets the secrets of a model."""
+        replayed.log = lines
+        if self.world.run.setup.harts > 1:
+            replayed.log.append("hart %d" % self.world.hart)
+        replayed.log += self.secrets(model)
+        bench.ask(*replayed.log)
+
     def leave(self, bench: Bench, replayed: Replayed, end: Tuple[int, int], is_last: bool) -> None:
-        """Compares the answer and the window after the enclave has left, and resumes it unless this was the last step."""
+        """Compares the answer and the window after the enclave has left, and resumes the enclave unless this was the last step. `end` is the
+        predicted call with its answer. After a stop, a0 of the host is 1, and a1 is the answer."""
         call, answer = end
-        a0, a1 = bench.register(10), bench.register(11)
-        if replayed.world != "host" or (a0, a1) != (1 if call == STOP else 0, answer):
+        a0 = bench.register(A0)
+        a1 = bench.register(A1)
+        if replayed.world != "host" or a0 != (1 if call == STOP else 0) or a1 != answer:
             replayed.wrong = "answer %d %08x, predicted %08x" % (a0, a1, answer)
         check_window(bench, replayed)
         if replayed.wrong or is_last:
             return
         commands = ["poke %x %02x" % (replayed.after + n, ECALL if n == 0 else 0) for n in range(4)]
-        commands += ["setreg 17 %x" % MONITOR_KEY, "setreg 16 %x" % RESUME, "setreg 10 %x" % self.world.slot]
+        commands += ["setreg %d %x" % (A7, MONITOR_KEY), "setreg %d %x" % (A6, RESUME), "setreg %d %x" % (A0, self.world.slot)]
         bench.ask(*commands)
         replayed.log += commands + ["step 1"]
         replayed.note(bench.one("step 1"))
 
 
-def steps(bench: Bench, plan: Plan, replayed: Replayed, numbers: Sequence[int]) -> None:
-    """Executes steps, each after its inputs."""
-    text, count = [], 0
-    for n in numbers:
-        pokes = plan.pokes.get(n, ())
-        text += ["poke %x %02x\n" % poke for poke in pokes] + ["step 1\n"]
-        count += len(pokes) + 1
-        replayed.expected.update(poke for poke in pokes if plan.window[0] <= poke[0] < plan.window[1])
-        replayed.expected.update(plan.stored.get(n, ()))
-    replayed.log += [x.rstrip() for x in text]
-    lines = [x for x in bench.block("".join(text).encode(), count).split(b"\n") if x.startswith(b"ran ")] if count else []
-    for x in lines:
+def replies_to_steps(bench: Bench, commands: Sequence[str]) -> List[str]:
+    """Executes commands. Returns the replies to steps."""
+    if not commands:
+        return []
+    text = "".join(command + "\n" for command in commands)
+    return [line.decode() for line in bench.block(text.encode(), len(commands)).split(b"\n") if line.startswith(b"ran ")]
+
+
+def execute_steps(bench: Bench, plan: Plan, replayed: Replayed, numbers: Sequence[int]) -> None:
+    """Executes the steps with some numbers, each after its inputs."""
+    low, high = plan.window
+    commands: List[str] = []
+    for number in numbers:
+        pokes = plan.pokes.get(number, ())
+        commands += ["poke %x %02x" % poke for poke in pokes]
+        commands.append("step 1")
+        replayed.expected.update((at, value) for at, value in pokes if low <= at < high)
+        replayed.expected.update(plan.stored.get(number, ()))
+    replayed.log += commands
+    lines = replies_to_steps(bench, commands)
+    for n, line in enumerate(lines):
         replayed.pcs.append(replayed.after)
-        replayed.note(x.decode())
-        if replayed.world == "host" and x is not lines[-1]:
+        replayed.note(line)
+        if replayed.world == "host" and n < len(lines) - 1:
             replayed.wrong = "step %d leaves" % (len(replayed.pcs) - 1)
             return
 
 
-def last_step(bench: Bench, plan: Plan, replayed: Replayed, number: int) -> None:
-    """Executes the last step of a path that is not whole, after its inputs, and shows the registers before it."""
+def execute_last_step(bench: Bench, plan: Plan, replayed: Replayed, number: int) -> None:
+    """Executes the last step of a path that is not whole, after its inputs. Keeps the registers before it."""
     pokes = ["poke %x %02x" % poke for poke in plan.pokes.get(number, ())]
     bench.ask(*pokes)
     replayed.log += pokes
@@ -155,25 +187,27 @@ def last_step(bench: Bench, plan: Plan, replayed: Replayed, number: int) -> None
     replayed.note(bench.one("step 1"))
 
 
-def go_on(bench: Bench, replayed: Replayed, pc: int, until: float) -> None:
-    """Executes FURTHER steps in which the host gives nothing, and then up to WATCHED more, until the registers at the pc are the same again."""
+def execute_further(bench: Bench, replayed: Replayed, pc: int, deadline: float) -> None:
+    """Executes FURTHER steps in which the host gives nothing, and then up to WATCHED more, until the registers at a pc repeat."""
     own = replayed.world
     for _ in range(FURTHER // FURTHER_PART):
-        replayed.is_late = replayed.is_late or time.perf_counter() > until
+        replayed.is_late = replayed.is_late or time.perf_counter() > deadline
         if replayed.is_late:
             return
-        lines = [x for x in bench.block(b"step 1\n" * FURTHER_PART, FURTHER_PART).split(b"\n") if x.startswith(b"ran ")]
-        for x in (lines[0], lines[-1]):
-            replayed.note(x.decode())
-            replayed.wrong = replayed.wrong or "" if replayed.world == own else "the enclave leaves in further steps"
-    watch(bench, replayed, pc, until)
+        lines = replies_to_steps(bench, ["step 1"] * FURTHER_PART)
+        for line in (lines[0], lines[-1]):
+            replayed.note(line)
+            if replayed.world != own:
+                replayed.wrong = "the enclave leaves in further steps"
+    if not replayed.wrong:
+        watch(bench, replayed, pc, deadline)
 
 
-def watch(bench: Bench, replayed: Replayed, pc: int, until: float) -> None:
-    """Executes up to WATCHED steps, until the registers at the pc are the same again."""
+def watch(bench: Bench, replayed: Replayed, pc: int, deadline: float) -> None:
+    """Executes up to WATCHED steps, until the registers at a pc repeat."""
     seen: Set[Tuple[int, ...]] = set()
-    for _ in range(WATCHED if not replayed.wrong else 0):
-        replayed.is_late = time.perf_counter() > until
+    for _ in range(WATCHED):
+        replayed.is_late = time.perf_counter() > deadline
         if replayed.after == pc:
             regs = tuple(register_values(bench.ask("regs")[0][:32]))
             replayed.is_again = regs in seen
@@ -184,7 +218,7 @@ def watch(bench: Bench, replayed: Replayed, pc: int, until: float) -> None:
 
 
 def check_window(bench: Bench, replayed: Replayed) -> None:
-    """Compares the bytes of the window that a path has loaded or stored."""
+    """Compares the bytes of the window with those that a path has loaded or stored."""
     places = sorted(replayed.expected)
     found = bench.ask(*["mem %x 1" % at for at in places]) if places else []
     for at, line in zip(places, found):
@@ -194,12 +228,15 @@ def check_window(bench: Bench, replayed: Replayed) -> None:
 
 
 def observed(word: int, regs: Sequence[int]) -> Tuple[int, ...]:
-    """Returns what the host may observe of an instruction: its address, the stored value, its operands."""
+    """Returns what the host may observe of an instruction word: the accessed address, the stored value, or the operands. `regs` has the registers
+    before the instruction."""
     instruction = decode(word)
+    first = regs[instruction.r1]
     if instruction.kind == "load":
-        return ((regs[instruction.r1] + instruction.imm) & M32,)
+        return ((first + instruction.imm) & M32,)
     if instruction.kind == "store":
-        return (regs[instruction.r1] + instruction.imm) & M32, regs[instruction.r2] & (1 << 8 * instruction.more) - 1
+        width = instruction.more
+        return (first + instruction.imm) & M32, regs[instruction.r2] & (1 << 8 * width) - 1
     if instruction.kind == "ecall":
-        return regs[10], regs[11], regs[16]
-    return regs[instruction.r1], regs[instruction.r2] if instruction.kind in ("op", "branch") else 0
+        return regs[A0], regs[A1], regs[A6]
+    return first, regs[instruction.r2] if instruction.kind in ("op", "branch") else 0

@@ -1,7 +1,8 @@
-"""The paths that wait to be continued, in the order of the program: a path that is behind comes first, so that paths meet where they can be joined.
+"""The paths that wait to be continued, in the order of the program: the path that is furthest behind comes first, so that paths meet where they can
+be joined.
 
-The order is that of the steps of a program without branches. The activation comes first, then the calls that are open, from the outermost on. Within
-a call it is the rounds of loops, and the place."""
+The order is that of the steps of a program without branches. The activation comes first, then the open calls, from the outermost on. Within a call
+the rounds of loops come before the place in the function."""
 from __future__ import annotations
 
 import heapq
@@ -14,19 +15,21 @@ from rvlook.symbolic.instructions import Step
 if TYPE_CHECKING:
     from rvlook.symbolic.fields import AnyState as State
 
-WAITS = "waits"  # the end of a part of a path that is continued later
-Position = Tuple[int, ...]
+WAITS = "waits"  # why `State.go` returns: the path waits for others, and is continued afterwards
+Position = Tuple[int, ...]  # the key by which waiting paths are sorted; a path whose key is less comes first
 
 
 def position_of(flows: Flows, state: State) -> Position:
-    """Returns where a path is, for the order."""
+    """Returns the place of a path in the order of the program."""
     parts = [place_of(flows, state, state.entry, state.call, state.pc)]
     parts += [place_of(flows, state, it.entry, it.caller, it.back - 4) for it in state.open_calls()]
-    return (state.opening, state.visit, *(n for part in reversed(parts) for n in part), state.pc)
+    return (state.start_number, state.activation, *(n for part in reversed(parts) for n in part), state.pc)
 
 
 def place_of(flows: Flows, state: State, entry: int, call: int, pc: int) -> Position:
-    """Returns where a path is in one of its calls: for each loop around the place the head and the round, then the place."""
+    """Returns the place of a path in one of its calls. `entry` is the first instruction of the function, `call` is the number of the call, and `pc`
+    is the present instruction in it. The place consists of the head and the round of each loop around the instruction, and then of the
+    instruction."""
     flow = flows.known.get(entry)
     if flow is None or pc not in flow.order:
         return (0,)
@@ -37,23 +40,29 @@ def place_of(flows: Flows, state: State, entry: int, call: int, pc: int) -> Posi
 
 
 def turn_of(flows: Flows, state: State) -> Position:
-    """Returns when the head of a loop has its turn: after the loops that come before it, and before those inside it."""
+    """Returns the place of the loop at whose head a path is, in the order in which loops are explored. A loop comes after the loops before it in the
+    program, and before those inside it."""
     found: List[int] = []
-    for entry, pc in reversed([(state.entry, state.pc), *((it.entry, it.back - 4) for it in state.open_calls())]):
+    places = [(state.entry, state.pc), *((it.entry, it.back - 4) for it in state.open_calls())]
+    for entry, pc in reversed(places):
         flow = flows.known.get(entry)
-        if flow is not None and pc in flow.order:
-            heads = flow.heads.get(pc, ())
-            found += [flow.order[head] for head in heads] + ([] if heads[-1:] == (pc,) else [flow.order[pc]])
+        if flow is None or pc not in flow.order:
+            continue
+        found += [flow.order[head] for head in flow.heads.get(pc, ())]
+        if flow.innermost_head(pc) != pc:
+            found.append(flow.order[pc])
     return tuple(found)
 
 
 class Schedule:
-    """The paths that wait. If rare branches come first, a path comes the later the more paths have begun at its place."""
+    """The queue of the paths that wait."""
 
     def __init__(self, flows: Flows, is_rare_first: bool) -> None:
-        self.flows, self.count, self.is_rare_first = flows, 0, is_rare_first
-        self.begun: Counts[Position] = Counter()
-        self.heap: List[Tuple[Position, int, State]] = []
+        self.flows = flows
+        self.is_rare_first = is_rare_first  # whether a path comes the later, the more paths have begun at its place
+        self.count = 0  # how many paths were added; of two paths at one position, the one that was added first comes first
+        self.begun: Counts[Position] = Counter()  # how many paths have begun at a place (see `rarity`)
+        self.heap: List[Tuple[Position, int, State]] = []  # the waiting paths, each with its position and its number
 
     def __len__(self) -> int:
         return len(self.heap)
@@ -61,17 +70,19 @@ class Schedule:
     def add(self, state: State) -> None:
         """Adds a path."""
         self.count += 1
-        heapq.heappush(self.heap, (self.rarity(state) if self.is_rare_first else position_of(self.flows, state), self.count, state))
+        position = self.rarity(state) if self.is_rare_first else position_of(self.flows, state)
+        heapq.heappush(self.heap, (position, self.count, state))
 
     def rarity(self, state: State) -> Position:
-        """Returns how many paths have begun at the place of a path. Its indices and the value with which it goes on belong to the place: a parser is
-        at another one for each depth, and for each type of a field."""
-        place = state.pc, state.context, *state.search.indices.values(state), state.target
+        """Counts a path, and returns how many paths have begun at its place. The place includes the values of index registers, and the value that the
+        path follows. A parser is at another place for each depth, and for each type of a field."""
+        place = state.pc, state.context, *state.search.indices.values(state), state.value_followed
         self.begun[place] += 1
         return (self.begun[place],)
 
     def take(self) -> List[State]:
-        """Removes the paths that are behind all others, which are at the same place; returns them."""
+        """Removes and returns the paths that are furthest behind, which are all at the same position. If rare branches come first, this is one
+        path."""
         position, _, state = heapq.heappop(self.heap)
         found = [state]
         while self.heap and self.heap[0][0] == position and not self.is_rare_first:
@@ -80,36 +91,38 @@ class Schedule:
 
 
 def waiting(step: Step) -> Step:
-    """Returns the function of an instruction before which a path waits for others."""
+    """Returns the function of an instruction at which paths meet: a path waits for others there, may be merged, and then executes `step`."""
     def execute(state: State, pc: int) -> int:
-        if state.head == pc:
-            to = step(state, pc)
-            state.head = None
-            return to
-        if state.resumed == pc:
-            state.resumed = None
+        if state.start_head == pc:
+            next_pc = step(state, pc)
+            state.start_head = None
+            return next_pc
+        if state.resumed_at == pc:
+            state.resumed_at = None
         else:
-            state.meet(pc)
-        state.meet_head(pc)
+            state.wait_for_others(pc)
+        state.merge_after_divisions(pc)
         return step(state, pc)
     return execute
 
 
-def passes_head(flows: Flows, state: State, head: int) -> None:
-    """Takes a round of a loop: the loops inside it begin again."""
+def count_round(flows: Flows, state: State, head: int) -> None:
+    """Counts a round of a loop for a path that arrives at its head. The counts of the loops inside, and of the calls inside, begin again."""
     flow = flows.known.get(state.entry)
     if flow is None or head not in flow.heads.get(head, ()):
         return
     state.rounds[state.call, head] = state.rounds.get((state.call, head), 0) + 1
-    for call, other in [it for it in state.rounds if it[0] == state.call and it[1] != head]:
-        if head in flow.heads.get(other, ()):
+    for call, other in list(state.rounds):
+        if call == state.call and other != head and head in flow.heads.get(other, ()):
             del state.rounds[call, other]
     contexts = state.search.world.contexts
-    for key in list(state.counts):
-        pc, context = abs(key[0]), key[1]
+    for key in list(state.branch_counts):
+        pc = abs(key[0])  # negative if only one side was possible (`Fields.branch_counts`)
+        context = key[1]
         if context == state.context:
-            is_inner = flow.heads.get(pc, (head,))[-1] != head and head in flow.heads.get(pc, ())
+            heads = flow.heads.get(pc, ())
+            is_inner = head in heads and heads[-1] != head
         else:
             is_inner = context > 0 and state.context in contexts.chain(context)
         if is_inner:
-            del state.counts[key]
+            del state.branch_counts[key]

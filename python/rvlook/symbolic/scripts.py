@@ -13,11 +13,11 @@ if TYPE_CHECKING:
     from rvlook.protocol.run import Run
     from rvlook.symbolic.record import Counterexample
 
-STEP = "step 1"
+STEP = "step 1"  # the command that executes one step
 
 
 def write(folder: str, run: Run, findings: Sequence[Counterexample], headings: Sequence[str]) -> None:
-    """Writes a file for each finding. Raises Unfinished."""
+    """Writes a file into a folder for each finding, with its heading. Raises Unfinished if a file cannot be written."""
     try:
         os.makedirs(folder, exist_ok=True)
         for number, (example, heading) in enumerate(zip(findings, headings), 1):
@@ -35,7 +35,7 @@ def input_of(run: Run, example: Counterexample, heading: str) -> bytes:
 
 
 def joined(commands: Sequence[str]) -> List[str]:
-    """Returns commands with single steps put together."""
+    """Returns commands in which consecutive single steps are one command."""
     found: List[str] = []
     for command in commands:
         if command == STEP and found and found[-1].startswith("step "):

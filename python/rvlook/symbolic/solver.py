@@ -1,15 +1,17 @@
-"""Questions about expressions: cheap attempts first, then z3 with a limit. Conditions that share no variable with the question are left out.
+"""Answers questions about expressions: cheap attempts first, then z3 with a time limit.
 
-Each answer that something exists is evaluated before it counts. An answer that nothing exists is that of simplification, of all values of a
-byte, or of z3."""
+A question is whether a condition can hold together with the conditions of a path. Conditions that share no variable with the question are left out.
+If the answer is that values exist, the solver evaluates all conditions for these values before the answer counts. The answer that no values exist
+comes from simplification, from all values of a byte, or from z3."""
 from __future__ import annotations
 
 import random
 import time
 from copy import copy
 from functools import partial
+from itertools import islice
 from math import inf
-from typing import Any, Callable, Dict, FrozenSet, List, Optional, Sequence, Set, Tuple
+from typing import Any, Callable, Dict, FrozenSet, List, NamedTuple, Optional, Sequence, Set, Tuple
 
 from rvlook.symbolic.domains import Domains, member_of
 from rvlook.symbolic.evaluation import Model, evaluate, reduced
@@ -19,253 +21,295 @@ from rvlook.symbolic.nodes import CHECK, HEAVY, SECRET, Condition, Node, Word, b
 from rvlook.symbolic.opaque import Opaque, is_large_lookup, is_none
 from rvlook.symbolic.translate import Primed, Translator
 
-CORNERS = (0, 1, 255, 128, 127, 65, 4, 16)
-OPAQUE_TIMEOUT = 500  # milliseconds
-LIGHT = 256  # operations of a node that is computed for both of two secrets, although it is taken to be equal
+CORNERS = (0, 1, 255, 128, 127, 65, 4, 16)  # values of bytes that are tried as guesses
+FIRST_CORNERS = 3  # guesses in which all variables have the same corner
+RANDOM_GUESSES = 2  # guesses with random bytes; one more guess has random corners
+TRIES = 6  # other secrets that are tried
+MOST_SOLUTIONS = 8  # guesses by inversion of the question
+REPAIRS = 4  # conditions that are repaired in a guess
+MOST_NAMES = 64  # variables of a question for which corners are tried
 MOST_PARTS = 12  # of a conjunction that is guessed
-MOST_NAMES, TRIES, REPAIRS = 64, 6, 4  # variables of a question that is guessed; guesses; repaired conditions of a guess
-Answer = Optional[bool]  # None if it is not decided
-Pair = Tuple[Answer, Optional[Part], Optional[Part]]
-Known = Tuple[FrozenSet[Node], List[Node]]  # nodes that are taken to be equal for two secrets, and those that are computed for both
+OPAQUE_TIMEOUT = 500  # milliseconds of a query without the contents of tables and choices
+LIGHT = 256  # operations of a public node that is computed for both of two secrets, so that it restricts them
+Answer = Optional[bool]  # whether values exist; None if it is not decided
+Pair = Tuple[Answer, Optional[Part], Optional[Part]]  # an answer, and the values of the variables with the first and with the second secret
+
+
+class Equal(NamedTuple):
+    """The nodes that are taken to be equal for two secrets."""
+    public: FrozenSet[Node]  # all of them
+    computed: List[Node]  # those that are computed for both secrets
 
 
 class Solver:
-    """Answers questions: True with a model, False, or None if it is not decided. `proofs` has the conditions of each answer that nothing exists, if
-    it is a list. `has_many`: the paths have many simple conditions, such as the facts of merged
-    states. `is_far`: guesses are of values that lead further."""
+    """Answers questions: True with a model, False, or None if the question is not decided."""
 
     def __init__(self, timeout: int, seed: int = 0, is_rough: bool = False, has_many: bool = False, is_far: bool = False) -> None:
-        self.timeout, self.rng, self.plain = timeout, random.Random(seed), Translator()
-        self.has_many, self.is_far = has_many, is_far
-        self.z3, self.opaque, self.domains = self.plain.z3, Opaque(), Domains()
-        self.rough = Opaque(is_large_lookup if is_rough else is_none)
-        self.cache: Dict[Any, Any] = {}
-        self.primed: Dict[FrozenSet[Node], Primed] = {}
-        self.queries = self.guesses = self.cached = 0
-        self.seconds, self.until = 0.0, inf  # `until`: by time.perf_counter()
-        self.proofs: Optional[List[List[Any]]] = None
+        self.timeout = timeout  # milliseconds of a query to z3
+        self.deadline = inf  # the end of the whole run, by time.perf_counter()
+        self.has_many = has_many  # whether the paths have many simple conditions, such as the facts of merged states
+        self.is_far = is_far  # whether guesses are values that lead further, such as longer messages
+        self.rng = random.Random(seed)
+        self.plain = Translator()  # makes expressions of z3
+        self.z3 = self.plain.z3
+        self.opaque = Opaque()  # makes expressions of z3 without the contents of tables and choices
+        self.rough = Opaque(is_large_lookup if is_rough else is_none)  # the same without large tables, for questions about facts
+        self.primed: Dict[FrozenSet[Node], Primed] = {}  # makes expressions of z3 for a second secret, by the nodes that are equal
+        self.domains = Domains()  # decides conditions on one byte
+        self.cache: Dict[Any, Any] = {}  # the answers, by question and conditions
+        self.shown: Dict[FrozenSet[Node], Set[Condition]] = {}  # the conditions that follow from a set of conditions, as far as this was shown
         self.declared: Set[Node] = set()  # nodes that came out at a place of --public
-        self.shown: Dict[FrozenSet[Node], Set[Condition]] = {}  # the conditions that were shown to follow from others
+        self.proofs: Optional[List[List[Any]]] = None  # if it is a list: the conditions of each answer that no values exist, for a second solver
+        self.queries = 0  # to z3
+        self.guesses = 0  # questions that a guess has answered
+        self.cached = 0  # questions that the cache has answered
+        self.seconds = 0.0  # in z3
 
     def within(self, timeout: int) -> Solver:
-        """Returns the same solver with at most so many milliseconds for a query."""
-        limited = copy(self)
-        limited.timeout, limited.cache = min(timeout, self.timeout), {}
-        return limited
+        """Returns the same solver with at most `timeout` milliseconds for a query, and a cache of its own."""
+        solver = copy(self)
+        solver.timeout = min(timeout, self.timeout)
+        solver.cache = {}
+        return solver
 
     # ---- one run
 
     @staticmethod
-    def sliced(conditions: Sequence[Node], mask: int) -> Tuple[List[Node], int]:
-        """Returns the conditions that share variables with a question, directly or by others, and all these variables."""
-        left, found = list(conditions), []  # type: List[Node], List[Node]
+    def relevant_conditions(conditions: Sequence[Node], mask: int) -> Tuple[List[Node], int]:
+        """Returns the conditions that share variables with a question, directly or through other conditions, and the mask of all these variables.
+        `mask` has the variables of the question."""
+        left = list(conditions)
+        found: List[Node] = []
         while True:
-            more = [it for it in left if mask_of(it) & mask]
+            more = [condition for condition in left if mask_of(condition) & mask]
             if not more:
                 return found, mask
             found += more
             chosen = set(more)
-            left = [it for it in left if it not in chosen]
-            for it in more:
-                mask |= mask_of(it)
+            left = [condition for condition in left if condition not in chosen]
+            for condition in more:
+                mask |= mask_of(condition)
 
     def satisfiable(self, conditions: Sequence[Node], question: Condition, model: Part) -> Tuple[Answer, Part]:
-        """Returns whether the conditions and a question hold for some values, and a model, which is changed from one of the conditions. `model` has
-        a value for each variable."""
+        """Returns whether the conditions and a question can hold together, and a model for which they do. `model` has values of all variables for
+        which the conditions hold; the result differs from it as little as possible."""
         if type(question) is bool:
             return question, model
-        relevant, mask = self.sliced(conditions, mask_of(question))
+        relevant, mask = self.relevant_conditions(conditions, mask_of(question))
         key = question, frozenset(relevant)
-        if key in self.cache and self.fits(self.cache[key], relevant, question, model):
+        if key in self.cache and self.is_valid_for(self.cache[key], relevant, question, model):
             self.cached += 1
         else:
-            self.cache[key] = self.answered(relevant, question, mask, model)
+            self.cache[key] = self.decide(relevant, question, mask, model)
         answer, part = self.cache[key]
         return answer, {**model, **part} if part else model
 
     @staticmethod
-    def fits(known: Tuple[Answer, Optional[Part]], relevant: Sequence[Node], question: Node, model: Part) -> bool:
-        """Returns whether a known answer is one for a model too. The values that something exists for are those that differ from another model."""
+    def is_valid_for(known: Tuple[Answer, Optional[Part]], relevant: Sequence[Node], question: Node, model: Part) -> bool:
+        """Returns whether a cached answer is valid for a model. The cached values are those that differed from another model."""
         answer, part = known
+        if not answer:
+            return True
         memo: Dict[Node, Any] = {}
         whole = {**model, **(part or {})}
-        return not answer or all(evaluate(it, whole, memo) for it in (*relevant, question))
+        return all(evaluate(condition, whole, memo) for condition in (*relevant, question))
 
-    def answered(self, relevant: List[Node], question: Node, mask: int, model: Part) -> Tuple[Answer, Optional[Part]]:
-        """Returns whether conditions and a question hold, with the values that differ from a model: by the values of
-        bytes, by guesses, by simplification, or by z3."""
-        known, sets = self.domains.answer([*relevant, question])
+    def decide(self, relevant: List[Node], question: Node, mask: int, model: Part) -> Tuple[Answer, Optional[Part]]:
+        """Returns whether conditions and a question can hold together, and the values that differ from a model: by the values of bytes, by guesses,
+        by simplification, or by z3. `mask` has the variables of all of them."""
+        conditions = [*relevant, question]
+        known, sets = self.domains.answer(conditions)
         if known is False:
-            self.note_proof([self.plain(it) for it in (*relevant, question)])
+            self.note_proof([self.plain(condition) for condition in conditions])
             return False, None
         if known:
-            return True, {n: member_of(own, model.get(n, 0)) for it, own in sets.items() for n in names_of(mask_of(it))}
-        part = self.guessed(relevant, question, mask_of(question), model)
+            return True, {name: member_of(values, model.get(name, 0)) for node, values in sets.items() for name in names_of(mask_of(node))}
+        part = self.guess(relevant, question, mask_of(question), model)
         if part is not None:
             self.guesses += 1
-            return True, {**{n: model.get(n, 0) for n in names_of(mask)}, **part}  # it may be used for another model
+            return True, {**{name: model.get(name, 0) for name in names_of(mask)}, **part}  # all values: the answer may be used for another model
         if self.is_impossible(relevant, question):
             return False, None
-        left, values = reduced([*relevant, question])
+        left, values = reduced(conditions)
         if left is None:
-            self.note_proof([self.plain(it) for it in (*relevant, question)])
+            self.note_proof([self.plain(condition) for condition in conditions])
             return False, None
-        answer, part = (True, {}) if not left else self.solve([self.plain(it) for it in left], names_of(mask))
+        answer, part = (True, {}) if not left else self.solve([self.plain(condition) for condition in left], names_of(mask))
         if answer and part is not None:
-            part.update({name.args[0]: value for name, value in values.items()})
-            memo: Dict[Node, Any] = {}
-            whole = {**model, **part}
-            if not all(evaluate(it, whole, memo) for it in (*relevant, question)):
+            part.update({node.args[0]: value for node, value in values.items()})
+            if not self.is_valid_for((answer, part), relevant, question, model):
                 return None, None
         return answer, part
 
     def is_impossible(self, relevant: List[Node], question: Node) -> bool:
-        """Returns whether it is known already without the contents of tables and of choices that conditions and a question do not hold together."""
+        """Returns whether conditions and a question cannot hold together, whatever the contents of tables and choices are."""
         asked = self.opaque.relevant(relevant, question)
         if asked is None:
             return False
-        asts = [self.opaque(it) for it in asked]
-        answer, _ = self.checked(asts, min(self.timeout, OPAQUE_TIMEOUT))
+        asts = [self.opaque(condition) for condition in asked]
+        answer, _ = self.ask_z3(asts, min(self.timeout, OPAQUE_TIMEOUT))
         if answer is False:
             self.note_proof(asts)
         return answer is False
 
-    def guessed(self, conditions: Sequence[Node], question: Node, mask: int, model: Part) -> Optional[Part]:
-        """Returns values of the variables of a question for which it holds and so do the conditions; or None."""
-        names, memo = names_of(mask), {}  # type: List[str], Dict[Node, Any]
-        if len(names) > MOST_NAMES and question.weight > HEAVY or is_long(question):
+    def guess(self, conditions: Sequence[Node], question: Node, mask: int, model: Part) -> Optional[Part]:
+        """Returns values of the variables of a question for which the question and the conditions hold, or None. `mask` has these variables."""
+        names = names_of(mask)
+        memo: Dict[Node, Any] = {}
+        if (len(names) > MOST_NAMES and question.weight > HEAVY) or is_long(question):
             return None
-        parts = [it for it, _ in zip(solutions(question, model, memo, self.is_far), range(8))]
-        for turn in range(TRIES if len(names) <= MOST_NAMES else 0):
-            parts.append({n: CORNERS[turn] if turn < 3 else self.rng.randrange(256) if turn < 5 else self.rng.choice(CORNERS) for n in names})
+        parts = list(islice(solutions(question, model, memo, self.is_far), MOST_SOLUTIONS))
+        if len(names) <= MOST_NAMES:
+            parts += [dict.fromkeys(names, corner) for corner in CORNERS[:FIRST_CORNERS]]
+            parts += [{name: self.rng.randrange(256) for name in names} for _ in range(RANDOM_GUESSES)]
+            parts.append({name: self.rng.choice(CORNERS) for name in names})
         for part in parts:
-            found = self.repaired(part, conditions, question, model)
+            found = self.repair_guess(part, conditions, question, model)
             if found is not None:
                 return found
         return None
 
     @staticmethod
-    def repaired(part: Part, conditions: Sequence[Node], question: Node, model: Part) -> Optional[Part]:
-        """Returns a guess for which a question and conditions hold, after repairs of conditions that do not; or None."""
-        other: Part = {**model, **part}
+    def repair_guess(part: Part, conditions: Sequence[Node], question: Node, model: Part) -> Optional[Part]:
+        """Returns the values of a guess for which a question and conditions hold, after repairs of conditions that do not hold; or None."""
+        whole: Part = {**model, **part}
         for _ in range(REPAIRS):
             memo: Dict[Node, Any] = {}
-            if not evaluate(question, other, memo):
+            if not evaluate(question, whole, memo):
                 return None
-            failing = next((it for it in conditions if not evaluate(it, other, memo)), None)
+            failing = next((condition for condition in conditions if not evaluate(condition, whole, memo)), None)
             if failing is None:
-                return {n: value for n, value in other.items() if n in part or value != model.get(n)}
-            change = next((it for it in solutions(failing, other, memo) if it and not part.keys() & it.keys()), None)
-            if change is None:
+                return {name: value for name, value in whole.items() if name in part or value != model.get(name)}
+            repairs = solutions(failing, whole, memo)
+            repair = next((repair for repair in repairs if repair and part.keys().isdisjoint(repair)), None)
+            if repair is None:
                 return None
-            other = {**other, **change}
+            whole = {**whole, **repair}
         return None
 
     def solve(self, asts: List[Any], names: Sequence[str]) -> Tuple[Answer, Optional[Part]]:
-        """Asks z3. Returns True with the values of the variables, False, or None."""
-        answer, values = self.checked(asts, self.timeout)
+        """Asks z3 whether expressions can hold together. Returns True with the values of the variables `names`, False, or None."""
+        answer, values = self.ask_z3(asts, self.timeout)
         if answer is False:
             self.note_proof(asts)
-        return answer, {n: values.get(n, 0) for n in names} if answer else None
+        return answer, {name: values.get(name, 0) for name in names} if answer else None
 
-    def checked(self, asts: List[Any], timeout: int) -> Tuple[Answer, Part]:
-        """Asks z3, for at most so many milliseconds. Raises TimeIsOver if the time of the whole run ends before an answer."""
-        return self.timed(partial(self.z3.checked_by_tactics if self.has_many else self.z3.checked, asts), timeout)
+    def ask_z3(self, asts: List[Any], timeout: int) -> Tuple[Answer, Part]:
+        """Asks z3 whether expressions can hold together, for at most `timeout` milliseconds. Raises TimeIsOver if the time of the whole run ends
+        before an answer."""
+        check = self.z3.checked_by_tactics if self.has_many else self.z3.checked
+        return self.ask_in_time(partial(check, asts), timeout)
 
-    def timed(self, ask: Callable[[int], Tuple[Answer, Part]], timeout: int) -> Tuple[Answer, Part]:
-        """Asks z3 by a function of the milliseconds that are left. Raises TimeIsOver if the time of the whole run ends before an answer."""
+    def ask_in_time(self, ask: Callable[[int], Tuple[Answer, Part]], timeout: int) -> Tuple[Answer, Part]:
+        """Asks z3 by a function of the milliseconds that are left, at most `timeout`. Raises TimeIsOver if the time of the whole run ends before an
+        answer."""
         began = time.perf_counter()
-        if began >= self.until:
+        if began >= self.deadline:
             raise TimeIsOver
         self.queries += 1
-        answer, values = ask(max(1, int(min(timeout, 1000 * (self.until - began)))))
+        answer, values = ask(max(1, int(min(timeout, 1000 * (self.deadline - began)))))
         now = time.perf_counter()
         self.seconds += now - began
-        if answer is None and now >= self.until:
+        if answer is None and now >= self.deadline:
             raise TimeIsOver
         return answer, values
 
     def note_proof(self, asts: List[Any]) -> None:
-        """Keeps the conditions that cannot hold together, for a second solver."""
+        """Keeps expressions that cannot hold together, for a second solver."""
         if self.proofs is not None:
             self.proofs.append(asts)
 
-    def is_free(self, conditions: Sequence[Node], names: Sequence[str]) -> Answer:
-        """Returns whether conditions also hold for other values of bytes that the host must know, with the same inputs."""
-        own = [it for it in conditions if it.taint & CHECK]
+    def allows_other_codes(self, conditions: Sequence[Node], names: Sequence[str]) -> Answer:
+        """Returns whether conditions can also hold with other values of the bytes that the host must know, and with the same inputs. `names` are the
+        variables of these bytes."""
+        own = [condition for condition in conditions if condition.taint & CHECK]
         mask = 0
-        for it in own:
-            mask |= mask_of(it)
-        if any(not (by_name[n].mask or 0) & mask for n in names):
+        for condition in own:
+            mask |= mask_of(condition)
+        if any(not (by_name[name].mask or 0) & mask for name in names):
             return True
         primed = Primed(self.plain, (), CHECK)
-        other = [self.z3.unequal(self.plain(by_name[n]), primed(by_name[n])) for n in names]
-        relevant, _ = self.sliced(conditions, mask)
-        return self.solve([self.plain(it) for it in relevant] + [primed(it) for it in own] + [self.z3.disjunction(other)], [])[0]
+        differences = [self.z3.unequal(self.plain(by_name[name]), primed(by_name[name])) for name in names]
+        relevant, _ = self.relevant_conditions(conditions, mask)
+        asts = [self.plain(condition) for condition in relevant] + [primed(condition) for condition in own]
+        return self.solve([*asts, self.z3.disjunction(differences)], [])[0]
 
     # ---- two runs with different secrets
 
-    def pair(self, conditions: Sequence[Node], question: Word, public: Set[Node], model: Part) -> Pair:
-        """Returns whether a node can differ for two secrets and equal inputs, with two models. `public` has the nodes that are taken to be equal."""
+    def secret_pair(self, conditions: Sequence[Node], question: Word, public: Set[Node], model: Part) -> Pair:
+        """Returns whether a word can differ for two secrets and equal inputs, with a model for each secret. `public` has the nodes that are taken to
+        be equal for both secrets."""
         if type(question) is not Node or not question.taint & SECRET or question in public:
             return False, None, None
-        relevant, mask = self.sliced(conditions, mask_of(question))
-        equal = sorted((it for it in public & self.declared if it.weight <= LIGHT and mask_of(it) & mask), key=lambda it: it.number)
-        for it in equal:
-            mask |= mask_of(it)
-        relevant, mask = self.sliced(conditions, mask) if equal else (relevant, mask)
-        key = "pair", question, frozenset(relevant), frozenset(public)
+        relevant, mask = self.relevant_conditions(conditions, mask_of(question))
+        computed = [node for node in public & self.declared if node.weight <= LIGHT and mask_of(node) & mask]
+        computed.sort(key=lambda node: node.number)  # in the order in which they were made
+        for node in computed:
+            mask |= mask_of(node)
+        if computed:
+            relevant, mask = self.relevant_conditions(conditions, mask)
+        equal = Equal(frozenset(public), computed)
+        key = "pair", question, frozenset(relevant), equal.public
         if key in self.cache:
             self.cached += 1
             return self.cache[key]
-        secret = [it for it in relevant if it.taint & SECRET]
-        found = self.different(question, mask, secret, (key[3], equal), model) or self.solved_pair(question, mask, relevant, (key[3], equal), model)
+        secret = [condition for condition in relevant if condition.taint & SECRET]
+        found = self.try_other_secrets(question, mask, secret, equal, model)
+        if found is None:
+            found = self.solve_pair(question, mask, relevant, equal, model)
         self.cache[key] = found
         return found
 
-    def solved_pair(self, question: Node, mask: int, relevant: List[Node], known: Known, model: Part) -> Pair:
-        """Asks z3 whether a node can differ for two secrets. `known` has the nodes that are taken to be equal, and those of them that are also
-        computed for the second secret."""
-        public = known[0].difference(known[1])
+    def solve_pair(self, question: Node, mask: int, relevant: List[Node], equal: Equal, model: Part) -> Pair:
+        """Asks z3 whether a node can differ for two secrets. In an expression for the second secret, the name of a variable ends with an apostrophe.
+        `mask` has the variables of the question and of the relevant conditions."""
+        public = equal.public.difference(equal.computed)
         primed = self.primed.setdefault(public, Primed(self.plain, public))
-        asts = [self.plain(it) for it in relevant] + [primed(it) for it in relevant if it.taint & SECRET]
-        asts += [self.z3.equal(self.plain(it), primed(it)) for it in known[1]]
+        asts = [self.plain(condition) for condition in relevant]
+        asts += [primed(condition) for condition in relevant if condition.taint & SECRET]
+        asts += [self.z3.equal(self.plain(node), primed(node)) for node in equal.computed]
+        asts.append(self.z3.unequal(self.plain(question), primed(question)))
         names = names_of(mask)
-        both = names + [n + "'" for n in names if by_name[n].taint & SECRET]
-        answer, part = self.solve(asts + [self.z3.unequal(self.plain(question), primed(question))], both)
+        second_names = [name + "'" for name in names if by_name[name].taint & SECRET]
+        answer, part = self.solve(asts, names + second_names)
         if not answer or part is None:
             return answer, None, None
-        one = {**model, **{n: value for n, value in part.items() if not n.endswith("'")}}
-        return True, one, {**one, **{n[:-1]: value for n, value in part.items() if n.endswith("'")}}
+        one = {**model, **{name: value for name, value in part.items() if not name.endswith("'")}}
+        return True, one, {**one, **{name[:-1]: value for name, value in part.items() if name.endswith("'")}}
 
-    def different(self, question: Node, mask: int, conditions: Sequence[Node], known: Known, model: Part) -> Optional[Pair]:
-        """Tries other secrets; returns the answer of `pair`, or None. `known` is that of `solved_pair`."""
-        names = [n for n in names_of(mask) if by_name[n].taint & SECRET]
+    def try_other_secrets(self, question: Node, mask: int, conditions: Sequence[Node], equal: Equal, model: Part) -> Optional[Pair]:
+        """Tries other secrets. Returns the answer of `secret_pair` if a node differs for one of them, else None. `conditions` depend on the
+        secret."""
+        names = [name for name in names_of(mask) if by_name[name].taint & SECRET]
+        if not names:
+            return None
         memo: Dict[Node, Any] = {}
         own = evaluate(question, model, memo)
-        equal = {it: evaluate(it, model, memo) for it in known[1]}
-        forced = {it: evaluate(it, model, memo) for it in known[0] if it.taint & SECRET and mask_of(it) & mask and it not in equal}
-        for turn in range(TRIES if names else 0):
-            other, values = {**model, **self.other_secret(turn, names, model)}, dict(forced)
-            is_other = evaluate(question, other, values) != own and all(evaluate(it, other, values) for it in conditions)
-            if is_other and all(evaluate(it, other, values) == value for it, value in equal.items()):
+        wanted = {node: evaluate(node, model, memo) for node in equal.computed}
+        forced = {it: evaluate(it, model, memo) for it in equal.public if it.taint & SECRET and mask_of(it) & mask and it not in wanted}
+        for number in range(TRIES):
+            other = {**model, **self.other_secret(number, names, model)}
+            values = dict(forced)
+            if evaluate(question, other, values) == own or not all(evaluate(condition, other, values) for condition in conditions):
+                continue
+            if all(evaluate(node, other, values) == value for node, value in wanted.items()):
                 self.guesses += 1
                 return True, dict(model), other
         return None
 
-    def other_secret(self, turn: int, names: Sequence[str], model: Model) -> Part:
-        """Returns another secret: all bits changed, zeros, one bit changed, or random bytes."""
-        if turn == 0:
-            return {n: model.get(n, 0) ^ 255 for n in names}
-        if turn == 1:
-            return {n: 0 for n in names}
-        if turn == 2:
-            n = self.rng.choice(names)
-            return {n: model.get(n, 0) ^ 1 << self.rng.randrange(8)}
-        return {n: self.rng.randrange(256) for n in names}
+    def other_secret(self, number: int, names: Sequence[str], model: Model) -> Part:
+        """Returns another secret: all bits changed, zeros, one bit changed, or random bytes. `number` says which, and `names` are its variables."""
+        if number == 0:
+            return {name: model.get(name, 0) ^ 255 for name in names}
+        if number == 1:
+            return {name: 0 for name in names}
+        if number == 2:
+            name = self.rng.choice(names)
+            return {name: model.get(name, 0) ^ 1 << self.rng.randrange(8)}
+        return {name: self.rng.randrange(256) for name in names}
 
 
 def is_long(question: Node) -> bool:
-    """Returns whether a question is one about many conditions at once."""
+    """Returns whether a question is about many conditions at once."""
     compared = question.args[0] if question.op == "not" else question
     return compared.op == "and1" and len(compared.args) > MOST_PARTS

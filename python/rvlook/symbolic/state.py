@@ -1,83 +1,86 @@
-"""The state of a path, and its steps."""
+"""The steps of a path: executes instructions until the path ends, waits for others, or is merged."""
 from __future__ import annotations
 
 from typing import Optional
 
 from rvlook.symbolic.calls import FETCH, Traps
-from rvlook.symbolic.decode import decode
+from rvlook.symbolic.decode import Decoded, decode
 from rvlook.symbolic.fields import CODE, LATE, MERGED, STVEC, Ended
 from rvlook.symbolic.instructions import Step, compiled
 from rvlook.symbolic.nodes import M32, Word
-from rvlook.symbolic.schedule import WAITS, passes_head, waiting
+from rvlook.symbolic.schedule import WAITS, count_round, waiting
 from rvlook.symbolic.words import operation
 
-SLICE = 32  # steps between two looks at the time; each may ask z3 for seconds
+SLICE = 32  # steps between two checks of the time; z3 may need seconds for each step
 
 
 def fetch_fault(state: Traps, pc: int) -> int:
-    """Executes a step outside the region, which traps."""
+    """Executes a step outside the region, which traps. Returns the next pc."""
     return state.trap(FETCH, pc)
 
 
 class State(Traps):
-    """The state of a path."""
+    """The state of a path, which can execute steps."""
     __slots__ = ()
 
     def go(self) -> str:
-        """Executes steps until the path ends; returns why."""
+        """Executes steps until the path ends or waits. Returns the reason."""
         search = self.search
-        code, limit = search.code, search.options.path_steps
+        code = search.code
+        limit = search.options.path_steps
         try:
             while True:
                 for _ in range(SLICE):
                     pc = self.pc
                     step = code.get(pc)
                     if step is None:
-                        step = self.decoded(pc)
+                        step = self.compile_at(pc)
                     self.pc = step(self, pc)
                     self.pcs.append(pc)
                 if search.is_late():
                     raise Ended(LATE)
-                if self.earlier + self.steps > limit:
+                if self.joined_steps + self.steps > limit:
                     raise Ended("steps")
-                if self.earlier + self.steps > search.patience and not self.is_base:
+                if self.joined_steps + self.steps > search.patience and not self.is_base:
                     search.endless.at_end(self)
         except Ended as end:
             if str(end) not in (WAITS, LATE):
                 self.pcs.append(self.pc)
             return str(end)
 
-    def meet_head(self, pc: int) -> None:
-        """Merges paths at the head of a loop in which this one has divided several times. The next search merges them from the first round on. A
-        search that does not merge loops notes these heads."""
-        search, key = self.search, (pc, self.context)
+    def merge_after_divisions(self, pc: int) -> None:
+        """Merges the path at the head of a loop if it has divided several times inside, and ends it. At a new head, the search ends instead: the next
+        search merges paths at this head from the first round on. A search that does not merge loops only notes the head."""
+        search = self.search
+        head = pc, self.context
         flow = search.flows.known.get(self.entry)
-        if search.is_trial or flow is None or flow.heads.get(pc, ())[-1:] != (pc,) or key in search.divided:
+        if search.is_trial or flow is None or flow.innermost_head(pc) != pc or head in search.divided:
             return
         if self.is_base:
-            if key in search.heads and not self.is_covered:
-                search.take_loop(self)
+            if head in search.heads and not self.is_covered:
+                search.merge_at_head(self)
                 self.is_covered = True
             return
-        own = [n for (at, context), n in self.counts.items() if context == self.context and flow.heads.get(at, ())[-1:] == (pc,)]
+        divisions = [n for (branch, context), n in self.branch_counts.items() if context == self.context and flow.innermost_head(branch) == pc]
         if not search.loops_from:
-            search.divided |= {key} if own else set()
-        elif key in search.heads or max(own, default=0) >= search.loops_from:
-            if key not in search.heads:
-                search.heads.add(key)
+            if divisions:
+                search.divided.add(head)
+        elif head in search.heads or max(divisions, default=0) >= search.loops_from:
+            if head not in search.heads:
+                search.heads.add(head)
                 search.is_outgrown = True
                 raise Ended(LATE)
-            search.take_loop(self)
+            search.merge_at_head(self)
             raise Ended(MERGED)
 
     def step(self) -> None:
         """Executes one step."""
         pc = self.pc
-        self.pc = (self.search.code.get(pc) or self.decoded(pc))(self, pc)
+        self.pc = (self.search.code.get(pc) or self.compile_at(pc))(self, pc)
         self.pcs.append(pc)
 
-    def decoded(self, pc: int) -> Step:
-        """Returns the function of the instruction at a pc, as the image has it."""
+    def compile_at(self, pc: int) -> Step:
+        """Returns the function of the instruction at a pc, as the image has it. Ends the path if a path has changed the instruction."""
         search = self.search
         low, high = search.world.region
         if not (low <= pc and pc + 4 <= high):
@@ -87,27 +90,29 @@ class State(Traps):
         if pc in search.written or any(pc + n in self.sym for n in range(4)):
             search.changed_code.add(pc)
             raise Ended(CODE)
-        step = compiled(decode(int.from_bytes(search.world.memory[pc - low:pc - low + 4], "little")))
-        search.code[pc] = waiting(step) if pc in search.meets else step
+        step = compiled(decode(search.world.word_at(pc)))
+        search.code[pc] = waiting(step) if pc in search.meeting_points else step
         return search.code[pc]
 
-    def meet(self, pc: int) -> None:
-        """Waits at a place where paths meet, unless there is no other path."""
+    def wait_for_others(self, pc: int) -> None:
+        """Ends this part of the path at a pc where paths meet, unless no other path is left to wait for."""
         search = self.search
         if len(search.queue) and not self.is_base and not search.is_trial and search.joins:
-            passes_head(search.flows, self, pc)
+            count_round(search.flows, self, pc)
             raise Ended(WAITS)
 
+    def present_instruction(self) -> Decoded:
+        """Returns the instruction at the present pc, as the image has it."""
+        return decode(self.search.world.word_at(self.pc))
+
     def has_origin(self) -> bool:
-        """Returns whether the load or store at the pc goes to an address that the enclave has computed, not to a pointer of the host."""
-        low = self.search.world.region[0]
-        instruction = decode(int.from_bytes(self.search.world.memory[self.pc - low:self.pc - low + 4], "little"))
+        """Returns whether the instruction at the pc accesses an address that the enclave has computed, not a pointer of the host."""
+        instruction = self.present_instruction()
         return instruction.kind in ("load", "store") and self.tags[instruction.r1] is not None
 
     def access_address(self) -> Optional[Word]:
-        """Returns the address of the load or store at the pc, or None."""
-        low = self.search.world.region[0]
-        instruction = decode(int.from_bytes(self.search.world.memory[self.pc - low:self.pc - low + 4], "little"))
+        """Returns the address that the load or store at the pc accesses; None for another instruction."""
+        instruction = self.present_instruction()
         if instruction.kind not in ("load", "store"):
             return None
         return operation("add", self.regs[instruction.r1], instruction.imm & M32)

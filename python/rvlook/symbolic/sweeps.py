@@ -1,5 +1,6 @@
-"""Loads of the window in the rounds of a merged loop. They are at another place in each round, so the merged state keeps one range of them. It goes
-from a number up to before a word that never falls, such as the pointer of a copy."""
+"""The range of the loads of the window that a merged loop makes at another place in each round, as a copy does.
+
+The merged state keeps one range of these loads. It goes from a number up to before a word that never falls, such as the pointer of the copy."""
 from __future__ import annotations
 
 from typing import Callable, Dict, List, NamedTuple, Sequence, Tuple, TYPE_CHECKING
@@ -7,62 +8,71 @@ from typing import Callable, Dict, List, NamedTuple, Sequence, Tuple, TYPE_CHECK
 from rvlook.symbolic.bounds import words_of
 from rvlook.symbolic.conditions import all_of, any_of, ult
 from rvlook.symbolic.facts import LEAST, Fact, WordPlace, Words
-from rvlook.symbolic.fields import FetchedAt
+from rvlook.symbolic.fields import SymbolicFetch
 from rvlook.symbolic.nodes import M32, Condition, Node, Word, mask_of
 from rvlook.symbolic.words import not_, operation
 
 if TYPE_CHECKING:
     from rvlook.symbolic.fields import AnyState as State
 
-Site = Tuple[int, int]  # an instruction and its call context
+Site = Tuple[int, int]  # the pc of an instruction, and its call context
+Implied = Callable[[Condition], bool]  # returns whether the conditions of a path imply a condition
 
 
 class Sweep(NamedTuple):
-    """The range of the loads of a merged loop: the words that may be its end, each with an offset, whether anything was loaded, and an instruction
-    that loads."""
-    ends: Tuple[Tuple[WordPlace, int], ...] = ()
-    has_begun: bool = False
-    site: Site = (0, 0)
+    """The range of the loads of a merged loop."""
+    last_words: Tuple[Tuple[WordPlace, int], ...] = ()  # words with an offset: word + offset is the end of the range, for each of them
+    has_begun: bool = False  # whether anything was loaded
+    site: Site = (0, 0)  # the first instruction that loads
 
     @property
     def is_lost(self) -> bool:
-        """Returns whether there are loads and no word is known that is behind all of them."""
-        return self.has_begun and not self.ends
+        """Returns whether there are loads, but no word that is known to be after all of them."""
+        return self.has_begun and not self.last_words
 
-    def extended(self, loads: Sequence[FetchedAt], facts: Sequence[Fact], before: Words, state: State, implied: Callable[[Condition], bool]) -> Sweep:
-        """Returns the range with the loads of a round: without each word that is not behind all of them. `before` has the words when the round
-        began, and `state` is its end."""
+    def extended(self, loads: Sequence[SymbolicFetch], facts: Sequence[Fact], before: Words, state: State, implied: Implied) -> Sweep:
+        """Returns the range with the loads of a round: without the words that are not after all of them. `facts` are those of the merged state.
+        `before` gives the words at the beginning of the round, and `state` is the end of the round."""
         if not self.has_begun and not loads:
             return self
-        lows, now = lows_of(facts), words_of(state)
-        ends = self.ends if self.has_begun else tuple((x, behind(loads, now(x), state)) for x in sorted(lows, key=str, reverse=True))
-        left = tuple((x, n) for x, n in ends if x in lows and implied(all_of(*conditions_of(loads, lows[x] + n & M32, *moved(n, before(x), now(x))))))
-        return Sweep(left, has_begun=True, site=self.site if self.has_begun else (loads[0].pc, loads[0].context))
-
-    def entry(self, facts: Sequence[Fact], words: Words) -> List[FetchedAt]:
-        """Returns the range as a load, if there is one and its end is an expression."""
         lows = lows_of(facts)
-        ends = [(x, n) for x, n in self.ends if x in lows and type(words(x)) is Node]
-        return [FetchedAt(lows[x] + n & M32, operation("add", words(x), n), *self.site) for x, n in ends[:1]]
+        now = words_of(state)
+        if self.has_begun:
+            tried = self.last_words
+            site = self.site
+        else:
+            tried = tuple((x, distance_to_end(loads, now(x), state)) for x in sorted(lows, key=str, reverse=True))
+            site = loads[0].pc, loads[0].context
+        left = []
+        for x, offset in tried:
+            if x in lows:
+                old_end = operation("add", before(x), offset)
+                new_end = operation("add", now(x), offset)
+                if implied(all_of(*conditions_of(loads, lows[x] + offset & M32, old_end, new_end))):
+                    left.append((x, offset))
+        return Sweep(tuple(left), has_begun=True, site=site)
+
+    def entry(self, facts: Sequence[Fact], words: Words) -> List[SymbolicFetch]:
+        """Returns the range as a load in a list. The list is empty if there is no range, or if its end is a number."""
+        lows = lows_of(facts)
+        for x, offset in self.last_words:
+            if x in lows and type(words(x)) is Node:
+                return [SymbolicFetch(lows[x] + offset & M32, operation("add", words(x), offset), *self.site)]
+        return []
 
 
-def behind(loads: Sequence[FetchedAt], word: Word, state: State) -> int:
-    """Returns how far behind a word the loads of a state end."""
-    return max(state.value(end_of(it)) for it in loads) - state.value(word) & M32
+def distance_to_end(loads: Sequence[SymbolicFetch], word: Word, state: State) -> int:
+    """Returns the distance in bytes from a word to the end of the last load, in the model of a state."""
+    return max(state.value(end_of(load)) for load in loads) - state.value(word) & M32
 
 
-def end_of(load: FetchedAt) -> Word:
-    """Returns the address behind a load."""
+def end_of(load: SymbolicFetch) -> Word:
+    """Returns the address after a load."""
     return load.width if type(load.width) is Node else operation("add", load.at, load.width)
 
 
-def moved(offset: int, *words: Word) -> List[Word]:
-    """Returns words with an offset."""
-    return [operation("add", x, offset) for x in words]
-
-
 def lows_of(facts: Sequence[Fact]) -> Dict[WordPlace, int]:
-    """Returns the words that are at least a number, each with the greatest such number."""
+    """Returns the words that are at least a number by the facts, each with the greatest such number."""
     found: Dict[WordPlace, int] = {}
     for fact in facts:
         if fact.kind == LEAST and type(fact.bound) is int:
@@ -70,15 +80,15 @@ def lows_of(facts: Sequence[Fact]) -> Dict[WordPlace, int]:
     return found
 
 
-def conditions_of(loads: Sequence[FetchedAt], low: int, before: Word, end: Word) -> List[Condition]:
-    """Returns that all loads are from `low` up to before `end`, and that the end has not fallen."""
-    found: List[Condition] = [not_(ult(end, before))]
-    for it in loads:
-        inside = all_of(not_(ult(it.at, low)), not_(ult(end, end_of(it))))
-        found.append(any_of(not_(all_of(*it.joined)), inside))
+def conditions_of(loads: Sequence[SymbolicFetch], low: int, old_end: Word, new_end: Word) -> List[Condition]:
+    """Returns the conditions that all loads are from `low` up to before `new_end`, and that the end of the range has not fallen."""
+    found: List[Condition] = [not_(ult(new_end, old_end))]
+    for load in loads:
+        is_inside = all_of(not_(ult(load.at, low)), not_(ult(new_end, end_of(load))))
+        found.append(any_of(not_(all_of(*load.joined)), is_inside))
     return found
 
 
-def has_variables(fetched: FetchedAt, mask: int) -> bool:
-    """Returns whether a load depends on some variables."""
-    return any(mask_of(x) & mask for x in (fetched.at, fetched.width, *fetched.joined))
+def has_variables(load: SymbolicFetch, mask: int) -> bool:
+    """Returns whether a load depends on some of the variables of a mask."""
+    return any(mask_of(word) & mask for word in (load.at, load.width, *load.joined))

@@ -1,4 +1,7 @@
-"""The origins of the words of merged states. The origin of a word is lost if it differs between two paths."""
+"""The origins of the words of merged states. The origin of a word is lost if it differs between two paths.
+
+A *tag* is an origin, or None for a word that is no pointer. The place of a word is its address, or the name of a register: "x10" for x10, "c105" for
+the control and status register 0x105."""
 from __future__ import annotations
 
 from typing import Dict, Tuple, TYPE_CHECKING, Union
@@ -8,48 +11,61 @@ from rvlook.symbolic.origins import LOST, NO_ORIGIN, Tag
 if TYPE_CHECKING:
     from rvlook.symbolic.state import State
 
-Place = Union[int, str]  # an address, or a byte of a register
+Place = Union[int, str]  # of a word; in `cells`, of a byte
 
 
 def tags_of(state: State, zeros: Tuple[int, ...]) -> Dict[Place, Tag]:
-    """Returns the origins of registers and words. The calls are numbered by their depth, which is the same in all paths that are merged. The
-    registers `zeros` are 0 and have none."""
-    numbers = {call: depth for depth, call in enumerate(state.call_numbers(), 1)}
-    found: Dict[Place, Tag] = {"x%d" % n: renumbered(it, numbers) for n, it in enumerate(state.tags) if n not in zeros}
-    found.update({"c%x" % n: renumbered(it, numbers) for n, it in state.csr_tags.items()})
-    for at, tag in state.mem_tags.items():
-        found[at] = renumbered(tag, numbers)
+    """Returns the origins of registers and words by their places. The calls are numbered by their depth, which is the same in all paths that are
+    merged. The registers `zeros` are 0, and are left out."""
+    depths = {call: depth for depth, call in enumerate(state.call_numbers(), 1)}
+    found: Dict[Place, Tag] = {"x%d" % n: renumbered(tag, depths) for n, tag in enumerate(state.tags) if n not in zeros}
+    found.update({"c%x" % number: renumbered(tag, depths) for number, tag in state.csr_tags.items()})
+    found.update({at: renumbered(tag, depths) for at, tag in state.mem_tags.items()})
     return found
 
 
 def renumbered(tag: Tag, numbers: Dict[int, int]) -> Tag:
-    """Returns an origin with another number for its call; -1 for one that has returned."""
-    return tag if tag is None or tag is NO_ORIGIN or not tag.call else tag._replace(call=numbers.get(tag.call, -1))
+    """Returns an origin with another number for its call: `numbers` has the new number for each old one. A call that has returned gets the number
+    -1."""
+    if tag is None or tag is NO_ORIGIN or not tag.call:
+        return tag
+    return tag._replace(call=numbers.get(tag.call, -1))
 
 
 def join_tags(old: Dict[Place, Tag], new: Dict[Place, Tag]) -> bool:
-    """Adds origins to merged ones; returns whether these changed. The origin of a word is lost if it differs."""
+    """Adds the origins of a path (`new`) to those of a merged state (`old`). Returns whether these changed."""
     is_changed = False
     for at in [*old, *(at for at in new if at not in old)]:
         if at in old and old[at] is LOST:
             continue
-        if (at not in old or at not in new) and type(at) is int or old.get(at) != new.get(at):
-            has_one = any(it is not None and it is not NO_ORIGIN for it in (old.get(at), new.get(at)))
-            none: Tag = LOST if has_one else NO_ORIGIN if type(at) is int else None
-            is_changed = is_changed or old.get(at) is not none or at not in old
-            old[at] = none
+        is_in_one = at not in old or at not in new
+        if (is_in_one and type(at) is int) or old.get(at) != new.get(at):
+            joined = joined_tag(at, old.get(at), new.get(at))
+            if old.get(at) is not joined or at not in old:
+                is_changed = True
+            old[at] = joined
     return is_changed
 
 
+def joined_tag(at: Place, one: Tag, two: Tag) -> Tag:
+    """Returns the origin of the word at a place that has two different origins."""
+    has_origin = any(tag is not None and tag is not NO_ORIGIN for tag in (one, two))
+    if has_origin:
+        return LOST
+    return NO_ORIGIN if type(at) is int else None
+
+
 def set_tags(state: State, tags: Dict[Place, Tag]) -> None:
-    """Sets the origins of a state, with the numbers of its own calls."""
+    """Sets the origins of a state to those of a merged state, with the numbers of the calls of the state."""
     numbers = dict(enumerate(state.call_numbers(), 1))
-    state.tags, state.csr_tags, state.mem_tags = [None] * 32, {}, {}
+    state.tags = [None] * 32
+    state.csr_tags = {}
+    state.mem_tags = {}
     for at, tag in tags.items():
-        it = renumbered(tag, numbers)
+        own = renumbered(tag, numbers)
         if isinstance(at, int):
-            state.mem_tags[at] = it
+            state.mem_tags[at] = own
         elif at.startswith("x"):
-            state.tags[int(at[1:])] = it
+            state.tags[int(at[1:])] = own
         else:
-            state.csr_tags[int(at[1:], 16)] = it
+            state.csr_tags[int(at[1:], 16)] = own

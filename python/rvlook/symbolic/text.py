@@ -14,14 +14,20 @@ if TYPE_CHECKING:
     from rvlook.symbolic.record import Counterexample
     from rvlook.symbolic.search import Search
 
-STYLES = {questions.PROVED: Style.good, questions.FOUND: Style.bad}
-HEADINGS = {"pc": "the pc depends on the secret", "address": "the address depends on the secret", "operand": "the operand depends on the secret",
-            "window": "the window depends on the secret", "answer": "the answer depends on the secret"}
+STYLES = {questions.PROVED: Style.good, questions.FOUND: Style.bad}  # of verdicts
+VERDICT_WIDTH = 12  # columns of a verdict
+HEADINGS = {  # the texts of findings that have no text of their own, by kind
+    "pc": "the pc depends on the secret",
+    "address": "the address depends on the secret",
+    "operand": "the operand depends on the secret",
+    "window": "the window depends on the secret",
+    "answer": "the answer depends on the secret"}
 
 
 def heading_of(search: Search, example: Counterexample) -> str:
     """Returns a finding in one line."""
-    return "%s, at %s" % (example.text if example.what not in HEADINGS else example.text or HEADINGS[example.what], search.world.place(example.pc))
+    text = example.text or HEADINGS.get(example.what, "")
+    return "%s, at %s" % (text, search.world.place(example.pc))
 
 
 def details_of(search: Search, example: Counterexample) -> List[str]:
@@ -67,7 +73,9 @@ def unfinished_text(search: Search) -> str:
 
 def print_text(search: Search, answers: Sequence[questions.Answer], printer: Printer) -> None:
     """Prints the findings, the answers, and what was covered."""
-    number, reasons, wrong = 0, questions.open_texts(search), questions.untrusted(search)
+    number = 0  # of findings
+    reasons = questions.open_texts(search)
+    wrong = questions.untrusted(search)
     for example in (it for answer in answers for it in answer.findings):
         number += 1
         printer.line(printer.styled("finding %d: %s" % (number, heading_of(search, example)), Style.bad))
@@ -79,7 +87,7 @@ def print_text(search: Search, answers: Sequence[questions.Answer], printer: Pri
         printer.line(HINT)
     for answer in answers:
         count = " %d" % len(answer.findings) if answer.findings else ""
-        verdict = (answer.verdict + count).ljust(12)
+        verdict = (answer.verdict + count).ljust(VERDICT_WIDTH)
         style = STYLES.get(answer.verdict)
         printer.line("%s %s: %s" % (printer.styled(verdict, style) if style else verdict, answer.name, answer.title))
     for answer in answers:
@@ -89,7 +97,7 @@ def print_text(search: Search, answers: Sequence[questions.Answer], printer: Pri
         printer.line(printer.styled("NOT TO BE TRUSTED: %s" % text, Style.bad))
     printer.line(covered_text(search))
     if not reasons:
-        mark = "COMPLETE " if search.limited else "COMPLETE: "
+        mark = "COMPLETE " if search.lengths_met else "COMPLETE: "
         printer.line(printer.styled(mark + questions.covered(search), Style.good if not number else Style.heading))
     else:
         printer.line("not complete: %s" % "; ".join(reasons))

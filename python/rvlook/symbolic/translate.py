@@ -9,7 +9,7 @@ from rvlook.errors import RvlookError, package_missing
 from rvlook.symbolic.nodes import M32, SECRET, Node, operands
 
 MANY = 10000  # expressions in a context, after which the next run begins with an empty one
-BYTE_OPERANDS = ("word", "sx8", "sx16", "eq8", "ite8")
+BYTE_OPERANDS = ("word", "sx8", "sx16", "eq8", "ite8")  # operations whose operands are bytes
 
 
 class Z3:
@@ -22,14 +22,20 @@ class Z3:
             from z3 import z3core as library
         except ImportError:
             raise RvlookError(package_missing("z3", "python3-z3", "verify cannot decide which paths exist")) from None
-        self.z3, self.c, self.owner = z3, library, z3.Context()
-        self.context, self.count = self.owner.ref(), 0  # `count`: how many expressions stay
-        self.bit, self.byte, self.word = (self.kept(library.Z3_mk_bv_sort(self.context, n)) for n in (1, 8, 32))
+        self.z3 = z3  # the module of z3's classes
+        self.c = library  # the functions of the interface to C
+        self.owner = z3.Context()  # the context as an object
+        self.context = self.owner.ref()  # the context for the functions of the interface
+        self.count = 0  # how many expressions stay
+        self.bit = self.kept(library.Z3_mk_bv_sort(self.context, 1))  # the sorts: bit vectors of 1, 8 and 32 bits
+        self.byte = self.kept(library.Z3_mk_bv_sort(self.context, 8))
+        self.word = self.kept(library.Z3_mk_bv_sort(self.context, 32))
+        self.numbers: Dict[Tuple[int, int], Any] = {}  # the constants so far, by value and number of bits
         names = "simplify", "propagate-values", "solve-eqs", "simplify", "bit-blast", "sat"
         self.tactics = z3.Then(*names, ctx=self.owner)
         for it in (self.owner, self.tactics):  # to free long expressions one by one takes minutes; the process ends anyway
             ctypes.pythonapi.Py_IncRef(ctypes.py_object(it))
-        self.numbers: Dict[Tuple[int, int], Any] = {}
+        # ---- the functions that make operations: on two operands of one sort, shifts, upper halves of products, and divisions
         self.binary = {"add": library.Z3_mk_bvadd, "sub": library.Z3_mk_bvsub, "mul": library.Z3_mk_bvmul, "xor": library.Z3_mk_bvxor,
                        "or": library.Z3_mk_bvor, "and": library.Z3_mk_bvand, "eq": library.Z3_mk_eq, "eq8": library.Z3_mk_eq,
                        "ult": library.Z3_mk_bvult, "lt": library.Z3_mk_bvslt}
@@ -47,7 +53,7 @@ class Z3:
     def number(self, value: int, bits: int) -> Any:
         """Returns a constant of 1, 8 or 32 bits."""
         if (value, bits) not in self.numbers:
-            sort = self.bit if bits == 1 else self.byte if bits == 8 else self.word
+            sort = {1: self.bit, 8: self.byte, 32: self.word}[bits]
             self.numbers[value, bits] = self.kept(self.c.Z3_mk_unsigned_int64(self.context, value, sort))
         return self.numbers[value, bits]
 
@@ -63,20 +69,21 @@ class Z3:
         """Returns the disjunction of conditions."""
         return self.joined(self.c.Z3_mk_or, asts)
 
-    def equal(self, x: Any, y: Any) -> Any:
-        """Returns whether two expressions are equal."""
-        return self.kept(self.c.Z3_mk_eq(self.context, x, y))
+    def equal(self, one: Any, two: Any) -> Any:
+        """Returns the condition that two expressions are equal."""
+        return self.kept(self.c.Z3_mk_eq(self.context, one, two))
 
-    def unequal(self, x: Any, y: Any) -> Any:
-        """Returns whether two expressions differ."""
-        return self.kept(self.c.Z3_mk_not(self.context, self.equal(x, y)))
+    def unequal(self, one: Any, two: Any) -> Any:
+        """Returns the condition that two expressions differ."""
+        return self.kept(self.c.Z3_mk_not(self.context, self.equal(one, two)))
 
     def concatenated(self, high: Any, low: Any) -> Any:
-        """Returns two expressions as one."""
+        """Returns the bit vector of two bit vectors, the upper one first."""
         return self.kept(self.c.Z3_mk_concat(self.context, high, low))
 
     def operation(self, op: str, args: Sequence[Any], operands: List[Any]) -> Any:
-        """Returns the expression of an operation. `a` has the operands as expressions of z3, as far as they have a sort."""
+        """Returns the expression of an operation of a Node with the operands `args`. `operands` has them as expressions of z3, as far as they have a
+        sort."""
         library, context = self.c, self.context
         if op in self.binary:
             return self.kept(self.binary[op](context, operands[0], operands[1]))
@@ -112,11 +119,13 @@ class Z3:
         return self.kept(library.Z3_mk_ite(context, is_zero, by_zero, self.kept(self.divisions[op](context, operands[0], operands[1]))))
 
     def looked_up(self, at: Any, low: int, content: List[Any]) -> Any:
-        """Returns a byte of an object as a tree of choices over the bits of the index; 0 outside."""
+        """Returns the byte at an address of an object as a tree of choices over the bits of the index; 0 outside. The object begins at `low`, and
+        `content` has its bytes."""
         library, context = self.c, self.context
         index = self.kept(library.Z3_mk_bvsub(context, at, self.number(low, 32)))
         bits = max(1, (len(content) - 1).bit_length())
-        zero, one = self.number(0, 8), self.number(1, 1)
+        zero = self.number(0, 8)
+        one = self.number(1, 1)
         row = [content[n] if n < len(content) else zero for n in range(1 << bits)]
         for bit in range(bits):
             is_set = self.kept(library.Z3_mk_eq(context, self.kept(library.Z3_mk_extract(context, bit, bit, index)), one))
@@ -125,7 +134,7 @@ class Z3:
         return self.kept(library.Z3_mk_ite(context, is_inside, row[0], zero))
 
     def assuming(self, asts: Sequence[Any]) -> Any:
-        """Returns a solver that has conditions."""
+        """Returns a solver of z3 that has some conditions."""
         solver = self.z3.SolverFor("QF_BV", self.owner)
         for ast in asts:
             self.c.Z3_solver_assert(self.context, solver.solver, ast)
@@ -145,7 +154,7 @@ class Z3:
         return self.answer_of(self.assuming(asts), timeout)
 
     def checked_by_tactics(self, asts: Sequence[Any], timeout: int) -> Tuple[Optional[bool], Dict[str, int]]:
-        """Asks the same with a fixed list of tactics, which take less time if there are many simple conditions."""
+        """Asks for values as `checked` does, with a fixed list of tactics. These take less time if there are many simple conditions."""
         solver = self.tactics.solver()
         for ast in asts:
             self.c.Z3_solver_assert(self.context, solver.solver, ast)
@@ -154,7 +163,7 @@ class Z3:
 
 @lru_cache(maxsize=None)
 def the_z3() -> Z3:
-    """Returns z3; raises RvlookError if it is not installed."""
+    """Returns the interface to z3, which is made once. Raises RvlookError if z3 is not installed."""
     return Z3()
 
 
@@ -165,10 +174,11 @@ def leave_out_old() -> None:
 
 
 class Translator:
-    """Makes expressions of z3. `known` has those of nodes."""
+    """Makes expressions of z3."""
 
     def __init__(self) -> None:
-        self.z3, self.known = the_z3(), {}  # type: Z3, Dict[Node, Any]
+        self.z3 = the_z3()
+        self.known: Dict[Node, Any] = {}  # the expressions of nodes that were translated
 
     def variable_of(self, node: Node) -> Any:
         """Returns the variable of z3 for a byte."""
@@ -180,7 +190,8 @@ class Translator:
 
     def __call__(self, node: Node) -> Any:
         """Returns the expression of z3 for a node."""
-        known, stack = self.known, [node]
+        known = self.known
+        stack = [node]  # nodes that are to be translated, after their operands
         while stack:
             top = stack[-1]
             if top in known:
@@ -198,7 +209,8 @@ class Translator:
 
     def made(self, node: Node) -> Any:
         """Returns the expression of a node whose operands have one."""
-        known, number = self.known, self.z3.number
+        known = self.known
+        number = self.z3.number
         if node.op == "var":
             return self.variable_of(node)
         if node.op == "table":
@@ -206,15 +218,23 @@ class Translator:
             content = [known[content_byte] if type(content_byte) is Node else number(content_byte, 8) for content_byte in table.content]
             return self.z3.looked_up(known[at] if type(at) is Node else number(at, 32), low, content)
         bits = 8 if node.op in BYTE_OPERANDS else 32
-        return self.z3.operation(node.op, node.args, [known[x] if type(x) is Node else number(x, bits) if type(x) is int else x for x in node.args])
+        operands_of_z3 = []
+        for operand in node.args:
+            if type(operand) is Node:
+                operands_of_z3.append(known[operand])
+            else:
+                operands_of_z3.append(number(operand, bits) if type(operand) is int else operand)
+        return self.z3.operation(node.op, node.args, operands_of_z3)
 
 
 class Primed(Translator):
-    """The same with another secret. Public nodes are the same for both."""
+    """Makes expressions of z3 for a second run with another secret. The name of a variable of the secret ends with an apostrophe."""
 
     def __init__(self, plain: Translator, public: Container[Node], kind: int = SECRET) -> None:
         super().__init__()
-        self.plain, self.public, self.kind = plain, public, kind
+        self.plain = plain  # makes the expressions for the first run
+        self.public = public  # the nodes that are the same in both runs
+        self.kind = kind  # the taint of the secret: SECRET or CHECK
 
     def variable_of(self, node: Node) -> Any:
         """Returns the variable of the second run."""

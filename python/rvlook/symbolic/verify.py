@@ -20,9 +20,10 @@ if TYPE_CHECKING:
 
 
 def find_verify(run: Run, symbols: Symbols, variables: Variables, options: VerifyOptions) -> Search:
-    """Explores the paths of an enclave, and replays what it found; returns the search that knows most. Its `is_cut` says whether Ctrl-C ended it.
-    Raises Unfinished if no enclave runs in the slot."""
-    strategy, is_cut = Strategy(World(run, symbols, variables, options), options), False
+    """Explores the paths of an enclave, and replays the findings. Returns the search that knows most. Its field `is_cut` says whether Ctrl-C ended
+    the searches. Raises Unfinished if no enclave runs in the slot."""
+    strategy = Strategy(World(run, symbols, variables, options), options)
+    is_cut = False
     try:
         with Progress() as progress:
             strategy.go(progress)
@@ -31,7 +32,7 @@ def find_verify(run: Run, symbols: Symbols, variables: Variables, options: Verif
     search = strategy.result()
     search.is_cut = is_cut
     strategy.confirm(search)
-    search.not_confirmed = sum(not it.answer for it in search.found.values())
+    search.not_confirmed = len([example for example in search.findings.values() if not example.answer])
     return search
 
 

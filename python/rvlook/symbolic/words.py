@@ -1,15 +1,17 @@
-"""Words and bytes as expressions, simplified as they are made: bytes of words, and the bits that may be set."""
+"""Words and bytes as expressions, simplified as they are made. `nodes` has a list of all operations.
+
+`x.may` are the bits of a node x that may be set, so it is also the largest value that x may have."""
 from __future__ import annotations
 
 from typing import Any, Callable, Dict, Optional, Tuple
 
 from rvlook.symbolic.nodes import M32, Byte, Condition, Node, Word, concrete, make, signed
 
-COMMUTES = ("add", "xor", "or", "and", "mul")
+COMMUTES = ("add", "xor", "or", "and", "mul")  # operations whose operands may be exchanged; a number comes second
 
 
 def may_of(x: Word) -> int:
-    """Returns the bits that may be set."""
+    """Returns the bits of a word that may be set."""
     return x if type(x) is int else x.may
 
 
@@ -37,7 +39,7 @@ def word(b0: Byte, b1: Byte, b2: Byte, b3: Byte) -> Word:
 
 
 def byte(x: Word, n: int) -> Byte:
-    """Returns a byte of a word."""
+    """Returns byte `n` of a word; byte 0 is the lowest."""
     if type(x) is int:
         return x >> 8 * n & 255
     if x.op == "word":
@@ -50,19 +52,20 @@ def byte(x: Word, n: int) -> Byte:
 
 
 def parts_of(x: Node) -> Tuple[Any, ...]:
-    """Returns the bytes of a word as pairs (word, n), which `plain` makes bytes of: most words are stored and loaded as a whole."""
+    """Returns the bytes of a word as pairs (word, n). `plain` makes a byte of such a pair when it is needed: most words are stored and loaded as a
+    whole."""
     if x.parts is None:
         x.parts = (x, 0), (x, 1), (x, 2), (x, 3)
     return x.parts
 
 
 def plain(part: Any) -> Byte:
-    """Returns a byte that may be a pair."""
+    """Returns the byte of a pair (word, n); returns another byte as it is."""
     return byte(*part) if type(part) is tuple else part
 
 
 def extended(b0: Byte, b1: Byte, width: int) -> Word:
-    """Returns one or two bytes as a word with the sign of the last."""
+    """Returns one byte (`b0`) or two bytes as a word, with the sign of the last byte. `width` is the number of bytes."""
     if width == 1:
         if type(b0) is int:
             return signed(b0, 8) & M32
@@ -120,7 +123,7 @@ def sub(x: Word, y: Word) -> Word:
 
 
 def bytewise(op: str, a: Byte, b: Byte) -> Optional[Byte]:
-    """Returns a bitwise operation on two bytes if at least one decides it, else None."""
+    """Returns the result of a bitwise operation on two bytes if it is a number or one of the bytes, else None."""
     if type(a) is int and type(b) is int:
         return concrete(op, a, b)
     if type(a) is int:
@@ -134,7 +137,8 @@ def bytewise(op: str, a: Byte, b: Byte) -> Optional[Byte]:
 
 
 def merged(op: str, x: Word, y: Word) -> Optional[Word]:
-    """Returns a bitwise operation on words whose bytes are known one by one, if no two bytes are combined; else None."""
+    """Returns the result of a bitwise operation on two words whose bytes are known one by one, if `bytewise` gives each byte of the result; else
+    None."""
     p, q = bytes_of(x), bytes_of(y)
     if not p or not q:
         return None
@@ -275,7 +279,7 @@ def not_(condition: Condition) -> Condition:
 
 
 def choice(condition: Condition, x: Word, y: Word) -> Word:
-    """Returns one word or another."""
+    """Returns the word `x` if a condition holds, else `y`."""
     if type(condition) is bool:
         return x if condition else y
     if condition.op == "not":
@@ -284,12 +288,22 @@ def choice(condition: Condition, x: Word, y: Word) -> Word:
         x = x.args[1]
     if type(y) is Node and y.op == "ite" and y.args[0] is condition:
         y = y.args[2]
-    if x is y or type(x) is int and type(y) is int and x == y:
+    if x is y or (type(x) is int and type(y) is int and x == y):
         return x
     if type(x) is int and type(y) is int and x | y == 1:
         return bool_(condition if x else not_(condition))
     return make("ite", (condition, x, y), may_of(x) | may_of(y))
 
 
-RULES: Dict[str, Callable[[Word, Word], Word]] = {  # conditions.py adds the comparisons
-    "add": add, "sub": sub, "xor": xor, "or": or_, "and": and_, "sll": sll, "srl": srl, "sra": sra, "mul": mul, "remu": remu, "divu": divu}
+RULES: Dict[str, Callable[[Word, Word], Word]] = {  # make and simplify an operation on two words; `conditions` adds slt and sltu
+    "add": add,
+    "sub": sub,
+    "xor": xor,
+    "or": or_,
+    "and": and_,
+    "sll": sll,
+    "srl": srl,
+    "sra": sra,
+    "mul": mul,
+    "remu": remu,
+    "divu": divu}

@@ -1,9 +1,12 @@
-"""The common part of all paths: the run itself up to the first entry, the windows that its host gives, objects, secrets, and public places."""
+"""The enclave that `verify` explores, right before its first step: its region, registers, objects, secrets and public places.
+
+The *run itself* is the run of the image and the script, in which no input is changed. It is executed once up to the first entry of the enclave. The
+windows that its host gives at each entry are kept as well."""
 from __future__ import annotations
 
 from dataclasses import dataclass, field
 from functools import cached_property
-from typing import Dict, Iterator, List, Optional, Sequence, TYPE_CHECKING, Tuple
+from typing import Dict, Iterator, List, Optional, Sequence, Set, TYPE_CHECKING, Tuple
 
 from rvlook.access.activations import Activations
 from rvlook.access.fields import FieldReader, WindowFields
@@ -24,96 +27,125 @@ if TYPE_CHECKING:
     from rvlook.protocol.symbols import Symbols
     from rvlook.symbolic.options import VerifyOptions
 
-CHECK = bytes.fromhex("0b004843")  # the instruction of a failed check
-ANSWER_IS = "@answer="
+CHECK = bytes.fromhex("0b004843")  # the instruction of a failed check (examples/shared/enclave_check.h), in the order of memory
+ANSWER_IS = "@answer="  # in --public: what is before it is public only in activations that end with the answer after it
+PC_OF_REPLY = slice(9, 17)  # the characters of the pc in the reply to a step, `ran 1 pc=80000000 ...`: the pc after the step
 
 
 @dataclass
-class Visit:
-    """An activation in the run itself: the number of steps before its first one, the hart, and the pcs of its steps."""
-    position: int
-    hart: int
-    pcs: List[int] = field(default_factory=list)
+class OwnActivation:
+    """An activation of the enclave in the run itself."""
+    position: int  # the number of steps of the run before the first step of the activation
+    hart: int  # the hart that runs the enclave
+    pcs: List[int] = field(default_factory=list)  # the pcs of its steps
 
 
 class World:
-    """The enclave in a slot, as it is right before its first step."""
+    """The enclave in a slot, as it is right before its first step. An address range is a pair: the first address and the end."""
+    region: Tuple[int, int]  # the address range of the private memory
+    window: Tuple[int, int]  # the address range of the window
+    hart: int  # the hart that enters the enclave first
+    regs: List[int]  # x0 to x31 at the first entry
+    pc: int  # the pc at the first entry
+    memory: bytearray  # the contents of the region at the first entry
 
     def __init__(self, run: Run, symbols: Symbols, variables: Variables, options: VerifyOptions) -> None:
-        self.run, self.symbols, self.slot, self.has_types = run, symbols, options.slot, bool(variables.fixed or variables.locals)
-        self.windows: List[bytearray] = []
-        self.visits = list(self.activations())
-        if not self.visits:
+        self.run = run
+        self.symbols = symbols
+        self.slot = options.slot
+        self.has_types = bool(variables.fixed or variables.locals)  # whether the image has debugging information
+        self.windows: List[bytearray] = []  # the contents of the window at each entry in the run itself
+        self.own_activations = list(self.read_activations())
+        if not self.own_activations:
             raise Unfinished("no enclave in slot %d" % self.slot)
-        self.enclave = self.first_entry()
-        self.contexts = Contexts()
-        self.has_checks = any(self.memory[at:at + 4] == CHECK for at in range(0, len(self.memory), 4))
+        self.enclave = self.read_entries()  # the record of the enclave in the enclave table
+        self.contexts = Contexts()  # numbers the chains of callers
+        self.has_checks = any(self.memory[at:at + 4] == CHECK for at in range(0, len(self.memory), 4))  # whether the enclave calls `check`
         self.objects = Objects(self.enclave, symbols, variables, self.contexts)
-        sizes = {it.address: it.size for it in self.objects.own if it.is_function}
-        self.functions, self.code = set(sizes), (self.memory, self.region[0], sizes)
-        always, self.public_if = conditional(options.public, symbols)
-        self.public = public_of(always, symbols)
-        self.secret, self.check = self.bytes_of(options.at), self.bytes_of(options.must_know)
+        sizes = {symbol.address: symbol.size for symbol in self.objects.own if symbol.is_function}
+        self.functions: Set[int] = set(sizes)  # the entries of the functions that symbols name
+        self.code = self.memory, self.region[0], sizes  # the arguments of Flows: contents, first address, and sizes of functions by entry
+        self.read_options(options)
+        self.allowed = Allowed(options.allow, symbols, self.region)  # the instructions of --allow
+
+    def read_options(self, options: VerifyOptions) -> None:
+        """Finds the bytes that the options name. Raises RvlookError."""
+        always, self.public_if = conditional(options.public, self.symbols)  # `public_if`: what is public only with an answer, each with the answer
+        self.public = public_of(always, self.symbols)  # what --public names without a condition
+        self.secret = self.bytes_of(options.at)  # the bytes of the secrets: their values at the first entry, by address
+        self.check = self.bytes_of(options.must_know)  # the bytes that the host must know, such as a PIN: their values, by address
         if self.secret.keys() & self.check.keys():
             raise RvlookError("--at and --must-know name the same bytes")
-        self.must_matter = self.bytes_of(options.must_matter)
+        self.must_matter = self.bytes_of(options.must_matter)  # the bytes of the secret on which an output must depend: their values, by address
         if self.must_matter.keys() - self.secret.keys():
             raise RvlookError("--must-matter names bytes that --at does not")
-        self.given = public_of(options.given, symbols) if options.given else None
-        self.lengths = lengths_of(options.length, symbols)
-        self.allowed = Allowed(options.allow, symbols, self.region)
+        self.given = public_of(options.given, self.symbols) if options.given else None  # bytes of the window that are those of the run itself
+        self.lengths = lengths_of(options.length, self.symbols)  # the greatest values of loads in the window (--length), by address
 
     def bytes_of(self, places: Sequence[str]) -> Dict[int, int]:
-        """Returns the addresses of bytes of the region, each with its value at the first entry. Raises RvlookError."""
+        """Returns the bytes of the region that PLACE[:BYTES] texts name: their values at the first entry, by address. Raises RvlookError."""
         found: Dict[int, int] = {}
+        low, high = self.region
         for text in places:
             secret = secret_of(text, self.symbols, self.run, self.slot)
-            if secret.register or not self.region[0] <= secret.at <= secret.at + len(secret.bytes) <= self.region[1]:
+            if secret.register or not low <= secret.at <= secret.at + len(secret.bytes) <= high:
                 raise RvlookError("verify needs bytes in the region of the enclave in slot %d, not '%s'; use PLACE[:BYTES]" % (self.slot, text))
-            found.update((secret.at + n, self.memory[secret.at + n - self.region[0]]) for n in range(len(secret.bytes)))
+            found.update((secret.at + n, self.memory[secret.at + n - low]) for n in range(len(secret.bytes)))
         return found
 
-    def activations(self) -> Iterator[Visit]:
-        """Yields the activations of the run itself."""
-        own, position = b"world=e%d " % self.slot, 0
-        inside: Dict[int, bool] = {}
-        pcs: Dict[int, int] = {}
-        current: Dict[int, Visit] = {}
-        for stretch in self.run.stretches():
-            for line in stretch.data.splitlines() if isinstance(stretch, Stretch) else ():
-                assert isinstance(stretch, Stretch)
-                hart, is_own = stretch.hart, own in line
-                if inside.get(hart):
-                    current[hart].pcs.append(pcs[hart])
-                pcs[hart] = int(line[9:17], 16)
-                position += 1
-                if is_own and not inside.get(hart):
-                    current[hart] = Visit(position, hart)
-                    yield current[hart]
-                inside[hart] = is_own
+    # ---- the run itself
 
-    def first_entry(self) -> Enclave:
-        """Reads region and registers at the first entry, and the window at each entry, after the lines of the script there; returns the enclave."""
+    def read_activations(self) -> Iterator[OwnActivation]:
+        """Yields the activations of the run itself. The lists of their pcs are complete when the iterator has ended."""
+        own_world = b"world=e%d " % self.slot
+        position = 0  # the number of steps so far, of all harts
+        is_inside: Dict[int, bool] = {}  # whether a hart runs the enclave
+        pcs: Dict[int, int] = {}  # the present pc of each hart
+        current: Dict[int, OwnActivation] = {}  # the last activation on each hart
+        for stretch in self.run.stretches():
+            if not isinstance(stretch, Stretch):
+                continue
+            hart = stretch.hart
+            for line in stretch.data.splitlines():
+                is_own = own_world in line
+                if is_inside.get(hart):
+                    current[hart].pcs.append(pcs[hart])
+                pcs[hart] = int(line[PC_OF_REPLY], 16)
+                position += 1
+                if is_own and not is_inside.get(hart):
+                    current[hart] = OwnActivation(position, hart)
+                    yield current[hart]
+                is_inside[hart] = is_own
+
+    def read_entries(self) -> Enclave:
+        """Replays the run. Reads the region and the registers at the first entry, and the window at each entry, after the lines of the script there.
+        Returns the enclave."""
         found: Optional[Enclave] = None
         with self.run.replay() as replay:
-            for visit in self.visits:
-                replay.go(visit.position)
+            for activation in self.own_activations:
+                replay.go(activation.position)
                 replay.bench.ask(*replay.lines_up_to_next())
                 if found is None:
-                    found = next(enclave for enclave in map(enclave_of, replay.bench.ask("enclaves")[0]) if enclave.slot == self.slot)
-                    self.region, self.window = (found.base, found.base + found.size), (found.window, found.window + found.window_size)
-                    self.read_hart(replay.bench, visit.hart, replay.hart)
+                    enclaves = map(enclave_of, replay.bench.ask("enclaves")[0])
+                    found = next(enclave for enclave in enclaves if enclave.slot == self.slot)
+                    self.region = found.base, found.base + found.size
+                    self.window = found.window, found.window + found.window_size
+                    self.read_hart(replay.bench, activation.hart, replay.hart)
                 self.windows.append(bytes_at(replay.bench, *self.window))
         assert found is not None
         return found
 
-    def read_hart(self, bench: Bench, hart: int, chosen: int) -> None:
-        """Reads the registers of the hart that enters the enclave, and the region."""
-        self.hart, has_more = hart, self.run.setup.harts > 1
-        bench.ask(*["hart %d" % hart] if has_more else [])
+    def read_hart(self, bench: Bench, hart: int, selected: int) -> None:
+        """Reads the registers of the hart that enters the enclave, and the region. `selected` is the selected hart of the bench, before and after."""
+        self.hart = hart
+        has_more = self.run.setup.harts > 1
+        if has_more:
+            bench.ask("hart %d" % hart)
         values = register_values(bench.ask("regs")[0])
-        bench.ask(*["hart %d" % chosen] if has_more else [])
-        self.regs, self.pc = values[:32], values[32]
+        if has_more:
+            bench.ask("hart %d" % selected)
+        self.regs = values[:32]
+        self.pc = values[32]
         self.memory = bytes_at(bench, *self.region)
 
     @cached_property
@@ -127,27 +159,34 @@ class World:
                     reader.read(activation)
         return found
 
+    # ---- addresses
+
     def place(self, pc: int) -> str:
-        """Returns the line of C of an instruction, or a symbol with an offset."""
+        """Returns the source line of an instruction; else a symbol with an offset; else its address."""
         return self.symbols.line(pc) or self.symbols.name(pc) or "%08x" % pc
+
+    def word_at(self, pc: int) -> int:
+        """Returns the instruction word at a pc of the region, as the image has it."""
+        offset = pc - self.region[0]
+        return int.from_bytes(self.memory[offset:offset + 4], "little")
 
     def is_pointer(self, value: int) -> bool:
         """Returns whether a number is an address of the region or of the window."""
         return self.region[0] <= value < self.region[1] or self.window[0] <= value < self.window[1]
 
     def is_allowed(self, at: int, width: int) -> bool:
-        """Returns whether the enclave may load and store bytes."""
+        """Returns whether the enclave may load and store `width` bytes at an address."""
         low, high = self.region
-        return low <= at and at + width <= high or self.window[0] <= at and at + width <= self.window[1]
+        return (low <= at and at + width <= high) or (self.window[0] <= at and at + width <= self.window[1])
 
 
 def bytes_at(bench: Bench, low: int, high: int) -> bytearray:
-    """Reads memory."""
+    """Reads the memory of a bench from `low` up to before `high`."""
     return bytearray(bench.memory(low, high - low))
 
 
 def lengths_of(texts: Sequence[str], symbols: Symbols) -> Dict[int, int]:
-    """Returns the greatest values of lengths in the window, by their addresses: PLACE:N. Raises RvlookError."""
+    """Returns what texts PLACE:N of --length say: the greatest value N of a load in the window, by its address. Raises RvlookError."""
     found: Dict[int, int] = {}
     for text in texts:
         name, _, most = text.partition(":")
@@ -159,14 +198,17 @@ def lengths_of(texts: Sequence[str], symbols: Symbols) -> Dict[int, int]:
 
 
 def conditional(texts: Sequence[str], symbols: Symbols) -> Tuple[List[str], List[Tuple[Public, int]]]:
-    """Returns what --public names without a condition, and what is public only in activations with an answer: WHAT@answer=N."""
-    always = [it for it in texts if ANSWER_IS not in it]
-    found = []
+    """Returns what texts of --public name: the texts without a condition, and what WHAT@answer=N texts name, each with the answer N. Raises
+    RvlookError."""
+    always: List[str] = []
+    found: List[Tuple[Public, int]] = []
     for text in texts:
         what, condition, value = text.partition(ANSWER_IS)
-        if condition:
-            try:
-                found.append((public_of([what], symbols), int(value, 0) & 0xFFFFFFFF))
-            except ValueError:
-                raise RvlookError("'%s' is no number in --public %s" % (value, text)) from None
+        if not condition:
+            always.append(text)
+            continue
+        try:
+            found.append((public_of([what], symbols), int(value, 0) & 0xFFFFFFFF))
+        except ValueError:
+            raise RvlookError("'%s' is no number in --public %s" % (value, text)) from None
     return always, found
