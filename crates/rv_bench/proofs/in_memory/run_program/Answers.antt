@@ -1,3 +1,4 @@
+-- This file proves obligations of `run_program`, which runs the program for these arguments and this input.
 use Rattle.std.proofs.Common.{◌≡◌, ◌<◌, ℕ, nat_lt, Bool, false, inl, inr, refl, arith}
 use Rattle.std.proofs.lemmas.Bool.Decides.{nat_tests}
 use Rattle.rv_bench.proofs.MemoryResults.{runs_in_memory}

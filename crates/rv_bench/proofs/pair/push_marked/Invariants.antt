@@ -1,3 +1,4 @@
+-- This file states the loop invariants of `push_marked`, which appends a text with a mark of three bytes before each of its lines.
 use Rattle.std.proofs.Common.{◌≡◌, ◌≤◌, ◌+◌, ◌*◌, ◌++◌, true, drop, length}
 use Rattle.rv_bench.specs.Pair.{marked}
 use Rattle.rv_bench.proofs.pair.push_marked.Given as goal

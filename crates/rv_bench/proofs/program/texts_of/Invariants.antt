@@ -1,3 +1,4 @@
+-- This file states the loop invariants of `texts_of`, which returns the texts of strings.
 use Rattle.std.proofs.Common.{◌≡◌, ◌++◌, drop, map, string_bytes}
 use Rattle.clap.specs.Walk.{texts}
 use Rattle.rv_bench.proofs.program.texts_of.Given as goal

@@ -1,3 +1,4 @@
+-- This file states the loop invariants of `run_over_streams`, which runs the program from a reader to a writer.
 use Rattle.rv_bench.proofs.standard.run_over_streams.Given as goal
 
 -- the input that the standard source is assumed to have

@@ -1,3 +1,4 @@
+-- This file states the loop invariants of `commands_of`, which makes the commands of these rows.
 use Rattle.std.proofs.Common.{◌≡◌, ◌++◌, drop, map}
 use Rattle.std.specs.List.{All}
 use Rattle.clap.specs.Words.{shape_of}

@@ -1,3 +1,4 @@
+-- This file proves obligations of `rvbench_command`, which makes the command line of the program.
 use Rattle.std.proofs.Common.{◌≡◌, ◌∙◌, ap, Err, IfOk, List, Ok, refl, Result, true}
 use Rattle.clap.specs.Words.{app_of, fault_of, is_simple, is_simple_and_free, subcommand_of, Text}
 use Rattle.clap.specs.Walk.{texts}

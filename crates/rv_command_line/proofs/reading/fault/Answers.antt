@@ -1,3 +1,4 @@
+-- This file proves obligations of `fault`, which converts an error of `clap`.
 use Rattle.std.proofs.Common.{◌≡◌, ◌∙◌, ◌∷◌, [], Bool, inl, inr, not, refl, sym, true}
 use Rattle.std.proofs.Math.Bool.{or-true}
 use Rattle.std.specs.List.{list_any}

@@ -1,3 +1,4 @@
+-- This file proves obligations of `matched_flag`, which returns whether a flag is set, if the command line has it.
 use Rattle.std.proofs.Common.{◌≡◌, Bool, codes, false, List, None, ℕ, Option, refl, Some, true}
 use Rattle.std.proofs.lemmas.Bool.{false_from_ne_true}
 use Rattle.std.proofs.lemmas.Slice.Eq.{bytes_eq-Decides}

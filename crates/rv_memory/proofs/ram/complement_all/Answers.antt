@@ -1,3 +1,4 @@
+-- This file proves obligations of `complement_all`, which complements each byte.
 use Rattle.std.proofs.Common.{◌≡◌, ℕ, zero, suc, ◌<◌, List, [], ◌∷◌, ◌++◌, length, map, take, drop, refl, ap, arith, add-one}
 use Rattle.std.specs.Prelude.{slice_index_or, slice_set}
 use Rattle.rv_memory.specs.Complement.{complement_of}

@@ -1,3 +1,4 @@
+-- This file proves obligations of `run_asm`, which reads an assembler text to the end of the source, and writes a line for each of its words.
 use Rattle.std.proofs.Common.{rules, ◌≡◌, inl, inr, ◌≤◌, ◌∙◌, ◌++◌, Global, List, ℕ, length, Ok, Err, refl, ap, sym, subst}
 use Rattle.std.proofs.Common.{arith}
 use Rattle.std.proofs.lemmas.List.{length-append}

@@ -1,3 +1,4 @@
+-- This file proves obligations of `make_room`, which writes the gathered bytes and empties the buffer, if it has no room for `room` more bytes.
 use Rattle.std.proofs.Common.{[], refl, sym, append-nil}
 use Rattle.rv_streams.proofs.gathered.make_room.Goals as goal
 

@@ -69,11 +69,11 @@ bytes_of_digits-decoded word =
           rw (even) (sym (decode_pairs-is 0 word even))
     ]
 
--- `add_bytes` meets clause `outcome` of its contract (`AddsBytes`) where the test `is_err` holds
+-- `add_bytes` meets clause `outcome` of its contract (`AddsBytes`) if `is_err` is true
 pub returns-then-is_err-clause-outcome : goal.returns-then-is_err-clause-outcome
 returns-then-is_err-clause-outcome c = (rw (bytes_of_digits-decoded c.args.word.now) (search rules), refl)
 
--- `add_bytes` meets clause `outcome` of its contract (`AddsBytes`) where the test `len-count > IMAGE_MAX` holds
+-- `add_bytes` meets clause `outcome` of its contract (`AddsBytes`) if `len-count > IMAGE_MAX` is true
 pub returns-then-len-count-gt-IMAGE_MAX-clause-outcome : goal.returns-then-len-count-gt-IMAGE_MAX-clause-outcome
 returns-then-len-count-gt-IMAGE_MAX-clause-outcome c = (rw (bytes_of_digits-decoded c.args.word.now) (search rules), refl)
 

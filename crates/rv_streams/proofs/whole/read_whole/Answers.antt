@@ -1,3 +1,4 @@
+-- This file proves obligations of `read_whole`, which reads all bytes of a source, to its end.
 use Rattle.std.proofs.Common.{rules, ◌≡◌, ◌++◌, ℕ, Global, List, length, take, Err, arith, sym, ap, append_assoc, ◌∙◌}
 use Rattle.std.proofs.lemmas.List.{length-append}
 use Rattle.rv_streams.specs.declared.device.Source.{Ghosts}

@@ -1,3 +1,4 @@
+-- This file states the loop invariants of `first_words`, which returns the first words of a line, at most `MOST_WORDS`.
 use Rattle.std.proofs.Common.{◌≡◌, ◌≤◌, ◌-◌, ◌++◌, length, map}
 use Rattle.rv_text.specs.Words.{words_of}
 use Rattle.rv_text.proofs.words.first_words.Given as goal

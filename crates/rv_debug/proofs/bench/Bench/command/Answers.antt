@@ -1,3 +1,4 @@
+-- This file proves obligations of `Bench::command`, which executes one command, and replaces the contents of the buffer by its reply.
 use Rattle.std.proofs.Common.{◌<◌, ℕ, ap, subst}
 use Rattle.rv_debug.specs.Prelude.{Target}
 use Rattle.rv_debug.proofs.Prelude.{Executed, BenchState, ChangesMemory, PreservesHarts, PreservesUndisturbed, selected_of, harts_of}

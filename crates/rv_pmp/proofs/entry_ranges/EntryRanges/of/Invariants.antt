@@ -1,3 +1,4 @@
+-- This file states the loop invariants of `EntryRanges::of`, which returns the ranges of the entries with these cfg bytes and pmpaddr values.
 use Rattle.std.proofs.Common.{◌≡◌, ℕ, ◌<◌, length}
 use Rattle.rv_pmp.specs.Covers.{covers}
 use Rattle.rv_pmp.specs.Cache.Segments.{is_within}

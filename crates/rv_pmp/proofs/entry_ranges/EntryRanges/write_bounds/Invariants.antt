@@ -1,3 +1,5 @@
+-- This file states the loop invariants of `EntryRanges::write_bounds`, which writes both ends of each nonempty range after the first of the bounds,
+-- and returns the number of bounds.
 use Rattle.rv_pmp.proofs.BoundsLemmas.{AreWritten}
 use Rattle.rv_pmp.proofs.entry_ranges.EntryRanges.write_bounds.Given as goal
 

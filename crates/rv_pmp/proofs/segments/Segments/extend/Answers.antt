@@ -1,3 +1,4 @@
+-- This file proves obligations of `Segments::extend`, which extends the segments up to `end`.
 use Rattle.std.proofs.Common.{arith, sym, ◌∙◌, ◌-◌, slice_index_or, None}
 use Rattle.std.proofs.lemmas.List.{get_or_default}
 use Rattle.rv_pmp.specs.Cache.Segments.{is_within, byte_match}

@@ -1,3 +1,4 @@
+-- This file proves obligations of `Segments::rebuild`, which builds the segments of the entries with these cfg bytes and pmpaddr values.
 use Rattle.std.proofs.Common.{◌∙◌}
 use Rattle.rv_pmp.specs.Covers.{covers}
 use Rattle.rv_pmp.specs.Cache.Segments.{is_within, AreSegments}

@@ -1,3 +1,4 @@
+-- This file chooses the ghost value of `CallLog::failed`, which records a failed call.
 use Rattle.rv_streams.specs.CallLog.{after_failure}
 use Rattle.rv_streams.proofs.log.CallLog.failed.Given as goal
 

@@ -1,3 +1,4 @@
+-- This file chooses the ghost value of `CallLog::flushed`, which records a successful flush.
 use Rattle.rv_streams.specs.CallLog.{after_flush}
 use Rattle.rv_streams.proofs.log.CallLog.flushed.Given as goal
 

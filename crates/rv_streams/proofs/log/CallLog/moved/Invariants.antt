@@ -1,3 +1,4 @@
+-- This file chooses the ghost value of `CallLog::moved`, which records a call that moved bytes.
 use Rattle.rv_streams.specs.CallLog.{after_move}
 use Rattle.rv_streams.proofs.log.CallLog.moved.Given as goal
 

@@ -1,3 +1,4 @@
+-- This file chooses the ghost value of `CallLog::moved_none`, which records a successful call that could have moved a byte and moved none.
 use Rattle.rv_streams.specs.CallLog.{after_empty_call}
 use Rattle.rv_streams.proofs.log.CallLog.moved_none.Given as goal
 

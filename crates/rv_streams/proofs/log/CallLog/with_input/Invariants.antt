@@ -1,3 +1,4 @@
+-- This file chooses the ghost value of `CallLog::with_input`, which returns the log of a source that has not been called.
 use Rattle.rv_streams.specs.CallLog.{no_call}
 use Rattle.rv_streams.proofs.log.CallLog.with_input.Given as goal
 

@@ -1,3 +1,4 @@
+-- This file chooses the ghost value of `ReaderSource::new`, which returns a source over a reader.
 use Rattle.rv_streams.proofs.stdio.ReaderSource.new.Given as goal
 
 -- the input that the source is assumed to have
