@@ -29,9 +29,9 @@ use Rattle.rv_bench.proofs.PairLemmas.{at_input_end, ended_all, ended_prefix, en
 use Rattle.rv_bench.proofs.Runs.{RespondsToLines-all, RespondsToLines-state}
 use Rattle.rv_bench.proofs.Runs.{RespondsToNext-going, RespondsToNext-state, RespondsToNext-stops, RespondsToNext-taken, RespondsToNext-wrote}
 
--- ---- the same, for equal written bytes
+-- ---- the meaning of a failure, for equal written bytes
 
--- a failed read has the same meaning after equal earlier output
+-- a failed read has the same meaning after two outputs with equal bytes, `old` and `other`
 StopsAtRead-after : {A : Type 0} {by : Responding A} {start : A} {unread left kept old other new : List ℕ}
     → old ≡ other → StopsAtRead by Input start unread left kept old new → StopsAtRead by Input start unread left kept other new
 StopsAtRead-after {by = by} {start = start} same stops = record {
@@ -46,14 +46,14 @@ StopsAtRead-after {by = by} {start = start} same stops = record {
   written = stops.written ∙ ap (λ (t : List ℕ). t ++ replies by.respond start (lines_of stops.text)) same;
 }
 
--- a source that fails in the second script leaves equal output after equal earlier output
+-- a read that fails in the second script has the same meaning after two outputs with equal bytes, `old` and `other`
 pub read_after : (slot : ℕ) (pair : Option Pair) (unread left kept old other new : List ℕ) → old ≡ other
     → IsSomeAnd pair (λ pair. StopsAtRead (both_benches slot) Input pair unread left kept old new)
     → IsSomeAnd pair (λ pair. StopsAtRead (both_benches slot) Input pair unread left kept other new)
 read_after slot None unread left kept old other new same never = never
 read_after slot (Some pair) unread left kept old other new same stops = StopsAtRead-after same stops
 
--- a failed write has the same meaning after equal earlier output
+-- a failed write has the same meaning after two outputs with equal bytes, `old` and `other`
 StopsAtWrite-after : {A : Type 0} {by : Responding A} {start : A} {unread left old other new : List ℕ} → old ≡ other
     → StopsAtWrite by Input start unread left old new → StopsAtWrite by Input start unread left other new
 StopsAtWrite-after {by = by} {start = start} {new = new} same stops =
@@ -70,7 +70,7 @@ StopsAtWrite-after {by = by} {start = start} {new = new} same stops =
           stops.written;
     }
 
--- a sink that fails in the second script has a prefix of the output after equal earlier output
+-- a write that fails in the second script leaves a prefix of the output, also after other output with equal bytes
 pub write_after : (slot : ℕ) (pair : Option Pair) (unread left old other new : List ℕ) → old ≡ other
     → StopsSecondAtWrite slot pair unread left old new → StopsSecondAtWrite slot pair unread left other new
 write_after slot None unread left old other new same stopped =
@@ -85,7 +85,7 @@ write_after slot (Some pair) unread left old other new same (inr stopped) =
 
 -- ---- a line that enters the slot
 
--- the reply to a line that enters the slot reports it
+-- the reply to a line that enters the slot reports the entry, where `now` is the pair before the line and `after` the pair after it
 pub told_entered : (slot : ℕ) (now after : Pair) (line reply : List ℕ) → pair_line slot now line ≡ record { state = after; reply = reply }
     → now.entered ≡ false → after.entered ≡ true
     → reply ≡ entered_text after.ran
@@ -93,15 +93,15 @@ unfolding pair_line
 told_entered slot now after line reply line_is going over =
     let both = both_execute_line slot now.first now.second line in
     by both.line both (sym (ap (λ b. cond b (record { state = now; reply = [] }) (pair_replied now both)) going) ∙ line_is) where
-      -- a reply after which the slot is entered is the text of the entry
+      -- a result of the line is the pair after the line with this reply
       Gives : Replied Pair → Type 0
       Gives replied = replied ≡ record { state = after; reply = reply }
 
-      -- a line whose reply is the text of the entry has entered the slot
+      -- the slot is entered in a result of the line
       enters : (replied : Replied Pair) → Gives replied → replied.state.entered ≡ true
       enters replied replied_is = ap (λ (r : Replied Pair). r.state.entered) replied_is ∙ over
 
-      -- the reply by the result of the line
+      -- each outcome of the line on the two benches leads to the text of the entry; an outcome that enters no slot is impossible
       by : (what : BothLine) (both : BothLineExecuted) → Gives (done_by what both now.ran) → reply ≡ entered_text after.ran
       by (Given Entered blank) both replied_is = ap (λ (r : Replied Pair). r.reply) (sym replied_is) ∙ ap (λ (r : Replied Pair). entered_text r.state.ran) replied_is
       by (Given All blank) both replied_is = absurd (false≢true (enters (done_by (Given All blank) both now.ran) replied_is))
@@ -110,7 +110,7 @@ told_entered slot now after line reply line_is going over =
 
 -- ---- the script that both benches respond to
 
--- a failure in a line
+-- an error that stops the lines of the second script is the error of the second script
 pub two_benches-stop : {S W : Type 0} {g : SourceGhosts S} (h : SinkGhosts W) (slot : ℕ) (start : Pair) (old new : Lines S g) (before after : W)
     (fault : BenchFault) → FailsIn h (both_benches slot) Input start old new before after fault
     → RunsSecond h slot (Some start) old new before after (Err fault)

@@ -41,6 +41,7 @@ module _ (e : ℕ) where
       → LineAvoidsEnclave e first line → LineAvoidsHart e first line → Alike (execute_line first line) (execute_line second line)
   unfolding execute_line
   line_alike first second line kept kept' equiv = go (parse_of line) where
+    -- a parsed line that avoids the enclave (`over`) and its hart (`by`) is executed alike
     go : (parsed : Result Command CommandFault) → IfOk parsed (AvoidsEnclave e first) → IfOk parsed (AvoidsHart e first)
         → Alike (execute_or_fault first parsed) (execute_or_fault second parsed)
     go (Ok command) over by =
@@ -80,6 +81,7 @@ module _ (e : ℕ) where
       → LineAvoidsHart e bench line × RunsOnNoHart e (execute_line bench line).state.target
   unfolding execute_line
   line_rests bench line kept not_running = go (parse_of line) where
+    -- a parsed line that avoids the enclave (`over`) leaves it on no hart, and avoids its hart
     go : (parsed : Result Command CommandFault) → IfOk parsed (AvoidsEnclave e bench)
         → IfOk parsed (AvoidsHart e bench) × RunsOnNoHart e (execute_or_fault bench parsed).state.target
     go (Ok command) over = let stays = rest_law e bench command kept not_running in (stays.by, stays.not_running over.past)
@@ -88,6 +90,7 @@ module _ (e : ℕ) where
   -- while the enclave runs on no hart, each line avoids its hart
   by_at_rest : (bench : BenchState) (line : List ℕ) → TargetInvariant bench.target → RunsOnNoHart e bench.target → LineAvoidsHart e bench line
   by_at_rest bench line kept not_running = go (parse_of line) where
+    -- a parsed line avoids the hart of an enclave that runs on no hart
     go : (parsed : Result Command CommandFault) → IfOk parsed (AvoidsHart e bench)
     go (Ok command) = (rest_law e bench command kept not_running).by
     go (Err fault) = tt
@@ -109,6 +112,7 @@ module _ (e : ℕ) where
       → Alike (execute_line first line) (execute_line second line')
   unfolding execute_line
   poke_alike first second line line' kept kept' equiv = go (parse_of line) (parse_of line') where
+    -- two parsed lines that poke into the region are executed alike
     go : (parsed parsed' : Result Command CommandFault) → IsOkAnd parsed (PokesInto e first) → IsOkAnd parsed' (PokesInto e second)
         → Alike (execute_or_fault first parsed) (execute_or_fault second parsed')
     go (Ok here) (Ok there) pokes pokes' =
@@ -147,6 +151,7 @@ module _ (e : ℕ) where
       → RunsOnNoHart e (execute_line bench line).state.target
   unfolding execute_line
   poke_rests bench line kept not_running = go (parse_of line) where
+    -- after a parsed line that pokes into the region, the enclave still runs on no hart
     go : (parsed : Result Command CommandFault) → IsOkAnd parsed (PokesInto e bench) → RunsOnNoHart e (execute_or_fault bench parsed).state.target
     go (Ok command) pokes = poked_rests e bench command kept not_running pokes
     go (Err fault) pokes = absurd pokes
@@ -225,6 +230,7 @@ started_noninterference image setup = from_start (started image setup) (started_
 -- each bench that an input starts has the invariant
 pub bench_keeps : (setup : Setup) (input : List ℕ) → IfOk (bench_in setup input) (λ state. TargetInvariant state.target)
 bench_keeps setup input = go (image_in input) where
+  -- the bench that is started from this image satisfies the invariant
   go : (image : Result (List ℕ) BenchFault) → IfOk (result_case image (λ bytes. started bytes setup) Err) (λ state. TargetInvariant state.target)
   go (Ok bytes) = started_keeps bytes setup
   go (Err fault) = tt

@@ -25,6 +25,7 @@ module _ (found : List ℕ → Bool) where
   before-append (x ∷ xs) ys has_found =
       take_while-cons (λ line. not (found line)) x (xs ++ ys)
       ∙ (go (found x) has_found (before-append xs ys) ∙ sym (take_while-cons (λ line. not (found line)) x xs)) where
+        -- the lines up to the first that passes the test do not depend on ys, where `b` is the result of the test for x
         go : (b : Bool) → b || list_any found xs ≡ true → (list_any found xs ≡ true → before (xs ++ ys) ≡ before xs)
             → cond (not b) (x ∷ before (xs ++ ys)) [] ≡ cond (not b) (x ∷ before xs) []
         go true has_found more = refl
@@ -36,6 +37,7 @@ module _ (found : List ℕ → Bool) where
   before-shorter (x ∷ xs) has_found =
       subst (λ (t : List (List ℕ)). length t + 1 ≤ length (x ∷ xs)) (sym (take_while-cons (λ line. not (found line)) x xs))
       (go (found x) has_found (before-shorter xs)) where
+        -- the lines before the first that passes the test are fewer than all lines, where `b` is the result of the test for x
         go : (b : Bool) → b || list_any found xs ≡ true → (list_any found xs ≡ true → length (before xs) + 1 ≤ length xs)
             → length (cond (not b) (x ∷ before xs) []) + 1 ≤ length (x ∷ xs)
         go true has_found more = omega arith
@@ -46,6 +48,7 @@ module _ (found : List ℕ → Bool) where
 -- the rest of a text of whole lines is one, and has a line feed if its first byte is none
 whole_tail : (x : ℕ) (xs : List ℕ) → through_last_feed (x ∷ xs) ≡ x ∷ xs → (nat_eq x 10 || has_feed xs ≡ true) × (through_last_feed xs ≡ xs)
 whole_tail x xs = go (nat_eq x 10 || has_feed xs) where
+  -- a text of whole lines has a line feed in x or after it, where `b` states whether it has one, and its rest consists of whole lines
   go : (b : Bool) → cond b (x ∷ through_last_feed xs) [] ≡ x ∷ xs → (b ≡ true) × (through_last_feed xs ≡ xs)
   go true is = (refl, ap (drop 1) is)
   go false is = cc
@@ -54,6 +57,7 @@ whole_tail x xs = go (nat_eq x 10 || has_feed xs) where
 after_line-whole : (xs : List ℕ) → through_last_feed xs ≡ xs → through_last_feed (after_line xs) ≡ after_line xs
 after_line-whole [] whole = refl
 after_line-whole (x ∷ xs) whole = let all = (whole_tail x xs whole).1 in go (nat_eq x 10) all (after_line-whole xs all) where
+  -- the text after the first line consists of whole lines, where `b` states whether x is a line feed
   go : (b : Bool) → through_last_feed xs ≡ xs → through_last_feed (after_line xs) ≡ after_line xs
       → through_last_feed (cond b xs (after_line xs)) ≡ cond b xs (after_line xs)
   go true all more = all
@@ -63,6 +67,7 @@ after_line-whole (x ∷ xs) whole = let all = (whole_tail x xs whole).1 in go (n
 after_line-append : (xs ys : List ℕ) → has_feed xs ≡ true → after_line (xs ++ ys) ≡ after_line xs ++ ys
 after_line-append [] ys feed = cc
 after_line-append (x ∷ xs) ys feeds = go (nat_eq x 10) feeds (after_line-append xs ys) where
+  -- a text appended after a line feed is appended to the text after the first line, where `b` states whether x is a line feed
   go : (b : Bool) → b || has_feed xs ≡ true → (has_feed xs ≡ true → after_line (xs ++ ys) ≡ after_line xs ++ ys)
       → cond b (xs ++ ys) (after_line (xs ++ ys)) ≡ cond b xs (after_line xs) ++ ys
   go true feeds more = refl

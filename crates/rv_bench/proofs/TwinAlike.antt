@@ -90,6 +90,7 @@ module _ (slot : ℕ) where
       → Becomes a b c (both_execute slot a b c)
   unfolding both_execute
   becomes a b c kept kept' together = go (is_blind slot a c && is_blind slot b c) (both_alike slot a b c kept kept') where
+    -- a command keeps the benches together or ends the list, where `blind` states whether the command is blind to the slot in both benches
     go : (blind : Bool) → StayAlike slot a b c (after_if blind a b c) → Becomes a b c (after_if blind a b c)
     go true alike = record {
       first_kept = keeps_monitor a c kept;
@@ -142,6 +143,7 @@ module _ (slot : ℕ) where
   line_going : (pair : Pair) (line : List ℕ) → Going pair → Going (pair_line slot pair line).state
   unfolding pair_line
   line_going pair line going = go pair.entered refl where
+    -- a line keeps a pair that goes on, where `entered` states whether the slot was entered before the line
     go : (entered : Bool) → pair.entered ≡ entered
         → Going (if entered then record { state = pair; reply = [] } else pair_replied pair (both_execute_line slot pair.first pair.second line)).state
     go true is = going
@@ -157,6 +159,7 @@ module _ (slot : ℕ) where
   -- the replies of both benches to a line are equal
   told_alike : (pair : Pair) (line : List ℕ) → Going pair → pair.entered ≡ false → RepliesAlikeTo slot pair line
   told_alike pair line going unentered = go (parse_of line) where
+    -- the two replies to a parsed line are equal, if both benches execute its command
     go : (parsed : Result Command CommandFault) → IfOk parsed (λ command.
         let after = both_execute slot pair.first pair.second command in
         after.why ≡ All → after.first_reply ≡ after.second_reply)
@@ -194,6 +197,7 @@ module _ (slot : ℕ) where
   line_follows : (pair : Pair) (line : List ℕ) → Going pair → Follows pair (done_in_line slot pair line) (pair_line slot pair line).state
   unfolding pair_line
   line_follows pair line going = go pair.entered refl (parse_of line) where
+    -- the benches after a parsed line are those after the commands that both executed, where `entered` states whether the slot was entered before
     go : (entered : Bool) → pair.entered ≡ entered → (parsed : Result Command CommandFault)
         → Follows pair
         (if entered then [] else result_case parsed (λ command. done_by_both (both_execute slot pair.first pair.second command).why command) (λ _. []))
@@ -251,6 +255,7 @@ module _ (slot : ℕ) where
   -- the pair of a bench and its scrambled copy goes on
   start_going : (bench : BenchState) → TargetInvariant bench.target → IfSome (make_pair slot bench) Going
   start_going bench kept = go (can_scramble slot bench) refl where
+    -- the pair of the slot goes on, if the slot can be scrambled
     go : (may : Bool) → can_scramble slot bench ≡ may
         → IfSome (if may then Some (record { first = bench; second = scrambled slot bench; ran = 0; entered = false }) else None) Going
     go true is =
@@ -273,6 +278,7 @@ of_pair Law slot law setup input = go (bench_in (monitored_setup setup) input) (
   some (Some pair) going = law pair going
   some None going = tt
 
+  -- the law holds of the pair of the bench that the input starts
   go : (bench : Result BenchState BenchFault) → IfOk bench (λ state. TargetInvariant state.target)
       → IfOk bench (λ bench. IfSome (make_pair slot (after_first_script bench (after_separator input))) Law)
   go (Ok bench) kept =

@@ -115,6 +115,7 @@ found : {X : Type 0} (at : Names → X → X) (Is : X → Type 0) (P : (Names �
 found at Is P test same none some [] all = none
 found at Is P test same none some (x ∷ xs) all = go (test x) (λ n. same n x) (found at Is P test same none some xs all.1)
   where
+    -- the claim holds for a list with first element x, where `b` states whether x passes the test at every address
     go : (b : Bool) → ((n : Names) → test (at n x) ≡ b) → P (λ n. find test (map (at n) xs))
         → P (λ n. cond (test (at n x)) (Some (at n x)) (find test (map (at n) xs)))
     go true e rest = simp e (some x all.0)
@@ -148,6 +149,7 @@ module _ (here : Names) (s : Shape) (fits : AllByRecursion (Fits here) s.rules) 
   settles : (h : Held) → Alike here of_held h.rows (λ n. settle_fault (rules n) again h) (λ n. settled (rules n) h)
   settles h = lift (λ rows. record h { rows = rows; pending = None }) (λ _. refl) (go h.pending)
     where
+      -- the end of the option p that waits for its values, or of none, is alike
       go : (p : Option (Text × List Text)) → Alike here itself h.rows
           (λ n. option_map_or (λ x. option_map_or (λ a. use_fault again a x.1 h.rows) (arg_by_id (rules n) x.0) []) p [])
           (λ n. settled_rows (rules n) p h.rows)
@@ -189,6 +191,7 @@ module _ (here : Names) (s : Shape) (fits : AllByRecursion (Fits here) s.rules) 
   bundles zero flags skip so_far h = stays
   bundles (suc k) flags skip so_far h = go (slice_get (chars flags) 0) skip (bundles k)
     where
+      -- a bundle that continues with the character x, or ends, is alike, if each later bundle is alike
       go : (x : Option ℕ) (skip : ℕ) → ((flags : Text) (skip : ℕ) (so_far : Outcome) (h : Held) → Bundle k flags skip so_far h)
           → Met h (λ n. bundle_step_fault (rules n) again x flags skip h (flags_fault (rules n) again k))
           (λ n. bundle_step (rules n) x flags skip so_far h (bundle_met (rules n) k))

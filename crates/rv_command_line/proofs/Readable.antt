@@ -49,6 +49,7 @@ pub without_good : (id : Text) (rows : List Row) → Good rows → Good (without
 without_good id [] good = tt
 without_good id (r ∷ rs) good = go (bytes_eq r.id id) (without_good id rs good.1)
   where
+    -- the rows without those of one option stay good, where `b` states whether the first row r is one of that option
     go : (b : Bool) → Good (without id rs) → Good (cond b rs (r ∷ without id rs))
     go true rest = good.1
     go false rest = (good.0, rest)
@@ -59,6 +60,7 @@ pub values_good : (id : Text) (s : ValueSource) (values : List Text) (rows : Lis
 values_good id s values [] new good = ((refl, new), tt)
 values_good id s values (r ∷ rs) new good = go (bytes_eq r.id id) refl (values_good id s values rs new good.1)
   where
+    -- the rows with new values stay good, where `b` states whether the first row r is one of the option
     go : (b : Bool) → bytes_eq r.id id ≡ b → Good (with_values id (how id) s values rs)
         → Good (cond b (more_values s values r ++ rs) (r ∷ with_values id (how id) s values rs))
     go true e rest =
@@ -72,6 +74,7 @@ row_read : (id : Text) (text : Row → Option Text) → ((r : Row) → r.id ≡ 
 row_read id text each [] good = refl
 row_read id text each (r ∷ rs) good = go (bytes_eq r.id id) refl (row_read id text each rs good.1)
   where
+    -- the property holds of the row that is found, where `b` states whether the first row r has the id
     go : (b : Bool) → bytes_eq r.id id ≡ b → option_map_or (is_read id) (option_and_then text (find (λ r. bytes_eq r.id id) rs)) true ≡ true
         → option_map_or (is_read id) (option_and_then text (cond b (Some r) (find (λ r. bytes_eq r.id id) rs))) true ≡ true
     go true e rest = each r ((bytes_eq-Decides r.id id).0 e) good.0

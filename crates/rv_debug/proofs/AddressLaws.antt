@@ -9,6 +9,7 @@ use Rattle.rv_debug.proofs.Prelude.{is_among, nat_tests, with_address, without_a
 among-filter : (p : ℕ → Bool) (x : ℕ) (xs : List ℕ) → is_among x (filter p xs) ≡ (p x && is_among x xs)
 among-filter p x [] = sym (and-false (p x))
 among-filter p x (y ∷ ys) = go (p y) refl (y == x) refl (among-filter p x ys) where
+  -- the members of a filtered list with first element y, where `kept` is the test of y, and `same` states whether y is the address x
   go : (kept : Bool) → p y ≡ kept → (same : Bool) → (y == x) ≡ same → is_among x (filter p ys) ≡ (p x && is_among x ys)
       → is_among x (cond kept (y ∷ filter p ys) (filter p ys)) ≡ (p x && (same || is_among x ys))
   go true passes true is more = let e : y ≡ x = grind arith in let px : p x ≡ true = sym (ap p e) ∙ passes in rw (is, px) refl

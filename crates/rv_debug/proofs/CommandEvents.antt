@@ -80,6 +80,7 @@ occurs_in bench commands list = go (machine_in bench.target) (acts_in bench.targ
   some : MonitoredMachine → Option MonitoredMachine
   some machine = Some machine
 
+  -- the commands lead a monitored machine to the state after their events, where `o` is the machine, or `None` for a bare one
   go : (o : Option MonitoredMachine)
       → IfSome o (λ machine. machine_in (after_commands bench commands).target ≡ Some (after_actions (actions_of bench commands) machine))
       → IfSome o (λ machine. actions_of bench commands ≡ map Occurs list

@@ -40,6 +40,7 @@ by_write : (P : MonitoredMachine → Type 0) (machine : MonitoredMachine) (addre
     → ((memory : List ℕ) → write machine.shared.memory address (byte ∷ []) ≡ Some memory → P (with_memory machine memory))
     → P (after_action (SetsByte address byte) machine)
 by_write P machine address byte same writes = go (write machine.shared.memory address (byte ∷ [])) refl where
+  -- the property holds whether the write succeeds with a new memory, or fails
   go : (o : Option (List ℕ)) → write machine.shared.memory address (byte ∷ []) ≡ o → P (option_case o machine (with_memory machine))
   go None is = same
   go (Some memory) is = writes memory is

@@ -197,7 +197,7 @@ schedules_alike e hart harts one other here there related steps =
 
 -- ---- registers
 
--- a CSR of related machines has equal observations: none if the enclave runs on the hart
+-- two related machines give the same observation of a CSR: none if the enclave runs on the hart, and else the reply to `csr`
 pub csrs_alike : (e hart : ℕ) (one other : MonitoredMachine) (number : ℕ) → AreRelated e one other
     → unless (runs_on e hart one) (csr_reply (guest_target (selected_at hart one)) number)
     ≡ unless (runs_on e hart other) (csr_reply (guest_target (selected_at hart other)) number)
@@ -208,7 +208,7 @@ csrs_alike e hart one other number related =
     ∙ hart_texts e hart one other related text
     ∙ sym (ap (λ (s : HartState). unless (runs_on e hart other) (text s)) (guest_hart_state hart other))
 
--- the PMP entries of every hart are those of the table and its world
+-- two related machines have equal PMP entries in each hart, since the entries depend only on the enclave table and the hart's world
 pub entries_alike : (e hart : ℕ) (one other : MonitoredMachine) → Invariant one → Invariant other → AreRelated e one other
     → (hart_state_of hart one).hart.csrs.pmp ≡ (hart_state_of hart other).hart.csrs.pmp
 entries_alike e hart one other here there related =
@@ -226,18 +226,18 @@ entries_alike e hart one other here there related =
 
 -- ---- memory
 
--- if an or fails, both parts fail
+-- two conditions are false if neither of them is true
 neither : (a b : Bool) → (a || b) ≡ false → (a ≡ false) × (b ≡ false)
 neither false b is = (refl, is)
 neither true b is = cc
 
 module _ (e : ℕ) (one other : MonitoredMachine) (related : AreRelated e one other) where
-  -- whether a block names private bytes of the enclave
+  -- a block names private bytes of the enclave if it has bytes of the region, or bytes of the window while the enclave runs
   abbrev names : MonitoredMachine → Block → Bool
   names machine block =
       meets block (region machine.shared.table e) || (runs machine.shared.table e && meets block (window machine.shared.table e))
 
-  -- a block without private bytes has equal bytes in both memories
+  -- a block that names no private bytes has only bytes that are equal in both memories
   seen : (block : Block) → names one block ≡ false → IsSeen (may_differ one.shared.table e) block.base block.size
   seen block apart b low high =
       let parts = neither (meets block (region one.shared.table e)) _ apart in
@@ -250,7 +250,7 @@ module _ (e : ℕ) (one other : MonitoredMachine) (related : AreRelated e one ot
             rw (outside, running, beyond) refl
       ]
 
-  -- a read of a block without private bytes is equal in both memories
+  -- a read of a block that names no private bytes gives equal bytes in both memories
   reads_alike : (block : Block) → names one block ≡ false → read one.shared.memory block.base block.size ≡ read other.shared.memory block.base block.size
   reads_alike block apart =
       let memory = related.memory in
@@ -261,7 +261,7 @@ module _ (e : ℕ) (one other : MonitoredMachine) (related : AreRelated e one ot
             read-none one.shared.memory block.base block.size outside ∙ sym (read-none other.shared.memory block.base block.size (rw (← sizes) outside))
       ]
 
-  -- a text about the bytes of a block
+  -- a text about the bytes of a block has equal observations in both machines: none if the block names private bytes
   pub memory_texts : (block : Block) (text : Option (List ℕ) → List ℕ)
       → unless (names one block) (text (read one.shared.memory block.base block.size))
       ≡ unless (names other block) (text (read other.shared.memory block.base block.size))

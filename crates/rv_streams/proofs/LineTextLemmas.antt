@@ -22,6 +22,7 @@ has_feed-push text byte no_feed ne = rw (has_feed-append text (byte ∷ []), no_
 -- a prefix of a text without a line feed has none
 pub has_feed-take : (n : ℕ) (text : List ℕ) → has_feed text ≡ false → has_feed (take n text) ≡ false
 has_feed-take n text h = go _ _ (sym (has_feed-append (take n text) (drop n text)) ∙ (ap has_feed (take-append-drop n text) ∙ h)) where
+  -- if neither of two conditions is true, the first is false
   go : (a b : Bool) → a || b ≡ false → a ≡ false
   go true b h = h
   go false b h = refl

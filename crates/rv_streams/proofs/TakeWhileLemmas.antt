@@ -8,6 +8,7 @@ use Rattle.std.specs.List.{list_all, take_while}
 take_while-append : (p : List ℕ → Bool) (xs ys : List (List ℕ)) → list_all p xs ≡ true → take_while p (xs ++ ys) ≡ xs ++ take_while p ys
 take_while-append p [] ys all_pass = refl
 take_while-append p (x ∷ xs) ys all_pass = take_while-cons p x (xs ++ ys) ∙ go (p x) all_pass (λ all. take_while-append p xs ys all) where
+  -- the passing lines of a list with first line x, where `b` states whether x passes the test
   go : (b : Bool) → b && list_all p xs ≡ true → (list_all p xs ≡ true → take_while p (xs ++ ys) ≡ xs ++ take_while p ys)
       → cond b (x ∷ take_while p (xs ++ ys)) [] ≡ x ∷ (xs ++ take_while p ys)
   go true all more = ap (λ t. x ∷ t) (more all)
@@ -53,6 +54,7 @@ take_while-prefix p (x ∷ xs) ys =
     let (others, more) = take_while-prefix p xs ys in
     let (rest, is) = go (p x) others more in
     (rest, take_while-cons p x (xs ++ ys) ∙ (is ∙ ap (λ t. t ++ rest) (sym (take_while-cons p x xs)))) where
+      -- the passing lines of the prefix are a prefix of those of the whole list, where `b` states whether the first line x passes the test
       go : (b : Bool) (others : List (List ℕ)) → take_while p (xs ++ ys) ≡ take_while p xs ++ others
           → (rest : List (List ℕ)) × (cond b (x ∷ take_while p (xs ++ ys)) [] ≡ cond b (x ∷ take_while p xs) [] ++ rest)
       go true others more = (others, ap (λ t. x ∷ t) more)

@@ -49,6 +49,7 @@ through_last_feed-append_feed (x ∷ xs) ys feed =
 -- the rest of a text of whole lines consists of whole lines
 through_last_feed-cons : (x : ℕ) (xs : List ℕ) → through_last_feed (x ∷ xs) ≡ x ∷ xs → (nat_eq x 10 || has_feed xs ≡ true) × (through_last_feed xs ≡ xs)
 through_last_feed-cons x xs = go (nat_eq x 10 || has_feed xs) where
+  -- a text of whole lines has a line feed in x or after it, where `b` states whether it has one, and its rest consists of whole lines
   go : (b : Bool) → cond b (x ∷ through_last_feed xs) [] ≡ x ∷ xs → (b ≡ true) × (through_last_feed xs ≡ xs)
   go true e = (refl, cc)
   go false e = cc
@@ -64,6 +65,7 @@ onto_first-some x (l ∷ ls) onto_first_is = cc
 pub lines_of-some : (xs : List ℕ) → has_feed xs ≡ true → lines_of xs ≡ [] → ⊥
 lines_of-some [] feed lines_are = cc
 lines_of-some (x ∷ xs) h e = go (nat_eq x 10) (nat_eq x 13 && starts_with_feed xs) (lines_of-some xs) h e where
+  -- a text with first byte x has a line, where `b` states whether x is a line feed, and `c` whether x is a carriage return before one
   go : (b c : Bool) → (has_feed xs ≡ true → lines_of xs ≡ [] → ⊥) → b || has_feed xs ≡ true
       → cond b ([] ∷ lines_of xs) (cond c (lines_of xs) (onto_first x (lines_of xs))) ≡ [] → ⊥
   go true c more h e = cc
@@ -89,6 +91,7 @@ lines_of-append [] ys through_last_feed_is = refl
 lines_of-append (x ∷ xs) ys through_last_feed_is =
     let parts = through_last_feed-cons x xs through_last_feed_is in
     go (nat_eq x 10) (lines_of-append xs ys parts.1) parts.0 where
+      -- the lines of a text of finished lines come first, where `b` states whether its first byte x is a line feed
       go : (b : Bool) → lines_of (xs ++ ys) ≡ lines_of xs ++ lines_of ys → b || has_feed xs ≡ true
           → cond b ([] ∷ lines_of (xs ++ ys))
           (cond (nat_eq x 13 && starts_with_feed (xs ++ ys)) (lines_of (xs ++ ys)) (onto_first x (lines_of (xs ++ ys))))
@@ -128,6 +131,7 @@ one_more false c false x line ms e h k = rw (and_false c) (ap (onto_first x) e)
 pub lines_of-line : (xs : List ℕ) → has_feed xs ≡ false → lines_of (xs ++ 10 ∷ []) ≡ without_return xs ∷ []
 lines_of-line [] no_feed = refl
 lines_of-line (x ∷ []) no_feed = rw ((or_none (nat_eq x 10) false no_feed).0) (go (nat_eq x 13)) where
+  -- a single byte followed by a line feed is one line, which is empty if the byte is a carriage return (b)
   go : (b : Bool) → cond (b && true) ([] ∷ []) ((x ∷ []) ∷ []) ≡ cond (b && true) [] (x ∷ []) ∷ []
   go true = refl
   go false = refl
@@ -239,10 +243,12 @@ after_lines-more (suc n) text = after_lines-more n (after_line text)
 lines_of-after_line : (text : List ℕ) → lines_of (after_line text) ≡ drop 1 (lines_of text)
 lines_of-after_line [] = refl
 lines_of-after_line (x ∷ xs) = go (nat_eq x 10) (nat_eq x 13 && starts_with_feed xs) (lines_of xs) (lines_of-after_line xs) where
+  -- a byte put before the first line does not change the lines after the first
   first : (ls : List (List ℕ)) → drop 1 ls ≡ drop 1 (onto_first x ls)
   first [] = refl
   first (l ∷ ls) = refl
 
+  -- the lines of the text after the first line are the other lines, where `b` states whether x is a line feed, `c` whether x is dropped
   go : (b c : Bool) (ls : List (List ℕ)) → lines_of (after_line xs) ≡ drop 1 ls
       → lines_of (cond b xs (after_line xs)) ≡ drop 1 (cond b ([] ∷ lines_of xs) (cond c ls (onto_first x ls)))
   go true c ls more = refl
