@@ -110,8 +110,8 @@ piece-name i = IsPiece-from_test (name_of i) (test i)
 
 -- ---- the mnemonic is read back
 
--- a statement whose mnemonic is followed by a blank (32) is read as this mnemonic with the operands after it; each mnemonic is a constant text, so
--- each case holds by computation
+-- A statement whose mnemonic is followed by a blank (32) is read as this mnemonic with the operands after it. Each mnemonic is a constant text, so
+-- each case holds by computation.
 pub read-name : (i : Instr) (rest : List ℕ) → statement_at (name_of i ++ 32 ∷ rest) ≡ statement_of (mnemonic_of i) (operands_in (32 ∷ rest))
 unfolding statement_at mnemonics is_name is_name_byte
 read-name (instr.Lui a b) rest = refl

@@ -165,7 +165,7 @@ pub script_influence : ScriptInfluenceLaw
 script_influence i j image image_too setup setup_too before before_too lines others =
     go (started image setup) (started image_too setup_too) (started_keeps image setup) (started_keeps image_too setup_too) (started_legal image setup)
     (started_legal image_too setup_too) where
-      -- the law holds for the two starts a and b, each of which is a bench or an error
+      -- the law holds for the two starts a and b, which are benches or errors
       go : (a b : Result BenchState BenchFault) → IfOk a (λ s. TargetInvariant s.target) → IfOk b (λ s. TargetInvariant s.target)
           → IfOk a (λ s. IsLegalTarget s.target) → IfOk b (λ s. IsLegalTarget s.target) → IfOk a (λ first. IfOk b (λ second.
           RestsAreSame i j (state_after bench_line first before) (state_after bench_line second before_too) lines others))
