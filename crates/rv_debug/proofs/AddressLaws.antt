@@ -17,7 +17,7 @@ among-filter p x (y ∷ ys) = go (p y) refl (y == x) refl (among-filter p x ys) 
   go false fails true is more = let e : y ≡ x = grind arith in let px : p x ≡ false = sym (ap p e) ∙ fails in rw px (rw px at more)
   go false fails false is more = more
 
--- the inserted address, and the previous members
+-- after an insertion, the members of the set are the inserted address and the previous members
 pub among-with : (x address : ℕ) (xs : List ℕ) → is_among x (with_address address xs) ≡ ((address == x) || is_among x xs)
 among-with x address xs =
     list_any-append (λ a. a == x) (filter (λ a. ltb a address) xs) (address ∷ filter (λ a. ltb address a) xs)
@@ -26,6 +26,6 @@ among-with x address xs =
       joined : (there : Bool) → ((ltb x address && there) || ((address == x) || (ltb address x && there))) ≡ ((address == x) || there)
       joined there = grind (arith, nat_tests)
 
--- the previous members, except the removed address
+-- after a removal, the members of the set are the previous members without the removed address
 pub among-without : (x address : ℕ) (xs : List ℕ) → is_among x (without_address address xs) ≡ (not (x == address) && is_among x xs)
 among-without x address xs = among-filter (λ a. not (a == address)) x xs

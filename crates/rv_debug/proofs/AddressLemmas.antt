@@ -88,7 +88,7 @@ found-is x xs (Err i) place = sym (among-not x xs i place)
 
 -- ---- an address inserted at its index: the lower addresses before it, the higher ones after it
 
--- its index without the first address, which is above it or below it
+-- an address that would be inserted before the first address of a list would also be inserted before the rest of the list
 place_first : (x y : ℕ) (ys : List ℕ) → HasPlace (y ∷ ys) x zero → HasPlace ys x zero
 place_first x y ys place = record {
   within = omega arith;

@@ -10,17 +10,17 @@ use Rattle.rv_debug.proofs.ExecuteAlike.{equiv_again, noninterference}
 use Rattle.rv_debug.proofs.EffectsInvariant.{keeps_monitor}
 
 module _ (e : ℕ) where
-  -- both benches unchanged, after a command that is not blind
+  -- both benches are unchanged after a command that is not blind
   abbrev pub stopped : BenchState → BenchState → BothExecuted
   stopped a b = record { first = a; second = b; first_reply = []; second_reply = []; why = NotBlind }
 
-  -- both benches after a command that both execute
+  -- `done` is the result of a command that both benches execute
   abbrev pub done : BenchState → BenchState → Command → BothExecuted
   done a b c = both_do e (execute a c) (execute b c)
 
   -- ---- one command
 
-  -- both benches execute a command that is blind in both; neither executes any other
+  -- both benches execute a command that is blind in both benches, and neither bench executes any other command
   one_cases : (a b : BenchState) (c : Command)
       → (((is_blind e a c && is_blind e b c) ≡ false) × (both_execute e a b c ≡ stopped a b))
       ⊎ ((is_blind e a c ≡ true) × (both_execute e a b c ≡ done a b c))

@@ -43,11 +43,11 @@ acts_on : (first second : List Action) (machine : MonitoredMachine)
 acts_on [] second machine = refl
 acts_on (action ∷ first) second machine = acts_on first second (after_action action machine)
 
--- the bench over a target, with these breakpoints and watchpoints
+-- `bench_over` is the bench over a target, with the given breakpoints and watchpoints
 abbrev bench_over : List ℕ → List ℕ → Target → BenchState
 bench_over breaks watches target = record { target = target; breaks = breaks; watches = watches }
 
--- commands act on the machine by their actions, for each target
+-- commands act on the machine of a target, if it has one, by their actions
 acts_in : (target : Target) (breaks watches : List ℕ) (commands : List Command) → IfSome (machine_in target) (λ machine.
     let bench = bench_over breaks watches target in
     machine_in (after_commands bench commands).target ≡ Some (after_actions (actions_of bench commands) machine))
@@ -76,7 +76,7 @@ occur (LineOf hart raised ∷ more) machine = occur more (with_timer hart machin
 occurs_in : (bench : BenchState) (commands : List Command) (list : List Event) → IfSome (machine_in bench.target) (λ machine.
     actions_of bench commands ≡ map Occurs list → machine_in (after_commands bench commands).target ≡ Some (events list machine).state)
 occurs_in bench commands list = go (machine_in bench.target) (acts_in bench.target bench.breaks bench.watches commands) where
-  -- the machine as an option
+  -- `some` is the machine as an option
   some : MonitoredMachine → Option MonitoredMachine
   some machine = Some machine
 

@@ -45,7 +45,7 @@ record Alike (e : ℕ) (first second : Executed) : Type 0 where
   pub entered : is_entered e first.entered ≡ is_entered e second.entered
   pub passed : is_entered e first.entered ≡ false → Passes e first second
 
--- the bench over a target, with these breakpoints and watchpoints
+-- `over` is the bench over a target, with the given breakpoints and watchpoints
 abbrev pub over : Target → List ℕ → List ℕ → BenchState
 over target breaks watches = record { target = target; breaks = breaks; watches = watches }
 
@@ -79,7 +79,7 @@ same_lines e did one other equiv not_running =
     ap₂ (λ (line lines : List ℕ). line ++ lines) (same_line e 0 did.first one other equiv not_running)
     (ap₂ (λ (n : ℕ) (line : List ℕ). if nat_lt 1 n then line else []) state.harts (same_line e 1 did.second one other equiv not_running))
 
--- the execution of a schedule
+-- `schedule_executed` is the result of the command `sched`: the bench after the schedule, the summary and the entered slots
 abbrev pub schedule_executed : ℕ → List ℕ → List ℕ → AfterSchedule → Executed
 schedule_executed hart breaks watches after =
     record { state = over (with_selected hart after.state) breaks watches; reply = harts_summary_text after; entered = after.did.entered }
@@ -151,19 +151,19 @@ all_rest e machine none hart = elim (cases_lt hart (count_of machine)) [
 ]
 
 module _ (e hart : ℕ) (one other : MonitoredMachine) (equiv : EquivExcept e one other) (breaks watches : List ℕ) where
-  -- the target with the machine, and with the same selected hart
+  -- `at` is the target with the given machine and an unchanged selected hart
   abbrev at : MonitoredMachine → Target
   at machine = selected_at hart machine
 
-  -- the machine with the selected hart
+  -- `on` is the given machine with the selected hart
   abbrev on : MonitoredMachine → Selected
   on machine = record { hart = hart; state = machine }
 
-  -- the first bench
+  -- `here` is the first bench
   abbrev here : BenchState
   here = over (at one) breaks watches
 
-  -- the second bench
+  -- `there` is the second bench
   abbrev there : BenchState
   there = over (at other) breaks watches
 
@@ -236,7 +236,7 @@ module _ (e hart : ℕ) (one other : MonitoredMachine) (equiv : EquivExcept e on
   poke_execute machine memory =
       executed_with (poke_of (at machine) memory) breaks watches (option_case (option_map (over_memory (at machine)) memory) outside_text (λ after. ok_text))
 
-  -- the same poke is alike in both
+  -- equal pokes are alike in both benches
   poke-alike : (address byte : ℕ)
       → Alike e (poke_execute one (write one.shared.memory address (byte ∷ []))) (poke_execute other (write other.shared.memory address (byte ∷ [])))
   poke-alike address byte =

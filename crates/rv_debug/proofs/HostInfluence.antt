@@ -158,7 +158,7 @@ module _ (i j : ℕ) (one other : MonitoredMachine) (point : AreAtOnePoint i j o
     };
   }
 
-  -- both enclaves have the same region
+  -- the two enclaves, of slots i and j, have equal regions
   same_region : region one.shared.table i ≡ region other.shared.table j
   same_region = sym (region_by (slot_at one.shared.table i)) ∙ ap region_of point.identity ∙ region_by (slot_at other.shared.table j)
 
@@ -226,7 +226,7 @@ module _ (i j : ℕ) (first second : BenchState) (commands others : List Command
   abbrev leads : BenchState → List Command → MonitoredMachine → Type 0
   leads bench list machine = machine_in (after_commands bench list).target ≡ Some (after_actions (actions_of bench list) machine)
 
-  -- the law for two monitored machines
+  -- the law of influence holds for two monitored machines
   by_machines : (one other : MonitoredMachine) → IsSound one → IsSound other → leads first commands one → leads second others other
       → (life : IsSameLife i j first second commands others one other)
       → HasSameLife i j life.moves one other (after_commands first commands).target (after_commands second others).target
@@ -242,7 +242,7 @@ module _ (i j : ℕ) (first second : BenchState) (commands others : List Command
             (subst (λ (o : Option MonitoredMachine). IsSomeAnd o (AreAtOnePoint i j (after_actions (first_actions life.moves) one))) (sym end_too) all.point);
       }
 
-  -- the law for two targets, bare or monitored
+  -- the law of influence holds for two targets, where each option is the machine of a target, or `None` if the target is bare
   by_options : (a b : Option MonitoredMachine) → IfSome a Invariant → IfSome b Invariant → IfSome a IsLegalMachine → IfSome b IsLegalMachine
       → IfSome a (leads first commands) → IfSome b (leads second others) → IfSome a (λ one. IfSome b (λ other.
       (life : IsSameLife i j first second commands others one other)

@@ -63,7 +63,7 @@ resumed a = hosted_next 0 (hosted_next 0 (hosted_next 0 (interrupted a)))
 abbrev entered_too : ℕ → MonitoredMachine
 entered_too b = hosted_next 1 (hosted_next 1 (second b))
 
--- the second machine after the refused call of the other hart
+-- `beside` is the second machine after the refused call of the other hart
 abbrev beside : ℕ → MonitoredMachine
 beside b = hosted_next 0 (hosted_next 1 (entered_too b))
 
@@ -74,7 +74,7 @@ record IsOther (hart : ℕ) (machine : MonitoredMachine) : Type 0 where
   low : runs_on 0 hart machine ≡ false
   live : is_live (hosted_next hart machine).shared.table 0 ≡ true
 
--- the enclave runs on a hart whose timer line is clear, over these bytes
+-- the enclave runs on a hart whose timer line is clear, and the memory has the image for this byte of the host
 record IsOwn (hart byte : ℕ) (machine : MonitoredMachine) : Type 0 where
   runs : runs_on 0 hart machine ≡ true
   clear : (hart_state_of hart machine).hart.csrs.timer ≡ false
@@ -84,7 +84,7 @@ record IsOwn (hart byte : ℕ) (machine : MonitoredMachine) : Type 0 where
 abbrev reads_choice : ℕ → MonitoredMachine → Bool
 reads_choice hart machine = not (has (window machine.shared.table 0) 0x80014010 && reads_byte (step_of hart machine).outcome.step.touched 0x80014010)
 
--- the context of a new enclave
+-- `context` is the saved context of a new enclave
 abbrev context : Context
 context = first_context (record {
   region = record { base = 0x80018000; size = 0x1000 };
@@ -124,7 +124,7 @@ record SecondIs (b : ℕ) : Type 0 where
   stores : IsOwn 1 b (beside b)
   stored : slice_index (hosted_next 1 (beside b)).shared.memory 0x14008 ≡ 7
 
--- the facts of the first machine, for each byte
+-- the first machine has the facts of `FirstIs`, whatever byte its enclave has
 first_is : (a : ℕ) → FirstIs a
 unfolding at_start step_of monitored_step handled call_handled called performed created create_refusals is_valid_block is_window overlaps is_entry
     free_slot call_requested first_context layout entry_at step request executed retired_or_trapped from_access from_decode from_fetch written_csr csr_changed
@@ -148,7 +148,7 @@ first_is a = record {
   stored = refl;
 }
 
--- the facts of the second machine, for each byte
+-- the second machine has the facts of `SecondIs`, whatever byte its enclave has
 second_is : (b : ℕ) → SecondIs b
 unfolding at_start step_of monitored_step handled call_handled called performed created create_refusals is_valid_block is_window overlaps is_entry
     free_slot call_requested first_context layout entry_at step request executed retired_or_trapped from_access from_decode from_fetch written_csr csr_changed
@@ -230,7 +230,7 @@ equal_of hidden a b m n one other hides = rw (one, other) (equal_but hidden a b 
 
 -- ---- the law
 
--- both enclaves are at one point after create
+-- the two enclaves are at the same point of their lives after the call `create`
 at_one_point : (a b : ℕ) → AreAtOnePoint 0 0 (first a) (second b)
 at_one_point a b =
     let x = first_is a in

@@ -73,7 +73,7 @@ both_second : (harts : List ℕ) → second_steps (both harts) ≡ harts
 both_second [] = refl
 both_second (hart ∷ harts) = ap (λ (hs : List ℕ). hart ∷ hs) (both_second harts)
 
--- these steps of both are moves, after which the machines are equivalent in the guest view
+-- the steps of these harts are low in both machines, and are moves that leave the machines equivalent in the guest view
 pub record AreLowMoves (e : ℕ) (harts : List ℕ) (one other : MonitoredMachine) : Type 0 where
   pub low : AreLowSteps e harts one
   moves : AreMoves e (both harts) one other
@@ -114,7 +114,7 @@ low_schedule e (hart ∷ harts) one other did here there equiv none passed =
 
 -- ---- runs
 
--- both runs execute this many steps after `before`, and end alike
+-- both runs execute `count` steps after the first `before` steps, and end alike
 record IsLowRun (e hart before : ℕ) (one other : MonitoredMachine) (a b : AfterRun MonitoredMachine) : Type 0 where
   count : ℕ
   steps : a.ran.steps ≡ before + count
@@ -126,7 +126,7 @@ module _ (e hart : ℕ) (breaks watches : List ℕ) where
   abbrev on : ℕ → AfterSteps MonitoredMachine → AfterRun MonitoredMachine
   on left before = run (hart_stepped hart) (hart_pc hart) breaks watches left before
 
-  -- the same steps so far, with another machine
+  -- the number of steps and the outcomes so far are unchanged, with another machine
   abbrev with_state : AfterSteps MonitoredMachine → MonitoredMachine → AfterSteps MonitoredMachine
   with_state before state = record before { state = state }
 
@@ -144,7 +144,7 @@ module _ (e hart : ℕ) (breaks watches : List ℕ) where
   abbrev Low : AfterSteps MonitoredMachine → MonitoredMachine → AfterRun MonitoredMachine → AfterRun MonitoredMachine → Type 0
   Low before other a b = is_entered e a.ran.entered ≡ false → IsLowRun e hart before.steps before.state other a b
 
-  -- both harts are at the same pc
+  -- the pcs of the hart are equal in both machines, if the enclave does not run on the hart
   pc_alike : (one other : MonitoredMachine) → EquivToGuests e one other → runs_on e hart one ≡ false → hart_pc hart one ≡ hart_pc hart other
   pc_alike one other equiv low =
       let pc : HartState → ℕ = λ s. s.hart.pc in
@@ -193,11 +193,11 @@ module _ (e hart : ℕ) (breaks watches : List ℕ) where
 
 module _ (e hart : ℕ) (one other : MonitoredMachine) (here : Invariant one) (there : Invariant other) (related : AreRelated e one other)
     (window_equal : runs one.shared.table e ≡ true → SameWindow e one other) (breaks watches : List ℕ) where
-  -- the target with the machine, and with the same selected hart
+  -- `at` is the target with the given machine and an unchanged selected hart
   abbrev pub at : MonitoredMachine → Target
   at machine = selected_at hart machine
 
-  -- the bench with the machine
+  -- `bench` is the bench with the given machine
   abbrev bench : MonitoredMachine → BenchState
   bench machine = over (at machine) breaks watches
 

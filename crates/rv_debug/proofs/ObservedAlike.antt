@@ -114,7 +114,7 @@ runs_alike e hart one other breaks watches count here there related steps stop =
 
 -- ---- schedules
 
--- the target after a schedule, with some hart selected
+-- `after` is the target after a schedule, with some hart selected
 record IsScheduled (harts : List ℕ) (machine : MonitoredMachine) (after : Target) : Type 0 where
   hart : ℕ
   is : after ≡ selected_at hart (sched harts machine).state
@@ -130,12 +130,12 @@ scheduled (hart ∷ harts) machine did =
     (with_scheduled_step hart before (target_stepped (with_selected hart before.state))).did in
     record { hart = rest.hart; is = rest.is }
 
--- the observed summary of a hart
+-- `hart_line` is the observation of the summary of one hart
 abbrev hart_line : ℕ → MonitoredMachine → ℕ → HartRan → List ℕ
 hart_line e machine hart ran =
     let s = hart_state_of hart machine in unless (runs_on e hart machine) (hart_text hart s.hart.pc s.hart.mode (world_name s.world) ran)
 
--- the observed summaries of all harts
+-- `hart_lines` is the observation of the summaries of all harts
 abbrev hart_lines : ℕ → MonitoredMachine → HartRan → HartRan → List ℕ
 hart_lines e machine first second = hart_line e machine 0 first ++ (if nat_lt 1 (count_of machine) then hart_line e machine 1 second else [])
 

@@ -27,7 +27,7 @@ module _ (hart byte : ℕ) (machine : MonitoredMachine) (kept : Invariant machin
       ≡ is_accessible machine.shared.memory machine.shared.table (hart_state_of hart machine).world Write (byte ∷ [])
   accessible = access_control_law (hart_view hart machine) S Write byte Byte (hart_view_invariant hart machine kept exists) (λ same. cc) inside
 
-  -- the table
+  -- `slots` is the enclave table
   abbrev slots : Slots
   slots = machine.shared.table
 

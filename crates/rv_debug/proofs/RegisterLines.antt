@@ -11,7 +11,7 @@ range_with_len-suc : (a n last : ℕ) → a + n ≡ last → range_with_len a (s
 range_with_len-suc a zero last is = ap (λ k. k ∷ []) (omega arith)
 range_with_len-suc a (suc n) last is = ap (λ t. a ∷ t) (range_with_len-suc (a + 1) n last (omega arith))
 
--- the text of one more number
+-- the texts of the numbers from 0 to n are those of the numbers below n, followed by the text of n
 pub flat_map-range_more : (f : ℕ → List ℕ) (old : List ℕ) (n : ℕ)
     → (old ++ flat_map f (range_with_len 0 n)) ++ f n ≡ old ++ flat_map f (range_with_len 0 (n + 1))
 flat_map-range_more f old n =

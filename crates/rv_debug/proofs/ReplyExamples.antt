@@ -110,7 +110,7 @@ pub ok_text-example : ok_text ++ full_text ≡ codes "ok\nerror full\n"
 unfolding ok_text full_text
 ok_text-example = refl
 
--- a bare machine with these CSRs
+-- `alone` is a bare machine with the given CSRs
 abbrev alone : CsrState → Target
 alone csrs = Bare (record { hart = record { regs = []; pc = 0; mode = M; csrs = csrs }; memory = [] })
 
@@ -126,7 +126,7 @@ csr_reply-examples = refl
 abbrev four_bytes : Entries
 four_bytes = record { cfgs = 0x15 ∷ replicate 15 0; addrs = 0x20000040 ∷ replicate 15 0 }
 
--- the same entry with the L bit set
+-- `four_locked` is the entry of `four_bytes` with the L bit set
 abbrev four_locked : Entries
 four_locked = record { cfgs = 0x95 ∷ replicate 15 0; addrs = 0x20000040 ∷ replicate 15 0 }
 

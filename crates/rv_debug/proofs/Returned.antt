@@ -24,7 +24,7 @@ sched_on (named ∷ before) rest machine = sched_on before rest (step_of named m
 
 -- ---- effects
 
--- the host's saved context on a hart of a target
+-- `host_in` is the host's saved context on a hart of a target
 abbrev host_in : ℕ → Target → Option Context
 host_in hart target = option_case (machine_in target) None (host_on hart)
 
@@ -50,7 +50,7 @@ host_after hart machine (OneByte address byte) = poke_host hart machine (write m
 
 -- ---- the step with which the enclave exits
 
--- the host's saved context of a view
+-- `kept_at` is the host's saved context of a hart view
 abbrev kept_at : HartView → Option Context
 kept_at entry = Some (saved entry.hart_state.hart (past_ecall entry.hart_state.hart) S)
 
@@ -65,7 +65,7 @@ leaves_within hart harts machine entry exit kept host_on_is leaves =
     (comes_back hart entry here (sched_invariant leaves.before machine kept) (subst KeptStored (sym same) leaves.stored) (same ∙ host_on_is)
     (last_runs hart leaves.before machine leaves.runs) host)
 
--- the bench over a target, with these breakpoints and watchpoints
+-- `bench_of` is the bench over a target, with the given breakpoints and watchpoints
 abbrev bench_of : Target → List ℕ → List ℕ → BenchState
 bench_of target breaks watches = record { target = target; breaks = breaks; watches = watches }
 

@@ -49,7 +49,7 @@ schedule_enters_none (hart ∷ harts) before bare =
 
 -- ---- all scheduled steps
 
--- the harts of the digits from index n on
+-- `rest` has the harts of the digits from index n on
 abbrev pub rest : ℕ → List ℕ → List ℕ
 rest n digits = map hart_of_digit (drop n digits)
 

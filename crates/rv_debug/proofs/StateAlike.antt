@@ -34,7 +34,7 @@ past_equiv e hart breaks watches start one other past =
 
 module _ (e hart : ℕ) (one other : MonitoredMachine) (equiv : SelectedEquivExcept e (record { hart = hart; state = one }) (record { hart = hart; state = other }))
     (breaks watches : List ℕ) where
-  -- the machine with the selected hart
+  -- `on` is the given machine with the selected hart
   abbrev on : MonitoredMachine → Selected
   on machine = record { hart = hart; state = machine }
 

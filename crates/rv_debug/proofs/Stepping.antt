@@ -39,7 +39,7 @@ run_induction {A} step pc breaks watches P ends goes (suc left) before =
 
 -- ---- one step of a run
 
--- this is the next step of a run, with the last trap and the entered slots after it
+-- `last` is the next step of a run, and `trap` and `entered` are the last trap and the entered slots after the step
 pub record IsNextStep {A : Type 0} (step : A → Stepped A) (before : AfterSteps A) (last : Stepped A) (trap : Option Trap) (entered : ℕ) : Type 0 where
   pub steps : step before.state ≡ last
   pub trap_is : trap ≡ option_or last.outcome.trap before.trap

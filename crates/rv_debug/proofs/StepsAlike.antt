@@ -34,22 +34,22 @@ enters-now e slots entered entered_is =
 
 -- ---- runs
 
--- both runs entered slot e
+-- both runs entered the enclave of slot e
 pub record BothIn (e : ℕ) (one other : AfterRun MonitoredMachine) : Type 0 where
   pub here : is_entered e one.ran.entered ≡ true
   pub there : is_entered e other.ran.entered ≡ true
 
--- both executed the same steps, are equivalent again, and the selected hart does not run the enclave
+-- both runs executed equal steps and left equivalent machines, and the selected hart does not run the enclave
 pub record BothPast (e hart : ℕ) (one other : AfterRun MonitoredMachine) : Type 0 where
   pub ran : one.ran ≡ other.ran
   pub state : EquivExcept e one.state other.state
   pub not_running : runs_on e hart one.state ≡ false
 
--- both runs enter the enclave, or neither does and both are alike
+-- either both runs enter the enclave, or neither enters it and both have equal results
 abbrev pub RunAlike : ℕ → ℕ → AfterRun MonitoredMachine → AfterRun MonitoredMachine → Type 0
 RunAlike e hart one other = BothIn e one other ⊎ BothPast e hart one other
 
--- the same steps so far, with another machine
+-- the number of steps and the outcomes so far are unchanged, with another machine
 abbrev with_state : AfterSteps MonitoredMachine → MonitoredMachine → AfterSteps MonitoredMachine
 with_state before state = record before { state = state }
 

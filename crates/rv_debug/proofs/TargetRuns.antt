@@ -42,7 +42,7 @@ module _ {A : Type 0} (target : A → Target) (step : A → Stepped A) (pc : A �
       → run target_stepped pc_of breaks watches count (no_steps (target machine)) ≡ record { state = target after; ran = ran }
   runs-in count machine after ran run_is = run-in count (no_steps machine) ∙ ap (target_of target) run_is
 
--- the pc of the bare machine
+-- `machine_pc` is the pc of a bare machine
 abbrev pub machine_pc : Machine → ℕ
 machine_pc machine = machine.hart.pc
 
@@ -52,7 +52,7 @@ hart_stepped hart machine =
     let after = step_of hart machine in
     record { state = after.state; outcome = after.outcome.step; entered = after.outcome.entered }
 
--- the pc of the hart
+-- `hart_pc` is the pc of a hart
 abbrev pub hart_pc : ℕ → MonitoredMachine → ℕ
 hart_pc hart machine = (hart_state_of hart machine).hart.pc
 
@@ -85,7 +85,7 @@ enters_none breaks watches count machine after ran run_is =
 
 -- ---- the selected hart
 
--- the pc of the selected hart
+-- `selected_pc` is the pc of the selected hart
 abbrev pub selected_pc : Selected → ℕ
 selected_pc selected = (selected_hart_state selected).hart.pc
 
