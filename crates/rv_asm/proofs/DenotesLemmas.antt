@@ -101,7 +101,7 @@ once before line name has_name none = none_from_is_some (place_in before name) (
   untold true has_name = cc
   untold false has_name = refl
 
--- the line that defines a label
+-- a line of `all` defines the label `name`, and `place` is the number of words before this line
 abbrev FoundIn : List Reading → List ℕ → ℕ → Type 0
 FoundIn all name place =
     (before : List Reading) × (line : Line) × ((after : List Reading) × (all ≡ before ++ Ok line ∷ after)) × (line.label ≡ Some name)

@@ -26,7 +26,7 @@ pub none_from_is_some : {A : Type 0} (o : Option A) → is_some o ≡ false → 
 none_from_is_some None none = refl
 none_from_is_some (Some x) none = cc
 
--- the address of a label after one more line with it, or without
+-- one more line changes the address of a label only if the line has the label (b). No line before it has the label then.
 added : (b : Bool) (old : Option ℕ) (words : ℕ) → (b ≡ true → old ≡ None) → cond b (Some words) old ≡ option_case old (cond b (Some words) None) Some
 added true old words none = rw (none refl) refl
 added false old words none = sym (option_case-some old)
@@ -90,11 +90,11 @@ first_fault-push fault before (first ∷ lines) line =
 
 -- ---- the first pass reads one more line
 
--- the number of words with one more line
+-- one more line adds its words to the number of words
 words_in-push : (lines : List Reading) (line : Reading) → words_in (lines ++ line ∷ []) ≡ words_in lines + line_size line
 words_in-push lines line = sum_by_push line_size lines line
 
--- the first repeated label after one more line, by whether it is repeated
+-- the first repeated label after one more line is the earlier one, or else the new one if the label is already there (`there`)
 twice-next : (there : Bool) (repeated : Option ℕ) (count : ℕ)
     → option_case (option_map label_twice repeated) (option_map (fault_after count) (if there then Some LabelTwice else None)) Some
     ≡ option_map label_twice (if there then option_case repeated (Some (count + 1)) Some else repeated)
@@ -103,7 +103,7 @@ twice-next true (Some line) count = refl
 twice-next false None count = refl
 twice-next false (Some line) count = refl
 
--- the first repeated label after one more line
+-- the first repeated label after one more line is the one that the pass has then
 repeated-next : (pass : FirstPass) (before : List Reading) (label : Option (List ℕ)) → HasRead pass before
     → option_case (first_line_fault label_fault [] before) (option_map (fault_after (length before)) (repeated_name before label)) Some
     ≡ option_map label_twice (repeated_with pass label)

@@ -17,7 +17,7 @@ use Rattle.rv_asm.specs.declared.statement.Statement.{Statement}
 use Rattle.rv_asm.specs.declared.statement.Statement.TheVariants.{Instruction, Word}
 use Rattle.rv_asm.proofs.Plain.{is_plain, after_blanks-start}
 
--- a plain byte, a comma or a space
+-- a byte of a line is a plain byte, a comma or a space
 abbrev pub is_line_byte : ℕ → Bool
 is_line_byte b = is_plain b || b == 44 || b == 32
 

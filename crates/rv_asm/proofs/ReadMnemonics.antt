@@ -19,7 +19,7 @@ use Rattle.rv_asm.proofs.Plain.{is_piece, IsPiece, IsPiece-from_test}
 
 -- ---- the mnemonic of an instruction
 
--- the mnemonic of an instruction
+-- each instruction has a mnemonic
 abbrev pub mnemonic_of : Instr → Mnemonic
 mnemonic_of (instr.Lui a b) = mnemonic.Lui
 mnemonic_of (instr.Auipc a b) = mnemonic.Auipc

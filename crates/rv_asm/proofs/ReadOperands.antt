@@ -123,7 +123,7 @@ read-csr n small = let written = written-hex 3 n (omega arith) (omega arith) (om
 
 -- ---- signed numbers
 
--- `-` or a digit, or one of `.` and `/`
+-- a byte of a signed number is `-`, a digit, or one of `.` and `/` (a test by range that is wide enough here)
 abbrev is_signed : ℕ → Bool
 is_signed b = nat_le 45 b && nat_le b 57
 
@@ -141,10 +141,11 @@ signed-plain (c ∷ text) signed =
     let parts = and_parts (is_signed c) (list_all is_signed text) signed in
     and_from _ _ (one parts.0) (signed-plain text parts.1)
   where
+    -- a byte of a signed number is plain
     one : is_signed c ≡ true → is_plain c ≡ true
     one here = grind (arith, nat_tests)
 
--- the text of a signed number: up to 9 digits, with a minus or without
+-- a signed number has up to 9 digits, with a minus or without
 pub record IsSignedText (text : List ℕ) : Type 0 where
   pub some : 0 < length text
   pub short : length text ≤ 9
@@ -207,7 +208,7 @@ read-target width field small wide =
 
 -- ---- addresses
 
--- the text of a base register in parentheses
+-- `base_text` is the text of a base register in parentheses
 abbrev base_text : ℕ → List ℕ
 base_text base = 40 ∷ (register_operand_text base ++ codes ")")
 

@@ -85,7 +85,7 @@ no_name_fault : (words : Result (List ℕ) AsmFaultKind) → IsOk words → resu
 no_name_fault (Ok found) is = refl
 no_name_fault (Err kind) is = cc
 
--- the lines up to and including this one
+-- the readings of the lines up to and including the next one are those before it and its own
 lines_through : (labels : List ℕ → Option ℕ) (words : List ℕ) (lines : ℕ) (text rest after line : List ℕ)
     → (so_far : HasWrittenUpTo labels words lines text rest) → lines_of rest ≡ line ∷ lines_of after
     → take (lines + 1) (readings text) ≡ so_far.before ++ line_read line ∷ []
@@ -106,7 +106,7 @@ none_through labels words lines text rest after line so_far lines_are passes =
     let here : name_fault labels so_far.before this ≡ None = no_name_fault (line_words labels (words_in so_far.before) this) (rw (← so_far.place) passes) in
     ap (first_line_fault (name_fault labels) []) prefix ∙ (first_fault-push (name_fault labels) [] so_far.before this ∙ rw (so_far.none, here) refl)
 
--- this line has words, and they follow those of the lines before it
+-- if the next line has words, they follow the words of the lines before it
 words_through : (labels : List ℕ → Option ℕ) (words : List ℕ) (lines : ℕ) (text rest after line : List ℕ)
     → (so_far : HasWrittenUpTo labels words lines text rest) → lines_of rest ≡ line ∷ lines_of after → 0 < line_size (line_read line)
     → words_in (take (lines + 1 - 1) (readings text)) < words_in (take (lines + 1) (readings text))

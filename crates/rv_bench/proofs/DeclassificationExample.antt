@@ -35,7 +35,7 @@ use Rattle.rv_bench.proofs.Declassified.{secret_declassification}
 abbrev script : List ℕ
 script = codes "poke 80020000 41\nsetreg 9 5ec2e701\nregs\n"
 
--- the same script with another secret
+-- `other_script` is the script above with another secret
 abbrev other_script : List ℕ
 other_script = codes "poke 80020ffc 5a\nsetreg 5 0badc0de\nregs\n"
 

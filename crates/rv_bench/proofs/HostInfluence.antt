@@ -84,24 +84,24 @@ HasEntry plan = IfOk plan (λ plan. aligned_to_4 plan.entry ≡ plan.entry)
 -- the entry of each plan is a multiple of 4
 planned_entry : (image : List ℕ) (setup : Setup) → HasEntry (planned image setup)
 planned_entry image setup = either (is_read_as_elf setup.kind image) where
-  -- the plan of these segments and this entry, without an error
+  -- `ok_plan` is the plan with these segments and this entry, without an error
   ok_plan : List Segment → ℕ → Result LoadPlan ElfFault
   ok_plan segments entry =
       Ok (record { segments = segments; entry = entry; image_size = length image; ram_size = setup.ram; monitored = setup.monitored })
 
-  -- the entry of the plan of a file
+  -- the entry of the plan of an ELF file is a multiple of 4, if the file has no error (o)
   from_file : (o : Option ElfFault) → file_fault image setup.ram setup.monitored ≡ o
       → HasEntry (option_case o (ok_plan (occupying (segments_of image)) (e_entry image)) Err)
   from_file None none = file_entry image setup.ram setup.monitored none
   from_file (Some fault) is = tt
 
-  -- the entry of the plan of a raw image
+  -- the entry of the plan of a raw image is a multiple of 4, if the image has no error (o)
   from_raw : (o : Option ElfFault)
       → HasEntry (option_case o (ok_plan (raw_segments (length image) setup.monitored) (first_address setup.monitored)) Err)
   from_raw None = first_aligned setup.monitored
   from_raw (Some fault) = tt
 
-  -- the entry of the plan, by the kind of the image
+  -- the entry of the plan is a multiple of 4, whether the image is read as an ELF file or as raw bytes
   either : (elf : Bool)
       → HasEntry (cond elf (file_plan image setup.ram setup.monitored) (raw_plan (length image) setup.ram setup.monitored))
   either true = from_file (file_fault image setup.ram setup.monitored) refl
@@ -195,7 +195,7 @@ unfolding parse_of is_text meaning_of words_of keyword_of
 timer_parsed true = refl
 timer_parsed false = refl
 
--- the commands of two lines and those after them
+-- if two lines are read as two commands, the commands of all lines are these two and those of the lines after them
 two_commands : (line other : List ℕ) (lines : List (List ℕ)) (first second : Command) → parse_of line ≡ Ok first → parse_of other ≡ Ok second
     → commands_of (line ∷ other ∷ lines) ≡ first ∷ second ∷ commands_of lines
 two_commands line other lines first second parsed is_too = rw (parsed, is_too) refl

@@ -21,11 +21,11 @@ use Rattle.rv_bench.specs.Stream.{RunsStream}
 use Rattle.rv_bench.specs.Twin.{RunsTwin}
 
 module _ {S W : Type 0} (g : SourceGhosts S) (h : SinkGhosts W) (source left : S) (before after : W) where
-  -- the sink took exactly this text
+  -- the sink took exactly this text in the call
   abbrev Wrote : List ℕ → Type 0
   Wrote text = h.taken after ≡ h.taken before ++ text
 
-  -- the sink took a prefix of this text
+  -- the sink took a prefix of this text in the call
   abbrev WrotePrefix : List ℕ → Type 0
   WrotePrefix text = WritesPrefix (h.taken before) (h.taken after) text
 

@@ -129,12 +129,12 @@ module _ (e : ℕ) where
       subst (λ (l : List ℕ). Alike (execute_line first line) (execute_line second l)) passes.0
       (line_alike first second line kept kept' equiv passes.1 by)
 
-  -- lines of either bench
+  -- the replies to two lists of lines are equal, and the benches after them are equivalent except for the enclave
   record PokedAlike (first second : BenchState) (lines others : List (List ℕ)) : Type 0 where
     pub text : replies bench_line first lines ≡ replies bench_line second others
     pub equiv : BenchesEquivExcept e (state_after bench_line first lines) (state_after bench_line second others)
 
-  -- lists of such lines have equal replies
+  -- two lists of lines that differ in pokes into the region have equal replies
   pokes_alike : (first second : BenchState) (lines others : List (List ℕ)) → TargetInvariant first.target → TargetInvariant second.target
       → BenchesEquivExcept e first second → EachLineAvoidsHart e first lines → DifferInPokes e first second lines others → PokedAlike first second lines others
   pokes_alike first second [] [] kept kept' equiv by differ = record { text = refl; equiv = equiv }
@@ -156,7 +156,7 @@ module _ (e : ℕ) where
     go (Ok command) pokes = poked_rests e bench command kept not_running pokes
     go (Err fault) pokes = absurd pokes
 
-  -- such a line leaves the enclave on no hart
+  -- a line that pokes into the region, or avoids the enclave, leaves the enclave on no hart
   poke_or_pass_rests : (first second : BenchState) (line other : List ℕ) → TargetInvariant first.target → RunsOnNoHart e first.target
       → PokeOrPass e first second line other → LineAvoidsHart e first line × RunsOnNoHart e (execute_line first line).state.target
   poke_or_pass_rests first second line other kept not_running (inl pokes) =
@@ -239,7 +239,7 @@ bench_keeps setup input = go (image_in input) where
 
 module _ (setup : Setup) (e : ℕ) (prefix secret another rest : List ℕ) (whole : through_last_feed prefix ≡ prefix) (separated : has_separator prefix ≡ true)
     (whole_secret : through_last_feed secret ≡ secret) (whole_another : through_last_feed another ≡ another) where
-  -- the output for an input with this prefix
+  -- the output for an input with this prefix is the replies to the lines of the prefix, of the text after it, and of the rest
   output_is : (text : List ℕ) → through_last_feed text ≡ text
       → output setup (prefix ++ (text ++ rest)) ≡ replies_of (bench_in setup prefix) (lines_of (after_separator prefix) ++ (lines_of text ++ lines_of rest))
   output_is text all =

@@ -58,7 +58,7 @@ silent_state slot pair (line ∷ lines) over = rw (silent slot pair line over) (
 
 -- ---- a script
 
--- the text of a script with a line that entered the slot
+-- the text of a script whose first `lines` entered the slot is the replies to these lines
 pub entered_script : (slot : ℕ) (start now : Pair) (lines others : List (List ℕ)) (unread : List ℕ) → now ≡ state_after (pair_line slot) start lines
     → now.entered ≡ true → lines_of unread ≡ lines ++ others → script_text slot start (lines_of unread) ≡ replies (pair_line slot) start lines
 entered_script slot start now lines others unread now_is over all =

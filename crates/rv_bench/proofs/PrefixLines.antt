@@ -19,7 +19,7 @@ module _ (found : List ℕ → Bool) where
   abbrev before : List (List ℕ) → List (List ℕ)
   before lines = take_while (λ line. not (found line)) lines
 
-  -- these lines depend on a prefix with such a line only
+  -- the lines before the first that passes the test depend only on a prefix that has such a line
   before-append : (xs ys : List (List ℕ)) → list_any found xs ≡ true → before (xs ++ ys) ≡ before xs
   before-append [] ys some_pass = cc
   before-append (x ∷ xs) ys has_found =
@@ -31,7 +31,7 @@ module _ (found : List ℕ → Bool) where
         go true has_found more = refl
         go false has_found more = ap (λ t. x ∷ t) (more has_found)
 
-  -- these lines are fewer, if there is such a line
+  -- the lines before the first that passes the test are fewer than all lines, if there is such a line
   before-shorter : (xs : List (List ℕ)) → list_any found xs ≡ true → length (before xs) + 1 ≤ length xs
   before-shorter [] some_pass = cc
   before-shorter (x ∷ xs) has_found =
@@ -45,7 +45,7 @@ module _ (found : List ℕ → Bool) where
 
 -- ---- whole lines
 
--- the rest of a text of whole lines is one, and has a line feed if its first byte is none
+-- in a text of whole lines, the first byte or a later one is a line feed, and the rest consists of whole lines
 whole_tail : (x : ℕ) (xs : List ℕ) → through_last_feed (x ∷ xs) ≡ x ∷ xs → (nat_eq x 10 || has_feed xs ≡ true) × (through_last_feed xs ≡ xs)
 whole_tail x xs = go (nat_eq x 10 || has_feed xs) where
   -- a text of whole lines has a line feed in x or after it, where `b` states whether it has one, and its rest consists of whole lines
@@ -53,7 +53,7 @@ whole_tail x xs = go (nat_eq x 10 || has_feed xs) where
   go true is = (refl, ap (drop 1) is)
   go false is = cc
 
--- a text of whole lines without its first line is one
+-- the text after the first line of a text of whole lines consists of whole lines
 after_line-whole : (xs : List ℕ) → through_last_feed xs ≡ xs → through_last_feed (after_line xs) ≡ after_line xs
 after_line-whole [] whole = refl
 after_line-whole (x ∷ xs) whole = let all = (whole_tail x xs whole).1 in go (nat_eq x 10) all (after_line-whole xs all) where

@@ -120,7 +120,7 @@ module _ {A : Type 0} {by : Responding A} {end : ScriptEnd} {start : A} {unread 
 
 module _ {A : Type 0} {by : Responding A} {end : ScriptEnd} {start : A} {unread old mid : List ℕ} {after : A} {rest : List ℕ}
     {ends : Bool} {reply : List ℕ} (next : RespondsToNext by end start unread old mid after rest ends reply) where
-  -- the lines so far, with one more
+  -- `lines` has the lines so far, and one more
   abbrev lines : List (List ℕ)
   lines = next.so_far.lines ++ next.takes.line ∷ []
 

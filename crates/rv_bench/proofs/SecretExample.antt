@@ -29,7 +29,7 @@ key = codes "poke 80020000 41\n# that was the key\n"
 abbrev other_key : List ℕ
 other_key = codes "poke 80020ffc 5a\n# that was the key\n"
 
--- the rest of the script
+-- `rest` is the rest of the script
 abbrev rest : List ℕ
 rest = codes "enclaves\nregs\n"
 

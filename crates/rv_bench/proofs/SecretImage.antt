@@ -16,7 +16,7 @@ use Rattle.rv_debug.specs.SecretRun.{calling_host}
 abbrev pub loaded : List ℕ
 loaded = replicate 65536 0 ++ (calling_host ++ replicate 65512 0)
 
--- the segment of the raw image
+-- `segment` is the segment of the raw image
 abbrev segment : Segment
 segment = record { offset = 0; address = 0x80010000; file_size = 24; memory_size = 24 }
 
@@ -24,7 +24,7 @@ segment = record { offset = 0; address = 0x80010000; file_size = 24; memory_size
 abbrev byte_at_index : ℕ → ℕ
 byte_at_index address = byte_after calling_host (segment ∷ []) (replicate 131072 0) address
 
--- a byte outside the segment
+-- a byte of RAM outside the segment is 0 after the load
 outside : (i : ℕ) → i < 131072 → has_address (ram_base + i) segment ≡ false → byte_at_index (ram_base + i) ≡ 0
 outside i inside none =
     let index : ram_base + i - ram_base ≡ i = omega arith in

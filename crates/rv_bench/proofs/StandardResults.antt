@@ -58,7 +58,7 @@ one_of_both (suc m) n some = inl (omega arith)
 
 module _ {S W : Type 0} (g : SourceGhosts S) (h : SinkGhosts W) (source left : S) (before after : W) (writer : CallLog)
     (logs : LogsSink h before after writer) where
-  -- the program's output passed to standard output
+  -- standard output gets the output of the program
   passed : (output : ProgramOutput) (status : ℕ) → Writes g h source left before after output status → Passed writer output status
   passed output status writes = let worked = writes.sink.worked in record {
     bytes = sym (logs.taken writes.sink.flushed) ∙ (writes.written ∙ ap (λ taken. taken ++ output.text) logs.nothing);
@@ -69,7 +69,7 @@ module _ {S W : Type 0} (g : SourceGhosts S) (h : SinkGhosts W) (source left : S
     status_is = writes.status_is;
   }
 
-  -- the output for the arguments passed to standard output, or memory ran out
+  -- standard output gets the output for the arguments, or another output if memory runs out
   outputs : (read : Result Job WordsFault) (input : List ℕ) (status : ℕ) → WritesOutput g h source left before after read input status
       → Passed writer (program_output read input) status
       ⊎ ((output : ProgramOutput) × StopsOutOfMemory read input output × Passed writer output status)

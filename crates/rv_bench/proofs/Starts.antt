@@ -23,11 +23,11 @@ pub bench_of-ok : (image : List ℕ) (setup : Setup) (plan : LoadPlan) (zeros me
     → bench ≡ reset_over setup memory entry → Ok bench ≡ bench_of image setup
 bench_of-ok image setup plan zeros memory entry bench plans made loads enters bench_is = rw (plans, bench_is, enters, loads, made) refl
 
--- an image that cannot be loaded
+-- an image that cannot be loaded has its error as the result
 pub bench_of-err : (image : List ℕ) (setup : Setup) (fault : ElfFault) → planned image setup ≡ Err fault → Err fault ≡ bench_of image setup
 bench_of-err image setup fault faulty = rw faulty refl
 
--- the result if there is a RAM
+-- if there is a RAM, the bench of the image starts
 pub started_ok : (image : List ℕ) (setup : Setup) (bench : BenchState) → is_ram_size setup.ram ≡ true → Ok bench ≡ bench_of image setup
     → started image setup ≡ Ok bench
 unfolding started
@@ -39,7 +39,7 @@ pub started_err : (image : List ℕ) (setup : Setup) (fault : ElfFault) → is_r
 unfolding started
 started_err image setup fault valid bench_is = rw (valid, ← bench_is) refl
 
--- a RAM of an invalid size
+-- a RAM of an invalid size is an error
 pub no_ram : (image : List ℕ) (setup : Setup) → is_ram_size setup.ram ≡ false → started image setup ≡ Err (Ram BadSize)
 unfolding started
 no_ram image setup invalid = rw invalid refl

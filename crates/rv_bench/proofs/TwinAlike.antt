@@ -41,7 +41,7 @@ use Rattle.rv_bench.proofs.NoninterferenceLemmas.{bench_keeps}
 use Rattle.rv_bench.proofs.RepliesLemmas.{state_after-append}
 use Rattle.rv_bench.proofs.IntegrityLemmas.{keeps_lines, stream_integrity}
 
--- both benches after a command, as the result of a line
+-- `with_line` is the result of a line whose command had this result on both benches
 abbrev with_line : BothExecuted → BothLine → BothLineExecuted
 with_line after line =
     record { first = after.first; second = after.second; first_reply = after.first_reply; second_reply = after.second_reply; line = line }
@@ -49,11 +49,11 @@ with_line after line =
 module _ (slot : ℕ) where
   -- ---- one command
 
-  -- both benches after a command that both execute
+  -- `done` is the result of a command that both benches execute
   abbrev done : BenchState → BenchState → Command → BothExecuted
   done a b c = both_do slot (execute a c) (execute b c)
 
-  -- both execute a command that is blind in both; neither executes any other
+  -- `after_if` is the result of a command: both benches execute it if it is blind in both, and neither executes any other
   abbrev after_if : Bool → BenchState → BenchState → Command → BothExecuted
   after_if blind a b c = if blind then done a b c else record { first = a; second = b; first_reply = []; second_reply = []; why = NotBlind }
 
@@ -187,7 +187,7 @@ module _ (slot : ℕ) where
     first = (left why).0 ∙ becomes.first ∙ ap (λ (why : BothWhy). after_commands pair.first (done_by_both why command)) why_is;
     second = (left why).1 ∙ becomes.second ∙ ap (λ (why : BothWhy). after_commands pair.second (done_by_both why command)) why_is;
   } where
-    -- the benches of the pair after the command
+    -- the benches of the pair after a line are those after the command, for each reason
     left : (why : BothWhy) → (let end = (of_command command after why pair).state in (end.first ≡ after.first) × (end.second ≡ after.second))
     left All = (refl, refl)
     left Entered = (refl, refl)

@@ -118,7 +118,7 @@ module _ {S W : Type 0} {g : SourceGhosts S} (h : SinkGhosts W) (setup : Setup) 
     has_size = has_ram image (monitored_setup setup) bench starts
 
     module _ (new : Lines S g) (after : W) (script_end : EndsWithSource mid new) where
-      -- the source failed in the first script
+      -- a failure of the source in the first script is the read error of the twin run
       first_read : RunsLines h Separator bench mid new before after (Err Read) → RunsTwin h setup slot old new before after (Err Read)
       first_read run =
           let same = read.through.source in
@@ -134,7 +134,7 @@ module _ {S W : Type 0} {g : SourceGhosts S} (h : SinkGhosts W) (setup : Setup) 
             ),
           )
 
-      -- the sink failed in the first script
+      -- a failure of the sink in the first script is the write error of the twin run
       first_write : RunsLines h Separator bench mid new before after (Err Write) → RunsTwin h setup slot old new before after (Err Write)
       first_write run = (
         has_size,
@@ -163,11 +163,11 @@ module _ {S W : Type 0} {g : SourceGhosts S} (h : SinkGhosts W) (setup : Setup) 
     -- ---- after the first script, the slot is scrambled in the second bench
 
     module _ (ran : RunsFirst h bench mid before) (new : Lines S g) (after : W) (second_end : EndsWithSource ran.next new) where
-      -- the lines after the first script
+      -- `next` has the unread lines after the first script
       abbrev next : Lines S g
       next = ran.next
 
-      -- the bench after the first script
+      -- `then` is the bench after the first script
       abbrev then : BenchState
       then = ran.then
 
@@ -175,7 +175,7 @@ module _ {S W : Type 0} {g : SourceGhosts S} (h : SinkGhosts W) (setup : Setup) 
       abbrev first : RunsLines h Separator bench mid ran.next before ran.between (Ok tt)
       first = ran.runs
 
-      -- the pair after the first script of the text
+      -- `pair_at` is the pair after the first script of a text
       abbrev pair_at : List ℕ → Option Pair
       pair_at scripts = make_pair slot (after_first_script bench scripts)
 

@@ -59,7 +59,7 @@ itself rows = rows
 abbrev of_held : Held → List Row
 of_held h = h.rows
 
--- the rows of a walk over the arguments
+-- `of_walk` has the rows of a walk over the arguments
 abbrev of_walk : Walk → List Row
 of_walk w = w.held.rows
 

@@ -29,7 +29,7 @@ digits [] = ((λ e. tt), (λ h. refl))
 digits (d ∷ ds) = Decides-and _ _ (Decides-ltb (digit_value d) 10) (digits ds)
 
 module _ (bits : ℕ) (text : Text) where
-  -- the value of the digits
+  -- `value` is the value of the digits
   abbrev value : ℕ
   value = digits_value 10 (without_leading_plus text)
 

@@ -116,7 +116,7 @@ module _ (here : Names) (alike : texts here.now ≡ kind_names) where
   nameless : {rows after : List Row} {fault : Kinds} → (fault ≡ [] → Good rows → Good after) → Alike here itself rows (λ _. fault) (λ _. after)
   nameless kept = record { faults = refl; same = refl; kept = kept }
 
-  -- an option with a value
+  -- an option with a value does not depend on the address of the names
   valued_fits : (name : Text) (p : ValueParser) → ((n : Names) → reading_of (with_names n p) ≡ how name)
       → ((v : Text) → accepts false (with_names first p) v ≡ true → is_read name (read_as (how name) v) ≡ true) → Fits here (filled (valued name p))
   valued_fits name p reads each = record { uses = go; default = λ rows. nameless (λ e good. either_good (has_row name rows) rows rows good good) }
@@ -179,7 +179,7 @@ module _ (here : Names) (alike : texts here.now ≡ kind_names) where
 
 -- ---- the program, with the names at any address and at that of the definition
 
--- the word of the subcommand, and the words after it
+-- `stop_at` is the word of the subcommand, and the words after it
 abbrev stop_at : List Text → Option (Text × List Text)
 stop_at words = let a = built rvbench in stop_after a.top.rules (names_of a) (argument_words a words)
 

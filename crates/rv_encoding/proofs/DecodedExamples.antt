@@ -5,7 +5,7 @@ use Rattle.rv_encoding.specs.Decoding.{decoded}
 use Rattle.rv_encoding.specs.declared.kind.OpImmKind.TheVariants.{Addi}
 use Rattle.rv_encoding.specs.declared.instr.Instr.TheVariants.{OpImm, SfenceVma}
 
--- addi x1, x0, -1
+-- the word FFF00093 encodes addi x1, x0, -1
 decoded-addi : decoded 0xfff00093 ≡ Some (OpImm Addi 1 0 0xfff)
 unfolding decoded by_bits
 decoded-addi = refl

@@ -55,7 +55,7 @@ read_whole word =
     else if bits word 31 25 == 0b0001001 && bits word 14 7 == 0 then Some (SfenceVma (taken rs1_at word) (taken rs2_at word))
     else None
 
--- the instruction of a word with the opcode SYSTEM
+-- `read_system` is the instruction of a word with the opcode SYSTEM
 abbrev pub read_system : ℕ → Option Instr
 read_system word =
     option_or
@@ -66,7 +66,7 @@ read_system word =
 
 -- ---- every word
 
--- the instruction of a word, by its opcode
+-- `read` is the instruction of a word, which its opcode selects
 abbrev pub read : ℕ → Option Instr
 read word =
     let opcode = bits word 6 0 in

@@ -50,7 +50,7 @@ pick true x y t same = ap (λ (h : Hart). let r : Result Hart Trap = Ok h in r) 
 pick false x y t same = refl
 
 module _ (hart : Hart) (below : is_machine hart.mode ≡ false) where
-  -- the hart without the registers of mode M
+  -- `g` is the hart without the registers of mode M
   abbrev g : Hart
   g = below_m_hart hart
 
@@ -147,7 +147,7 @@ module _ (hart : Hart) (below : is_machine hart.mode ≡ false) where
 
 -- ---- the step
 
--- the registers c with the parts of mode M from d
+-- `mparts` has the registers c with the parts of mode M from d
 abbrev mparts : CsrState → CsrState → CsrState
 mparts c d = record c {
   mstatus = record c.mstatus { mpie = d.mstatus.mpie; mpp = d.mstatus.mpp };
@@ -164,7 +164,7 @@ mparts c d = record c {
   minstret = d.minstret;
 }
 
--- the hart with the parts of mode M from d
+-- `with_mparts` is the hart with the parts of mode M from d
 abbrev with_mparts : Hart → CsrState → Hart
 with_mparts hart d = record hart { csrs = mparts hart.csrs d }
 
@@ -191,7 +191,7 @@ by_end h1 h2 memory touched written (Ok a) (Err t) same = cc
 by_end h1 h2 memory touched written (Err s) (Ok b) same = cc
 
 module _ (state : Machine) (d : CsrState) (below : is_machine state.hart.mode ≡ false) (clear : state.hart.csrs.mstatus.mprv ≡ false) where
-  -- the machine with other registers of mode M
+  -- `there` is the machine with other registers of mode M
   abbrev there : Machine
   there = record state { hart = with_mparts state.hart d }
 

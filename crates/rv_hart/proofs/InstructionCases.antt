@@ -34,14 +34,14 @@ pub record Changes (hart : Hart) (P : Hart → Type 0) : Type 0 where
   pub mret : is_machine hart.mode ≡ true → P (returned_from_machine hart)
   pub sret : P (returned_from_supervisor hart)
 
--- the claim after a jump
+-- the claim P holds of the hart after a jump
 jumped-by : (hart : Hart) (P : Hart → Type 0) → Changes hart P → (rd target : ℕ) → IfOk (jumped hart rd target) P
 jumped-by hart P changes rd target =
     elim (target % 4 == 0) as
     (λ b. IfOk (if b then Ok (record hart { regs = with_register hart.regs rd (sum_of hart.pc 4); pc = target }) else Err (misaligned target)) P)
     [ true ↦ changes.computes _ _ | false ↦ tt ]
 
--- the claim after a branch, taken or not
+-- the claim P holds of the hart after a branch, taken or not
 branched-by : (hart : Hart) (P : Hart → Type 0) → Changes hart P → (taken : Bool) (target : ℕ) → IfOk (branched hart taken target) P
 branched-by hart P changes false target = changes.computes _ _
 branched-by hart P changes true target =
@@ -60,7 +60,7 @@ written-by : (hart : Hart) (P : Hart → Type 0) → Changes hart P → (rd old 
 written-by hart P changes rd old word csr new (Ok csrs) write_is = changes.writes csr new csrs _ _ write_is
 written-by hart P changes rd old word csr new (Err fault) write_is = tt
 
--- the claim after a CSR instruction
+-- the claim P holds of the hart after a CSR instruction
 changed-by : (hart : Hart) (P : Hart → Type 0) → Changes hart P → (kind : CsrKind) (rd source operand csr word : ℕ)
     → IfOk (unless_illegal word (csr_changed hart kind rd source operand csr)) P
 unfolding csr_changed
@@ -78,7 +78,7 @@ changed-by hart P changes kind rd source operand csr word =
       | Err fault ↦ tt
     ]
 
--- the claim after each instruction
+-- the claim P holds of the hart after each instruction that does not trap
 executed-by : (hart : Hart) (P : Hart → Type 0) → Changes hart P → (instr : Instr) (word loaded : ℕ) → IfOk (executed hart word loaded instr) P
 unfolding executed
 executed-by hart P changes (Lui rd imm) word loaded = changes.computes _ _

@@ -93,7 +93,7 @@ by-request state P ways word instr Nothing here = ways.no_access word instr here
 by-request state P ways word instr (Load address width) here = by-load state P ways word instr address width here _ refl
 by-request state P ways word instr (Store address width value) here = by-store state P ways word instr address width value here _ refl
 
--- the claim by the decoded instruction
+-- the claim P holds of the step after a fetched word, whatever instruction (o) it encodes, if any
 by-decode : (state : Machine) (P : Stepped → Type 0) → StepWays state P → (word : ℕ) → Fetches state (Ok word) → (o : Option Instr) → decoded word ≡ o
     → P (option_case o (over state.memory (trap_end state.hart (fetch_of state.hart) (illegal word)))
     (λ instr. from_access state.hart state.memory word instr (request instr state.hart)))

@@ -7,11 +7,11 @@ use Rattle.rv_memory.specs.Complement.{complement_of, complemented}
 use Rattle.rv_memory.specs.Memory.{ram_base, is_inside, read, write, write_bytes}
 use Rattle.rv_memory.proofs.MemoryLaws.{index-below, index-above}
 
--- the complements of the bytes at an index
+-- `complements` has the complements of the bytes from an index on
 abbrev pub complements : List ℕ → ℕ → ℕ → List ℕ
 complements memory index count = map complement_of (take count (drop index memory))
 
--- the memory with these complements
+-- `with_complements` is the memory with the complements of these bytes
 abbrev pub with_complements : List ℕ → ℕ → ℕ → List ℕ
 with_complements memory index count = write_bytes memory index (complements memory index count)
 

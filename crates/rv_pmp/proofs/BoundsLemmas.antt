@@ -14,7 +14,7 @@ use Rattle.rv_pmp.specs.Entries.{Entries}
 abbrev pub IsAmong : List ℕ → ℕ → ℕ → Type 0
 IsAmong xs n x = (m : ℕ) × (m < n) × (slice_index xs m ≡ x)
 
--- both ends of each of the first ranges that has a byte are among the first bounds
+-- the ends of each of the first `number` ranges that has a byte are among the first `count` bounds
 pub record AreWritten (ranges : EntryRanges) (bounds : List ℕ) (count number : ℕ) : Type 0 where
   pub long : length bounds ≡ 33
   pub some : 0 < count
@@ -25,11 +25,11 @@ pub record AreWritten (ranges : EntryRanges) (bounds : List ℕ) (count number :
 
 -- one more range: it has no byte, or both its ends are written
 module _ (ranges : EntryRanges) (bounds : List ℕ) (count number : ℕ) (done : AreWritten ranges bounds count number) where
-  -- the first byte of the entry
+  -- `from` is the first byte of the range
   abbrev from : ℕ
   from = slice_index ranges.from number
 
-  -- the end of the entry
+  -- `to` is the first byte after the range
   abbrev to : ℕ
   to = slice_index ranges.to number
 

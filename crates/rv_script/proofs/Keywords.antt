@@ -36,7 +36,7 @@ pub row-found : (word : List ℕ) (rows : List (Bor (List ℕ) × Keyword)) (r :
 row-found word rows r map_is = values r ∙ ap (λ o. option_map (λ x. x.1) (option_map row_of o)) map_is
     ∙ ap (option_map (λ x. x.1)) (found_in_map row_of (λ x. bytes_eq word x.0) rows)
 
--- the keyword in the row of a word
+-- the keyword in the row of a word is the keyword that was found
 second : (r : Option Keyword) → option_map (λ (row : List ℕ × Keyword). row.1) (option_map (λ k. (spelling_of k, k)) r) ≡ r
 second None = refl
 second (Some k) = refl

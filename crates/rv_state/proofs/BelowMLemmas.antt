@@ -44,7 +44,7 @@ is_hidden _ = false
 abbrev RequiresM : ℕ → CsrName → Type 0
 RequiresM number name = is_hidden name ≡ true → least_mode number ≡ 3
 
--- the claim for a row with one number
+-- if a row has one number and a hidden register, the number requires mode M
 at-number : (number own : ℕ) (name : CsrName) → (is_hidden name ≡ true → least_mode own ≡ 3) → number == own ≡ true → RequiresM number name
 at-number number own name law number_is part = let same : number ≡ own = grind (arith, nat_tests) in rw same (law part)
 

@@ -42,13 +42,13 @@ pub masked_again : (word mask : ℕ) → and_by_bits (and_by_bits word mask) mas
 unfolding by_bits
 masked_again word mask = shared-again 32 word mask
 
--- the bit of a remainder
+-- the bit of a number below 2 is the number itself
 digit-below : (n : ℕ) → n < 2 → digit (n == 1) ≡ n
 digit-below zero below = refl
 digit-below (suc zero) below = refl
 digit-below (suc (suc n)) below = absurd (omega arith)
 
--- the lowest bit of a number as 0 or 1
+-- the lowest bit of a number, as 0 or 1, is its remainder by 2
 pub digit-rem : (n : ℕ) → digit (n % 2 == 1) ≡ n % 2
 digit-rem n = digit-below (n % 2) (omega arith)
 

@@ -44,7 +44,7 @@ pub SinkFailed-after : {W : Type 0} (h : SinkGhosts W) {old mid new : W} → Sin
 SinkFailed-after h worked (inl risen) = let same = worked.worked.0 in inl (omega (arith, risen, same))
 SinkFailed-after h worked (inr risen) = let same = worked.worked.1 in inr (omega (arith, risen, same))
 
--- a sink that worked in two calls, one after the other
+-- a sink that worked in two calls, one after the other, worked in both together
 pub SinkWorked-more : {W : Type 0} (h : SinkGhosts W) {old mid new : W} → SinkWorked h old mid → SinkWorked h mid new → SinkWorked h old new
 SinkWorked-more h first next = record {
   worked = (next.worked.0 ∙ first.worked.0, next.worked.1 ∙ first.worked.1);

@@ -62,7 +62,7 @@ image_of-faulty lines others line sound few faulty =
 bytes_of_lines-append : (xs ys : List (List ℕ)) → bytes_of_lines (xs ++ ys) ≡ bytes_of_lines xs ++ bytes_of_lines ys
 bytes_of_lines-append xs ys = flat_map-append (λ line. unwrap_or (line_bytes line) []) xs ys
 
--- the bytes with one more line
+-- one more line adds its bytes to the bytes of the lines
 bytes_of_lines-push : (lines : List (List ℕ)) (line bytes : List ℕ) → line_bytes line ≡ Some bytes
     → bytes_of_lines (lines ++ line ∷ []) ≡ bytes_of_lines lines ++ bytes
 bytes_of_lines-push lines line bytes encodes =

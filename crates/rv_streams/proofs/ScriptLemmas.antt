@@ -74,7 +74,7 @@ has_separator-there lines others line unread all separator = subst IsTrue (sym (
 
 -- ---- a script that was read completely
 
--- These are all lines of the script. At most the line that ends it was read in addition.
+-- The lines `lines` are all lines of the script. At most the line that ends the script was read in addition.
 pub record ReadsScript (end : ScriptEnd) (unread left : List ℕ) (lines : List (List ℕ)) : Type 0 where
   pub closing : List (List ℕ)
   pub is_at_end : Bool

@@ -34,13 +34,13 @@ or_true : (a b : Bool) → b ≡ true → a || b ≡ true
 or_true true b h = refl
 or_true false b h = h
 
--- appending a text without a line feed finishes no line
+-- an appended text without a line feed finishes no line
 pub through_last_feed-append_open : (xs ys : List ℕ) → has_feed ys ≡ false → through_last_feed (xs ++ ys) ≡ through_last_feed xs
 through_last_feed-append_open [] ys no_feed = through_last_feed-open ys no_feed
 through_last_feed-append_open (x ∷ xs) ys no_feed =
     rw (has_feed-append xs ys, or_false (has_feed xs) (has_feed ys) no_feed, through_last_feed-append_open xs ys no_feed) refl
 
--- appending a text with a line feed finishes all lines before it
+-- an appended text with a line feed finishes all lines before it
 pub through_last_feed-append_feed : (xs ys : List ℕ) → has_feed ys ≡ true → through_last_feed (xs ++ ys) ≡ xs ++ through_last_feed ys
 through_last_feed-append_feed [] ys feed = refl
 through_last_feed-append_feed (x ∷ xs) ys feed =
@@ -72,7 +72,7 @@ lines_of-some (x ∷ xs) h e = go (nat_eq x 10) (nat_eq x 13 && starts_with_feed
   go false true more h e = more h e
   go false false more h e = onto_first-some x (lines_of xs) e
 
--- the lines of two texts, by the first byte
+-- the lines of a text before another, with one more byte x in front, are the lines of the first and those of the other text
 branch : (b c : Bool) (x : ℕ) (ms ls zs : List (List ℕ)) → ms ≡ ls ++ zs → (b ≡ false → ls ≡ [] → ⊥)
     → cond b ([] ∷ ms) (cond c ms (onto_first x ms)) ≡ cond b ([] ∷ ls) (cond c ls (onto_first x ls)) ++ zs
 branch true c x ms ls zs e some = ap (λ (t : List (List ℕ)). [] ∷ t) e
@@ -85,7 +85,7 @@ starts_with_feed-append : (xs ys : List ℕ) → has_feed xs ≡ true → starts
 starts_with_feed-append [] ys feed = cc
 starts_with_feed-append (x ∷ xs) ys feed = refl
 
--- the lines of a text of finished lines, followed by the lines of the text after it
+-- the lines of a text that begins with finished lines are these lines, followed by the lines of the text after them
 pub lines_of-append : (xs ys : List ℕ) → through_last_feed xs ≡ xs → lines_of (xs ++ ys) ≡ lines_of xs ++ lines_of ys
 lines_of-append [] ys through_last_feed_is = refl
 lines_of-append (x ∷ xs) ys through_last_feed_is =
@@ -120,7 +120,7 @@ through_last_feed-append xs (y ∷ ys) through_last_feed_is e = through_last_fee
 without_return-cons : (x y : ℕ) (ys : List ℕ) → without_return (x ∷ y ∷ ys) ≡ x ∷ without_return (y ∷ ys)
 without_return-cons x y ys = rw (and_false (nat_eq x 13)) refl
 
--- one more byte in front of the only line
+-- one more byte in front of the only line makes it the first byte of this line
 one_more : (b c d : Bool) (x : ℕ) (line : List ℕ) (ms : List (List ℕ)) → ms ≡ line ∷ [] → b ≡ false → d ≡ false
     → cond b ([] ∷ ms) (cond (c && d) ms (onto_first x ms)) ≡ (x ∷ line) ∷ []
 one_more true c d x line ms e h k = cc
@@ -220,7 +220,7 @@ shown-empty (x ∷ xs) length_is = absurd (omega arith)
 
 -- ---- the text after a line
 
--- the text after the first line feed
+-- the text after the first line is the text after the first line feed
 pub after_line-feed : (xs ys : List ℕ) → has_feed xs ≡ false → after_line (xs ++ 10 ∷ ys) ≡ ys
 after_line-feed [] ys no_feed = refl
 after_line-feed (x ∷ xs) ys no_feed =
@@ -234,7 +234,7 @@ after_line-open (x ∷ xs) no_feed =
     let parts = or_none (nat_eq x 10) (has_feed xs) no_feed in
     rw parts.0 (after_line-open xs parts.1)
 
--- the text after n lines and one more
+-- the text after n lines and one more is the text after the first line of the text after n lines
 pub after_lines-more : (n : ℕ) (text : List ℕ) → after_lines (suc n) text ≡ after_line (after_lines n text)
 after_lines-more zero text = refl
 after_lines-more (suc n) text = after_lines-more n (after_line text)

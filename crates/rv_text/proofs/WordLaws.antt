@@ -6,7 +6,7 @@ use Rattle.std.specs.List.{slice_split, onto_first, list_all}
 use Rattle.rv_text.specs.GoodLines.{is_blank}
 use Rattle.rv_text.specs.Words.{is_filled, words_of}
 
--- the words, one after another
+-- `joined` has the words, one after another
 abbrev joined : List (List ℕ) → List ℕ
 joined [] = []
 joined (word ∷ words) = word ++ joined words

@@ -45,7 +45,7 @@ shl_low number width k sum =
     (shl_below (number % 2 ^ width) width k (mod_below number (2 ^ width) (pow_pos width))) in
     ap (λ n. n % 2 ^ 32) split ∙ mod-mul-add (number / 2 ^ width) (2 ^ 32) (number % 2 ^ width * 2 ^ k) below
 
--- those bits shifted back with their sign, for a value below one half and for one from there on
+-- a nonnegative field shifted left and right again is unchanged
 shl_shr_positive : (low half factor : ℕ) → 0 < factor → half * factor ≡ 2 ^ 31 → low < half
     → cast_unsigned w32 (shr_z (cast_signed w32 (low * factor)) factor) ≡ low
 shl_shr_positive low half factor some whole small =

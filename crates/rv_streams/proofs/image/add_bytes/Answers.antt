@@ -14,17 +14,18 @@ use Rattle.rv_streams.specs.Faults.{Outcome}
 use Rattle.rv_streams.specs.Image.{AddsBytes, pair_values, bytes_of_digits}
 use Rattle.rv_streams.proofs.image.add_bytes.Goals as goal
 
--- both definitions of the value of a digit agree
+-- the two definitions of the value of a digit agree
 hex_digit_value-is : (c : ℕ) → hex_digit_value c ≡ cond (is_digit c 16) (Some (digit_value c)) None
 hex_digit_value-is c = grind (arith, nat_tests)
 
--- the bytes of two digits followed by others
+-- `byte_before` is the byte of two digits, followed by other bytes, if all of them exist
 byte_before : Option ℕ → Option ℕ → Option (List ℕ) → Option (List ℕ)
 byte_before (Some high) (Some low) (Some bytes) = Some ((high * 16 + low) ∷ bytes)
 byte_before (Some high) (Some low) None = None
 byte_before (Some high) None bytes = None
 byte_before None low bytes = None
 
+-- the decoder reads two digits as a byte before the rest, and fails if one of them is no digit
 read_pair : (a b i : ℕ) (high low : Option ℕ) (rest : Result (List ℕ) FromHexError)
     → result_ok
     ((digit_or_error a i high >>= (λ h. digit_or_error b (i + 1) low >>= (λ l. Ok (h * 16 + l)))) >>= (λ byte. rest >>= (λ bytes. Ok (byte ∷ bytes))))
@@ -35,6 +36,7 @@ read_pair a b i (Some high) (Some low) (Err e) = refl
 read_pair a b i (Some high) None rest = refl
 read_pair a b i None low rest = refl
 
+-- two digits (p, q) before other bytes (all) give the byte of both digits and the other bytes, if all tests are true
 byte_before-tests : (p q all : Bool) (high low : ℕ) (bytes : List ℕ)
     → byte_before (cond p (Some high) None) (cond q (Some low) None) (cond all (Some bytes) None) ≡ cond (p && (q && all))
     (Some ((16 * high + low) ∷ bytes)) None
@@ -44,6 +46,7 @@ byte_before-tests true true false high low bytes = refl
 byte_before-tests true false all high low bytes = refl
 byte_before-tests false q all high low bytes = refl
 
+-- the decoder of pairs gives the bytes of a word of even length if all its bytes are hexadecimal digits
 decode_pairs-is : (i : ℕ) (word : List ℕ) → length word % 2 ≡ 0
     → result_ok (decode_pairs i word) ≡ cond (list_all (λ c. is_digit c 16) word) (Some (pair_values word)) None
 unfolding decode_pairs

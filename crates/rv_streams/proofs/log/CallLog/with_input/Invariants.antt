@@ -2,6 +2,6 @@
 use Rattle.rv_streams.specs.CallLog.{no_call}
 use Rattle.rv_streams.proofs.log.CallLog.with_input.Given as goal
 
--- the log before the first call, for an assumed input
+-- the log before the first call has the assumed input
 abbrev pub ghost-chosen : goal.ghost-chosen
 ghost-chosen g a = no_call g.input
