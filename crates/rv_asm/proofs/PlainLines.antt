@@ -30,9 +30,11 @@ line_byte-text b of_line = grind (arith, nat_tests)
 line_byte-other : (b other : ℕ) → is_line_byte other ≡ false → is_line_byte b ≡ true → (b == other) ≡ false
 line_byte-other b other bad of_line = false_from_ne_true (b == other) (λ same. clash (equal b other same))
   where
+    -- two numbers are equal if the test of equality is true
     equal : (x y : ℕ) → (x == y) ≡ true → x ≡ y
     equal x y same = grind (arith, nat_tests)
 
+    -- a byte of the line is not the byte `other`, which no line has
     clash : b ≡ other → ⊥
     clash is = grind (arith, nat_tests, is, bad, of_line)
 

@@ -98,9 +98,11 @@ piece-hex places n few =
 pub piece-hex_text : (n : ℕ) → n < 2 ^ 20 → IsPiece (hex_text n)
 piece-hex_text n small = by_size (nat_lt n 0x10) (nat_lt n 0x100) (nat_lt n 0x1000) (nat_lt n 0x10000) refl refl refl refl
   where
+    -- the text of a number is a piece, if `places` digits are all of its digits
     of : (places : ℕ) → places ≤ 8 → hex_digits places n ≡ digits 16 false n → IsPiece (hex_text n)
     of places few same = subst (λ t. IsPiece (48 ∷ 120 ∷ t)) same (piece-hex places n few)
 
+    -- the text of a number is a piece whatever its size is: below 2^4, 2^8, 2^12, 2^16 or 2^20
     by_size : (a b c d : Bool) → nat_lt n 0x10 ≡ a → nat_lt n 0x100 ≡ b → nat_lt n 0x1000 ≡ c → nat_lt n 0x10000 ≡ d → IsPiece (hex_text n)
     by_size true b c d one two three four = of 1 (omega arith) (one_digit n (grind (arith, nat_tests)))
     by_size false true c d one two three four = of 2 (omega arith) (two_digits n (grind (arith, nat_tests)) (grind (arith, nat_tests)))
@@ -183,6 +185,7 @@ signed-minus n small =
 signed-signed : (width field : ℕ) → field < 10 ^ 8 → 2 ^ width < 10 ^ 8 → IsSignedText (signed_text width field)
 signed-signed width field small wide = either (nat_lt field (2 ^ (width - 1))) (2 ^ width - field) (omega (arith, wide))
   where
+    -- the text is that of a signed number, whether the field is a nonnegative number (t) or a negative one
     either : (t : Bool) (left : ℕ) → left < 10 ^ 8 → IsSignedText (if t then decimal field else codes "-" ++ decimal left)
     either true left fits = signed-decimal field small
     either false left fits = signed-minus left fits
@@ -246,6 +249,7 @@ opening-signed (c ∷ prefix) back signed =
     let other : (c == 40) ≡ false = one parts.0 in
     rw other (omega (arith, opening-signed prefix back parts.1))
   where
+    -- a byte of a signed number is not the parenthesis `(` (40)
     one : is_signed c ≡ true → (c == 40) ≡ false
     one here = grind (arith, nat_tests)
 
@@ -267,6 +271,7 @@ read-address offset base small small_base =
     (piece-base base small_base).2 in
     ap address_operand (address-parts offset base) ∙ again found
   where
+    -- an operand whose offset and base register are found is read as both
     again : offset_and_base (signed_text 12 offset ++ base_text base) ≡ Some (signed_number 12 offset, base)
         → address_operand (signed_text 12 offset ++ base_text base) ≡ Ok (signed_number 12 offset, base)
     again found = rw found refl

@@ -35,6 +35,7 @@ no_fault (Some kind) f rest choice_is = cc
 stays_few : (before : List Reading) (line : Reading) → own_fault before line ≡ None → words_in before + line_size line ≤ 65536
 stays_few before (Err kind) own_fault_is = cc
 stays_few before (Ok line) no_fault = few (nat_lt 65536 (words_in before + line_size (Ok line))) refl no_fault where
+  -- there are at most 65536 words, if the test of too many words (b) gives no error
   few : (b : Bool) → nat_lt 65536 (words_in before + line_size (Ok line)) ≡ b → (if b then Some TooLong else None) ≡ None
       → words_in before + line_size (Ok line) ≤ 65536
   few true test no_fault = cc

@@ -80,6 +80,7 @@ passed : (p : ValueParser) (test : Text → Bool) → ((v : Text) → accepts fa
 passed p test each [] values_kinds_is = refl
 passed p test each (v ∷ vs) e = let and_parts = parts _ _ e in rw (each v (taken (accepts false p v) and_parts.0), passed p test each vs and_parts.1) refl
   where
+    -- a value is accepted (b) if there is no error for it
     taken : (b : Bool) → cond b [] (refused_kind p ∷ []) ≡ [] → b ≡ true
     taken true e = refl
     taken false e = cc

@@ -94,6 +94,7 @@ one_read id = row_read id row_text (λ r same good. rw (good.0, sym same) (first
 pub kind_read : (rows : List Row) → Good rows → option_map_or (is_read (codes "kind")) (first_of (codes "kind") rows) true ≡ true
 kind_read = row_read (codes "kind") (λ r. slice_get r.values 0) (λ r same good. first r.values (rw same at good.1))
   where
+    -- the first of readable values of `--kind` is readable, if there is one
     first : (vs : List Text) → are_values (codes "kind") vs ≡ true → option_map_or (is_read (codes "kind")) (slice_get vs 0) true ≡ true
     first [] e = refl
     first (v ∷ vs) e = (both (is_read (codes "kind") v) (are_values (codes "kind") vs) e).0

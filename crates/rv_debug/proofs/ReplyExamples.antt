@@ -33,6 +33,7 @@ decimal-shown n =
     λ low high. rw (decimal_step n low (omega arith), decimal_digit (n / 10) (omega arith)) in
     grind (arith, nat_tests, one, two)
 
+-- the replies of `step` and `run` show the number of steps, the pc, the mode, the reason for the end, and the last trap
 pub ran_text-examples :
     ran_text 0x80000010 M (codes "bare") (record { steps = 4; trap = None; stop = Done; entered = 0 })
     ++ ran_text 0 M (codes "bare")
@@ -98,6 +99,7 @@ pub pmp_text-example : pmp_text (record { cfgs = 0x17 ∷ (replicate 14 0 ++ 0x9
 unfolding pmp_text entry_text hex_digits
 pmp_text-example = simp decimal-shown
 
+-- the replies of `access` show the verdict and its entry
 pub verdict_text-examples :
     verdict_text (Allowed 0) ++ verdict_text AllowedFree ++ verdict_text (Denied 15)
     ++ verdict_text (DeniedPartial 9) ++ verdict_text DeniedFree ++ denied_outside_text ≡

@@ -37,7 +37,7 @@ with_load file count p_type_is = more file count ∙ rw (eq-eqb (p_type file (pl
 pub without_load : (file : List ℕ) (count : ℕ) → p_type file (place_of file count) ≢ 1 → first_segments file (count + 1) ≡ first_segments file count
 without_load file count other = more file count ∙ rw (ne_eqb (p_type file (place_of file count)) 1 other) (append-nil (first_segments file count))
 
--- the segments that occupy memory with one more segment, which does or does not
+-- a segment with bytes in memory is added to the segments that occupy memory
 pub with_occupying : (segments : List Segment) (i : ℕ) (default : Segment) → i < length segments → (slice_index_or segments i default).memory_size ≢ 0
     → occupying (take (i + 1) segments) ≡ occupying (take i segments) ++ slice_index_or segments i default ∷ []
 unfolding occupying

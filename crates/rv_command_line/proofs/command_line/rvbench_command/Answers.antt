@@ -8,6 +8,7 @@ use Rattle.rv_command_line.proofs.InTurn.{told_in_turn}
 use Rattle.rv_command_line.proofs.Options.{program_alike}
 use Rattle.rv_command_line.proofs.command_line.rvbench_command.Goals as goal
 
+-- the clauses of the contract hold of the result r, if a command that was made is that of the program
 told : {E : Type 0} (names : Names) → texts names.now ≡ kind_names → (r : Result Command E) → IfOk r (λ command. app_of command ≡ program names)
     → record {
       simple : IfOk r (λ command. is_simple (app_of command) ≡ true);

@@ -8,6 +8,7 @@ use Rattle.clap.specs.declared.error.kind.ErrorKind.TheVariants as kind
 use Rattle.rv_command_line.specs.Faults.{is_help}
 use Rattle.rv_command_line.proofs.reading.fault.Goals as goal
 
+-- some fault passes the test if the kind k passes it and is among the faults
 among : (test : ErrorKind → Bool) (k : ErrorKind) (faults : Kinds) → test k ≡ true → IsAmong k faults → list_any test faults ≡ true
 among test k [] holds h = absurd h
 among test k (x ∷ xs) holds (inl e) = rw (sym e, holds) refl

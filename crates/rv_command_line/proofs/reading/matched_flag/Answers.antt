@@ -15,6 +15,7 @@ reads_truth E text (Some true) read = rw read refl
 reads_truth E text (Some false) read = rw read refl
 reads_truth E text None read = rw (other (codes "true") read.1.0, other (codes "false") read.1.1) refl
   where
+    -- two different texts fail the test of equal bytes
     other : (t : List ℕ) → (text ≡ t → ⊥) → bytes_eq text t ≡ false
     other t differs = false_from_ne_true (bytes_eq text t) (λ e. differs ((bytes_eq-Decides text t).0 e))
 

@@ -76,6 +76,7 @@ fails : (text : List ℕ) (fault : AsmFault) → length text ≤ 4194304 → Fai
 fails text fault short (inl told) = inl (asm_output-fault text fault short told)
 fails text fault short (inr out_of_memory) = inr out_of_memory
 
+-- a text that is read whole and has an error ends the job with the error, and writes nothing
 faulty : {S W : Type 0} (g : SourceGhosts S) (h : SinkGhosts W) (old new : S) (sink : W) (text : List ℕ) (fault : AsmFault)
     → ReadsWholeText g old new → (g.follows_input new → text ≡ g.remaining old) → length text ≤ 4194304
     → (1 ≤ fault.line) × (fault.line ≤ length (lines_of text)) → FailsFor text fault

@@ -83,6 +83,7 @@ returns-then-len-count-gt-IMAGE_MAX-clause-outcome c = (rw (bytes_of_digits-deco
 -- `add_bytes` meets clause `outcome` of its contract (`AddsBytes`)
 pub returns-clause-outcome : goal.returns-clause-outcome
 returns-clause-outcome c = by_result c.add_behind.result refl where
+  -- the contract holds for each result of `add_behind`: success, or an error
   by_result : (r : Outcome) → c.add_behind.result ≡ r → AddsBytes c.args.word.now c.args.image.now.items c.add_behind.new.bytes.items r
   by_result (Ok done) result_is =
       let items = rw result_is at c.add_behind.ensures.items in rw (bytes_of_digits-decoded c.args.word.now) (grind (arith, common_steps))

@@ -4,6 +4,7 @@ use Rattle.std.proofs.Common.{rules, refl, ◌≡◌, ◌<◌, ◌∙◌, ap, ar
 use Rattle.rv_streams.proofs.LineTextLemmas.{TakesLine-feed, TakesLine-end}
 use Rattle.rv_streams.proofs.lines.Lines.next_line.Goals as goal
 
+-- a length is positive if the test of emptiness is false
 is_some : (n : ℕ) (empty : Bool) → empty ≡ (n == 0) → empty ≡ false → 0 < n
 is_some n empty e h = grind arith
 
