@@ -20,13 +20,13 @@ optional_statement_at text = if length text == 0 then Ok None else (do
   statement ← statement_at text
   Ok (Some statement))
 
--- the label and the statement of a line without its comment
+-- `uncommented_line_at` is the label and the statement of a line without its comment
 abbrev pub uncommented_line_at : List ℕ → Result Line AsmFaultKind
 uncommented_line_at text = do
   label ← label_at (label_text text)
   statement ← optional_statement_at (statement_text text)
   Ok (record { label = label; statement = statement })
 
--- the content of a line, or the first of its own errors
+-- `line_read` is the content of a line, or the first of its own errors
 unfoldable pub line_read : List ℕ → Result Line AsmFaultKind
 line_read text = if is_good_line text then uncommented_line_at (before_comment text) else Err BadText

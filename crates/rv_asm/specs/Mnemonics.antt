@@ -36,7 +36,7 @@ mnemonic_name Nop = codes "nop"
 mnemonic_name Ret = codes "ret"
 mnemonic_name Li = codes "li"
 
--- every mnemonic of an instruction, in the order of the manual's listing
+-- `all_mnemonics` has every mnemonic of an instruction, in the order of the manual's listing
 abbrev pub all_mnemonics : List Mnemonic
 all_mnemonics =
     -- RV32I

@@ -40,7 +40,7 @@ li_code rd value =
     if is_short value then OpImm Addi rd 0 (value % 2 ^ 12) ∷ []
     else Lui rd (without_low_part value) ∷ (if value % 2 ^ 12 == 0 then [] else OpImm Addi rd rd (value % 2 ^ 12) ∷ [])
 
--- the number of words of a statement
+-- `statement_size` is the number of words of a statement
 unfoldable pub statement_size : Statement → ℕ
 statement_size (Instruction instruction) = 1
 statement_size (JumpTo rd name) = 1
@@ -52,7 +52,7 @@ statement_size (Word word) = 1
 abbrev pub distance : ℕ → ℕ → Number
 distance here there = if nat_lt there here then minus (4 * (here - there)) else plus (4 * (there - here))
 
--- the words of a statement at an address, with these addresses of the labels
+-- `statement_words` has the words of a statement at an address, with these addresses of the labels
 unfoldable pub statement_words : (List ℕ → Option ℕ) → ℕ → Statement → Result (List ℕ) AsmFaultKind
 statement_words labels place (Instruction instruction) = Ok (word_of instruction ∷ [])
 statement_words labels place (JumpTo rd name) = do
@@ -72,11 +72,11 @@ statement_words labels place (Word word) = Ok (word ∷ [])
 abbrev pub Reading : Type 0
 Reading = Result Line AsmFaultKind
 
--- the readings of all lines of a text
+-- `readings` has the readings of all lines of a text
 abbrev pub readings : List ℕ → List Reading
 readings text = map line_read (lines_of text)
 
--- the number of words of a line
+-- `line_size` is the number of words of a line
 abbrev pub line_size : Reading → ℕ
 line_size (Ok line) = option_case line.statement 0 statement_size
 line_size (Err kind) = 0
@@ -105,7 +105,7 @@ place_from before (line ∷ lines) name =
 abbrev pub place_in : List Reading → List ℕ → Option ℕ
 place_in lines name = place_from [] lines name
 
--- the words of a line at an address
+-- `line_words` has the words of a line at an address
 abbrev pub line_words : (List ℕ → Option ℕ) → ℕ → Reading → Result (List ℕ) AsmFaultKind
 line_words labels place (Ok line) = option_case line.statement (Ok []) (statement_words labels place)
 line_words labels place (Err kind) = Err kind
@@ -138,7 +138,7 @@ first_line_fault fault before (line ∷ lines) =
     option_case (fault before line) (first_line_fault fault (before ++ line ∷ []) lines)
     (λ kind. Some (record { line = length before + 1; kind = kind }))
 
--- the error of the lines: the first error of a line by itself; otherwise the first repeated label; otherwise the first error of a used label
+-- the lines have the first error of a line by itself; otherwise the first repeated label; otherwise the first error of a used label
 abbrev pub fault_in : List Reading → Option AsmFault
 fault_in lines =
     option_case (first_line_fault own_fault [] lines)
@@ -156,10 +156,10 @@ words_from labels before [] = []
 words_from labels before (line ∷ lines) =
     words_or_none (line_words labels (words_in before) line) ++ words_from labels (before ++ line ∷ []) lines
 
--- the words of all lines, with the labels of these lines
+-- `words_of_lines` has the words of all lines, with the labels of these lines
 abbrev pub words_of_lines : List Reading → List ℕ
 words_of_lines lines = words_from (place_in lines) [] lines
 
--- the words of a text, or its error
+-- `assembled` has the words of a text, or its error
 unfoldable pub assembled : List ℕ → Result (List ℕ) AsmFault
 assembled text = option_case (fault_in (readings text)) (Ok (words_of_lines (readings text))) Err

@@ -38,7 +38,7 @@ hart_line hart = if hart == 0 then codes "hart 0" else codes "hart 1"
 abbrev pub timer_line : Bool → List ℕ
 timer_line raised = if raised then codes "timer on" else codes "timer off"
 
--- two lines for each event
+-- each event has two lines
 abbrev pub lines_for : List Event → List (List ℕ)
 lines_for [] = []
 lines_for (StepOf hart ∷ more) = hart_line hart ∷ codes "step 1" ∷ lines_for more

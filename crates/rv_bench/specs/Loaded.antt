@@ -34,17 +34,18 @@ planned image setup =
 abbrev pub memory_loaded : List ℕ → Setup → LoadPlan → List ℕ
 memory_loaded image setup plan = loaded_memory image plan.segments (replicate setup.ram 0)
 
--- the bench at reset with a memory: the image on one hart in mode M, or the host on each hart above the monitor, with hart 0 selected
+-- `reset_over` is the bench at reset with a memory: the image on one hart in mode M, or the host on each hart above the monitor, with hart 0
+-- selected
 abbrev pub reset_over : Setup → List ℕ → ℕ → BenchState
 reset_over setup memory entry =
     if setup.monitored then monitored_bench (at_start memory entry (number_of_harts setup.harts))
     else bare (record { hart = at_reset entry M; memory = memory })
 
--- the bench at reset, with the image in its RAM, or the error of the image
+-- `bench_of` is the bench at reset, with the image in its RAM, or the error of the image
 abbrev pub bench_of : List ℕ → Setup → Result BenchState ElfFault
 bench_of image setup = result_case (planned image setup) (λ plan. Ok (reset_over setup (memory_loaded image setup plan) plan.entry)) Err
 
--- the bench at reset, or the first error: of the RAM's size, then of the image
+-- `started` is the bench at reset, or the first error: of the RAM's size, then of the image
 unfoldable pub started : List ℕ → Setup → Result BenchState BenchFault
 started image setup =
     if is_ram_size setup.ram then result_case (bench_of image setup) Ok (λ fault. Err (Image fault)) else Err (Ram BadSize)

@@ -11,7 +11,7 @@ use Rattle.rv_bench.specs.declared.pair.Pair.{Pair}
 
 -- ---- the texts
 
--- the text with the mark before each of its lines
+-- `marked` is the text with the mark before each of its lines
 abbrev pub marked : List ℕ → Bool → List ℕ → List ℕ
 marked mark begins [] = []
 marked mark begins (byte ∷ text) = (if begins then mark else []) ++ byte ∷ marked mark (byte == line_feed) text

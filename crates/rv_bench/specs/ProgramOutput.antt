@@ -31,7 +31,7 @@ use Rattle.rv_bench.specs.Twin.{twin_output}
 
 -- ---- a job
 
--- the output of a job for an input, or the error of the input
+-- `job_output` is the output of a job for an input, or the error of the input
 abbrev pub job_output : Job → List ℕ → Result (List ℕ) BenchFault
 job_output (Run setup) input = output setup input
 job_output (Twin setup slot) input = twin_output setup slot input
@@ -110,7 +110,7 @@ abbrev pub MeansGiven : Result (List Text) WordsFault → Result Job WordsFault 
 MeansGiven (Ok given) read = Means given read
 MeansGiven (Err fault) read = read ≡ Err fault
 
--- the bytes of each argument
+-- `given_by` has the bytes of each argument
 abbrev pub given_by : {A Z : Type 0} → Result (Vec (String A) Z) WordsFault → Result (List Text) WordsFault
 given_by arguments = result_case arguments (λ words. Ok (map string_bytes words.items)) Err
 

@@ -48,11 +48,11 @@ abbrev pub second_text : ℕ → Option Pair → List ℕ → List ℕ
 second_text slot None input = no_slot_text
 second_text slot (Some pair) input = script_text slot pair (lines_of input)
 
--- the text for both scripts
+-- `scripts_text` is the text for both scripts
 abbrev pub scripts_text : ℕ → BenchState → List ℕ → List ℕ
 scripts_text slot bench input = first_text bench input ++ second_text slot (make_pair slot (after_first_script bench input)) (after_separator input)
 
--- the text for a whole input, or the error of its image
+-- `twin_output` is the text for a whole input, or the error of its image
 abbrev pub twin_output : Setup → ℕ → List ℕ → Result (List ℕ) BenchFault
 twin_output setup slot input =
     result_case (bench_in (monitored_setup setup) input) (λ bench. Ok (scripts_text slot bench (after_separator input))) Err

@@ -26,17 +26,17 @@ number_in_text bits text =
     let digits = without_leading_plus text in
     if is_numeral digits && nat_lt (digits_value 10 digits) (2 ^ bits) then Some (digits_value 10 digits) else None
 
--- the number of harts in a text
+-- `harts_in_text` is the number of harts in a text
 abbrev pub harts_in_text : Text → Option Harts
 harts_in_text text = option_and_then counted_harts (number_in_text 8 text)
 
--- the Boolean in a text
+-- `truth_in_text` is the Boolean in a text
 abbrev pub truth_in_text : Text → Option Bool
 truth_in_text text =
     if bytes_eq text (codes "true") then Some true
     else (if bytes_eq text (codes "false") then Some false else None)
 
--- the setup from `--kind`, `--ram` and `--harts`, with or without the monitor
+-- `setup_of` is the setup from `--kind`, `--ram` and `--harts`, with or without the monitor
 abbrev pub setup_of : Bool → List Row → Setup
 setup_of monitored options = record {
   kind = unwrap_or (option_and_then kind_of (first_of (codes "kind") options)) image.Auto;
@@ -49,11 +49,11 @@ setup_of monitored options = record {
 abbrev pub run_of : List Row → Job
 run_of options = job.Run (setup_of (unwrap_or (option_and_then truth_in_text (one_of (codes "monitor") options)) false) options)
 
--- the job of `twin` with its options; always with the monitor, and slot 0 by default
+-- `twin_of` is the job of `twin` with its options; always with the monitor, and slot 0 by default
 abbrev pub twin_of : List Row → Job
 twin_of options = job.Twin (setup_of true options) (unwrap_or (option_and_then (number_in_text 8) (one_of (codes "slot") options)) 0)
 
--- the job of a subcommand with its options, or the job without a subcommand
+-- `named_job` is the job of a subcommand with its options, or the job without a subcommand
 abbrev pub named_job : Option (Text × List Row) → Job
 named_job None = run_of []
 named_job (Some (name, options)) =

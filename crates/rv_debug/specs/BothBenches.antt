@@ -101,7 +101,7 @@ both_execute e first second command =
 
 -- ---- one line for both
 
--- a line without a command
+-- a blank line has no command
 abbrev pub has_no_command : Command → Bool
 has_no_command Blank = true
 has_no_command _ = false
@@ -147,7 +147,7 @@ abbrev pub scrambled_in : ℕ → Target → Target
 scrambled_in e (Bare machine) = Bare machine
 scrambled_in e (Monitored selected) = selected_at selected.hart (scrambled_of selected.state e)
 
--- the bench with its target scrambled in slot e
+-- `scrambled` is the bench with its target scrambled in slot e
 abbrev pub scrambled : ℕ → BenchState → BenchState
 scrambled e bench = record bench { target = scrambled_in e bench.target }
 

@@ -145,7 +145,7 @@ AllCommandsAlike e first second (here ∷ commands) (there ∷ others) =
     CommandsAlike e first second here there × AllCommandsAlike e (execute first here).state (execute second there).state commands others
 AllCommandsAlike e first second _ _ = ⊥
 
--- the observations of commands, one after another
+-- `all_observed` has the observations of commands, one after another
 abbrev pub all_observed : ℕ → BenchState → List Command → List (List ℕ)
 all_observed e bench [] = []
 all_observed e bench (command ∷ commands) = observed e bench command ∷ all_observed e (execute bench command).state commands

@@ -62,7 +62,7 @@ abbrev pub hart_summary_text : Target → ℕ → HartRan → List ℕ
 hart_summary_text target hart ran =
     let seen = with_selected hart target in hart_text hart (pc_of seen) (hart_of seen).mode (world_text seen) ran
 
--- the summary of each hart
+-- `harts_summary_text` has the summary of each hart
 abbrev pub harts_summary_text : AfterSchedule → List ℕ
 harts_summary_text after =
     hart_summary_text after.state 0 after.did.first ++ (if nat_lt 1 (harts_of after.state) then hart_summary_text after.state 1 after.did.second else [])

@@ -53,7 +53,7 @@ AreBenchMoves i j [] one other = Unit {0}
 AreBenchMoves i j (move ∷ moves) one other =
     IsBenchMove i j move one other × AreBenchMoves i j moves (moved_first move one) (moved_second move other)
 
--- the actions in the first machine, and those in the second
+-- `first_actions` has the actions in the first machine
 abbrev pub first_actions : List BenchMove → List Action
 first_actions [] = []
 first_actions (InFirst action ∷ moves) = action ∷ first_actions moves

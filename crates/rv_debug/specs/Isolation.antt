@@ -107,7 +107,7 @@ UndisturbedByAll k bench [] = IsSomeAnd (machine_in bench.target) (λ machine. i
 UndisturbedByAll k bench (command ∷ commands) =
     UndisturbedBy k bench command × UndisturbedByAll k (execute bench command).state commands
 
--- the bench after the commands
+-- `after_commands` is the bench after the commands
 abbrev pub after_commands : BenchState → List Command → BenchState
 after_commands bench [] = bench
 after_commands bench (command ∷ commands) = after_commands (execute bench command).state commands

@@ -18,7 +18,7 @@ host_stores slots byte =
     nat_le 0x80010000 byte
     && not (list_any (λ k. option_case (record_at slots k) false (λ info. is_within info.region byte)) (range_with_len 0 13))
 
--- the enclave of slot k: in its region or its window
+-- the enclave of slot k may store a byte of its region or its window
 abbrev pub enclave_stores : Slots → ℕ → ℕ → Bool
 enclave_stores slots k byte = option_case (record_at slots k) false (λ info. is_within info.region byte || is_within info.window byte)
 

@@ -17,7 +17,7 @@ calling_host =
     0x73 ∷ 0 ∷ 0 ∷ 0 ∷ 0x13 ∷ 0x08 ∷ 0x30 ∷ 0 ∷ 0x73 ∷ 0 ∷ 0 ∷ 0
     ∷ 0x13 ∷ 0x05 ∷ 0 ∷ 0 ∷ 0x13 ∷ 0x08 ∷ 0x40 ∷ 0 ∷ 0x73 ∷ 0 ∷ 0 ∷ 0 ∷ []
 
--- lw a0, 256(a0); addi a0, zero, 0
+-- the code of the enclave is lw a0, 256(a0); addi a0, zero, 0
 abbrev pub secret_enclave : List ℕ
 secret_enclave = 0x03 ∷ 0x25 ∷ 0x05 ∷ 0x10 ∷ 0x13 ∷ 0x05 ∷ 0 ∷ 0 ∷ []
 
@@ -25,7 +25,7 @@ secret_enclave = 0x03 ∷ 0x25 ∷ 0x05 ∷ 0x10 ∷ 0x13 ∷ 0x05 ∷ 0 ∷ 0 �
 abbrev pub before_secret : List ℕ
 before_secret = replicate 65536 0 ++ (calling_host ++ (replicate 32744 0 ++ (secret_enclave ++ replicate 248 0)))
 
--- RAM with the secret at 80018100, in the region
+-- `secret_ram` is the RAM with the secret at 80018100, in the region
 abbrev pub secret_ram : ℕ → List ℕ
 secret_ram secret = before_secret ++ (secret ∷ replicate 32511 0)
 
@@ -33,7 +33,7 @@ secret_ram secret = before_secret ++ (secret ∷ replicate 32511 0)
 abbrev pub secret_asking : List ℕ
 secret_asking = 0 ∷ 0 ∷ 0 ∷ 0 ∷ 0 ∷ 0 ∷ 0 ∷ 0 ∷ 0 ∷ 0 ∷ 0x80018000 ∷ 0x1000 ∷ 0 ∷ 0 ∷ 0x80018000 ∷ 0 ∷ 1 ∷ 0x0A454E43 ∷ replicate 14 0
 
--- the machine at reset, with 0 as the secret
+-- `secret_reset` is the machine at reset, with 0 as the secret
 abbrev pub secret_reset : MonitoredMachine
 secret_reset = at_start (secret_ram 0) 0x80010000 1
 
@@ -82,7 +82,7 @@ pub record IsConcealed (a b : ℕ) : Type 0 where
 
 -- ---- the same by commands
 
--- the bench over the monitored machine of the example
+-- `secret_bench` is the bench over the monitored machine of the example
 abbrev pub secret_bench : BenchState
 secret_bench = monitored secret_start
 

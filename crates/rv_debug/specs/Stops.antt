@@ -24,7 +24,7 @@ lower None second = second
 lower (Some first) None = Some first
 lower (Some first) (Some second) = Some (min first second)
 
--- the lowest of some addresses
+-- `lowest` is the lowest of some addresses, or none of an empty list
 abbrev pub lowest : List ℕ → Option ℕ
 lowest [] = None
 lowest (address ∷ addresses) = lower (Some address) (lowest addresses)

@@ -62,7 +62,7 @@ place_faults ram_size monitored segments entry =
     ∷ (is_bad_entry ram_size monitored entry, BadEntry)
     ∷ []
 
--- the whole table for an ELF file in a RAM of this size, with or without a monitor, in the order of the numbers
+-- `file_faults` is the whole table for an ELF file in a RAM of this size, with or without a monitor, in the order of the numbers
 abbrev pub file_faults : List ℕ → ℕ → Bool → List (Bool × ElfFault)
 file_faults file ram_size monitored =
     header_faults file
@@ -85,10 +85,10 @@ IsLeast rows fault =
     (list_any (λ row. row.0 && elf_fault_number row.1 == elf_fault_number fault) rows ≡ true)
     × (list_any (λ row. row.0 && nat_lt (elf_fault_number row.1) (elf_fault_number fault)) rows ≡ false)
 
--- the error of an ELF file
+-- `file_fault` is the error of an ELF file
 abbrev pub file_fault : List ℕ → ℕ → Bool → Option ElfFault
 file_fault file ram_size monitored = first_fault (file_faults file ram_size monitored)
 
--- the error of a raw image of `len` bytes
+-- `raw_fault` is the error of a raw image of `len` bytes
 abbrev pub raw_fault : ℕ → ℕ → Bool → Option ElfFault
 raw_fault len ram_size monitored = first_fault (raw_faults len ram_size monitored)

@@ -7,7 +7,7 @@ use Rattle.rv_elf.specs.declared.segment.Segment.{Segment}
 use Rattle.rv_elf.specs.Places.{is_reserved}
 use Rattle.rv_elf.specs.Segments.{has_address}
 
--- the byte of a segment at an address: from its part of the file, and 0 after that
+-- a byte of a segment at an address is from its part of the file, and 0 after that
 abbrev pub byte_in : List ℕ → ℕ → Segment → ℕ
 byte_in image address segment =
     let k = address - segment.address in

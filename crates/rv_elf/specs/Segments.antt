@@ -5,7 +5,7 @@ use Rattle.rv_elf.specs.declared.segment.Segment.{Segment}
 use Rattle.rv_elf.specs.Fields.{header_places, pt_load, p_type, p_offset, p_paddr, p_filesz, p_memsz}
 use Rattle.rv_elf.specs.Places.{first_address, has_place}
 
--- the segment of the program header at an offset
+-- `segment_at` is the segment of the program header at an offset
 abbrev pub segment_at : List ℕ → ℕ → Segment
 segment_at file place = record {
   offset = p_offset file place;

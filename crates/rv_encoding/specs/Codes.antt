@@ -18,23 +18,23 @@ use Rattle.rv_encoding.specs.declared.kind.CsrKind.TheVariants.{Write, Set, Clea
 
 -- ---- opcodes, by the names of the base opcode map (table 24.1)
 
--- LUI, bits 6:0
+-- `lui_opcode` is the opcode LUI in bits 6:0 of a word
 abbrev pub lui_opcode : ℕ
 lui_opcode = 0b0110111
 
--- AUIPC, bits 6:0
+-- `auipc_opcode` is the opcode AUIPC in bits 6:0 of a word
 abbrev pub auipc_opcode : ℕ
 auipc_opcode = 0b0010111
 
--- JAL, bits 6:0
+-- `jal_opcode` is the opcode JAL in bits 6:0 of a word
 abbrev pub jal_opcode : ℕ
 jal_opcode = 0b1101111
 
--- JALR, bits 6:0
+-- `jalr_opcode` is the opcode JALR in bits 6:0 of a word
 abbrev pub jalr_opcode : ℕ
 jalr_opcode = 0b1100111
 
--- BRANCH, bits 6:0
+-- `branch_opcode` is the opcode BRANCH in bits 6:0 of a word
 abbrev pub branch_opcode : ℕ
 branch_opcode = 0b1100011
 
@@ -46,30 +46,30 @@ load_opcode = 0b0000011
 abbrev pub store_opcode : ℕ
 store_opcode = 0b0100011
 
--- OP-IMM, bits 6:0
+-- `op_imm_opcode` is the opcode OP-IMM in bits 6:0 of a word
 abbrev pub op_imm_opcode : ℕ
 op_imm_opcode = 0b0010011
 
--- OP, bits 6:0
+-- `op_opcode` is the opcode OP in bits 6:0 of a word
 abbrev pub op_opcode : ℕ
 op_opcode = 0b0110011
 
--- MISC-MEM, bits 6:0
+-- `misc_mem_opcode` is the opcode MISC-MEM in bits 6:0 of a word
 abbrev pub misc_mem_opcode : ℕ
 misc_mem_opcode = 0b0001111
 
--- SYSTEM, bits 6:0
+-- `system_opcode` is the opcode SYSTEM in bits 6:0 of a word
 abbrev pub system_opcode : ℕ
 system_opcode = 0b1110011
 
 -- ---- names and codes
 
--- funct7, in bits 31:25, and funct3, in bits 14:12
+-- `Functs` has funct7, in bits 31:25, and funct3, in bits 14:12
 pub record Functs : Type 0 where
   pub funct7 : ℕ
   pub funct3 : ℕ
 
--- the pair of funct7 (bits 31:25) and funct3 (bits 14:12)
+-- `functs` is the pair of funct7 (bits 31:25) and funct3 (bits 14:12)
 abbrev pub functs : ℕ → ℕ → Functs
 functs funct7 funct3 = record { funct7 = funct7; funct3 = funct3 }
 
@@ -96,7 +96,7 @@ store_code Sb = (codes "sb", 0b000)
 store_code Sh = (codes "sh", 0b001)
 store_code Sw = (codes "sw", 0b010)
 
--- the mnemonic and funct3 of an instruction with a register and an immediate
+-- `op_imm_code` is the mnemonic and funct3 of an instruction with a register and an immediate
 abbrev pub op_imm_code : OpImmKind → List ℕ × ℕ
 op_imm_code Addi = (codes "addi", 0b000)
 op_imm_code Slti = (codes "slti", 0b010)
@@ -105,13 +105,13 @@ op_imm_code Xori = (codes "xori", 0b100)
 op_imm_code Ori = (codes "ori", 0b110)
 op_imm_code Andi = (codes "andi", 0b111)
 
--- the mnemonic and funct3 of a CSR instruction with a register
+-- `csr_code` is the mnemonic and funct3 of a CSR instruction with a register
 abbrev pub csr_code : CsrKind → List ℕ × ℕ
 csr_code Write = (codes "csrrw", 0b001)
 csr_code Set = (codes "csrrs", 0b010)
 csr_code Clear = (codes "csrrc", 0b011)
 
--- the mnemonic and funct3 of a CSR instruction with an immediate
+-- `csr_imm_code` is the mnemonic and funct3 of a CSR instruction with an immediate
 abbrev pub csr_imm_code : CsrKind → List ℕ × ℕ
 csr_imm_code Write = (codes "csrrwi", 0b101)
 csr_imm_code Set = (codes "csrrsi", 0b110)
@@ -123,7 +123,7 @@ shift_code Slli = (codes "slli", functs 0b0000000 0b001)
 shift_code Srli = (codes "srli", functs 0b0000000 0b101)
 shift_code Srai = (codes "srai", functs 0b0100000 0b101)
 
--- the mnemonic, funct7 and funct3 of an instruction with two registers
+-- `op_code` is the mnemonic, funct7 and funct3 of an instruction with two registers
 abbrev pub op_code : OpKind → List ℕ × Functs
 op_code Add = (codes "add", functs 0b0000000 0b000)
 op_code Sub = (codes "sub", functs 0b0100000 0b000)
@@ -148,7 +148,7 @@ op_code Remu = (codes "remu", functs 0b0000001 0b111)
 abbrev pub branch_name : BranchKind → List ℕ
 branch_name kind = (branch_code kind).0
 
--- funct3 of a branch
+-- `branch_funct3` is the funct3 of a branch
 abbrev pub branch_funct3 : BranchKind → ℕ
 branch_funct3 kind = (branch_code kind).1
 
@@ -168,27 +168,27 @@ store_name kind = (store_code kind).0
 abbrev pub store_funct3 : StoreKind → ℕ
 store_funct3 kind = (store_code kind).1
 
--- the mnemonic of an instruction with a register and an immediate
+-- `op_imm_name` is the mnemonic of an instruction with a register and an immediate
 abbrev pub op_imm_name : OpImmKind → List ℕ
 op_imm_name kind = (op_imm_code kind).0
 
--- funct3 of an instruction with a register and an immediate
+-- `op_imm_funct3` is the funct3 of an instruction with a register and an immediate
 abbrev pub op_imm_funct3 : OpImmKind → ℕ
 op_imm_funct3 kind = (op_imm_code kind).1
 
--- the mnemonic of a CSR instruction with a register
+-- `csr_name` is the mnemonic of a CSR instruction with a register
 abbrev pub csr_name : CsrKind → List ℕ
 csr_name kind = (csr_code kind).0
 
--- funct3 of a CSR instruction with a register
+-- `csr_funct3` is the funct3 of a CSR instruction with a register
 abbrev pub csr_funct3 : CsrKind → ℕ
 csr_funct3 kind = (csr_code kind).1
 
--- the mnemonic of a CSR instruction with an immediate
+-- `csr_imm_name` is the mnemonic of a CSR instruction with an immediate
 abbrev pub csr_imm_name : CsrKind → List ℕ
 csr_imm_name kind = (csr_imm_code kind).0
 
--- funct3 of a CSR instruction with an immediate
+-- `csr_imm_funct3` is the funct3 of a CSR instruction with an immediate
 abbrev pub csr_imm_funct3 : CsrKind → ℕ
 csr_imm_funct3 kind = (csr_imm_code kind).1
 
@@ -200,17 +200,17 @@ shift_name kind = (shift_code kind).0
 abbrev pub shift_functs : ShiftKind → Functs
 shift_functs kind = (shift_code kind).1
 
--- the mnemonic of an instruction with two registers
+-- `op_name` is the mnemonic of an instruction with two registers
 abbrev pub op_name : OpKind → List ℕ
 op_name kind = (op_code kind).0
 
--- funct7 and funct3 of an instruction with two registers
+-- `op_functs` has the funct7 and the funct3 of an instruction with two registers
 abbrev pub op_functs : OpKind → Functs
 op_functs kind = (op_code kind).1
 
 -- ---- the kinds of each group, in the order of the listing
 
--- all branches
+-- `branch_kinds` has all branches
 abbrev pub branch_kinds : List BranchKind
 branch_kinds = Beq ∷ Bne ∷ Blt ∷ Bge ∷ Bltu ∷ Bgeu ∷ []
 
@@ -234,11 +234,11 @@ shift_kinds = Slli ∷ Srli ∷ Srai ∷ []
 abbrev pub csr_kinds : List CsrKind
 csr_kinds = Write ∷ Set ∷ Clear ∷ []
 
--- the operations of RV32I, and those of RV32M
+-- `rv32i_op_kinds` has the operations of RV32I
 abbrev pub rv32i_op_kinds : List OpKind
 rv32i_op_kinds = Add ∷ Sub ∷ Sll ∷ Slt ∷ Sltu ∷ Xor ∷ Srl ∷ Sra ∷ Or ∷ And ∷ []
 
--- all instructions of RV32M
+-- `rv32m_op_kinds` has the operations of RV32M
 abbrev pub rv32m_op_kinds : List OpKind
 rv32m_op_kinds = Mul ∷ Mulh ∷ Mulhsu ∷ Mulhu ∷ Div ∷ Divu ∷ Rem ∷ Remu ∷ []
 

@@ -19,7 +19,7 @@ pub record InstrRow : Type 0 where
   pub match : ℕ
   pub fields : List (Places × ℕ)
 
--- the fields, each at its positions
+-- `fields_at` has the fields, each at its positions
 abbrev pub fields_at : List (Places × ℕ) → ℕ
 fields_at fields = sum_by (λ (field : Places × ℕ). placed field.0 field.1) fields
 
@@ -48,7 +48,7 @@ funct12_row opcode funct12 = record { mask = 0xFFFFFFFF; match = opcode + funct1
 
 -- ---- the rows, by groups with the same fields
 
--- the row of each instruction: its fixed bits, and its fields with their places
+-- `row_of_instr` is the row of each instruction: its fixed bits, and its fields with their places
 abbrev pub row_of_instr : Instr → InstrRow
 row_of_instr (Lui rd imm) = opcode_row lui_opcode ((rd_at, rd) ∷ (u_immediate_at, imm) ∷ [])
 row_of_instr (Auipc rd imm) = opcode_row auipc_opcode ((rd_at, rd) ∷ (u_immediate_at, imm) ∷ [])

@@ -22,11 +22,11 @@ use Rattle.rv_encoding.specs.declared.kind.ShiftKind.TheVariants.{Slli, Srli, Sr
 use Rattle.rv_encoding.specs.declared.kind.StoreKind.{StoreKind}
 use Rattle.rv_encoding.specs.declared.kind.StoreKind.TheVariants.{Sb, Sh, Sw}
 
--- the sum of two words, modulo 2 ^ 32
+-- `sum_of` is the sum of two words, modulo 2 ^ 32
 abbrev pub sum_of : ℕ → ℕ → ℕ
 sum_of left right = (left + right) % 2 ^ 32
 
--- the difference of two words, modulo 2 ^ 32
+-- `difference_of` is the difference of two words, modulo 2 ^ 32
 abbrev pub difference_of : ℕ → ℕ → ℕ
 difference_of left right = low_word (pos left -ℤ pos right)
 
@@ -74,7 +74,7 @@ shift_value Slli rs1 shamt = shifted_left rs1 shamt
 shift_value Srli rs1 shamt = shifted_right rs1 shamt
 shift_value Srai rs1 shamt = shifted_right_signed rs1 shamt
 
--- the condition of a branch on two registers
+-- a branch on two registers is taken if its condition holds
 abbrev pub is_taken : BranchKind → ℕ → ℕ → Bool
 is_taken Beq rs1 rs2 = rs1 == rs2
 is_taken Bne rs1 rs2 = not (rs1 == rs2)

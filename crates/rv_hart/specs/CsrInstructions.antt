@@ -26,7 +26,7 @@ is_written kinds.Write source = true
 is_written kinds.Set source = not (source == 0)
 is_written kinds.Clear source = not (source == 0)
 
--- the written word, from the old word and the operand
+-- `changed_word` is the written word, from the old word and the operand
 abbrev pub changed_word : CsrKind → ℕ → ℕ → ℕ
 changed_word kinds.Write old operand = operand
 changed_word kinds.Set old operand = or_by_bits old operand

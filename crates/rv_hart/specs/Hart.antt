@@ -17,11 +17,11 @@ use Rattle.rv_hart.specs.declared.trap.Trap.{Trap}
 abbrev pub at_reset : ℕ → Mode → Hart
 at_reset entry mode = record { regs = replicate 32 0; csrs = csrs_at_reset; pc = entry; mode = mode }
 
--- the hart with pc at the next instruction
+-- `advanced` is the hart with pc at the next instruction
 abbrev pub advanced : Hart → Hart
 advanced hart = record hart { pc = sum_of hart.pc 4 }
 
--- the hart with a register written and pc at the next instruction
+-- `with_result` is the hart with a register written and pc at the next instruction
 abbrev pub with_result : Hart → ℕ → ℕ → Hart
 with_result hart rd value = record hart { regs = with_register hart.regs rd value; pc = sum_of hart.pc 4 }
 

@@ -3,7 +3,7 @@ use Rattle.std.specs.Prelude.{ℕ, List}
 use Rattle.rv_hart.specs.HartRecord.{Hart}
 use Rattle.rv_hart.specs.declared.trap.StepOutcome.{StepOutcome}
 
--- a hart and its memory
+-- a machine has a hart and its memory
 pub record Machine : Type 0 where
   pub hart : Hart
   pub memory : List ℕ
@@ -18,7 +18,7 @@ pub record Stepped : Type 0 where
   pub state : Machine
   pub outcome : StepOutcome
 
--- the machine of a hart and a memory
+-- `machine_of` is the machine of a hart and a memory
 abbrev pub machine_of : Hart → List ℕ → Machine
 machine_of hart memory = record { hart = hart; memory = memory }
 

@@ -3,7 +3,7 @@ use Rattle.std.specs.Prelude.{ℕ, ◌-◌, List, map, Option, None}
 use Rattle.rv_word.specs.Cases.{option_case}
 use Rattle.rv_memory.specs.Memory.{read, write}
 
--- a byte with each bit inverted
+-- `complement_of` is a byte with each bit inverted
 abbrev pub complement_of : ℕ → ℕ
 complement_of byte = 255 - byte
 

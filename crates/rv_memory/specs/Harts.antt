@@ -4,7 +4,7 @@ use Rattle.std.specs.Prelude.{ℕ, ◌==◌, Option, Some, None, if◌then◌els
 use Rattle.rv_memory.specs.declared.harts.Harts.{Harts}
 use Rattle.rv_memory.specs.declared.harts.Harts.TheVariants.{One, Two}
 
--- the number of harts of a machine: one or two
+-- `number_of_harts` is the number of harts of a machine: one or two
 abbrev pub number_of_harts : Harts → ℕ
 number_of_harts One = 1
 number_of_harts Two = 2

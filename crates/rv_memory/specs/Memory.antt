@@ -5,7 +5,7 @@ use Rattle.std.specs.Prelude.{take, drop, slice_index, Option, Some, None, if◌
 use Rattle.std.specs.Option.{option_map}
 use Rattle.rv_word.specs.ByteOrder.{byte_of}
 
--- the address of the first byte
+-- `ram_base` is the address of the first byte
 abbrev pub ram_base : ℕ
 ram_base = 0x80000000
 
@@ -31,11 +31,11 @@ unfoldable pub write : List ℕ → ℕ → List ℕ → Option (List ℕ)
 write memory address bytes =
     if is_inside memory address (length bytes) then Some (write_bytes memory (address - ram_base) bytes) else None
 
--- the byte at an address
+-- `byte_at` is the byte at an address
 abbrev pub byte_at : List ℕ → ℕ → Option ℕ
 byte_at memory address = option_map (λ bytes. slice_index bytes 0) (read memory address 1)
 
--- the little-endian number of these bytes
+-- `number_of_bytes` is the little-endian number of these bytes
 abbrev pub number_of_bytes : List ℕ → ℕ
 number_of_bytes [] = 0
 number_of_bytes (byte ∷ bytes) = byte + 2 ^ 8 * number_of_bytes bytes

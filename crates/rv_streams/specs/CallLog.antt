@@ -10,15 +10,15 @@ no_call input = record { marker = record {}; bytes = []; empty_calls = 0; failur
 abbrev pub after_move : CallLog → List ℕ → CallLog
 after_move log bytes = record log { bytes = log.bytes ++ bytes; is_flushed = log.is_flushed && (length bytes == 0) }
 
--- the log after a call that moved no byte
+-- `after_empty_call` is the log after a call that moved no byte
 abbrev pub after_empty_call : CallLog → CallLog
 after_empty_call log = record log { empty_calls = log.empty_calls + 1 }
 
--- the log after a call that failed
+-- `after_failure` is the log after a call that failed
 abbrev pub after_failure : CallLog → CallLog
 after_failure log = record log { failures = log.failures + 1 }
 
--- the log after a flush
+-- `after_flush` is the log after a flush
 abbrev pub after_flush : CallLog → CallLog
 after_flush log = record log { flushes = log.flushes + 1; is_flushed = true }
 

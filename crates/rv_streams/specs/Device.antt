@@ -2,7 +2,7 @@
 -- not take. (This project's own streams; not defined by a standard.)
 use Rattle.std.specs.Prelude.{ℕ, ◌+◌, ◌<◌, ◌==◌, nat_lt, Bool, false, ◌&&◌, Result, Ok, Err, if◌then◌else◌}
 
--- the number of bytes that a call gave or took; 0 if it failed
+-- `moved_count` is the number of bytes that a call gave or took, or 0 if it failed
 abbrev pub moved_count : {E : Type 0} → Result ℕ E → ℕ
 moved_count (Ok n) = n
 moved_count (Err e) = 0

@@ -9,15 +9,15 @@ use Rattle.rv_streams.specs.Image.{image_in}
 use Rattle.rv_streams.specs.declared.fault.BenchFault.{BenchFault}
 use Rattle.rv_streams.specs.declared.fault.BenchFault.TheVariants.{Hex}
 
--- the words of an image: four bytes each, little-endian
+-- `words_of_image` has the words of an image: four bytes each, little-endian
 abbrev pub words_of_image : List ℕ → List ℕ
 words_of_image image = map word_of_bytes (first_chunks 4 (length image / 4) image)
 
--- a word in eight hexadecimal digits, and its disassembly
+-- a line shows a word in eight hexadecimal digits, and its disassembly
 unfoldable pub dis_line : ℕ → List ℕ
 dis_line word = hex8 word ++ codes " " ++ spelling word ++ codes "\n"
 
--- a line for each word
+-- `disassembly_text` has a line for each word
 abbrev pub disassembly_text : List ℕ → List ℕ
 disassembly_text words = flat_map dis_line words
 

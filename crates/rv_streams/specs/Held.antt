@@ -16,6 +16,6 @@ module _ {W : Type 0} (h : Ghosts W) where
   abbrev pub is_flushed_of : BufferedSink W h → Bool
   is_flushed_of sink = h.is_flushed sink.sink && (sink.start == sink.end)
 
-  -- the calls of the other sink that failed, and those that took no byte
+  -- `failures_of` is the number of calls of the other sink that failed, or took no byte
   abbrev pub failures_of : BufferedSink W h → ℕ
   failures_of sink = h.failures sink.sink + h.refusals sink.sink

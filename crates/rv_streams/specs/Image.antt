@@ -10,7 +10,7 @@ use Rattle.rv_text.specs.Lines.{lines_of, after_lines}
 use Rattle.rv_streams.specs.LineText.{ReadsLineText, ReadsLines}
 use Rattle.rv_streams.specs.Separator.{line_word, before_separator}
 
--- the bytes of pairs of hexadecimal digits, the high digit first
+-- `pair_values` has the bytes of pairs of hexadecimal digits, the high digit first
 abbrev pub pair_values : List ℕ → List ℕ
 pair_values [] = []
 pair_values (digit ∷ []) = []
@@ -28,7 +28,7 @@ line_bytes line = option_and_then bytes_of_digits (line_word line)
 abbrev pub is_image_line : List ℕ → Bool
 is_image_line line = is_some (line_bytes line)
 
--- the bytes of lines, one after another
+-- `bytes_of_lines` has the bytes of lines, one after another
 abbrev pub bytes_of_lines : List (List ℕ) → List ℕ
 bytes_of_lines lines = flat_map (λ line. unwrap_or (line_bytes line) []) lines
 

@@ -15,12 +15,12 @@ abbrev pub ends_script : ScriptEnd → List ℕ → Bool
 ends_script Input line = false
 ends_script Separator line = is_separator line
 
--- the lines of the script: all, or those before the separator
+-- `script_lines` has the lines of the script: all, or those before the separator
 abbrev pub script_lines : ScriptEnd → List (List ℕ) → List (List ℕ)
 script_lines Input lines = lines
 script_lines Separator lines = before_separator lines
 
--- a line of the script
+-- a line is one of the script
 abbrev pub is_script_line : ScriptEnd → List ℕ → Bool
 is_script_line end line = not (ends_script end line)
 

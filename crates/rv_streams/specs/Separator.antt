@@ -25,7 +25,7 @@ is_dashes (Some word) = bytes_eq word (codes "--")
 abbrev pub is_separator : List ℕ → Bool
 is_separator line = is_dashes (line_word line)
 
--- the lines before the first separator, or all
+-- `before_separator` has the lines before the first separator, or all
 abbrev pub before_separator : List (List ℕ) → List (List ℕ)
 before_separator lines = take_while (λ line. not (is_separator line)) lines
 
@@ -33,6 +33,6 @@ before_separator lines = take_while (λ line. not (is_separator line)) lines
 abbrev pub has_separator : List ℕ → Bool
 has_separator input = list_any is_separator (lines_of input)
 
--- the input after the first separator
+-- `after_separator` is the input after the first separator
 abbrev pub after_separator : List ℕ → List ℕ
 after_separator input = after_lines (length (before_separator (lines_of input)) + 1) input

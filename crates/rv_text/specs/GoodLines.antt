@@ -3,15 +3,15 @@ use Rattle.std.specs.Prelude.{ℕ, ◌+◌, Bool, ◌==◌, ◌||◌, ◌&&◌, 
 use Rattle.std.specs.List.{list_all}
 use Rattle.rv_text.specs.Characters.{tab, space, tilde}
 
--- a space or a tab
+-- a blank is a space or a tab
 abbrev pub is_blank : ℕ → Bool
 is_blank byte = byte == space || byte == tab
 
--- a tab, or a character from space to tilde
+-- a byte of a line is a tab, or a character from space to tilde
 unfoldable pub is_text : ℕ → Bool
 is_text byte = byte == tab || nat_le space byte && nat_le byte tilde
 
--- the maximal number of bytes of a line, without its ending
+-- `max_line` is the maximal number of bytes of a line, without its ending
 abbrev pub max_line : ℕ
 max_line = 120
 

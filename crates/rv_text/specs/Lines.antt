@@ -25,17 +25,17 @@ lines_of (b ∷ bs) =
     if b == line_feed then [] ∷ lines_of bs
     else (if (b == carriage_return) && starts_with_feed bs then lines_of bs else onto_first b (lines_of bs))
 
--- the text through its last line feed
+-- `through_last_feed` is the text through its last line feed
 abbrev pub through_last_feed : List ℕ → List ℕ
 through_last_feed [] = []
 through_last_feed (b ∷ bs) = if (b == line_feed) || has_feed bs then b ∷ through_last_feed bs else []
 
--- the text after the first line
+-- `after_line` is the text after the first line
 abbrev pub after_line : List ℕ → List ℕ
 after_line [] = []
 after_line (b ∷ bs) = if b == line_feed then bs else after_line bs
 
--- the text after the first n lines
+-- `after_lines` is the text after the first n lines
 abbrev pub after_lines : ℕ → List ℕ → List ℕ
 after_lines zero text = text
 after_lines (suc n) text = after_lines n (after_line text)

@@ -7,6 +7,6 @@ use Rattle.rv_text.specs.GoodLines.{is_blank}
 abbrev pub is_filled : List ℕ → Bool
 is_filled word = not (length word == 0)
 
--- the non-empty texts between the spaces and tabs of a line
+-- `words_of` has the non-empty texts between the spaces and tabs of a line
 unfoldable pub words_of : List ℕ → List (List ℕ)
 words_of line = filter is_filled (slice_split is_blank line)

@@ -6,12 +6,12 @@ abbrev pub bit_list : ℕ → ℕ → List Bool
 bit_list zero number = []
 bit_list (suc count) number = (number % 2 == 1) ∷ bit_list count (number / 2)
 
--- a bit as a number
+-- `digit` is a bit as a number
 abbrev pub digit : Bool → ℕ
 digit true = 1
 digit false = 0
 
--- the number with these bits, the lowest first
+-- `word_of_bits` is the number with these bits, the lowest first
 abbrev pub word_of_bits : List Bool → ℕ
 word_of_bits [] = 0
 word_of_bits (bit ∷ bits) = digit bit + 2 * word_of_bits bits
@@ -26,7 +26,7 @@ bitwise f (x ∷ xs) (y ∷ ys) = f x y ∷ bitwise f xs ys
 unfoldable pub by_bits : (Bool → Bool → Bool) → ℕ → ℕ → ℕ → ℕ
 by_bits f count left right = word_of_bits (bitwise f (bit_list count left) (bit_list count right))
 
--- the exclusive or of two bits
+-- `exclusive_or` is the exclusive or of two bits
 abbrev pub exclusive_or : Bool → Bool → Bool
 exclusive_or true b = not b
 exclusive_or false b = b

@@ -26,7 +26,7 @@ with_read cache range = record cache { ranges = record cache.ranges { read = ran
 abbrev pub with_write : Cache → OpenRange → Cache
 with_write cache range = record cache { ranges = record cache.ranges { write = range } }
 
--- the cache of the current entries, and that of the previous ones
+-- `cache_now` is the cache of the current entries
 unfoldable pub cache_now : Caches → Cache
 cache_now caches = if caches.is_second then caches.second else caches.first
 

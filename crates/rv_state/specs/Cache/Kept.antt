@@ -5,7 +5,7 @@ use Rattle.rv_word.specs.BitFields.{is_set, flag}
 use Rattle.rv_state.specs.Counters.{incremented}
 use Rattle.rv_state.specs.Interrupts.{software_pending_of}
 
--- both counters, and mcountinhibit
+-- `CountersState` has both counters, and mcountinhibit
 pub record CountersState : Type 0 where
   pub mcycle : ℕ
   pub minstret : ℕ
@@ -32,7 +32,7 @@ pub record RaisedState : Type 0 where
   pub software : ℕ
   pub timer : Bool
 
--- both, from one word
+-- `raised_in` has the pending software interrupts and the timer line of one word
 abbrev pub raised_in : ℕ → RaisedState
 raised_in word = record { software = software_pending_of word; timer = is_set word 7 }
 
