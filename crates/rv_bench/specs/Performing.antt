@@ -74,7 +74,7 @@ module _ {S W : Type 0} (g : SourceGhosts S) (h : SinkGhosts W) (source left : S
   abbrev pub Performs : List Text → ℕ → Type 0
   Performs given status = ((refusals_of given ≡ []) × DoesAndReports (job_of given) status) ⊎ RefusesArguments given status
 
-  -- The same for arguments that may be unreadable. Then the program reports why, and reads nothing.
+  -- The program performs the job of arguments that may be unreadable. If they are, the program reports why, and reads nothing.
   abbrev pub PerformsGiven : Result (List Text) WordsFault → ℕ → Type 0
   PerformsGiven (Ok given) status = Performs given status
   PerformsGiven (Err fault) status = Refuses h before after fault status × (left ≡ source)

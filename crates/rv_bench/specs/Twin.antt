@@ -35,7 +35,7 @@ monitored_setup setup = record setup { monitored = true }
 
 -- ---- the text
 
--- both benches after the first script, which is before the first separator
+-- `after_first_script` is the bench after the lines before the first separator
 abbrev pub after_first_script : BenchState → List ℕ → BenchState
 after_first_script bench input = state_after bench_line bench (before_separator (lines_of input))
 

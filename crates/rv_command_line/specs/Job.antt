@@ -103,7 +103,7 @@ are_run_read options = is_setup_read options && is_monitor_read options
 abbrev pub are_twin_read : List Row → Bool
 are_twin_read options = is_setup_read options && is_slot_read options
 
--- this holds for all options in the arguments
+-- all options in the arguments have readable values
 abbrev pub are_options_read : List Text → Bool
 are_options_read words = are_run_read (options_of (codes "run") words) && are_twin_read (options_of (codes "twin") words)
 

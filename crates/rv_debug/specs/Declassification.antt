@@ -86,7 +86,7 @@ abbrev pub SetsOwnRegister : ℕ → BenchState → Command → Type 0
 SetsOwnRegister e bench (SetReg number value) = is_selected e bench.target ≡ true
 SetsOwnRegister e bench _ = ⊥
 
--- both execute the same command; its steps hand over the same, and end for the same reason
+-- both benches execute one command, whose steps hand over the same, and end for the same reason
 pub record IsSameCommand (e : ℕ) (first second : BenchState) (here there : Command) : Type 0 where
   pub same : here ≡ there
   pub steps : HandsOverAlike e first second here
@@ -98,7 +98,7 @@ WindowsAreEqual e first second =
     IfSome (machine_in first.target) (λ one. IfSome (machine_in second.target) (λ other.
     runs one.shared.table e ≡ true → SameWindow e one other))
 
--- both execute the same command, which in the first bench steps no hart on which the enclave runs, and does not enter it
+-- both benches execute one command, which in the first bench steps no hart on which the enclave runs, and does not enter the enclave
 pub record IsSameLowCommand (e : ℕ) (first second : BenchState) (here there : Command) : Type 0 where
   pub same : here ≡ there
   pub window : WindowsAreEqual e first second
@@ -124,7 +124,7 @@ CommandDeclassificationLaw =
 
 -- ---- a command that executes no step of the enclave
 
--- both execute the same steps, and the windows are equal again
+-- both benches execute equal steps of the command, and the windows are equal afterwards
 pub record IsLowCommand (e : ℕ) (first second : BenchState) (command : Command) : Type 0 where
   pub same : IsSameCommand e first second command command
   pub window : WindowsAreEqual e (execute first command).state (execute second command).state

@@ -1,6 +1,6 @@
--- The host's influence on an enclave, for commands. Two benches with unlike hosts, tables, memories and schedules have an enclave at the same point of
--- its life, and execute unlike commands. Its own steps are then the same in both, as long as the bytes of its window that they read are equal. (A law
--- about this project's own debugger and monitor.)
+-- The host's influence on an enclave, for commands. Two benches with unlike hosts, tables, memories and schedules have an enclave at the same point
+-- of its life, and execute unlike commands. Its own steps are then the same in both, as long as the bytes of its window that they read are equal. (A
+-- law about this project's own debugger and monitor.)
 use Rattle.std.specs.Prelude.{ℕ, ◌≡◌, false, List, [], ◌∷◌, IfSome, IsSomeAnd}
 use Rattle.rv_monitor.specs.Events.{StepOf}
 use Rattle.rv_monitor.specs.LegalMachine.{IsLegalMachine}
@@ -85,7 +85,7 @@ pub record IsSameLife (i j : ℕ) (first second : BenchState) (commands others :
   pub there : second_actions moves ≡ actions_of second others
   pub are : AreBenchMoves i j moves one other
 
--- its steps are the same, and the two enclaves are at one point after the commands
+-- the enclaves of slots i and j make equal steps, and are at one point after the commands
 pub record HasSameLife (i j : ℕ) (moves : List BenchMove) (one other : MonitoredMachine) (after after_too : Target) : Type 0 where
   pub steps : EnclaveStepsAreSame i j moves one other
   pub point : IsSomeAnd (machine_in after) (λ a. IsSomeAnd (machine_in after_too) (AreAtOnePoint i j a))

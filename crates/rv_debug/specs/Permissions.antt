@@ -1,5 +1,5 @@
--- The bytes that S may store in numbers, by the records of the enclaves. A measure succeeds only if S may store each of the 32 bytes. (A law about this
--- project's own monitor; physical memory protection: RISC-V Privileged Architecture 20211203, section 3.7.1.)
+-- The bytes that S may store in numbers, by the records of the enclaves. A measure succeeds only if S may store each of the 32 bytes. (A law about
+-- this project's own monitor; physical memory protection: RISC-V Privileged Architecture 20211203, section 3.7.1.)
 use Rattle.std.specs.List.{list_any, range_with_len}
 use Rattle.std.specs.Prelude.{ℕ, ◌≡◌, ◌<◌, ◌≤◌, ◌+◌, Bool, false, not, ◌&&◌, ◌||◌, nat_le, nat_lt, length}
 use Rattle.rv_pmp.specs.Verdicts.{bytes_from, permits, verdict}

@@ -23,7 +23,7 @@ abbrev pub given : {A : Type 0} → Result A AccessFault → Option A
 given (Ok value) = Some value
 given (Err fault) = None
 
--- the same interrupt is pending, and the PMP entries permit the same accesses, with the same values
+-- in both machines, the same interrupt is pending, and the PMP entries permit the same accesses with the same values
 pub record SameAccess (one other : Machine) : Type 0 where
   pub pending : pending one.hart.csrs one.hart.mode ≡ pending other.hart.csrs other.hart.mode
   pub fetched : given (fetched one.memory one.hart.csrs.pmp one.hart.mode one.hart.pc)

@@ -52,7 +52,7 @@ pub record ReadsInImage (unread left kept : List ℕ) : Type 0 where
   pub image : image_of lines ≡ Ok (bytes_of_lines lines)
   pub begun : ReadsLineText others left kept
 
--- These lines were read, up to the remaining bytes, and none is `--`.
+-- The lines were read, up to the remaining bytes, and none is `--`.
 pub record ReadsUnmarked (unread left : List ℕ) (lines : List (List ℕ)) : Type 0 where
   pub all : lines_of unread ≡ lines ++ lines_of left
   pub rest : left ≡ after_lines (length lines) unread

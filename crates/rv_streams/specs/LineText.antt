@@ -25,7 +25,7 @@ pub record TakesLine (unread left : List ℕ) (is_at_end : Bool) (shown : List �
   pub rest : left ≡ after_line unread
   pub prefix : shown ≡ take significant_bytes line
 
--- These lines were taken one by one, up to the remaining bytes.
+-- The lines were taken one by one, up to the remaining bytes.
 pub record ReadsLines (unread left : List ℕ) (is_at_end : Bool) (lines : List (List ℕ)) : Type 0 where
   pub text : List ℕ
   pub split : unread ≡ text ++ left

@@ -24,7 +24,7 @@ script_lines Separator lines = before_separator lines
 abbrev pub is_script_line : ScriptEnd → List ℕ → Bool
 is_script_line end line = not (ends_script end line)
 
--- These lines of the script were taken, and no others.
+-- The lines of the script were taken, and no others.
 pub record TakesScript (end : ScriptEnd) (unread left : List ℕ) (is_at_end : Bool) (lines : List (List ℕ)) : Type 0 where
   pub reads : ReadsLines unread left is_at_end lines
   pub inside : list_all (is_script_line end) lines ≡ true

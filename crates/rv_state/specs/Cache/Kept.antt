@@ -20,7 +20,7 @@ abbrev pub later : Bool → ℕ → ℕ → ℕ
 later is_held counter zero = counter
 later is_held counter (suc steps) = incremented (later is_held counter steps) is_held
 
--- both counters after `steps` steps that each retired and wrote no counter
+-- `counted_on` has both counters after `steps` steps that each retired and wrote no counter
 abbrev pub counted_on : ℕ → CountersState → CountersState
 counted_on steps c = record c {
   mcycle = later (is_set c.inhibit 0) c.mcycle steps;
