@@ -21,7 +21,7 @@ option_case-some : {A : Type 0} (o : Option A) → option_case o None Some ≡ o
 option_case-some None = refl
 option_case-some (Some x) = refl
 
--- an option that has no element by the test is none
+-- an option is `None` if the test of an element is false
 pub none_from_is_some : {A : Type 0} (o : Option A) → is_some o ≡ false → o ≡ None
 none_from_is_some None none = refl
 none_from_is_some (Some x) none = cc

@@ -79,7 +79,7 @@ name_decides text pass fault has_read none once first_line_fault_is =
     ap (λ labels. first_line_fault (name_fault labels) [] (readings text)) (sym has_read.labels) ∙ first_line_fault_is in
     rw (none, not_twice text pass has_read once, named) refl
 
--- without an error, the words of all lines are those of the text
+-- without an error, the words of all lines are the words of the text
 pub words_decide : (text : List ℕ) (pass : FirstPass) (words : List ℕ) → HasRead pass (readings text)
     → first_line_fault own_fault [] (readings text) ≡ None → pass.repeated ≡ None
     → first_line_fault (name_fault (places_of pass.labels)) [] (readings text) ≡ None → words ≡ words_from (places_of pass.labels) [] (readings text)

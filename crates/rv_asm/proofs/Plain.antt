@@ -138,6 +138,6 @@ operands_of-spaced (b ∷ first) more piece pieces =
     let some = trimmed-some b (first ++ flat_map (λ operand. codes ", " ++ operand) more) (and_parts (is_plain b) (list_all is_plain first) piece.plain).0 in
     taken (length (trimmed (spaced (b ∷ first) more))) some ∙ fields_of-spaced (b ∷ first) more piece pieces
   where
-    -- a text with a comma field has these fields
+    -- a text with at least one field has all its comma fields
     taken : (n : ℕ) → 0 < n → (if n == 0 then [] else comma_fields (spaced (b ∷ first) more)) ≡ comma_fields (spaced (b ∷ first) more)
     taken n some = let not_none : (n == 0) ≡ false = grind (arith, nat_tests) in rw not_none refl

@@ -83,7 +83,7 @@ length-spaced name first more of_name of_first of_more few =
       length-append first (flat_map (λ operand. codes ", " ++ operand) more),
     )
 
--- a text has one line, and this statement
+-- a text has one line, and the line has the statement s
 record Says (text : List ℕ) (s : Statement) : Type 0 where
   one : lines_of text ≡ text ∷ []
   says : line_read text ≡ Ok (record { label = None; statement = Some s })
@@ -254,7 +254,7 @@ assembled-told : (word : ℕ) (i : Instr) (told : Bool) → is_told_by_operands 
 assembled-told word i true test_is small encodes = assembled-instr_text i encodes.0 test_is ∙ ap (λ w. Ok (w ∷ [])) encodes.1
 assembled-told word i false test_is small encodes = assembled-word_text word small
 
--- the disassembly of a word assembles to the word, by its instruction
+-- the disassembly of a word assembles to the word, whether or not the word encodes an instruction (found)
 assembled-found : (word : ℕ) (found : Option Instr) → word < 2 ^ 32 → IfSome found (Encodes word)
     → assembled (option_case found (word_text word) (λ i. if is_told_by_operands i then instr_text i else word_text word)) ≡ Ok (word ∷ [])
 assembled-found word None small encodes = assembled-word_text word small

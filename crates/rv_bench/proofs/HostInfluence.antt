@@ -195,12 +195,12 @@ unfolding parse_of is_text meaning_of words_of keyword_of
 timer_parsed true = refl
 timer_parsed false = refl
 
--- if two lines are read as two commands, the commands of all lines are these two and those of the lines after them
+-- if two lines are read as two commands, all lines have these two commands, and then the commands of the other lines
 two_commands : (line other : List ℕ) (lines : List (List ℕ)) (first second : Command) → parse_of line ≡ Ok first → parse_of other ≡ Ok second
     → commands_of (line ∷ other ∷ lines) ≡ first ∷ second ∷ commands_of lines
 two_commands line other lines first second parsed is_too = rw (parsed, is_too) refl
 
--- the commands of the lines for events are those for the events
+-- the lines for events have the commands for these events
 lines_are : (list : List Event) → are_of_harts 2 list ≡ true → commands_of (lines_for list) ≡ commands_for list
 lines_are [] fits = refl
 lines_are (StepOf hart ∷ more) fits =

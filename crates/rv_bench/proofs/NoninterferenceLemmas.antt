@@ -168,7 +168,7 @@ module _ (e : ℕ) where
     pub by : EachLineAvoidsHart e bench lines
     pub not_running : RunsOnNoHart e (state_after bench_line bench lines).target
 
-  -- lists of such lines leave the enclave on no hart
+  -- lines that poke into the region or avoid the enclave leave the enclave on no hart
   pokes_rest : (first second : BenchState) (lines others : List (List ℕ)) → TargetInvariant first.target → RunsOnNoHart e first.target
       → DifferInPokes e first second lines others → RestsThrough first lines
   pokes_rest first second [] [] kept not_running differ = record { by = tt; not_running = not_running }

@@ -78,7 +78,7 @@ has_line : (xs : List ℕ) (n : ℕ) → through_last_feed xs ≡ xs → n + 1 �
 has_line [] n whole some = absurd (omega (arith, some))
 has_line (x ∷ xs) n whole some = (whole_tail x xs whole).0
 
--- a text of whole lines without n lines is one
+-- the text after the first n lines of a text of whole lines consists of whole lines
 after_lines-whole : (n : ℕ) (xs : List ℕ) → through_last_feed xs ≡ xs → through_last_feed (after_lines n xs) ≡ after_lines n xs
 after_lines-whole zero xs whole = whole
 after_lines-whole (suc n) xs whole = after_lines-whole n (after_line xs) (after_line-whole xs whole)
@@ -114,7 +114,7 @@ module _ (prefix : List ℕ) (whole : through_last_feed prefix ≡ prefix) (sepa
       ap (λ (lines : List (List ℕ)). after_lines (length lines + 1) (prefix ++ rest)) (same_before rest)
       ∙ after_lines-append (length (before_separator (lines_of prefix)) + 1) prefix rest whole (before-shorter is_separator (lines_of prefix) separated)
 
-  -- the lines of the script are those in the prefix, followed by those of the rest
+  -- the lines of the script are the lines of the prefix after its separator, followed by the lines of the rest
   pub script_lines-prefix : (rest : List ℕ) → lines_of (after_separator (prefix ++ rest)) ≡ lines_of (after_separator prefix) ++ lines_of rest
   script_lines-prefix rest =
       ap lines_of (after_separator-prefix rest)

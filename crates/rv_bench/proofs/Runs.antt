@@ -39,7 +39,7 @@ RespondsToLine-same {old = old} {now = now} {line = line} {responded = responded
 -- ---- the lines so far
 
 module _ {A : Type 0} {by : Responding A} {end : ScriptEnd} {start : A} {unread old : List ℕ} where
-  -- before the first line, the responses are those to no lines
+  -- before the first line, there is no response
   pub RespondsToLines-none : {is_at_end : Bool} → RespondsToLines by end start unread old start unread is_at_end old
   RespondsToLines-none {is_at_end = is_at_end} = record {
     lines = [];
@@ -139,7 +139,7 @@ module _ {A : Type 0} {by : Responding A} {end : ScriptEnd} {start : A} {unread 
   pub RespondsToNext-state : after ≡ state_after by.respond start lines
   RespondsToNext-state = sym (state_after-append by.respond start next.so_far.lines (next.takes.line ∷ []) ∙ ap (λ (a : Replied A). a.state) next_response)
 
-  -- the lines taken from the source are those of the script so far, with the last one
+  -- the lines taken from the source are the lines of the script so far, and the last one
   pub RespondsToNext-taken : TakesScript end unread rest ends lines
   RespondsToNext-taken = record {
     reads = ReadsLines-more unread next.left rest ends next.shown next.so_far.lines next.so_far.taken.reads next.takes;

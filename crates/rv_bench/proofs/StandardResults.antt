@@ -76,7 +76,7 @@ module _ {S W : Type 0} (g : SourceGhosts S) (h : SinkGhosts W) (source left : S
   outputs read input status (inl writes) = inl (passed (program_output read input) status writes)
   outputs read input status (inr (output, stops, writes)) = inr (output, stops, passed output status writes)
 
-  -- a failure of the sink is one of standard output
+  -- a failure of the sink is a failure of standard output, or a call that took no byte
   sink_failed : SinkFailed h before after → (0 < writer.failures) ⊎ (0 < writer.empty_calls)
   sink_failed (inl risen) = one_of_both writer.failures writer.empty_calls (omega (arith, risen, logs.failures))
   sink_failed (inr risen) = one_of_both writer.failures writer.empty_calls (omega (arith, risen, logs.failures))

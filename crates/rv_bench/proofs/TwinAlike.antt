@@ -180,7 +180,7 @@ module _ (slot : ℕ) where
     pub first : end.first ≡ after_commands pair.first commands
     pub second : end.second ≡ after_commands pair.second commands
 
-  -- the benches after a command are those after the commands that both executed
+  -- after a command, the benches are in the state after the commands that both executed
   done_follows : (pair : Pair) (command : Command) (after : BothExecuted) (why : BothWhy) → after.why ≡ why
       → Becomes pair.first pair.second command after → Follows pair (done_by_both why command) (of_command command after why pair).state
   done_follows pair command after why why_is becomes = record {
@@ -193,7 +193,7 @@ module _ (slot : ℕ) where
     left Entered = (refl, refl)
     left NotBlind = (refl, refl)
 
-  -- the benches after a line are those after the commands that both executed
+  -- after a line, the benches are in the state after the commands that both executed
   line_follows : (pair : Pair) (line : List ℕ) → Going pair → Follows pair (done_in_line slot pair line) (pair_line slot pair line).state
   unfolding pair_line
   line_follows pair line going = go pair.entered refl (parse_of line) where
@@ -213,7 +213,7 @@ module _ (slot : ℕ) where
   commands-append bench [] ys = refl
   commands-append bench (x ∷ xs) ys = commands-append (execute bench x).state xs ys
 
-  -- the benches after lines are those after the commands that both executed
+  -- after lines, the benches are in the state after the commands that both executed
   lines_follow : (pair : Pair) (lines : List (List ℕ)) → Going pair
       → Follows pair (commands_done slot pair lines) (state_after (pair_line slot) pair lines)
   lines_follow pair [] going = record { first = refl; second = refl }
@@ -273,7 +273,7 @@ module _ (slot : ℕ) where
 of_pair : (Law : Pair → Type 0) (slot : ℕ) → ((pair : Pair) → Going slot pair → Law pair) → (setup : Setup) (input : List ℕ)
     → OfPair setup slot input Law
 of_pair Law slot law setup input = go (bench_in (monitored_setup setup) input) (bench_keeps (monitored_setup setup) input) where
-  -- the law for the pair of the slot, if it has one
+  -- the law holds for the pair of the slot, if there is one
   some : (pair : Option Pair) → IfSome pair (Going slot) → IfSome pair Law
   some (Some pair) going = law pair going
   some None going = tt

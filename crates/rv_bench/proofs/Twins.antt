@@ -183,7 +183,7 @@ module _ {S W : Type 0} {g : SourceGhosts S} (h : SinkGhosts W) (setup : Setup) 
       pair_is : g.follows_input next.source → make_pair slot then ≡ pair_at (unread mid)
       pair_is follows = ap (make_pair slot) (ran.state follows)
 
-      -- the replies to the first script and the second text are those of both scripts
+      -- the replies to the first script and the text of the second script are the text of both scripts
       text_is : (text : List ℕ) → (follows : g.follows_input next.source) → second_text slot (make_pair slot then) (unread next) ≡ text
           → first_text bench (unread mid) ++ text ≡ scripts_text slot bench (unread mid)
       text_is text follows same =
@@ -201,7 +201,7 @@ module _ {S W : Type 0} {g : SourceGhosts S} (h : SinkGhosts W) (setup : Setup) 
       of_rest follows P holds =
           subst (P (pair_at (unread mid))) (first.reads.rest follows) (subst (λ (pair : Option Pair). P pair (unread next)) (pair_is follows) holds)
 
-      -- a property of the second script and the pair is one of the whole input
+      -- a property of the second script and its pair is a property of the whole input
       of_scripts : g.follows_input next.source → (P : Option Pair → List ℕ → Type 0) → P (make_pair slot then) (unread next)
           → IsOkAnd (bench_in (monitored_setup setup) (unread old))
           (λ bench. P (make_pair slot (after_first_script bench (after_separator (unread old)))) (after_separator (after_separator (unread old))))
@@ -259,7 +259,7 @@ module _ {S W : Type 0} {g : SourceGhosts S} (h : SinkGhosts W) (setup : Setup) 
                   ))),
             ),
           ) where
-            -- a failed read in the second script, by the pair and the text
+            -- a read in the second script has failed, where the arguments are the pair and the unread text
             Stops : Option Pair → List ℕ → Type 0
             Stops pair script = IsSomeAnd pair
                 (λ pair. StopsAtRead (both_benches slot) Input pair script (g.remaining new.source) (held new)
@@ -284,7 +284,7 @@ module _ {S W : Type 0} {g : SourceGhosts S} (h : SinkGhosts W) (setup : Setup) 
             (inr (of_rest (second_end.before follows) Stops
             (write_after slot (make_pair slot then) _ _ _ _ _ (first.written (second_end.before follows)) (run.1 follows))))),
       ) where
-        -- a failed write in the second script, by the pair and the text
+        -- a write in the second script has failed, where the arguments are the pair and the unread text
         Stops : Option Pair → List ℕ → Type 0
         Stops pair script = StopsSecondAtWrite slot pair script (unread new) (h.taken before ++ first_text bench (unread mid)) (h.taken after)
       second_part (Err _) run = absurd run

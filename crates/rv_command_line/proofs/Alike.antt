@@ -69,7 +69,7 @@ pub record Fits (here : Names) (a : Rule) : Type 0 where
       → Alike here itself rows (λ n. use_fault again (rule_at n a) values rows) (λ n. used (rule_at n a) values rows)
   pub default : (rows : List Row) → Alike here itself rows (λ n. default_fault rows (rule_at n a)) (λ n. with_default rows (rule_at n a))
 
--- if a sequence of two has no error, neither part has one
+-- if a sequence of two parts has no error, neither part has an error
 pub parts : (a b : Kinds) → or_else a b ≡ [] → (a ≡ []) × (b ≡ [])
 parts [] b or_else_is = (refl, or_else_is)
 parts (k ∷ ks) b or_else_is = cc

@@ -14,7 +14,7 @@ use Rattle.clap.specs.declared.builder.value_parser.Reading.TheVariants as readi
 use Rattle.clap.specs.declared.parser.matches.ValueSource.{ValueSource}
 use Rattle.rv_command_line.specs.Job.{harts_in_text, is_slot, kind_of, number_in_text, truth_in_text}
 
--- how the value of an option is read, by the id of the option
+-- `how` is the way in which the value of the option with this id is read
 abbrev pub how : Text → Reading
 how id = cond (bytes_eq id (codes "ram") || bytes_eq id (codes "harts") || bytes_eq id (codes "slot")) reading.WithoutMinus reading.AsWritten
 
@@ -27,7 +27,7 @@ is_read id text =
     (cond (bytes_eq id (codes "monitor")) (is_some (truth_in_text text))
     (cond (bytes_eq id (codes "slot")) (is_slot text) true))))
 
--- each of these texts is a readable value of the option
+-- each text of a list is a readable value of the option
 abbrev pub are_values : Text → List Text → Bool
 are_values id = list_all (λ v. is_read id (read_as (how id) v))
 
@@ -39,12 +39,12 @@ GoodRow r = (r.reading ≡ how r.id) × (are_values r.id r.values ≡ true)
 abbrev pub Good : List Row → Type 0
 Good = AllByRecursion GoodRow
 
--- the rows of a choice are good if those of both branches are
+-- the chosen rows are good if the rows of both branches are good
 pub either_good : (b : Bool) (rows others : List Row) → Good rows → Good others → Good (cond b rows others)
 either_good true rows others good other = good
 either_good false rows others good other = other
 
--- the rows without those of one option stay good
+-- the rows stay good without the rows of one option
 pub without_good : (id : Text) (rows : List Row) → Good rows → Good (without id rows)
 without_good id [] good = tt
 without_good id (r ∷ rs) good = go (bytes_eq r.id id) (without_good id rs good.1)
@@ -86,11 +86,11 @@ first_read : (id : Text) (vs : List Text) → are_values id vs ≡ true
 first_read id [] values = refl
 first_read id (v ∷ vs) values = (both (is_read id (read_as (how id) v)) (are_values id vs) values).0
 
--- in good rows, the value of an option is readable, if it has one
+-- in good rows, the value of an option is readable, if the option has a value
 pub one_read : (id : Text) (rows : List Row) → Good rows → option_map_or (is_read id) (one_of id rows) true ≡ true
 one_read id = row_read id row_text (λ r same good. rw (good.0, sym same) (first_read r.id r.values good.1))
 
--- in good rows, the value of `--kind` is readable, if it has one
+-- in good rows, the value of `--kind` is readable, if the option has a value
 pub kind_read : (rows : List Row) → Good rows → option_map_or (is_read (codes "kind")) (first_of (codes "kind") rows) true ≡ true
 kind_read = row_read (codes "kind") (λ r. slice_get r.values 0) (λ r same good. first r.values (rw same at good.1))
   where

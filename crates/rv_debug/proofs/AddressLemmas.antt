@@ -30,14 +30,14 @@ sorted_above-at a (x ∷ xs) (suc k) all inside =
     let more : x < get_or xs k 0 = sorted_above-at x xs k all.1 (omega arith) in
     omega arith
 
--- each address is above those before it
+-- each address of a sorted list is above the addresses before it
 pub sorted-at : (xs : List ℕ) → IsSorted xs → (i j : ℕ) → i < j → j < length xs → get_or xs i 0 < get_or xs j 0
 sorted-at [] all i j lt inside = absurd (omega arith)
 sorted-at (x ∷ xs) all i zero lt inside = absurd (omega arith)
 sorted-at (x ∷ xs) all zero (suc j) lt inside = sorted_above-at x xs j all (omega arith)
 sorted-at (x ∷ xs) all (suc i) (suc j) lt inside = sorted-at xs (sorted_above-is x xs all) i j (omega arith) (omega arith)
 
--- an address is at or below those after it, as a binary search needs
+-- each address of a sorted list is at or below the addresses after it, as a binary search needs
 pub sorted-le : (xs : List ℕ) → IsSorted xs → (i j : ℕ) → i ≤ j → j < length xs → get_or xs i 0 ≤ get_or xs j 0
 sorted-le xs all i j le inside = elim (cases_lt i j) [
   | inl lt ↦ let up : get_or xs i 0 < get_or xs j 0 = sorted-at xs all i j lt inside in omega arith
@@ -76,7 +76,7 @@ among-absent x (y ∷ ys) none =
     let no : (y == x) ≡ false = let other = none 0 (omega arith) in grind arith in
     rw no (among-absent x ys (λ k inside. none (suc k) (omega arith)))
 
--- an address that has an index for insertion is not in the list, by the test
+-- the test of membership is false for an address that has an index for insertion
 pub among-not : (x : ℕ) (xs : List ℕ) (i : ℕ) → HasPlace xs x i → is_among x xs ≡ false
 among-not x xs i place = among-absent x xs (not_there x xs i place)
 
@@ -96,7 +96,7 @@ place_first x y ys place = record {
   above = λ k le inside. place.above (suc k) (omega arith) (omega (arith, inside));
 }
 
--- the index for insertion in the rest of a list is one less
+-- an address that would be inserted after the first address has an index in the rest of the list that is less by one
 place_after : (x y : ℕ) (ys : List ℕ) (i : ℕ) → HasPlace (y ∷ ys) x (suc i) → HasPlace ys x i
 place_after x y ys i place = record {
   within = let within = place.within in omega (arith, within);
@@ -108,7 +108,7 @@ place_after x y ys i place = record {
 no_place : (x i : ℕ) → HasPlace [] x (suc i) → ⊥
 no_place x i place = let within = place.within in omega (arith, within)
 
--- the elements below x are those before its index, and those above x are the others
+-- if i is the index for insertion of x, the addresses below x are the first i, and the addresses above x are the others
 filters : (x : ℕ) (xs : List ℕ) (i : ℕ) → HasPlace xs x i → (filter (λ a. ltb a x) xs ≡ take i xs) × (filter (λ a. ltb x a) xs ≡ drop i xs)
 filters x [] zero place = (refl, refl)
 filters x [] (suc i) place = absurd (no_place x i place)
@@ -129,7 +129,7 @@ filters x (y ∷ ys) (suc i) place =
 pub insert-is : (x : ℕ) (xs : List ℕ) (i : ℕ) → HasPlace xs x i → insert xs i x ≡ with_address x xs
 insert-is x xs i place = let parts = filters x xs i place in ap₂ (λ (low high : List ℕ). low ++ x ∷ high) (sym parts.0) (sym parts.1)
 
--- an insertion into a sorted list above low leaves it so, if the address is above low
+-- an insertion of an address above low leaves a sorted list above low sorted above low
 sorted_above-insert : (low x : ℕ) (xs : List ℕ) (i : ℕ) → IsSortedAbove low xs → low < x → HasPlace xs x i → IsSortedAbove low (insert xs i x)
 sorted_above-insert low x [] zero all up place = (up, tt)
 sorted_above-insert low x [] (suc i) all up place = absurd (no_place x i place)
@@ -181,7 +181,7 @@ remove-is x (y ∷ ys) (suc i) all inside element_is =
 pub keep-is : (x : ℕ) (xs : List ℕ) (i : ℕ) → HasPlace xs x i → xs ≡ without_address x xs
 keep-is x xs i place = sym (without-absent x xs (not_there x xs i place))
 
--- a filtered sorted list above low is so
+-- a filter leaves a sorted list above low sorted above low
 sorted_above-filter : (p : ℕ → Bool) (low : ℕ) (xs : List ℕ) → IsSortedAbove low xs → IsSortedAbove low (filter p xs)
 sorted_above-filter p low [] all = tt
 sorted_above-filter p low (x ∷ xs) all = go (p x) (sorted_above-filter p x xs all.1) where

@@ -177,14 +177,15 @@ module _ (e : ℕ) where
   abbrev pub later : ℕ → BothRan → BothRan
   later n rest = record { first = rest.first; second = rest.second; ran = n + rest.ran; why = rest.why }
 
-  -- the commands from index n on are the one at n and those after it
+  -- the commands from index n on are the command at n and the commands after it
   next_command : (cs : List Command) (n : ℕ) (c : Command) → n < length cs → c ≡ get_or cs n c → drop n cs ≡ c ∷ drop (n + 1) cs
   next_command cs n c inside command_is = drop_more cs n c inside ∙ ap (λ (first : Command). first ∷ drop (n + 1) cs) (sym command_is)
 
   module _ (a b : BenchState) (cs : List Command) (n : ℕ) (c : Command) (all : BothRan) (after : BothExecuted)
       (inside : n < length cs) (command_is : c ≡ get_or cs n c)
       (so_far : later n (both_run e a b (drop n cs)) ≡ all) (executed : both_execute e a b c ≡ after) where
-    -- the result of all commands, by the reason of the command at n
+    -- the result of all commands is that of the first n + 1 commands if the reason (why) of the command at n ends them, and else goes on with the
+    -- rest
     goes_at : (why : BothWhy) → after.why ≡ why → all ≡ later n (go_on why after (both_run e after.first after.second (drop (n + 1) cs)))
     goes_at why because =
         sym so_far ∙ ap (λ (rest : List Command). later n (both_run e a b rest)) (next_command cs n c inside command_is)

@@ -52,7 +52,7 @@ module _ (e hart : ℕ) (one other : MonitoredMachine) (here : Invariant one) (t
 
   -- ---- effects
 
-  -- the targets are related after steps that are those of moves
+  -- the targets are related after steps that are moves of the two machines
   stepped : (harts others : List ℕ) (selected : ℕ) → StepsAreMoves e one other harts others
       → TargetsAreRelated e (done (at one) (Steps harts selected)) (done (at other) (Steps others selected))
   stepped harts others selected steps =
@@ -98,7 +98,7 @@ module _ (e hart : ℕ) (one other : MonitoredMachine) (here : Invariant one) (t
     });
   }
 
-  -- the reply to a poke, by the memory after it
+  -- `poked_text` is the reply to a poke, where the option is the memory after the write, or `None` outside RAM
   abbrev poked_text : MonitoredMachine → Option (List ℕ) → List ℕ
   poked_text machine memory = option_case (option_map (over_memory (at machine)) memory) outside_text (λ after. ok_text)
 
@@ -160,11 +160,11 @@ module _ (e hart : ℕ) (one other : MonitoredMachine) (here : Invariant one) (t
   hart_chosen number true false same = cc
   hart_chosen number false true same = cc
 
-  -- the effect of a schedule, by whether its harts exist
+  -- `sched_of` is the effect of a schedule, where the test states whether its harts exist
   abbrev sched_of : List ℕ → Bool → Effect
   sched_of harts has = if has then Steps harts hart else Nothing
 
-  -- the targets are related after a schedule whose steps are those of moves
+  -- the targets are related after a schedule whose steps are moves of the two machines
   scheduled : (harts : List ℕ) (has has_too : Bool) → has ≡ has_too
       → StepsAreMoves e one other (harts_stepped (sched_of harts has)) (harts_stepped (sched_of harts has_too))
       → TargetsAreRelated e (done (at one) (sched_of harts has)) (done (at other) (sched_of harts has_too))
@@ -192,7 +192,7 @@ module _ (e hart : ℕ) (one other : MonitoredMachine) (here : Invariant one) (t
 
   -- ---- observations
 
-  -- what is observed of a schedule, by whether its harts exist
+  -- `sched_observed` is the observation of a schedule, where the test states whether its harts exist
   abbrev sched_observed : MonitoredMachine → List ℕ → Bool → List ℕ
   sched_observed machine harts has =
       if has then observed_harts e (scheduled_steps harts (schedule_start (at machine))) else no_hart_text
@@ -352,7 +352,7 @@ secrets_or_same e first second command command_too here there related =
     → ObservedAlike e first (over second.target first.breaks watches) command command_too) related.watches
     (targets_alike e first.target second.target first.breaks first.watches command command_too here there related.target))
 
--- proves the law of declassification for a command, by the kinds of pairs of commands
+-- the law of declassification holds for two commands of each kind
 pub declassification : CommandDeclassificationLaw
 declassification e first second command command_too here there related (inl (inl is)) =
     secrets_or_same e first second command command_too here there related (inl is)

@@ -7,7 +7,7 @@ use Rattle.rv_debug.proofs.Prelude.{over_memory, sched_invariant}
 use Rattle.rv_debug.proofs.Prelude.{written_invariant}
 use Rattle.rv_debug.proofs.ScheduledSteps.{by_bare, stays_bare, step_scheduled_bare, schedule_is_sched}
 
--- `poke_of` is the target with the memory after a write of a byte, or the unchanged target if there is none since the address is not in RAM
+-- `poke_of` is the target after a poke: with the memory after the write, or unchanged if the address is not in RAM
 abbrev pub poke_of : Target → Option (List ℕ) → Target
 poke_of target memory = option_case (option_map (over_memory target) memory) target (λ after. after)
 

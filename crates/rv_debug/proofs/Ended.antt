@@ -193,7 +193,7 @@ module _ (e hart : ℕ) (machine : MonitoredMachine) (kept : Invariant machine) 
       record { first = runs; second = runs; hart = refl; slot = refl; memory = record { size = refl; bytes = λ i shown. refl } } in
       ((enclave_step place place machine machine kept kept itself).state.exits out).first.world
 
-  -- a step of the enclave exits now, by its trap
+  -- a step of the enclave after which the host runs is an exit by a trap, where `o` is the trap of the step
   by_trap : (o : Option Trap) → (step_of hart machine).outcome.step.trap ≡ o → ExitsNow hart machine
   by_trap (Some trap) trapped = record { trap = trap; traps = trapped; world = to_host }
   by_trap None none =

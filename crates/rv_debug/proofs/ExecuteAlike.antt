@@ -114,11 +114,11 @@ both_past e hart breaks watches start one other idle past =
 
 -- ---- a run
 
--- the execution of a run, by its result
+-- `steps_execute` is the result of a command whose run has this result
 abbrev steps_execute : List ℕ → List ℕ → AfterRun Target → Executed
 steps_execute breaks watches after = record { state = over after.state breaks watches; reply = ran_reply after; entered = after.ran.entered }
 
--- the execution of a run with these breakpoints and watchpoints
+-- `run_execute` is the result of a command that runs the target, with these breakpoints and watchpoints
 abbrev run_execute : Target → List ℕ → List ℕ → List ℕ → List ℕ → ℕ → Executed
 run_execute target breaks watches at_breaks at_watches count =
     let d = run_effect target at_breaks at_watches count in
@@ -182,7 +182,7 @@ module _ (e hart : ℕ) (one other : MonitoredMachine) (equiv : EquivExcept e on
   hart_states : AvoidsHart e here Regs → hart_state_of hart one ≡ hart_state_of hart other
   hart_states by = let own = equiv.hart_states hart in own.same by.0
 
-  -- the PMP entries of every hart, which are those of the table and its world
+  -- two equivalent machines have equal PMP entries in each hart, since the entries depend only on the table and the hart's world
   same_entries : Invariant one → Invariant other → (hart_state_of hart one).hart.csrs.pmp ≡ (hart_state_of hart other).hart.csrs.pmp
   same_entries kept kept' =
       let own = equiv.hart_states hart in
@@ -231,7 +231,7 @@ module _ (e hart : ℕ) (one other : MonitoredMachine) (equiv : EquivExcept e on
 
   -- ---- a poked byte
 
-  -- the execution of a poke, by the memory after it
+  -- `poke_execute` is the result of a poke, where the option is the memory after the write, or `None` outside RAM
   abbrev poke_execute : MonitoredMachine → Option (List ℕ) → Executed
   poke_execute machine memory =
       executed_with (poke_of (at machine) memory) breaks watches (option_case (option_map (over_memory (at machine)) memory) outside_text (λ after. ok_text))
@@ -318,7 +318,7 @@ module _ (e hart : ℕ) (one other : MonitoredMachine) (equiv : EquivExcept e on
   hart-answers number true false reply same = cc
   hart-answers number false true reply same = cc
 
-  -- the execution of a schedule, by whether its harts exist
+  -- `sched-told` is the result of a schedule, where the test states whether its harts exist
   abbrev sched-told : MonitoredMachine → List ℕ → Bool → Executed
   sched-told machine harts has =
       let d : Effect = (if has then Steps harts hart else Nothing) in
@@ -449,7 +449,7 @@ equiv_again e one other kept equiv =
     (subst (λ (watches : List ℕ). RemainEquiv e one (over other.target one.breaks watches)) equiv.watches
     (again e one.target other.target one.breaks one.watches kept equiv.target))
 
--- proves the noninterference law for a command, by the kinds of commands
+-- the noninterference law holds for a command of each kind
 pub noninterference : NoninterferenceLaw
 noninterference e first second command kept kept' equiv blind by =
     let both = subst (λ (breaks : List ℕ). Alike e (execute first command) (execute (over second.target breaks second.watches) command)) equiv.breaks

@@ -198,7 +198,7 @@ module _ (i j : ℕ) (one other : MonitoredMachine) (point : AreAtOnePoint i j o
 
 -- ---- moves
 
--- the steps of the enclave are the same, and both enclaves are at one point after the moves
+-- the steps of the two enclaves are equal, and the enclaves are at one point of their lives after the moves
 record MovedAlike (i j : ℕ) (moves : List BenchMove) (one other : MonitoredMachine) : Type 0 where
   steps : EnclaveStepsAreSame i j moves one other
   point : AreAtOnePoint i j (after_actions (first_actions moves) one) (after_actions (second_actions moves) other)

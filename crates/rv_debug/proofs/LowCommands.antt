@@ -63,12 +63,12 @@ both_steps : (harts : List ℕ) → are_steps (both harts) ≡ true
 both_steps [] = refl
 both_steps (hart ∷ harts) = both_steps harts
 
--- the steps in the first machine are those of the list
+-- the first machine makes the steps of the list
 both_first : (harts : List ℕ) → first_steps (both harts) ≡ harts
 both_first [] = refl
 both_first (hart ∷ harts) = ap (λ (hs : List ℕ). hart ∷ hs) (both_first harts)
 
--- the steps in the second machine are those of the list
+-- the second machine makes the steps of the list
 both_second : (harts : List ℕ) → second_steps (both harts) ≡ harts
 both_second [] = refl
 both_second (hart ∷ harts) = ap (λ (hs : List ℕ). hart ∷ hs) (both_second harts)
@@ -261,7 +261,7 @@ module _ (e hart : ℕ) (one other : MonitoredMachine) (here : Invariant one) (t
             (after_steps harts hart runs.low),
       )
 
-  -- the effect of a schedule, by whether its harts exist
+  -- `sched_of` is the effect of a schedule, where the test states whether its harts exist
   abbrev sched_of : List ℕ → Bool → Effect
   sched_of harts has = if has then Steps harts hart else Nothing
 
@@ -270,7 +270,7 @@ module _ (e hart : ℕ) (one other : MonitoredMachine) (here : Invariant one) (t
   LowSched first second =
       StepsAreMoves e one other (harts_stepped first) (harts_stepped second) × SameAfter (done (at one) first) (done (at other) second)
 
-  -- no steps are those of no moves
+  -- two empty lists of steps are an empty list of moves
   no_steps_at_all : StepsAreMoves e one other [] []
   no_steps_at_all = record { moves = []; steps = refl; first = refl; second = refl; are = tt }
 
@@ -362,7 +362,7 @@ targets_low e (Bare one) (Bare other) breaks watches command here there related 
 targets_low e (Bare one) (Monitored other) breaks watches command here there related equal none passed = absurd related
 targets_low e (Monitored one) (Bare other) breaks watches command here there related equal none passed = absurd related
 
--- proves the law of low commands, by the kinds of commands
+-- the law of low commands holds for a command of each kind
 pub low_command : LowCommandLaw
 low_command e first second command here there related equal none passed =
     subst (λ (breaks : List ℕ). IsLowCommand e first (over second.target breaks second.watches) command) related.breaks

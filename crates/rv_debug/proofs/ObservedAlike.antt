@@ -66,7 +66,7 @@ ran_with hart stop ran hart_state =
     ran_text hart_state.hart.pc hart_state.hart.mode (world_name hart_state.world)
     (record { steps = ran.steps; trap = ran.trap; stop = stop; entered = 0 })
 
--- two runs whose steps are those of moves, and that stop alike, have the same observed text
+-- two runs whose steps are moves, and that stop alike, have the same observed text
 run_texts : (e hart : ℕ) (one other : MonitoredMachine) (a b : AfterRun MonitoredMachine) → RunObserved e hart one a → RunObserved e hart other b
     → Moved e hart (replicate a.ran.steps hart) (replicate b.ran.steps hart) one other nothing_ran nothing_ran → a.ran.stop ≡ b.ran.stop
     → run_text e hart one a ≡ run_text e hart other b
@@ -90,7 +90,7 @@ run_texts e hart one other a b first second both_moved stop =
           ∙ ap₂ (text (guest_state (hart_state_of hart b.state)) ran_b.steps) trap stop)
     ]
 
--- two runs of related machines whose steps are those of moves, and that stop alike, have equal observations
+-- two runs of related machines whose steps are moves, and that stop alike, have equal observations
 pub runs_alike : (e hart : ℕ) (one other : MonitoredMachine) (breaks watches : List ℕ) (count : ℕ) → Invariant one → Invariant other
     → AreRelated e one other
     → StepsAreMoves e one other (replicate (steps_of (selected_at hart one) breaks watches count).ran.steps hart)
@@ -185,7 +185,7 @@ module _ (e : ℕ) (harts : List ℕ) (one other : MonitoredMachine)
       ap₂ (λ (line lines : List ℕ). line ++ lines) (same_line 0)
       (ap₂ (λ (n : ℕ) (line : List ℕ). if nat_lt 1 n then line else []) moved_alike.state.harts (same_line 1))
 
--- two schedules of related machines whose steps are those of moves have equal observations
+-- two schedules of related machines whose steps are moves have equal observations
 pub schedules_alike : (e hart : ℕ) (harts : List ℕ) (one other : MonitoredMachine) → Invariant one → Invariant other → AreRelated e one other
     → StepsAreMoves e one other harts harts
     → observed_harts e (scheduled_steps harts (schedule_start (selected_at hart one)))

@@ -61,7 +61,7 @@ run_observed e hart breaks watches count machine =
 
 -- ---- a schedule
 
--- the summary of one hart after steps of these harts
+-- `own_steps` is the summary of one hart after a list of steps
 abbrev pub own_steps : ℕ → List ℕ → MonitoredMachine → HartRan → HartRan
 own_steps own [] machine ran = ran
 own_steps own (hart ∷ harts) machine ran =

@@ -61,7 +61,7 @@ module _ (hart byte : ℕ) (machine : MonitoredMachine) (kept : Invariant machin
 
   -- ---- an enclave
 
-  -- what an enclave may store, by its record, is the same in both definitions
+  -- both definitions let an enclave with this record (o) store the same bytes
   of_record : (o : Option SlotInfo) → ((has (region_of o) byte && true) || ((has (window_of o) byte && true) || false))
       ≡ option_case o false (λ info. is_within info.region byte || is_within info.window byte)
   of_record None = grind (arith, nat_tests)

@@ -76,7 +76,7 @@ run_done target breaks watches count =
     ap (λ (n : ℕ). with_selected (selected_of target) (scheduled_steps (replicate n (selected_of target)) (schedule_start target)).state) (sym all)
     ∙ ap (with_selected (selected_of target)) (scheduled.state _) ∙ step_scheduled_own (selected_of target) end.state scheduled.selected
 
--- the slots that a run enters are those that the effect of the run enters
+-- a run enters the same slots as its effect
 pub run_entered : (target : Target) (breaks watches : List ℕ) (count : ℕ)
     → entered_by target (run_effect target breaks watches count) ≡ (steps_of target breaks watches count).ran.entered
 run_entered target breaks watches count =

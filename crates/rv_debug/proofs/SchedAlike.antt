@@ -60,7 +60,7 @@ earlier e start later one other still (inr past) = inr (record {
   not_running = λ idle. past.not_running (still idle);
 })
 
--- after a step that does not enter the enclave, it runs on none of these harts, if it did so before
+-- an enclave that a step does not enter runs on none of the given harts after the step, if it ran on none before
 pub none_after : (e hart : ℕ) (harts : List ℕ) (machine : MonitoredMachine) → enters e (step_of hart machine).outcome.entered ≡ false
     → RunsOnNone e harts machine → RunsOnNone e harts (step_of hart machine).state
 none_after e hart [] machine passes none = tt

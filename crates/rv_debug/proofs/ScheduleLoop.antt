@@ -53,7 +53,7 @@ schedule_enters_none (hart ∷ harts) before bare =
 abbrev pub rest : ℕ → List ℕ → List ℕ
 rest n digits = map hart_of_digit (drop n digits)
 
--- the harts from index n on are the hart of the digit at n and those after it
+-- the harts from index n on are the hart of the digit at n, and the harts of the digits after it
 next_digit : (digits : List ℕ) (n digit : ℕ) → n < length digits → digit ≡ get_or digits n 0
     → rest n digits ≡ hart_of_digit digit ∷ rest (n + 1) digits
 next_digit digits n digit inside digit_is =

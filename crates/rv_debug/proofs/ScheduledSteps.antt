@@ -19,7 +19,7 @@ schedule_is_sched (hart ∷ harts) machine did selected =
 
 -- ---- a bare machine stays bare
 
--- a property of every bare machine holds of each target that is one
+-- a property of every bare machine holds of each bare target
 pub by_bare : (P : Target → Type 0) → ((machine : Machine) → P (Bare machine)) → (target : Target) → IsBare target → P target
 by_bare P alone (Bare machine) bare = alone machine
 by_bare P alone (Monitored machine) bare = absurd bare

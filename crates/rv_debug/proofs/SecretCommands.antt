@@ -52,7 +52,7 @@ module _ (one other : MonitoredMachine) (commands others : List Command) where
   abbrev Rest : MonitoredMachine → MonitoredMachine → Type 0
   Rest a b = AllCommandsAlike 0 (monitored a) (monitored b) commands others
 
-  -- steps that are those of moves
+  -- commands that begin with `step`, whose steps are these moves, are alike, if the rest of the commands is alike after the moves
   by_steps : (count : ℕ) (harts : List ℕ) (moves : List Move) → ((machine : MonitoredMachine) → effect (monitored machine) (Step count) ≡ Steps harts 0)
       → ((machine : MonitoredMachine) → stop_of (monitored machine) (Step count) ≡ Done) → are_steps moves ≡ true → first_steps moves ≡ harts
       → second_steps moves ≡ harts → AreMoves 0 moves one other → Rest (sched harts one).state (sched harts other).state

@@ -38,7 +38,7 @@ module _ (e hart : ℕ) (one other : MonitoredMachine) (equiv : SelectedEquivExc
   abbrev on : MonitoredMachine → Selected
   on machine = record { hart = hart; state = machine }
 
-  -- the execution of a schedule, by whether its harts exist
+  -- `executed` is the result of a schedule, where the test states whether its harts exist
   abbrev executed : MonitoredMachine → List ℕ → Bool → Executed
   executed machine harts has =
       let d : Effect = (if has then Steps harts hart else Nothing) in

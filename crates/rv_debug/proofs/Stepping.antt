@@ -98,11 +98,11 @@ module _ {A : Type 0} (step : A → Stepped A) (pc : A → ℕ) (breaks watches 
         run-next count left before count_is ∙ rw (← none, no, elsewhere some) refl
   ]
 
-  -- steps and one more, with this last trap and these slots
+  -- `after_step` has the steps so far and one more, with the last trap and the entered slots after it
   abbrev after_step : AfterSteps A → Stepped A → Option Trap → ℕ → AfterSteps A
   after_step before last trap entered = record { state = last.state; steps = before.steps + 1; trap = trap; entered = entered }
 
-  -- the steps so far with the next one are those that the code counts
+  -- the counter of the code, `with_step`, gives `after_step` for the next step
   adds : (before : AfterSteps A) (last : Stepped A) (trap : Option Trap) (entered : ℕ) → IsNextStep step before last trap entered
       → with_step before (step before.state) ≡ after_step before last trap entered
   adds before last trap entered next =

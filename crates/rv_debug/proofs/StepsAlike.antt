@@ -15,7 +15,7 @@ use Rattle.rv_debug.proofs.Stepping.{next_cases, run_induction, next_of}
 
 -- ---- entered slots
 
--- a slot that is among entered slots is so with more
+-- a slot among the entered slots stays among them if more slots are entered
 enters-or : (e one other : ℕ) → is_entered e one ≡ true → is_entered e (bit_or one other) ≡ true
 enters-or e one other entered =
     eq-eqb _ 1 (bit_at_or one other e ∙ (let low = eqb-true _ 1 entered in let small = bit_at-lt other e in omega (arith, low, small)))

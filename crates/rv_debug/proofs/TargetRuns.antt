@@ -5,7 +5,7 @@ use Rattle.rv_debug.proofs.Prelude.{AfterRun, AfterSteps, Selected, Stepped, sel
 use Rattle.rv_debug.proofs.Prelude.{lowest_accessed, machine_stepped, no_steps, pc_of, run, target_stepped, with_step, with_target}
 use Rattle.rv_debug.proofs.Stepping.{next_cases, run_induction, next_of}
 
--- the steps of a machine so far, as those of the target with it
+-- `in_target` has the steps of a machine so far, as steps of a target with this machine
 abbrev pub in_target : {A : Type 0} → (A → Target) → AfterSteps A → AfterSteps Target
 in_target target after = record { state = target after.state; steps = after.steps; trap = after.trap; entered = after.entered }
 

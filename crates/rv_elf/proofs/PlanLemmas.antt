@@ -44,7 +44,7 @@ entry_aligned entry placed good = grind (arith, common_steps)
 entry_placed : (aligned placed : Bool) → (not aligned || not placed) ≡ false → placed ≡ true
 entry_placed aligned placed good = grind (arith, common_steps)
 
--- if no segment has an error, no segment that occupies memory has one
+-- if no segment has an error, no segment that occupies memory has an error
 pub kept_have_none : (image_size : ℕ) (segments : List Segment) → first_fault (segment_faults image_size segments) ≡ None
     → first_fault (segment_faults image_size (occupying segments)) ≡ None
 unfolding segment_faults occupying

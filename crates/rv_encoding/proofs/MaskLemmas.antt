@@ -172,6 +172,6 @@ pub spelled_by_mask : (i : Instr) (word : ℕ) → word < 2 ^ 32 → and_by_bits
     → Encodes word (with_fields_of word i)
 spelled_by_mask i word fits masked = spelled_by_and i word fits (and_mask_is i word fits ∙ masked)
 
--- the word of an instruction has 32 bits, and its fixed bits are those of its row
+-- the word of an instruction has 32 bits, and the fixed bits of the row of the instruction
 pub masked_word_of : (i : Instr) → IsInstr i → word_of i < 2 ^ 32 → and_by_bits (word_of i) (row_of_instr i).mask ≡ (row_of_instr i).match
 masked_word_of i valid fits = sym (and_mask_is i (word_of i) fits) ∙ word_of_and i valid fits

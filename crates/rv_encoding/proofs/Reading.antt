@@ -16,15 +16,15 @@ use Rattle.rv_encoding.specs.declared.instr.Instr.TheVariants.{Csr, CsrImm, Ecal
 abbrev pub read_jalr : ℕ → Option Instr
 read_jalr word = if bits word 14 12 == 0 then Some (Jalr (taken rd_at word) (taken rs1_at word) (taken i_immediate_at word)) else None
 
--- the branch of a word, if funct3 has one
+-- `read_branch` is the branch of a word, if a branch has its funct3
 abbrev pub read_branch : ℕ → Option Instr
 read_branch word = option_map (λ kind. Branch kind (taken rs1_at word) (taken rs2_at word) (taken b_immediate_at word)) (branch_kind (bits word 14 12))
 
--- the load of a word, if funct3 has one
+-- `read_load` is the load of a word, if a load has its funct3
 abbrev pub read_load : ℕ → Option Instr
 read_load word = option_map (λ kind. Load kind (taken rd_at word) (taken rs1_at word) (taken i_immediate_at word)) (load_kind (bits word 14 12))
 
--- the store of a word, if funct3 has one
+-- `read_store` is the store of a word, if a store has its funct3
 abbrev pub read_store : ℕ → Option Instr
 read_store word = option_map (λ kind. Store kind (taken rs1_at word) (taken rs2_at word) (taken s_immediate_at word)) (store_kind (bits word 14 12))
 
@@ -35,7 +35,7 @@ read_op_imm word =
     (option_map (λ kind. ShiftImm kind (taken rd_at word) (taken rs1_at word) (taken shamt_at word)) (shift_kind (bits word 14 12) (bits word 31 25)))
     (option_map (λ kind. OpImm kind (taken rd_at word) (taken rs1_at word) (taken i_immediate_at word)) (op_imm_kind (bits word 14 12)))
 
--- the instruction with two registers of a word, if funct3 and funct7 have one
+-- `read_op` is the instruction with two registers of a word, if an instruction has its funct3 and funct7
 abbrev pub read_op : ℕ → Option Instr
 read_op word = option_map (λ kind. Op kind (taken rd_at word) (taken rs1_at word) (taken rs2_at word)) (op_kind (bits word 14 12) (bits word 31 25))
 

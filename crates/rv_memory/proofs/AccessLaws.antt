@@ -19,7 +19,7 @@ use Rattle.rv_memory.proofs.MemoryLaws.{length-bytes_of}
 
 -- ---- an access that succeeds is in RAM and permitted
 
--- an access with its result from RAM, if there is one, and the verdict on it
+-- `judged` is the result of an access: its value in RAM, if there is one and the verdict permits it, or a fault
 abbrev judged : {A B : Type 0} → Option B → Verdict → (B → A) → Result A AccessFault
 judged given verdict made = option_case given (Err Outside) (λ b. where_permitted verdict (made b))
 
@@ -121,7 +121,7 @@ store_refused_too m n entries mode address width value fault sizes store_is =
     judged-refused (is_inside n address (length (bytes_of (bytes_in width) value))) _ _ (verdict_on entries mode Write address width)
     (λ (x : List ℕ). x) fault (rw sizes at store_is)
 
--- a store that succeeds does so in each memory of the same size, with the same bytes written
+-- a store that succeeds in a memory also succeeds in each memory of the same size, and writes the same bytes
 pub store_done_too : (m n : List ℕ) (entries : Entries) (mode : Mode) (address : ℕ) (width : Width) (value : ℕ) (after : List ℕ) → length m ≡ length n
     → stored m entries mode address width value ≡ Ok after
     → stored n entries mode address width value ≡ Ok (write_bytes n (address - ram_base) (bytes_of (bytes_in width) value))

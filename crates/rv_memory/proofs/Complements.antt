@@ -34,7 +34,7 @@ complements-at memory index count k inside low high =
     get_or-map complement_of part (k - index) 0 0 (omega (arith, long, short))
     ∙ ap complement_of (get_or-take count (drop index memory) (k - index) 0 short ∙ get_or-drop index memory (k - index) 0 ∙ ap (λ j. get_or memory j 0) place)
 
--- a byte inside a write is the written one, by its index
+-- a byte at an index inside a write is the written byte
 index-within : (memory : List ℕ) (index : ℕ) (bytes : List ℕ) (k : ℕ) → index + length bytes ≤ length memory → index ≤ k → k < index + length bytes
     → get_or (write_bytes memory index bytes) k 0 ≡ get_or bytes (k - index) 0
 index-within memory index bytes k within low high = grind (arith, common_steps)

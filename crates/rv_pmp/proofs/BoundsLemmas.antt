@@ -77,7 +77,7 @@ module _ (ranges : EntryRanges) (bounds : List ℕ) (count number : ℕ) (done :
         ];
       }
 
--- one of the first bounds is in the list of these bounds
+-- a number that is one of the first `count` bounds is in the list of these bounds
 among_first : (bounds : List ℕ) (count x : ℕ) → count ≤ length bounds → IsAmong bounds count x → Contains (take count bounds) x
 among_first bounds count x fits found = (
   found.0,

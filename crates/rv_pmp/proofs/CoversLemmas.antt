@@ -38,7 +38,7 @@ complement (suc bits) n fits =
           ap₂ under low rest ∙ sym (cond-false (n % 2 == 1) (1 + ones) 0 (ne_eqb _ _ even))
     ]
 
--- the trailing ones of a word, as the code counts them, are those of the definition
+-- the code counts as many trailing ones of a word as the definition
 pub trailing_ones_is : (addr : ℕ) → addr < 2 ^ 32 → trailing_ones w32 addr ≡ ones_at_end 32 addr
 trailing_ones_is addr fits = complement 32 addr fits
 

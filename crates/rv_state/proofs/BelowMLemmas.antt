@@ -21,7 +21,7 @@ use Rattle.rv_state.specs.declared.csr_name.CsrName.TheVariants.{Mie, Mtvec, Msc
 
 -- ---- the numbers of the hidden registers require mode M
 
--- the registers that S and U cannot read: those of mode M, the PMP entries and the counters
+-- a register is hidden if S and U cannot read it: the registers of mode M, the PMP entries and the counters
 abbrev is_hidden : CsrName → Bool
 is_hidden Mstatus = true
 is_hidden Mepc = true
@@ -113,7 +113,7 @@ module _ (c : CsrState) (number : ℕ) (mode : Mode) where
   abbrev read_from : CsrState → CsrName → Result ℕ CsrFault
   read_from d name = reads d name (nat_lt (mode_number mode) (least_mode number)) (is_trapped name mode d)
 
-  -- a read by the register of the number, if it has one
+  -- a read below mode M does not depend on the hidden registers, where `o` is the register of the number, if there is one
   read_by : (o : Option CsrName) → csr_numbered number ≡ o → is_machine mode ≡ false
       → on_register o (read_from (below_m_csrs c)) ≡ on_register o (read_from c)
   read_by None csr_numbered_is below = refl
@@ -146,7 +146,7 @@ module _ (c : CsrState) (number word : ℕ) (mode : Mode) where
       else (if only then Err faults.ReadOnly
       else (if trapped then Err faults.Trapped else Ok (written name word d)))
 
-  -- a write to a register leaves the same visible registers, by the tests
+  -- a write to a register leaves the same visible registers whatever the hidden ones are, where the arguments are the results of its tests
   write_at : (name : CsrName) (low only trapped other : Bool) → other ≡ trapped
       → visible_csrs (writes (below_m_csrs c) name low only other) ≡ visible_csrs (writes c name low only trapped)
   write_at name true only trapped other same = refl
@@ -158,7 +158,7 @@ module _ (c : CsrState) (number word : ℕ) (mode : Mode) where
   abbrev write_over : CsrState → CsrName → Result CsrState CsrFault
   write_over d name = writes d name (nat_lt (mode_number mode) (least_mode number)) (is_read_only number) (is_trapped name mode d)
 
-  -- a write by the register of the number, if it has one
+  -- a write leaves the same visible registers whatever the hidden ones are, where `o` is the register of the number, if there is one
   write_by : (o : Option CsrName) → visible_csrs (on_register o (write_over (below_m_csrs c))) ≡ visible_csrs (on_register o (write_over c))
   write_by None = refl
   write_by (Some name) =

@@ -28,7 +28,7 @@ and-again true true = refl
 and-again true false = refl
 and-again false y = refl
 
--- the common bits with the same mask again are the same
+-- the common bits of a word with a mask do not change if they are taken again
 shared-again : (count word mask : ℕ) → shared count (shared count word mask) mask ≡ shared count word mask
 shared-again zero word mask = refl
 shared-again (suc count) word mask =
@@ -108,16 +108,16 @@ pub enabled_is : (word : ℕ) → and_by_bits word 0xAAA ≡ enabled_of word
 unfolding kept_bits
 enabled_is word = omega (arith, by_places word 0xAAA)
 
--- a value of mie written again is the same
+-- a value of mie does not change if it is written again
 pub enabled_again : (word : ℕ) → enabled_of (enabled_of word) ≡ enabled_of word
 enabled_again word = kept_again enabled_of 0xAAA enabled_is word
 
--- the software bits of mip are those of 0x222
+-- the software bits of mip are the bits of the mask 0x222
 pub software_is : (word : ℕ) → and_by_bits word 0x222 ≡ software_pending_of word
 unfolding kept_bits
 software_is word = omega (arith, by_places word 0x222)
 
--- the software bits of mip taken again are the same
+-- the software bits of mip do not change if they are taken again
 pub software_again : (word : ℕ) → software_pending_of (software_pending_of word) ≡ software_pending_of word
 software_again word = kept_again software_pending_of 0x222 software_is word
 
@@ -135,6 +135,6 @@ pub inhibited_is : (word : ℕ) → and_by_bits word 0x5 ≡ inhibited_of word
 unfolding kept_bits
 inhibited_is word = omega (arith, by_places word 0x5)
 
--- a value of mcountinhibit written again is the same
+-- a value of mcountinhibit does not change if it is written again
 pub inhibited_again : (word : ℕ) → inhibited_of (inhibited_of word) ≡ inhibited_of word
 inhibited_again word = kept_again inhibited_of 0x5 inhibited_is word

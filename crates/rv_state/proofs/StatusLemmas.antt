@@ -36,7 +36,7 @@ is_over_1 U = false
 is_over_1 S = false
 is_over_1 M = true
 
--- a mode's number has these two bits
+-- a mode's number is the sum of its lower bit and twice its upper bit
 mode-digits : (mode : Mode) → mode_number mode ≡ digit (is_odd mode) + 2 * digit (is_over_1 mode)
 unfolding is_odd is_over_1
 mode-digits U = refl

@@ -58,7 +58,7 @@ image_of-faulty lines others line sound few faulty =
     let below : ltb 33554432 (length (bytes_of_lines lines)) ≡ false = grind (arith, nat_tests) in
     rw (take_while-stop is_image_line lines line others sound faulty, below, list_all-stop is_image_line lines line others sound faulty) refl
 
--- the bytes of two lists of lines are those of the first and then of the second
+-- the bytes of two lists of lines are the bytes of the first, followed by the bytes of the second
 bytes_of_lines-append : (xs ys : List (List ℕ)) → bytes_of_lines (xs ++ ys) ≡ bytes_of_lines xs ++ bytes_of_lines ys
 bytes_of_lines-append xs ys = flat_map-append (λ line. unwrap_or (line_bytes line) []) xs ys
 
@@ -93,13 +93,13 @@ pub TakesLine-word : (left rest : List ℕ) (ends : Bool) (shown : List ℕ) (wo
     → word ≡ line_word shown → line_word takes.line ≡ word
 TakesLine-word left rest ends shown word takes word_is = sym (line_word-take takes.line) ∙ (ap line_word (sym takes.prefix) ∙ sym word_is)
 
--- the lines of the text are those so far, the next one and the rest
+-- the text has the lines so far, the next line, and the lines of the rest
 lines_with : (unread left rest : List ℕ) (ends : Bool) (image shown : List ℕ) → (so_far : EncodesImage unread left false image)
     → (takes : TakesLine left rest ends shown)
     → lines_of unread ≡ so_far.lines ++ takes.line ∷ lines_of rest
 lines_with unread left rest ends image shown so_far takes = so_far.reads.all ∙ ap (λ t. so_far.lines ++ t) takes.lines
 
--- the lines before the separator are those so far, the next one and the rest
+-- before the separator there are the lines so far, the next line, and the lines of the rest
 before_separator_with : (unread left rest : List ℕ) (ends : Bool) (image shown : List ℕ) → (so_far : EncodesImage unread left false image)
     → (takes : TakesLine left rest ends shown) → is_separator takes.line ≡ false
     → before_separator (lines_of unread) ≡ so_far.lines ++ takes.line ∷ before_separator (lines_of rest)

@@ -99,7 +99,7 @@ TakesLine-feed unread left kept shown is_at_end reads prefix =
       prefix = prefix ∙ (ap (λ t. take significant_bytes (without_return t)) reads.prefix ∙ cut-kept text);
     }
 
--- a text without a line feed that is not empty is one line
+-- a non-empty text without a line feed is one line
 last_line : (text : List ℕ) → has_feed text ≡ false → 0 < length text → lines_of text ≡ text ∷ []
 last_line [] no_feed some = absurd (omega arith)
 last_line (x ∷ xs) no_feed some = lines_of-last x xs no_feed

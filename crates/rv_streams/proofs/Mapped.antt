@@ -3,7 +3,7 @@ use Rattle.std.proofs.Common.{◌≡◌, Result, Ok, Err, refl, sym, ◌∙◌, 
 use Rattle.std.specs.Result.{MatchResult, IsOkAnd, IsErrAnd}
 use Rattle.std.proofs.lemmas.Result.{err_from_is_err_and}
 
--- an `Ok` after mapping was the same `Ok` before
+-- a result that is an `Ok` after its errors are mapped was the same `Ok` before
 pub ok_mapped : {A E F : Type 0} (Q : E → F → Type 0) (r : Result A E) (s : Result A F) (x : A)
     → MatchResult r (λ y. s ≡ Ok y) (λ e. IsErrAnd s (Q e)) → s ≡ Ok x → r ≡ Ok x
 ok_mapped Q (Ok y) s x cases result_is = let same : y ≡ x = cc in ap Ok same
@@ -19,7 +19,7 @@ err_mapped Q (Err e) s f cases result_is = (e, refl)
 pub passed_on : {T E : Type 0} (P : Result T E → Type 0) (r : Result T E) (e : E) → IsErrAnd r (λ x. x ≡ e) → P (Err e) → P r
 passed_on P r e passed p = let bad = err_from_is_err_and r passed in subst P (sym (bad.1 ∙ ap Err bad.2)) p
 
--- a property of a result whose errors are all mapped to one error, by the result before mapping
+-- a result whose errors are all mapped to one error f has a property, if the result before the mapping leads to it
 pub mapped : {A E F : Type 0} (P : Result A F → Type 0) (Q : E → F → Type 0) (f : F) (r : Result A E) (s : Result A F)
     → MatchResult r (λ y. s ≡ Ok y) (λ e. IsErrAnd s (Q e)) → ((e : E) (d : F) → Q e d → d ≡ f)
     → ((y : A) → r ≡ Ok y → P (Ok y)) → ((e : E) → r ≡ Err e → P (Err f)) → P s

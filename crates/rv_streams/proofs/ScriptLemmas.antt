@@ -39,7 +39,7 @@ all_within : (lines : List (List ℕ)) → list_all (is_script_line Input) lines
 all_within [] = refl
 all_within (line ∷ lines) = all_within lines
 
--- the lines of the script are those before its end
+-- the lines of the script are the lines before its end
 script_lines-is : (end : ScriptEnd) (lines : List (List ℕ)) → script_lines end lines ≡ take_while (is_script_line end) lines
 script_lines-is Input lines = sym (take_while-all (is_script_line Input) lines (all_within lines))
 script_lines-is Separator lines = refl
@@ -65,7 +65,7 @@ or_true : (b : Bool) → (b || true) ≡ true
 or_true true = refl
 or_true false = refl
 
--- the input has a separator if one of its lines is one
+-- the input has a separator if one of its lines is a separator
 has_separator-there : (lines others : List (List ℕ)) (line unread : List ℕ) → lines_of unread ≡ lines ++ line ∷ others → is_separator line ≡ true
     → IsTrue (has_separator unread)
 has_separator-there lines others line unread all separator = subst IsTrue (sym (ap (list_any is_separator) all
@@ -102,7 +102,7 @@ ReadsScript-ended end unread left rest is_at_end lines so_far none none_too =
       rest = none_too ∙ sym behind;
     }
 
--- the lines of the text are those that were read, the next one and the rest
+-- the text has the lines that were read, the next line, and the lines of the rest
 lines_with : (unread left rest : List ℕ) (is_at_end ends : Bool) (shown : List ℕ) (lines : List (List ℕ)) → ReadsLines unread left is_at_end lines
     → (takes : TakesLine left rest ends shown)
     → lines_of unread ≡ lines ++ takes.line ∷ lines_of rest

@@ -31,7 +31,7 @@ pub take_while-stop : (p : List ℕ → Bool) (xs : List (List ℕ)) (x : List �
     → take_while p (xs ++ x ∷ ys) ≡ xs
 take_while-stop p xs x ys all e = take_while-append p xs (x ∷ ys) all ∙ (ap (λ t. xs ++ t) (take_while-cons_no p x ys e) ∙ append-nil xs)
 
--- after elements that pass the test, one more is taken, and then those of the rest
+-- after elements that pass the test, one more that passes is taken, and then the passing elements of the rest
 pub take_while-pass : (p : List ℕ → Bool) (xs : List (List ℕ)) (x : List ℕ) (ys : List (List ℕ)) → list_all p xs ≡ true → p x ≡ true
     → take_while p (xs ++ x ∷ ys) ≡ xs ++ x ∷ take_while p ys
 take_while-pass p xs x ys all e = take_while-append p xs (x ∷ ys) all ∙ ap (λ t. xs ++ t) (take_while-cons_yes p x ys e)

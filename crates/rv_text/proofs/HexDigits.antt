@@ -53,7 +53,7 @@ hex_digits-all value places =
     let none : places - places ≡ 0 = omega arith in
     rw none (ap (hex_digits places) (omega arith))
 
--- an element of an option that has one under a condition is that one, and the condition holds
+-- if an option has an element v exactly under a condition, an element x of the option is v, and the condition holds
 pub SomeIff-at_some : {T : Type 0} (o : Option T) (P : Type 0) (v x : T) → SomeIff o P v → o ≡ Some x → P × (x ≡ v)
 SomeIff-at_some None P v x h e = absurd (none-some x e)
 SomeIff-at_some (Some y) P v x h e =

@@ -80,7 +80,7 @@ branch false true x ms ls zs e some = e
 branch false false x ms [] zs e some = absurd (some refl refl)
 branch false false x ms (l ∷ ls) zs e some = ap (onto_first x) e
 
--- whether a text starts with a line feed depends on its first part, if that has one
+-- a text starts with a line feed if its first part does, provided the first part has a line feed
 starts_with_feed-append : (xs ys : List ℕ) → has_feed xs ≡ true → starts_with_feed (xs ++ ys) ≡ starts_with_feed xs
 starts_with_feed-append [] ys feed = cc
 starts_with_feed-append (x ∷ xs) ys feed = refl

@@ -36,6 +36,6 @@ pub words-none : (text rest : List ℕ) (is : Bool) → words_of text ≡ words_
 unfolding words_of
 words-none text rest is every test h = every ∙ ap words_of (no_text rest is test h)
 
--- the first n words of a list are those before the others
+-- the first n words of a list are the words before the others
 pub words-full : (n : ℕ) (words more all : List (List ℕ)) → all ≡ words ++ more → length words ≡ n → words ≡ take n all
 words-full n words more all every len = rw every (sym (take-append-le n words more (omega (arith, len)) ∙ take_all n words (omega (arith, len))))

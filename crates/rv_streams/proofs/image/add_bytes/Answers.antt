@@ -61,7 +61,7 @@ decode_pairs-is i (a ∷ b ∷ rest) even =
     ∙ (ap (λ o. byte_before (cond (is_digit a 16) (Some (digit_value a)) None) (cond (is_digit b 16) (Some (digit_value b)) None) o) more
     ∙ byte_before-tests (is_digit a 16) (is_digit b 16) all (digit_value a) (digit_value b) (pair_values rest))))
 
--- the bytes of a word are those that the crate hex decodes
+-- the crate hex decodes a word to the bytes of its digits
 pub bytes_of_digits-decoded : (word : List ℕ) → bytes_of_digits word ≡ result_ok (decode_of word)
 unfolding bytes_of_digits
 bytes_of_digits-decoded word =

@@ -6,7 +6,7 @@ use Rattle.rv_pmp.specs.Entries.{Entries}
 use Rattle.rv_pmp.proofs.ByteMatchLemmas.{byte_match_alike}
 use Rattle.rv_pmp.proofs.segments.Segments.rebuild.Goals as goal
 
--- the ranges are those of the entries
+-- `Segments::rebuild` meets its contract
 pub returns : goal.returns
 unfolding AreSegments
 returns c =
