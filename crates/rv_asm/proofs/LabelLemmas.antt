@@ -112,7 +112,7 @@ repeated-next pass before (Some name) has_read =
     let there : is_some (places_of pass.labels name) ≡ is_some (place_in before name) = λ i. is_some (has_read.labels i name) in
     rw (has_read.repeated, there, has_read.count) (twice-next (is_some (place_in before name)) pass.repeated (length before))
 
--- the pass has read one more line, if it added its label and counted its words
+-- the pass has read one more line, if it added its label and counted its words, which are at most 65536 in all (few)
 pub reads_more : (old mid : FirstPass) (before : List Reading) (line : Line) → HasRead old before → AddsLabel old mid line.label
     → old.words + line_size (Ok line) ≤ 65536
     → HasRead (record mid { words = old.words + line_size (Ok line); lines = old.lines + 1 }) (before ++ Ok line ∷ [])
@@ -126,7 +126,7 @@ reads_more old mid before line has_read adds few = record {
   repeated = first_fault-push label_fault [] before (Ok line) ∙ repeated-next old before line.label has_read ∙ ap (option_map label_twice) (sym adds.repeated);
 }
 
--- a line within the limit of 65536 words has no error of its own
+-- a line within the limit of 65536 words (few) has no error of its own
 pub own_fault-none : (before : List Reading) (line : Line) (words : ℕ) → words ≡ words_in before → words + line_size (Ok line) ≤ 65536
     → own_fault before (Ok line) ≡ None
 own_fault-none before line words words_is few =

@@ -127,7 +127,7 @@ upper-plus imm small whole = grind (arith, nat_tests)
 
 -- ---- hexadecimal numbers
 
--- `0x` and the hexadecimal digits of a number are read as the number
+-- `0x` and 1 to 8 hexadecimal digits (some, few) of a number are read as the number
 pub written-hex : (places n : ℕ) → 0 < places → places ≤ 8 → n < 16 ^ places → written_number (48 ∷ 120 ∷ hex_digits places n) ≡ Some (plus n)
 unfolding written_number number_of_digits
 written-hex places n some few small =

@@ -89,7 +89,7 @@ plain-hex (suc places) n =
     list_all-append is_plain (hex_digits places (n / 16)) (digit_char (n % 16) ∷ [])
     ∙ and_from _ _ (plain-hex places (n / 16)) (and_from _ _ (digit_char-plain (n % 16) (omega arith)) refl)
 
--- `0x` and up to eight hexadecimal digits are a piece
+-- `0x` and up to 8 hexadecimal digits (few) are a piece
 pub piece-hex : (places n : ℕ) → places ≤ 8 → IsPiece (48 ∷ 120 ∷ hex_digits places n)
 piece-hex places n few =
     record { some = omega arith; short = omega (arith, few, length-hex_digits places n); plain = plain-hex places n }
@@ -114,7 +114,7 @@ piece-hex_text n small = by_size (nat_lt n 0x10) (nat_lt n 0x100) (nat_lt n 0x10
 pub read-hex_text : (n : ℕ) → n < 2 ^ 20 → number_operand (hex_text n) ≡ Ok (plus n)
 read-hex_text n small = let written = written-hex_text n small in rw written refl
 
--- `0x` and the hexadecimal digits of a number are read as the number operand
+-- `0x` and 1 to 8 hexadecimal digits (some, few) of a number are read as the number operand
 pub read-hex : (places n : ℕ) → 0 < places → places ≤ 8 → n < 16 ^ places → number_operand (48 ∷ 120 ∷ hex_digits places n) ≡ Ok (plus n)
 read-hex places n some few small = let written = written-hex places n some few small in rw written refl
 

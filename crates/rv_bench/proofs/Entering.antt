@@ -85,7 +85,7 @@ write_after slot (Some pair) unread left old other new same (inr stopped) =
 
 -- ---- a line that enters the slot
 
--- the reply to a line that enters the slot reports the entry, where `now` is the pair before the line and `after` the pair after it
+-- the reply to a line that enters the slot (over) reports the entry, where `now` is the pair before the line and `after` the pair after it
 pub told_entered : (slot : ℕ) (now after : Pair) (line reply : List ℕ) → pair_line slot now line ≡ record { state = after; reply = reply }
     → now.entered ≡ false → after.entered ≡ true
     → reply ≡ entered_text after.ran
@@ -169,12 +169,12 @@ module _ {S W : Type 0} {g : SourceGhosts S} (h : SinkGhosts W) (slot : ℕ) {st
     last_going : now.entered ≡ false → last ≡ end_text now.ran
     last_going going = last_is ∙ ap (λ b. cond b [] (end_text now.ran)) going
 
-    -- after an entry, the last text is empty
+    -- the last text is empty after an entry (over)
     last_over : now.entered ≡ true → last ≡ []
     last_over over = last_is ∙ ap (λ b. cond b [] (end_text now.ran)) over
 
     module _ {after : W} (ends : EndsWithSource old new) (wrote : h.taken after ≡ h.taken mid ++ last) where
-      -- after an entry, the last text writes nothing
+      -- the last text writes nothing after an entry (over)
       nothing_more : now.entered ≡ true → h.taken after ≡ h.taken mid
       nothing_more over = wrote ∙ (ap (λ t. h.taken mid ++ t) (last_over over) ∙ append-nil (h.taken mid))
 
@@ -212,7 +212,7 @@ module _ {S W : Type 0} {g : SourceGhosts S} (h : SinkGhosts W) (slot : ℕ) {st
 
     -- the sink fails in the last text
     module _ {after : W} (stops : WritesPrefix (h.taken mid) (h.taken after) last) where
-      -- after an entry, a failure in the last text has written nothing
+      -- a failure in the last text has written nothing after an entry (over)
       nothing_wrote : now.entered ≡ true → h.taken after ≡ h.taken mid
       nothing_wrote over = prefix_none (h.taken mid) (h.taken after) (subst (WritesPrefix (h.taken mid) (h.taken after)) (last_over over) stops)
 

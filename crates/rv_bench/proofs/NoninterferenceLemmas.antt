@@ -57,7 +57,7 @@ module _ (e : ℕ) where
   while_live first second kept kept' equiv P false test_is differ same =
       subst (P first) ((equiv_again e first second kept equiv).gone test_is) (same kept)
 
-  -- lines that avoid the enclave and its hart have equal replies
+  -- lines that avoid the enclave (over) and its hart (by) have equal replies
   lines_alike : (first second : BenchState) (lines : List (List ℕ)) → TargetInvariant first.target → TargetInvariant second.target
       → BenchesEquivExcept e first second → LinesAvoidEnclave e first lines → LinesAvoidHart e first lines → RepliesAlike e first second lines
   lines_alike first second [] kept kept' equiv over by = record { text = refl; state = equiv_again e first second kept equiv }
@@ -95,7 +95,7 @@ module _ (e : ℕ) where
     go (Ok command) = (rest_law e bench command kept not_running).by
     go (Err fault) = tt
 
-  -- while the enclave runs on no hart, lines that avoid it avoid its hart
+  -- while the enclave runs on no hart, lines that avoid the enclave (over) avoid its hart
   lines_rest : (bench : BenchState) (lines : List (List ℕ)) → TargetInvariant bench.target → RunsOnNoHart e bench.target → LinesAvoidEnclave e bench lines
       → LinesAvoidHart e bench lines
   lines_rest bench [] kept not_running over = tt

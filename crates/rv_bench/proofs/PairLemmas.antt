@@ -41,7 +41,7 @@ pair_line-prefix slot pair other line same =
     ap (λ both. cond pair.entered (record { state = pair; reply = [] }) (pair_replied pair both))
     (both_line-prefix slot pair.first pair.second other line same)
 
--- once the slot was entered, a line has no reply
+-- a line has no reply once the slot was entered (over)
 silent : (slot : ℕ) (pair : Pair) (line : List ℕ) → pair.entered ≡ true → pair_line slot pair line ≡ record { state = pair; reply = [] }
 unfolding pair_line
 silent slot pair line over = rw over refl
@@ -74,7 +74,7 @@ entered_script slot start now lines others unread now_is over all =
     ∙ (ap (λ t. t ++ last_text (state_after (pair_line slot) start (lines ++ others))) texts
     ∙ (ap (λ t. replies (pair_line slot) start lines ++ t) last ∙ append-nil (replies (pair_line slot) start lines)))
 
--- the written bytes after a line that entered the slot are the whole text
+-- the written bytes after a line that entered the slot (over) are the whole text
 pub entered_all : (slot : ℕ) (start now : Pair) (unread left : List ℕ) (is_at_end : Bool) (lines : List (List ℕ)) (old new : List ℕ)
     → ReadsLines unread left is_at_end lines → now ≡ state_after (pair_line slot) start lines → now.entered ≡ true
     → new ≡ old ++ replies (pair_line slot) start lines → new ≡ old ++ script_text slot start (lines_of unread)

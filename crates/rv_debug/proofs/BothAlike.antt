@@ -184,8 +184,7 @@ module _ (e : ℕ) where
   module _ (a b : BenchState) (cs : List Command) (n : ℕ) (c : Command) (all : BothRan) (after : BothExecuted)
       (inside : n < length cs) (command_is : c ≡ get_or cs n c)
       (so_far : later n (both_run e a b (drop n cs)) ≡ all) (executed : both_execute e a b c ≡ after) where
-    -- the result of all commands is that of the first n + 1 commands if the reason (why) of the command at n ends them, and else goes on with the
-    -- rest
+    -- the result of all commands is that of the first n + 1 commands if the reason (why) of the command at n ends them
     goes_at : (why : BothWhy) → after.why ≡ why → all ≡ later n (go_on why after (both_run e after.first after.second (drop (n + 1) cs)))
     goes_at why because =
         sym so_far ∙ ap (λ (rest : List Command). later n (both_run e a b rest)) (next_command cs n c inside command_is)

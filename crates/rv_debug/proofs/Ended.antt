@@ -73,7 +73,7 @@ never_enters hart machine kept = entered_by slot_count (step_of hart machine).ou
 
 -- ---- a command does not enter it
 
--- a slot that was not entered still was not, after a step that does not enter it
+-- a slot that is not among the entered slots (out) stays so after a step that does not enter it (passes)
 keeps_out : (slots : ℕ) (o : Option ℕ) → enters slot_count o ≡ false → is_entered slot_count slots ≡ false → is_entered slot_count (slots_with slots o) ≡ false
 keeps_out slots None passes out = out
 keeps_out slots (Some k) passes out =

@@ -178,7 +178,7 @@ module _ (e hart : ℕ) (one other : MonitoredMachine) (equiv : EquivExcept e on
 
   -- ---- replies about a hart that does not run the enclave
 
-  -- a command that shows the selected hart shows equal hart states, if it avoids the hart of the enclave
+  -- a command that avoids the hart of the enclave (by) and shows the selected hart shows equal hart states
   hart_states : AvoidsHart e here Regs → hart_state_of hart one ≡ hart_state_of hart other
   hart_states by = let own = equiv.hart_states hart in own.same by.0
 
@@ -293,7 +293,7 @@ module _ (e hart : ℕ) (one other : MonitoredMachine) (equiv : EquivExcept e on
       run_told (at machine) breaks watches at_breaks at_watches count
       ∙ ap (steps_execute breaks watches) (run_monitored hart at_breaks at_watches count (no_steps machine))
 
-  -- a run that avoids the hart of the enclave is executed alike
+  -- a run that avoids the hart of the enclave (by) is executed alike
   run-answers : (at_breaks at_watches : List ℕ) (count : ℕ) → Invariant one → Invariant other → AvoidsHart e here Regs
       → Alike e (run_execute (at one) breaks watches at_breaks at_watches count) (run_execute (at other) breaks watches at_breaks at_watches count)
   run-answers at_breaks at_watches count kept kept' by =
@@ -345,7 +345,7 @@ module _ (e hart : ℕ) (one other : MonitoredMachine) (equiv : EquivExcept e on
 
   -- ---- a command
 
-  -- each command that is blind and avoids the hart of the enclave is executed alike
+  -- each command that is blind and avoids the hart of the enclave (by) is executed alike
   alike : (command : Command) → Invariant one → Invariant other → is_blind e here command ≡ true → AvoidsHart e here command
       → Alike e (execute here command) (execute there command)
   unfolding execute is_blind
@@ -388,7 +388,7 @@ module _ (e hart : ℕ) (one other : MonitoredMachine) (equiv : EquivExcept e on
 
 -- ---- any two benches
 
--- a blind command that avoids the hart is executed alike, for two monitored targets
+-- a blind command that avoids the hart of the enclave (by) is executed alike, for two monitored targets
 monitored-alike : (e : ℕ) (one other : Selected) (breaks watches : List ℕ) (command : Command) → Invariant one.state → Invariant other.state
     → SelectedEquivExcept e one other
     → is_blind e (over (Monitored one) breaks watches) command ≡ true → AvoidsHart e (over (Monitored one) breaks watches) command
@@ -449,7 +449,7 @@ equiv_again e one other kept equiv =
     (subst (λ (watches : List ℕ). RemainEquiv e one (over other.target one.breaks watches)) equiv.watches
     (again e one.target other.target one.breaks one.watches kept equiv.target))
 
--- the noninterference law holds for a command of each kind
+-- the noninterference law holds for a command of each kind that is blind and avoids the hart of the enclave (by)
 pub noninterference : NoninterferenceLaw
 noninterference e first second command kept kept' equiv blind by =
     let both = subst (λ (breaks : List ℕ). Alike e (execute first command) (execute (over second.target breaks second.watches) command)) equiv.breaks

@@ -107,7 +107,7 @@ register_stays k hart number value context machine continues none =
       bytes = λ i own. refl;
     }
 
--- a write of a byte outside the region leaves the enclave as it is
+-- a write of a byte outside the region (out) leaves the enclave as it is
 byte_stays : (k address byte : ℕ) (context : Context) (machine : MonitoredMachine) → ContinuesWith k context machine
     → has (region machine.shared.table k) address ≡ false → Stays k context machine (after_action (SetsByte address byte) machine)
 byte_stays k address byte context machine continues out =

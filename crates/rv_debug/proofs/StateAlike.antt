@@ -102,7 +102,7 @@ module _ (e : ℕ) (first second : BenchState) (kept : TargetInvariant first.tar
 
 -- ---- every command
 
--- a command that is executed alike leaves equivalent benches
+-- a command that is blind and avoids the hart of the enclave (by) leaves equivalent benches, unless it enters the enclave
 by_noninterference : (e : ℕ) (first second : BenchState) (command : Command) → TargetInvariant first.target → TargetInvariant second.target
     → BenchesEquivExcept e first second → is_blind e first command ≡ true → AvoidsHart e first command
     → StateAlike e (execute first command) (execute second command)

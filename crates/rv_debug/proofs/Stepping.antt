@@ -146,7 +146,7 @@ module _ {A : Type 0} (step : A → Stepped A) (pc : A → ℕ) (breaks watches 
   goes-on-free count done before last trap entered no_breaks no_watches more next =
       goes-on count done before last trap entered more next (rw no_watches refl) (λ _. rw no_breaks refl)
 
-  -- the run ends when all steps are executed
+  -- the run ends with `Done` when at least `count` steps are executed (over)
   pub stops-done : (count done : ℕ) (so_far : AfterSteps A) → count ≤ done → run step pc breaks watches (count - done) so_far ≡ ended so_far Done
   unfolding run
   stops-done count done so_far over = let none : count - done ≡ 0 = omega arith in rw none refl

@@ -89,7 +89,7 @@ unfolding retired_or_trapped
 ended state memory touched written (Ok after) plain trap interrupt same by = cc
 ended state memory touched written (Err here) plain trap interrupt same by = not_by _ here trap interrupt plain same by
 
--- the interrupt of the trap is the pending one
+-- the interrupt of the trap is the pending one, where `by` states that the trap has this interrupt as its cause
 waited : (P : Option Interrupt) (i interrupt : Interrupt) (trap : Trap) (here : Trap) → here.cause ≡ causes.Interrupt i → Some here ≡ Some trap
     → trap.cause ≡ causes.Interrupt interrupt → P ≡ Some i → P ≡ Some interrupt
 waited P i interrupt trap here cause_is same by waits =

@@ -44,14 +44,14 @@ not_separator : {unread left rest : List ℕ} {ends : Bool} {image shown : List 
     → is_separator at.takes.line ≡ false
 not_separator at = ends_script-shown Separator _ _ _ _ at.takes ∙ at.other
 
--- lines without an error give the image of their bytes, if there are not too many
+-- lines without an error give the image of their bytes, if there are at most 32 MiB (33554432 bytes, few)
 image_of-sound : (lines : List (List ℕ)) → list_all is_image_line lines ≡ true → length (bytes_of_lines lines) ≤ 33554432
     → image_of lines ≡ Ok (bytes_of_lines lines)
 image_of-sound lines sound few =
     let below : ltb 33554432 (length (bytes_of_lines lines)) ≡ false = grind (arith, nat_tests) in
     rw (take_while-all is_image_line lines sound, below, sound) refl
 
--- the image has the error of the first line with an error
+-- the image has the error of the first line with an error, if the lines before it have at most 32 MiB (few)
 image_of-faulty : (lines others : List (List ℕ)) (line : List ℕ) → list_all is_image_line lines ≡ true → length (bytes_of_lines lines) ≤ 33554432
     → is_image_line line ≡ false → image_of (lines ++ line ∷ others) ≡ Err Hex
 image_of-faulty lines others line sound few faulty =

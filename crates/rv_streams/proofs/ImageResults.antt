@@ -46,7 +46,7 @@ module _ {S : Type 0} {g : Ghosts S} (Z : Type 0) (old new : Lines S g) (source 
       record { source = source; emptied = emptied; reads = λ follows. EncodesImage-refused (at follows) word_is adds.0 }
   refused left image added shown word _ at word_is adds = absurd adds
 
-  -- the result if no line of the image is left
+  -- if no line of the image is left, the result is the image, which has at most 32 MiB (33554432 bytes, few)
   pub image_read : (mid : Lines S g) (image : Vec ℕ Z) → FindsEnd Separator mid new → vec_len image ≤ 33554432
       → (g.follows_input new.source → EncodesImage (unread old) (unread mid) mid.is_at_end image.items) → ReadsImage old new (Ok image)
   image_read mid image found few encodes = (

@@ -25,7 +25,7 @@ module _ {X : Type 0} (line : X → List ℕ) (items : List X) where
       WritesUpTo-stopped old mid new _ before (flat_map line (drop k items)) _ so_far stops
       (ap (flat_map line) (sym (take-append-drop k items)) ∙ flat_map-append line (take k items) (drop k items))
 
-  -- all lines are written
+  -- all lines are written after k lines, if there are at most k (over)
   pub lines-all : (k : ℕ) (old mid new before : List ℕ) → length items ≤ k → WritesUpTo old mid (flat_map line (take k items)) before
       → new ≡ mid ++ before → new ≡ old ++ flat_map line items
   lines-all k old mid new before over so_far wrote =
