@@ -67,7 +67,7 @@ length-words_from labels before (line ∷ lines) none =
     let others = length-words_from labels (before ++ line ∷ []) lines first.1 in
     length-append (words_or_none here) (words_from labels (before ++ line ∷ []) lines) ∙ ap₂ (λ m n. m + n) same_length others ∙ sym (sum_by-cons line_size line lines)
 
--- the middle one of three lists
+-- the m elements after the first n elements of three lists, one after another, are the second list
 mid_part : (n m : ℕ) (xs ys zs : List ℕ) → length xs ≡ n → length ys ≡ m → take m (drop n (xs ++ (ys ++ zs))) ≡ ys
 mid_part n m xs ys zs prefix mid = ap (take m) (drop_at xs (ys ++ zs) n prefix) ∙ ap (λ k. take k (ys ++ zs)) (sym mid) ∙ take-append_seam ys zs
 
@@ -118,7 +118,7 @@ found_here : (all before lines : List Reading) (line : Reading) (name : List ℕ
 found_here all before lines (Ok line) name place split names_it here = (before, line, (lines, split), label_is name line.label names_it, here)
 found_here all before lines (Err kind) name place split label here = cc
 
--- the claim for an address that is found, here or later
+-- the claim P holds for an address that is found, either here or later
 found_either : {P : Type 0} (b : Bool) (here place : ℕ) (others : Option ℕ) → (b ≡ true → place ≡ here → P) → (others ≡ Some place → P)
     → (if b then Some here else others) ≡ Some place → P
 found_either true here place others now later place_is = now refl cc

@@ -53,7 +53,7 @@ place_from-append before (line ∷ prefix) after name =
     let others = place_from-append (before ++ line ∷ []) prefix after name in
     rw (others, append_assoc before (line ∷ []) prefix) (some_stays (has_label name line) (words_in before) (place_from (before ++ line ∷ []) prefix name) _)
 
--- an error of the line after `count` lines
+-- `fault_after` is an error of the line after `count` lines
 abbrev pub fault_after : ℕ → AsmFaultKind → AsmFault
 fault_after count kind = record { line = count + 1; kind = kind }
 

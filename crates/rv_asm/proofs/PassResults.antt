@@ -23,7 +23,7 @@ length-readings text = length-map (lines_of text) line_read
 abbrev IsWithin : ℕ → ℕ → AsmFault → Type 0
 IsWithin before count fault = (before + 1 ≤ fault.line) × (fault.line ≤ before + count)
 
--- the line of an error that is found later, or here
+-- the line of an error that is found later, or here, is one of the lines
 later_or_here : (before count longer : ℕ) (o : Option AsmFaultKind) (rest : Option AsmFault) (found : AsmFault) → longer ≡ before + 1
     → (rest ≡ Some found → IsWithin longer count found) → option_case o rest (λ kind. Some (fault_after before kind)) ≡ Some found
     → IsWithin before (count + 1) found
@@ -45,12 +45,12 @@ fault_line fault before (line ∷ lines) found first_line_fault_is =
     (first_line_fault fault (before ++ line ∷ []) lines) found (length-append before (line ∷ [])) (fault_line fault (before ++ line ∷ []) lines found) first_line_fault_is in
     (bounds.0, omega (arith, bounds.1))
 
--- the result if a line has an error of its own
+-- if a line has an error of its own, the result is the first such error
 pub own_decides : (text : List ℕ) (fault : AsmFault) → first_line_fault own_fault [] (readings text) ≡ Some fault → assembled text ≡ Err fault
 unfolding assembled
 own_decides text fault first_line_fault_is = rw first_line_fault_is refl
 
--- the result if a label is repeated
+-- if a label is repeated and no line has an error of its own, the result is the repeated label
 pub twice_decides : (text : List ℕ) (pass : FirstPass) (line : ℕ) → HasRead pass (readings text) → first_line_fault own_fault [] (readings text) ≡ None
     → pass.repeated ≡ Some line → assembled text ≡ Err (label_twice line)
 unfolding assembled
@@ -65,7 +65,7 @@ twice_line text pass line has_read repeated_at =
     let bounds = fault_line label_fault [] (readings text) (label_twice line) (has_read.repeated ∙ ap (option_map label_twice) repeated_at) in
     (omega (arith, bounds.0), omega (arith, bounds.1, length-readings text))
 
--- the result if no label is repeated: the error of a name, or the words
+-- if no label is repeated, no line has the error of a repeated label
 not_twice : (text : List ℕ) (pass : FirstPass) → HasRead pass (readings text) → pass.repeated ≡ None → first_line_fault label_fault [] (readings text) ≡ None
 not_twice text pass has_read none_repeated = has_read.repeated ∙ ap (option_map label_twice) none_repeated
 

@@ -17,11 +17,11 @@ use Rattle.rv_asm.specs.Cuts.{after_blanks, before_blanks, trimmed, comma_fields
 abbrev pub is_plain : ℕ → Bool
 is_plain b = nat_le 40 b && nat_le b 57 && not (b == 44) || nat_le 97 b && nat_le b 122
 
--- the test of a piece: 1 to 20 plain bytes
+-- a piece has 1 to 20 plain bytes
 abbrev pub is_piece : List ℕ → Bool
 is_piece text = nat_lt 0 (length text) && nat_le (length text) 20 && list_all is_plain text
 
--- a piece: 1 to 20 plain bytes, which are neither blank nor comma
+-- a piece has 1 to 20 plain bytes, which are neither blank nor comma
 pub record IsPiece (text : List ℕ) : Type 0 where
   pub some : 0 < length text
   pub short : length text ≤ 20
@@ -103,7 +103,7 @@ trimmed-some b text plain =
 
 -- ---- the operands, in the text after a mnemonic
 
--- operands as the disassembler writes them: a space before the first, and a comma and a space before each other
+-- the disassembler writes a space before the first operand, and a comma and a space before each other
 abbrev pub spaced : List ℕ → List (List ℕ) → List ℕ
 spaced first more = 32 ∷ (first ++ flat_map (λ operand. codes ", " ++ operand) more)
 

@@ -113,7 +113,7 @@ line_at-plain b line s plain of_line short says =
 
 -- ---- the words of the line
 
--- the words of a text of one line, which is an instruction or a word
+-- a text of one line with an instruction assembles to the word of the instruction
 pub assembled-instruction : (text : List ℕ) (instr : Instr) → lines_of text ≡ text ∷ []
     → line_read text ≡ Ok (record { label = None; statement = Some (Instruction instr) }) → assembled text ≡ Ok (word_of instr ∷ [])
 unfolding assembled statement_size statement_words

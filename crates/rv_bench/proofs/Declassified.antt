@@ -168,7 +168,7 @@ started_declassification image setup = declassified_from (started image setup) (
 -- ---- inputs
 
 module _ (setup : Setup) (e : ℕ) (prefix : List ℕ) (whole : through_last_feed prefix ≡ prefix) (separated : has_separator prefix ≡ true) where
-  -- the observed output of a script, if the bench starts
+  -- `Observed` is the observed output of a script, if the bench starts
   abbrev Observed : Result BenchState BenchFault → List (List ℕ) → Result (List ℕ) BenchFault
   Observed bench script = result_case bench (λ state. Ok (replies (observed_line e) state script)) Err
 

@@ -1,4 +1,4 @@
--- The end of the second script of a pair: at the line that enters the slot, or at the end of the input.
+-- This file is about the end of the second script of a pair: at the line that enters the slot, or at the end of the input.
 use Rattle.std.proofs.Common.{◌≡◌, ℕ, true, false, cond, List, [], ◌++◌, inl, inr, Option, Some, None, Ok, Err, sym}
 use Rattle.std.proofs.Common.{◌∙◌, ap, subst, append-nil}
 use Rattle.std.specs.Option.{IsSomeAnd}
@@ -216,7 +216,7 @@ module _ {S W : Type 0} {g : SourceGhosts S} (h : SinkGhosts W) (slot : ℕ) {st
       nothing_wrote : now.entered ≡ true → h.taken after ≡ h.taken mid
       nothing_wrote over = prefix_none (h.taken mid) (h.taken after) (subst (WritesPrefix (h.taken mid) (h.taken after)) (last_over over) stops)
 
-      -- the sink failed in the last line: the meaning of a write error
+      -- a failure of the sink in the last line is the write error of the second script
       pub two_benches-fail : SinkFailed h mid after → RunsSecond h slot (Some start) old new before after (Err Write)
       two_benches-fail failed = (
         record {

@@ -1,4 +1,4 @@
--- The result of each job, by its output for the input.
+-- This file proves that each result of a job has the meaning that the output of the job for the input gives it.
 use Rattle.std.proofs.Common.{◌≡◌, ◌<◌, List, ℕ, ◌++◌, length, inl, inr, Ok, Err, sym, ap, ◌∙◌, subst, arith}
 use Rattle.std.specs.Result.{IsOkAnd}
 use Rattle.rv_memory.specs.declared.ram_fault.RamFault.TheVariants.{BadSize, NoMemory as NoRamMemory}
@@ -69,7 +69,7 @@ module _ {S W : Type 0} (g : SourceGhosts S) (h : SinkGhosts W) (source left : S
       stream_meets (Err (AsmText fault)) never = absurd never
 
       module _ (slot : ℕ) where
-        -- the job of a twin run
+        -- `twin` is the job of a twin run
         abbrev twin : Job
         twin = Twin setup slot
 

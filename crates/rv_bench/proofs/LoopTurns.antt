@@ -1,4 +1,4 @@
--- The loop over the lines of a script, iteration by iteration.
+-- This file is about the loop over the lines of a script, iteration by iteration.
 use Rattle.std.proofs.Common.{◌≡◌, ℕ, false, true, arith, inl, inr, List, [], ◌++◌, ◌∙◌, refl}
 use Rattle.rv_streams.specs.declared.device.Sink.{Ghosts as SinkGhosts}
 use Rattle.rv_streams.specs.declared.device.Source.{Ghosts as SourceGhosts}

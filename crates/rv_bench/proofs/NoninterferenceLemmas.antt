@@ -1,4 +1,4 @@
--- Noninterference of scripts: over the lines of a part, by the law of one command; and from one input to another.
+-- This file proves noninterference of scripts: first over the lines of a part, by the law of one command, and then from one input to another.
 use Rattle.std.proofs.Common.{◌≡◌, inl, inr, ℕ, Bool, true, false, List, [], ◌∷◌, ◌++◌, Result, Ok, Err, IfOk, IsOkAnd, refl, sym, ◌∙◌, ap, ap₂, subst}
 use Rattle.rv_word.specs.Cases.{result_case}
 use Rattle.rv_text.specs.Lines.{lines_of, through_last_feed}
@@ -163,7 +163,7 @@ module _ (e : ℕ) where
       (by_at_rest first line kept not_running, poke_rests first line kept not_running pokes.0)
   poke_or_pass_rests first second line other kept not_running (inr passes) = line_rests first line kept not_running passes.1
 
-  -- the facts after lines that differ in pokes
+  -- the enclave runs on no hart after these lines, and each line avoids its hart
   record RestsThrough (bench : BenchState) (lines : List (List ℕ)) : Type 0 where
     pub by : EachLineAvoidsHart e bench lines
     pub not_running : RunsOnNoHart e (state_after bench_line bench lines).target

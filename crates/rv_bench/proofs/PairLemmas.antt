@@ -88,7 +88,7 @@ pub prefix_more : (old new text more : List ℕ) → WritesPrefix old new text �
 prefix_more old new text more (rest, (prefix, wrote, split)) =
     (rest ++ more, (prefix, wrote, ap (λ t. t ++ more) split ∙ append_assoc prefix rest more))
 
--- a prefix of the text that follows a written text
+-- a prefix of a text, after another text that is written, is a prefix of both texts
 pub prefix_after : (old mid new text more : List ℕ) → mid ≡ old ++ text → WritesPrefix mid new more → WritesPrefix old new (text ++ more)
 prefix_after old mid new text more mid_is (rest, (prefix, wrote, split)) = (
   rest,

@@ -1,4 +1,4 @@
--- Inputs that begin with the same whole lines, including the separator.
+-- This file is about inputs that begin with the same whole lines, including the separator.
 use Rattle.std.proofs.Common.{◌≡◌, ℕ, zero, suc, ◌+◌, ◌≤◌, Bool, true, false, cond, not, ◌||◌, List, [], ◌∷◌, ◌++◌}
 use Rattle.std.proofs.Common.{length, drop, Err, refl, sym, ◌∙◌, ap, arith, subst, nat_eq}
 use Rattle.std.proofs.lemmas.List.Sums.{take_while-cons}
@@ -15,7 +15,7 @@ use Rattle.rv_bench.specs.Output.{bench_in}
 -- ---- the first line that satisfies a test
 
 module _ (found : List ℕ → Bool) where
-  -- the lines before the first that passes the test
+  -- `before` has the lines before the first that passes the test
   abbrev before : List (List ℕ) → List (List ℕ)
   before lines = take_while (λ line. not (found line)) lines
 
@@ -88,7 +88,7 @@ one_less : (lines : List (List ℕ)) (n : ℕ) → suc n ≤ length lines → n 
 one_less [] n some = absurd (omega (arith, some))
 one_less (line ∷ lines) n some = omega (arith, some)
 
--- the text after n lines, with more text at its end
+-- the text after n lines is followed by a text that is appended to the whole text
 after_lines-append : (n : ℕ) (xs ys : List ℕ) → through_last_feed xs ≡ xs → n ≤ length (lines_of xs)
     → after_lines n (xs ++ ys) ≡ after_lines n xs ++ ys
 after_lines-append zero xs ys whole some = refl

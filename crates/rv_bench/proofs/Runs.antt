@@ -1,4 +1,4 @@
--- A run, line by line.
+-- This file describes a run, line by line.
 use Rattle.std.proofs.Common.{◌≡◌, ℕ, Bool, false, not, length, inl, inr, Result, Ok, arith, List, [], ◌∷◌, ◌++◌, take, refl, sym}
 use Rattle.std.proofs.Common.{◌∙◌, ap, subst, append_assoc, append-nil, lit≤}
 use Rattle.std.proofs.lemmas.Bool.{false≢true}
@@ -161,7 +161,7 @@ module _ {A : Type 0} {by : Responding A} {end : ScriptEnd} {start : A} {unread 
         ∙ ap (λ (a : Replied A). replies by.respond start so_far.lines ++ a.reply) next_response))));
   }
 
-  -- the sink stops within it
+  -- if the sink fails within the reply to a line, the script stops at this write
   pub RespondsToNext-stops : {new : List ℕ} → WritesPrefix mid new reply → StopsAtWrite by end start unread rest old new
   RespondsToNext-stops stops =
       let so_far = next.so_far in
@@ -267,7 +267,7 @@ module _ {S W : Type 0} {g : SourceGhosts S} (h : SinkGhosts W) where
         | inr run ↦ absurd (false≢true run.over)
       ]
 
-      -- the sink failed after the replies: the meaning of a write error
+      -- a failure of the sink after the replies is the write error of the run
       pub one_bench-fails : SinkFailed h mid after → FailsIn h one_bench end start old new before after Write
       one_bench-fails failed = elim responds.stopped [
         | inl run ↦

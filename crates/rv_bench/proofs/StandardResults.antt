@@ -1,4 +1,4 @@
--- The program over a reader and a writer, by their logs.
+-- This file states the effect of the program over a reader and a writer, in terms of their call logs.
 use Rattle.std.proofs.Common.{◌≡◌, ◌<◌, ◌+◌, ◌⊎◌, ℕ, List, [], ◌++◌, inl, inr, Result, Ok, Err, zero, suc, true, refl, sym, ◌∙◌, ap, subst, arith}
 use Rattle.std.specs.Result.{OnErr}
 use Rattle.clap.specs.Words.{Text}
@@ -36,7 +36,7 @@ held_ghosts h = record {
   failures = failures_of h;
 }
 
--- the counts of a sink that holds bytes for another one, which has a log
+-- a sink that holds bytes for another sink with a log has the counts of this log
 pub held_logs : {W : Type 0} (h : SinkGhosts W) (before after : BufferedSink W h) (log : CallLog) → taken_of h before ≡ [] → failures_of h before ≡ 0
     → h.flushes before.sink ≡ 0 → h.taken after.sink ≡ log.bytes → h.is_flushed after.sink ≡ log.is_flushed → failures_of h after ≡ log.failures + log.empty_calls
     → h.flushes after.sink ≡ log.flushes → LogsSink (held_ghosts h) before after log
@@ -86,7 +86,7 @@ module _ {S W : Type 0} (g : SourceGhosts S) (h : SinkGhosts W) (source left : S
   read_nothing (Ok job) Nothing none same = tt
   read_nothing (Err fault) Nothing none same = none same
 
-  -- the result over standard input and output, for arguments that are read or refused
+  -- the program over standard input and output has its specified result, whether its arguments are read or refused
   pub runs_over : (given : Result (List Text) WordsFault) (input : List ℕ) (reader : CallLog) (status : ℕ)
       → (g.input left ≡ g.input source → Gave reader input → g.follows_input left) → g.remaining source ≡ input → g.failures source ≡ 0 → g.failures left ≡ reader.failures
       → (left ≡ source → reader ≡ no_call input)

@@ -1,4 +1,4 @@
--- The bench that an image starts.
+-- This file is about the bench that an image starts.
 use Rattle.std.proofs.Common.{◌≡◌, ℕ, Bool, true, false, cond, List, length, replicate, Result, Ok, Err, IfOk, refl, ◌∙◌}
 use Rattle.rv_word.specs.Cases.{result_case}
 use Rattle.rv_memory.specs.Harts.{number_of_harts}

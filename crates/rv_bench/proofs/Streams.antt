@@ -1,4 +1,4 @@
--- A run over an input, from its image and its script.
+-- This file derives the meaning of a run over an input from its image and its script.
 use Rattle.std.proofs.Common.{◌≡◌, ℕ, List, ◌++◌, inr, Result, Ok, Err, refl, sym, ◌∙◌, ap, subst, arith}
 use Rattle.std.specs.Result.{IsOkAnd}
 use Rattle.rv_text.specs.Lines.{lines_of}

@@ -70,7 +70,7 @@ module _ (slot : ℕ) where
     pub first : after.first ≡ after_commands a (done_by_both after.why c)
     pub second : after.second ≡ after_commands b (done_by_both after.why c)
 
-  -- each bench after a command that both execute is that after the command
+  -- after a command that both benches execute, each bench is in the state after the command
   ended : (x : Bool) (a : BenchState) (c : Command) → (execute a c).state ≡ after_commands a (done_by_both (if x then Entered else All) c)
   ended true a c = refl
   ended false a c = refl
@@ -120,7 +120,7 @@ module _ (slot : ℕ) where
     pub first : TargetInvariant pair.first.target
     pub second : TargetInvariant pair.second.target
 
-  -- the result of a line with this command on both benches
+  -- `of_command` is the result of a line with this command on both benches
   abbrev of_command : Command → BothExecuted → BothWhy → Pair → Replied Pair
   of_command command after why pair = done_by (Given why (has_no_command command)) (with_line after (Given after.why (has_no_command command))) pair.ran
 
@@ -208,7 +208,7 @@ module _ (slot : ℕ) where
         (becomes pair.first pair.second command going.first going.second (going.equiv is))
     go false is (Err fault) = record { first = refl; second = refl }
 
-  -- the bench after two lists of commands, one after the other
+  -- the bench after two lists of commands is the bench after the second, from the bench after the first
   commands-append : (bench : BenchState) (xs ys : List Command) → after_commands bench (xs ++ ys) ≡ after_commands (after_commands bench xs) ys
   commands-append bench [] ys = refl
   commands-append bench (x ∷ xs) ys = commands-append (execute bench x).state xs ys

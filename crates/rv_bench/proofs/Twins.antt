@@ -1,4 +1,4 @@
--- A twin run over an input, from its image and its two scripts.
+-- This file derives the meaning of a twin run over an input from its image and its two scripts.
 use Rattle.std.proofs.Common.{◌≡◌, ℕ, true, false, List, ◌++◌, inl, inr, Option, Some, None, Result, Ok, Err, refl, sym, ◌∙◌, ap}
 use Rattle.std.proofs.Common.{subst, arith, append_assoc}
 use Rattle.std.specs.Option.{IsSomeAnd}

@@ -1,4 +1,4 @@
--- The members of a set of addresses after an insertion or a removal.
+-- This file states the members of a set of addresses after an insertion or a removal.
 use Rattle.std.proofs.Common.{◌≡◌, ℕ, ◌==◌, ltb, Bool, true, false, not, cond, ◌&&◌, ◌||◌, List, [], ◌∷◌, filter, refl, sym}
 use Rattle.std.proofs.Common.{◌∙◌, ap, arith}
 use Rattle.std.proofs.lemmas.List.Folds.{list_any-append}

@@ -1,4 +1,4 @@
--- Sets of addresses as sorted lists.
+-- This file proves that operations on sorted lists are the operations on sets of addresses.
 use Rattle.std.proofs.Common.{◌≡◌, ◌≢◌, ℕ, zero, suc, ◌+◌, ◌-◌, ◌<◌, ◌≤◌, ◌==◌, ltb, Bool, true, false, cond, ◌||◌, List, [], ◌∷◌, ◌++◌}
 use Rattle.std.proofs.Common.{length, take, drop, filter, get_or, Option, Some, None, Result, Ok, Err, MatchResult, refl, sym, ◌∙◌, ap}
 use Rattle.std.proofs.Common.{arith, inl, inr, ap₂}
@@ -253,7 +253,7 @@ lowest-is p (x ∷ xs) all = go (p x) (lowest-is p xs (sorted_above-is x xs all)
   go true more = sym (ap (lower (Some x)) (sym more) ∙ lower-before x (find p xs) (λ a. find-above p x xs a all))
   go false more = more
 
--- the first of `count` addresses from x on: x itself, if it is in the list
+-- the first of the `count` addresses from x on is x itself, if x is in the list
 pub find-here : (x count : ℕ) (xs : List ℕ) (i : ℕ) → IsSorted xs → 0 < count → i < length xs → get_or xs i 0 ≡ x
     → Some x ≡ find (is_between x count) xs
 find-here x count xs i all some inside element_is =

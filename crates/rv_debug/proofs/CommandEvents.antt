@@ -37,7 +37,7 @@ effect_acts selected (OneByte address byte) = poke_acts selected (write selected
 
 -- ---- a list of commands
 
--- the machine after two lists of actions, one after the other
+-- the machine after two lists of actions is the machine after the second, from the machine after the first
 acts_on : (first second : List Action) (machine : MonitoredMachine)
     → after_actions (first ++ second) machine ≡ after_actions second (after_actions first machine)
 acts_on [] second machine = refl

@@ -131,7 +131,7 @@ module _ (e hart : ℕ) (one other : MonitoredMachine) (here : Invariant one) (t
             rw (first, second) (record { state = both; reply = refl })
       ]
 
-  -- pokes of two bytes into the region
+  -- two pokes into the region, of two bytes and at two addresses, leave related targets and have equal replies
   secrets_poked : (address byte address_too byte_too : ℕ) → has (region one.shared.table e) address ≡ true
       → has (region other.shared.table e) address_too ≡ true
       → PokedAlike (write one.shared.memory address (byte ∷ [])) (write other.shared.memory address_too (byte_too ∷ []))

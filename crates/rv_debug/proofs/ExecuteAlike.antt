@@ -49,7 +49,7 @@ record Alike (e : ℕ) (first second : Executed) : Type 0 where
 abbrev pub over : Target → List ℕ → List ℕ → BenchState
 over target breaks watches = record { target = target; breaks = breaks; watches = watches }
 
--- a command that enters no enclave
+-- `executed_with` is the result of a command that enters no enclave
 abbrev executed_with : Target → List ℕ → List ℕ → List ℕ → Executed
 executed_with target breaks watches reply = record { state = over target breaks watches; reply = reply; entered = 0 }
 
@@ -171,7 +171,7 @@ module _ (e hart : ℕ) (one other : MonitoredMachine) (equiv : EquivExcept e on
   both : TargetsEquivExcept e (at one) (at other)
   both = record { hart = refl; state = equiv }
 
-  -- a command that leaves both unchanged
+  -- a command that leaves both benches unchanged and has equal replies is executed alike
   shown : (reply reply' : List ℕ) → reply ≡ reply'
       → Alike e (executed_with (at one) breaks watches reply) (executed_with (at other) breaks watches reply')
   shown reply reply' same = passes e (at one) (at other) breaks watches reply reply' both same
@@ -285,7 +285,7 @@ module _ (e hart : ℕ) (one other : MonitoredMachine) (equiv : EquivExcept e on
     };
   }
 
-  -- the run of the target, stated for the machine
+  -- the run of the target is the run of its machine
   run-is : (machine : MonitoredMachine) (at_breaks at_watches : List ℕ) (count : ℕ)
       → (let ran = run (hart_stepped hart) (hart_pc hart) at_breaks at_watches count (no_steps machine) in
       run_execute (at machine) breaks watches at_breaks at_watches count ≡ steps_execute breaks watches (target_of (selected_at hart) ran))

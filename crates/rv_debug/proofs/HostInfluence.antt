@@ -178,7 +178,7 @@ module _ (i j : ℕ) (one other : MonitoredMachine) (point : AreAtOnePoint i j o
   }
 
   module _ (here : IsSound one) (there : IsSound other) where
-    -- one move of two lives
+    -- after one move of two lives, the enclaves make equal steps and are at one point again
     lives : (move : LifeMove) → IsLifeMove i j move one other → LiveAlike i j (move ∷ []) one other
     lives move permitted = life_law i j (move ∷ []) one other here.kept there.kept here.legal there.legal point (permitted, tt)
 

@@ -1,4 +1,4 @@
--- The closed instance of the law about the whole life of an enclave, by computing the steps.
+-- This file computes the steps of the closed instance of the law about the whole life of an enclave.
 use Rattle.std.proofs.Common.{◌≡◌, ◌≢◌, ℕ, zero, suc, ◌+◌, true, false, List, [], ◌∷◌, ◌++◌, length, Some, refl, sym, ◌∙◌, ap, subst, inl, inr}
 use Rattle.std.specs.Prelude.{Bool, ◌&&◌, not, slice_index}
 use Rattle.rv_memory.specs.Memory.{read, write}
@@ -43,23 +43,23 @@ use Rattle.rv_debug.specs.HostRun.{HostRunLaw, after_byte, hosted_asking, before
 
 -- ---- the points in the runs
 
--- after run, after the load, and after resume
+-- `entered` is the first machine after the call run
 abbrev entered : ℕ → MonitoredMachine
 entered a = hosted_next 0 (hosted_next 0 (first a))
 
--- the first machine after the load
+-- `loaded` is the first machine after the load
 abbrev loaded : ℕ → MonitoredMachine
 loaded a = with_timer 0 (hosted_next 0 (entered a)) true
 
--- the first machine after the timer interrupt
+-- `interrupted` is the first machine after the timer interrupt
 abbrev interrupted : ℕ → MonitoredMachine
 interrupted a = hosted_next 0 (loaded a)
 
--- the first machine after resume
+-- `resumed` is the first machine after the call resume
 abbrev resumed : ℕ → MonitoredMachine
 resumed a = hosted_next 0 (hosted_next 0 (hosted_next 0 (interrupted a)))
 
--- the second machine after run
+-- `entered_too` is the second machine after the call run
 abbrev entered_too : ℕ → MonitoredMachine
 entered_too b = hosted_next 1 (hosted_next 1 (second b))
 
@@ -94,7 +94,7 @@ context = first_context (record {
   state = Fresh;
 })
 
--- the facts of the first machine that are computed
+-- these facts of the first machine are computed
 record FirstIs (a : ℕ) : Type 0 where
   size : length (hosted_next 0 (hosted_start 1 0)).shared.memory ≡ length (hosted_ram a)
   live : is_live (first a).shared.table 0 ≡ true
@@ -113,7 +113,7 @@ record FirstIs (a : ℕ) : Type 0 where
   stores_other : reads_choice 0 (resumed a) ≡ true
   stored : slice_index (hosted_next 0 (resumed a)).shared.memory 0x14008 ≡ 7
 
--- the facts of the second machine that are computed
+-- these facts of the second machine are computed
 record SecondIs (b : ℕ) : Type 0 where
   size : length (hosted_next 1 (hosted_start 2 1)).shared.memory ≡ length (hosted_ram b)
   saved : context_at (second b).shared.contexts 0 ≡ Some context
@@ -214,7 +214,7 @@ other_byte (x ∷ xs) ys a b (suc i) other = other_byte xs ys a b i (λ same. ot
 place : length before_byte ≡ 81936
 place = refl
 
--- memories that differ in that byte are equal where it is hidden
+-- memories that differ in the byte of the host's choice are equal outside a set of bytes that has this byte (hidden)
 equal_but : (hidden : ℕ → Bool) (a b : ℕ) → hidden 0x80014010 ≡ true → EqualOutside hidden (hosted_ram a) (hosted_ram b)
 equal_but hidden a b hides = record {
   size = refl;
@@ -224,7 +224,7 @@ equal_but hidden a b hides = record {
   ];
 }
 
--- two memories that differ in the byte of the host's choice are equal outside it
+-- two memories that are the image for two bytes of the host are equal outside a set of bytes that has this byte (hidden)
 equal_of : (hidden : ℕ → Bool) (a b : ℕ) (m n : List ℕ) → m ≡ hosted_ram a → n ≡ hosted_ram b → hidden 0x80014010 ≡ true → EqualOutside hidden m n
 equal_of hidden a b m n one other hides = rw (one, other) (equal_but hidden a b hides)
 

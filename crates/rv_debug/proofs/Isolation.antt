@@ -1,4 +1,4 @@
--- The isolation laws, for an effect, for a command and for a list of commands.
+-- This file proves the isolation laws, for an effect, for a command and for a list of commands.
 use Rattle.std.proofs.Common.{◌≡◌, ◌≢◌, ℕ, ◌+◌, ◌<◌, ◌≤◌, ◌⊎◌, true, false, List, [], ◌∷◌, Option, Some, None, refl}
 use Rattle.std.proofs.Common.{sym, ◌∙◌, subst, inl, inr, arith, ap, IfSome}
 use Rattle.std.specs.Prelude.{IsSomeAnd}

@@ -53,7 +53,7 @@ same_window e one other here equiv =
 low_step : (e hart : ℕ) (one other : MonitoredMachine) → Invariant one → EquivToGuests e one other → runs_on e hart one ≡ false → IsLowStep e hart one other
 low_step e hart one other here equiv low = record { low = low; window = λ running. window_read e hart one other (same_window e one other here equiv) }
 
--- the moves of the same steps in both
+-- `both` has the moves in which both machines make the same steps
 abbrev both : List ℕ → List Move
 both [] = []
 both (hart ∷ harts) = Both (StepOf hart) ∷ both harts
@@ -83,7 +83,7 @@ pub record AreLowMoves (e : ℕ) (harts : List ℕ) (one other : MonitoredMachin
 no_moves : (e : ℕ) (one other : MonitoredMachine) → EquivToGuests e one other → AreLowMoves e [] one other
 no_moves e one other equiv = record { low = tt; moves = tt; state = equiv }
 
--- one more low step before low moves
+-- one more low step before low moves gives low moves
 one_more_move : (e hart : ℕ) (harts : List ℕ) (one other : MonitoredMachine) → Invariant one → EquivToGuests e one other → runs_on e hart one ≡ false
     → AreLowMoves e harts (step_of hart one).state (step_of hart other).state → AreLowMoves e (hart ∷ harts) one other
 one_more_move e hart harts one other here equiv low rest =
@@ -122,7 +122,7 @@ record IsLowRun (e hart before : ℕ) (one other : MonitoredMachine) (a b : Afte
   low : AreLowMoves e (replicate count hart) one other
 
 module _ (e hart : ℕ) (breaks watches : List ℕ) where
-  -- the run of a machine from the steps so far
+  -- `on` is the run of a machine from the steps so far
   abbrev on : ℕ → AfterSteps MonitoredMachine → AfterRun MonitoredMachine
   on left before = run (hart_stepped hart) (hart_pc hart) breaks watches left before
 
@@ -130,11 +130,11 @@ module _ (e hart : ℕ) (breaks watches : List ℕ) where
   abbrev with_state : AfterSteps MonitoredMachine → MonitoredMachine → AfterSteps MonitoredMachine
   with_state before state = record before { state = state }
 
-  -- the steps so far with one more step
+  -- `after_step` has the steps so far and one more step
   abbrev after_step : AfterSteps MonitoredMachine → Outcome → MonitoredMachine → AfterSteps MonitoredMachine
   after_step before outcome state = with_step before (record { state = state; outcome = outcome.step; entered = outcome.entered })
 
-  -- the run after one more step
+  -- `next_run` is the run after one more step
   abbrev next_run : ℕ → AfterSteps MonitoredMachine → Outcome → MonitoredMachine → AfterRun MonitoredMachine
   next_run left before outcome state =
       let after = after_step before outcome state in
@@ -205,7 +205,7 @@ module _ (e hart : ℕ) (one other : MonitoredMachine) (here : Invariant one) (t
   equiv : EquivToGuests e one other
   equiv = related_equiv e one other related window_equal
 
-  -- the windows after low steps
+  -- the windows of the enclave are equal in the benches over two targets
   abbrev SameAfter : Target → Target → Type 0
   SameAfter first second = WindowsAreEqual e (over first breaks watches) (over second breaks watches)
 
@@ -219,11 +219,11 @@ module _ (e hart : ℕ) (one other : MonitoredMachine) (here : Invariant one) (t
       (sym (schedule_is_sched harts (record { hart = hart; state = other }) _ selected))
       (λ running. same_window e (sched harts one).state (sched harts other).state (sched_invariant harts one here) low.state))
 
-  -- the summary of a run of the machine
+  -- `runs_of` is the summary of a run of the machine
   abbrev pub runs_of : MonitoredMachine → List ℕ → List ℕ → ℕ → Ran
   runs_of machine at_breaks at_watches count = (steps_of (at machine) at_breaks at_watches count).ran
 
-  -- the two runs of a command
+  -- the two runs of a command have equal summaries, and their steps are low
   pub record LowRuns (at_breaks at_watches : List ℕ) (count : ℕ) : Type 0 where
     ran : runs_of one at_breaks at_watches count ≡ runs_of other at_breaks at_watches count
     pub low : AreLowMoves e (replicate (runs_of one at_breaks at_watches count).steps hart) one other

@@ -34,7 +34,7 @@ loads : file_plan file 1048576 false ≡ Ok (record {
 unfolding header_faults segment_faults place_faults segments_of occupying meets_reserved
 loads = refl
 
--- the errors if a byte of the file is missing, if the segment is larger than the RAM, and if it meets the range of a monitor
+-- a file whose last byte is missing has the error SegmentTruncated
 cut : file_plan (take 87 file) 1048576 false ≡ Err SegmentTruncated
 unfolding header_faults segment_faults place_faults segments_of occupying meets_reserved
 cut = refl

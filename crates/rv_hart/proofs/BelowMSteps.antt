@@ -39,7 +39,7 @@ use Rattle.rv_state.proofs.BelowMLemmas.{read_same, visible_csrs, write_same}
 
 -- ---- an instruction
 
--- the result of an instruction without the registers of mode M
+-- `seen` is the result of an instruction without the registers of mode M
 abbrev seen : Result Hart Trap → Result Hart Trap
 seen (Ok hart) = Ok (below_m_hart hart)
 seen (Err trap) = Err trap
@@ -306,7 +306,7 @@ pub record SameToGuests (one other : Stepped) : Type 0 where
   pub memory : one.state.memory ≡ other.state.memory
   pub hart : guest_hart one.state.hart ≡ guest_hart other.state.hart
 
--- the machine whose hart is in the guest view
+-- `guest_machine` is the machine with its hart in the guest view
 abbrev pub guest_machine : Machine → Machine
 guest_machine machine = record machine { hart = guest_hart machine.hart }
 

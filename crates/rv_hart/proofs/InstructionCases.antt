@@ -23,7 +23,7 @@ use Rattle.rv_hart.specs.Instructions.{returned_from_supervisor, address_of, mad
 use Rattle.rv_hart.specs.declared.request.Request.TheVariants as requests
 use Rattle.rv_hart.specs.declared.trap.Trap.{Trap}
 
--- the ways in which an instruction changes the hart
+-- the claim P holds after each way in which an instruction changes the hart
 pub record Changes (hart : Hart) (P : Hart → Type 0) : Type 0 where
   -- the instruction computes or jumps
   pub computes : (regs : List ℕ) (pc : ℕ) → P (record hart { regs = regs; pc = pc })
@@ -48,12 +48,12 @@ branched-by hart P changes true target =
     elim (target % 4 == 0) as (λ b. IfOk (if b then Ok (record hart { pc = target }) else Err (misaligned target)) P)
     [ true ↦ changes.computes _ _ | false ↦ tt ]
 
--- the claim after an instruction that needs a permission
+-- the claim P holds after an instruction that needs a permission, if it holds when the permission is given
 allowed-by : (P : Hart → Type 0) (allowed : Bool) (word : ℕ) (after : Hart) → (allowed ≡ true → P after) → IfOk (where_allowed allowed word after) P
 allowed-by P true word after holds = holds refl
 allowed-by P false word after holds = tt
 
--- the claim after a write of a CSR that succeeds
+-- the claim P holds after a write of a CSR that succeeds
 written-by : (hart : Hart) (P : Hart → Type 0) → Changes hart P → (rd old word csr new : ℕ) (r : Result CsrState CsrFault)
     → write_result hart.csrs csr new hart.mode ≡ r
     → IfOk (unless_illegal word (unless_fault r (λ csrs. Ok (with_result (record hart { csrs = csrs }) rd old)))) P

@@ -48,7 +48,7 @@ step-addi : step (over_bytes (0x93 ∷ 0x00 ∷ 0xf0 ∷ 0xff ∷ []) reset) ≡
 unfolding step from_fetch from_decode from_access request executed retired_or_trapped written_csr decoded by_bits read verdict matching_entry covers
 step-addi = refl
 
--- csrrw x0, mepc, x0, which does not read mepc
+-- a step executes csrrw x0, mepc, x0, which does not read mepc
 step-csrrw : step (over_bytes (0x73 ∷ 0x10 ∷ 0x10 ∷ 0x34 ∷ []) reset) ≡ record {
   state = over_bytes (0x73 ∷ 0x10 ∷ 0x10 ∷ 0x34 ∷ []) (record reset { csrs = record csrs_at_reset { mcycle = 1; minstret = 1 }; pc = 0x80000004 });
   outcome = record { trap = None; touched = fetch_of reset };

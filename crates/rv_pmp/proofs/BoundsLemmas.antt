@@ -1,4 +1,4 @@
--- The ends of ranges while they are written, one range after another.
+-- This file is about the bounds of ranges while they are written, one range after another.
 use Rattle.std.proofs.Common.{◌≡◌, ℕ, ◌+◌, ◌*◌, ◌<◌, ◌≤◌, ◌^◌, ◌&&◌, nat_le, nat_lt, List, length, take, ◌∙◌, inl, inr}
 use Rattle.std.proofs.Common.{arith, slice_index, slice_set, get_or-set_same, get_or-set_other, length-set}
 use Rattle.std.specs.List.{Contains}
@@ -44,7 +44,7 @@ module _ (ranges : EntryRanges) (bounds : List ℕ) (count number : ℕ) (done :
     to = λ i below some. elim (cases_eq i number) [ inl at ↦ absurd (omega (arith, none, rw at at some)) | inr before ↦ done.to i (omega arith) some ];
   }
 
-  -- the bounds with both ends of the entry
+  -- `longer` has the bounds and both ends of the range
   abbrev longer : List ℕ
   longer = slice_set (slice_set bounds count from) (count + 1) to
 

@@ -1,4 +1,4 @@
--- The matching entry of a byte.
+-- This file proves lemmas about the matching entry of a byte.
 use Rattle.std.proofs.Common.{◌≡◌, ℕ, zero, suc, ◌+◌, ◌<◌, ◌≤◌, ◌==◌, if◌then◌else◌, Bool, true, false, Option}
 use Rattle.std.proofs.Common.{Some, None, refl, sym, ◌∙◌, ap, ap₂, inl, inr, arith}
 use Rattle.std.specs.List.{range_with_len, find}
@@ -61,7 +61,7 @@ unmatched p b byte_match_is j below = elim (find_cases (λ i. p i b) 0 16) [
   | inr nothing ↦ nothing.1 j (omega arith) (omega arith)
 ]
 
--- the matching entry by the ranges of the entries
+-- the matching entry of a byte is the same by the ranges of the entries and by the definition
 pub byte_match_by_ranges : (e : Entries) (ranges : EntryRanges) (b : ℕ) → AreRanges e ranges → byte_match (is_within ranges) b ≡ byte_match (covers e) b
 byte_match_by_ranges e ranges b are = byte_match_alike (is_within ranges) (covers e) b b (λ i in_range. sym (are i b in_range))
 
@@ -72,7 +72,7 @@ option_same None (Some b) same = absurd (both_ways false refl same)
 option_same (Some a) None same = absurd (both_ways false refl same)
 option_same (Some a) (Some b) same = ap Some (eqb-true a b same)
 
--- two tests that imply each other
+-- two tests that imply each other are equal
 pub bool_same : (p q : Bool) → (p ≡ true → q ≡ true) → (q ≡ true → p ≡ true) → p ≡ q
 bool_same true q forth back = sym (forth refl)
 bool_same false true forth back = back refl

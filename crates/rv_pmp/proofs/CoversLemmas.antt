@@ -1,4 +1,4 @@
--- The range of a NAPOT entry, as an interval.
+-- This file proves that the range of a NAPOT entry is an interval.
 use Rattle.std.proofs.Common.{◌∙◌, sym, zero, suc, ◌-◌, refl, ap, ap₂, inl, inr, ◌≡◌, ℕ, ◌+◌, ◌*◌, ◌/◌, ◌%◌, ◌^◌, ◌<◌, ◌≤◌, ◌↔◌, ◌==◌, IsTrue, arith, lit<}
 use Rattle.std.proofs.Math.Nat.{div-mul-le_self, lt-div-mul-add, div-eq_of_lt-le}
 use Rattle.std.proofs.lemmas.Nat.{shl_whole}

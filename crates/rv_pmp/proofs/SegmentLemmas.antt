@@ -15,7 +15,7 @@ use Rattle.rv_pmp.proofs.ByteMatchLemmas.{bool_same, byte_match_alike}
 
 -- ---- the last segment grows, or one is added
 
--- the start of a segment, from the list of ends
+-- `begin` is the start of a segment, from the list of ends
 abbrev begin : List ℕ → ℕ → ℕ
 begin ends k = if k == 0 then 0 else slice_index ends (k - 1)
 
@@ -34,7 +34,7 @@ begin_kept ends at end k before = elim (cases_eq k 0) [
       ∙ sym (begin_after ends k some)
 ]
 
--- segments in order up to an end, with their matching entries
+-- the segments are in order up to `end`, and each has the matching entry of its bytes
 pub record Reaches (covering : ℕ → ℕ → Bool) (s : Segments) (end : ℕ) : Type 0 where
   pub reach : reach_of s ≡ end
   pub order : AreInOrder s

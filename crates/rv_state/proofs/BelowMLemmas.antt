@@ -48,7 +48,7 @@ RequiresM number name = is_hidden name ≡ true → least_mode number ≡ 3
 at-number : (number own : ℕ) (name : CsrName) → (is_hidden name ≡ true → least_mode own ≡ 3) → number == own ≡ true → RequiresM number name
 at-number number own name law number_is part = let same : number ≡ own = grind (arith, nat_tests) in rw same (law part)
 
--- the claim for a row with a range of numbers and a register that is not hidden
+-- the claim holds for a row with a range of numbers, since its register is not hidden
 shown-range : (number : ℕ) (name : CsrName) (b : Bool) → is_hidden name ≡ false → b ≡ true → RequiresM number name
 shown-range number name b shown b_is part = let never : false ≡ true = sym shown ∙ part in cc
 
@@ -92,7 +92,7 @@ reading_same Mcountinhibit c shown = cc
 reading_same _ c shown = refl
 
 module _ (c : CsrState) (number : ℕ) (mode : Mode) where
-  -- the result of a read by the tests of mode and trap
+  -- `reads` is the result of a read, where the tests are those of the mode and of the trap
   abbrev reads : CsrState → CsrName → Bool → Bool → Result ℕ CsrFault
   reads d name low trapped = if low then Err faults.Privilege else (if trapped then Err faults.Trapped else Ok (reading name d))
 
@@ -109,7 +109,7 @@ module _ (c : CsrState) (number : ℕ) (mode : Mode) where
         ∙ ap (λ (w : ℕ). if is_trapped name mode c then Err faults.Trapped else Ok w) word
   ]
 
-  -- a read of a register by its tests, from the registers `d`
+  -- `read_from` is the result of a read from the registers `d`
   abbrev read_from : CsrState → CsrName → Result ℕ CsrFault
   read_from d name = reads d name (nat_lt (mode_number mode) (least_mode number)) (is_trapped name mode d)
 
@@ -127,7 +127,7 @@ module _ (c : CsrState) (number : ℕ) (mode : Mode) where
 
 -- ---- writes
 
--- the result of a write without the hidden registers
+-- `visible_csrs` is the result of a write without the hidden registers
 abbrev pub visible_csrs : Result CsrState CsrFault → Result CsrState CsrFault
 visible_csrs (Ok c) = Ok (below_m_csrs c)
 visible_csrs (Err fault) = Err fault
@@ -139,7 +139,7 @@ written_same Satp word c = refl
 written_same _ word c = refl
 
 module _ (c : CsrState) (number word : ℕ) (mode : Mode) where
-  -- the result of a write by the tests of mode, number and trap
+  -- `writes` is the result of a write, where the tests are those of the mode, the number and the trap
   abbrev writes : CsrState → CsrName → Bool → Bool → Bool → Result CsrState CsrFault
   writes d name low only trapped =
       if low then Err faults.Privilege
@@ -154,7 +154,7 @@ module _ (c : CsrState) (number word : ℕ) (mode : Mode) where
   write_at name false false true other same = rw same refl
   write_at name false false false other same = rw same (ap (λ (d : CsrState). let r : Result CsrState CsrFault = Ok d in r) (written_same name word c))
 
-  -- a write to a register by its tests, over the registers `d`
+  -- `write_over` is the result of a write over the registers `d`
   abbrev write_over : CsrState → CsrName → Result CsrState CsrFault
   write_over d name = writes d name (nat_lt (mode_number mode) (least_mode number)) (is_read_only number) (is_trapped name mode d)
 

@@ -12,12 +12,12 @@ use Rattle.rv_state.specs.Interrupts.{software_pending_of}
 abbrev shared : ℕ → ℕ → ℕ → ℕ
 shared count left right = word_of_bits (bitwise (λ x y. x && y) (bit_list count left) (bit_list count right))
 
--- the lowest bit and the rest of a number that is made of them
+-- a number that is made of a lowest bit and a rest has this lowest bit
 pub lowest : (bit : Bool) (rest : ℕ) → ((digit bit + 2 * rest) % 2 == 1) ≡ bit
 lowest true rest = let e : (1 + 2 * rest) % 2 ≡ 1 = omega arith in rw e refl
 lowest false rest = let e : (0 + 2 * rest) % 2 ≡ 0 = omega arith in rw e refl
 
--- the rest of a number that is made of a lowest bit and a rest
+-- a number that is made of a lowest bit and a rest has this rest
 pub above : (bit : Bool) (rest : ℕ) → (digit bit + 2 * rest) / 2 ≡ rest
 above true rest = omega arith
 above false rest = omega arith
@@ -54,7 +54,7 @@ digit-rem n = digit-below (n % 2) (omega arith)
 
 -- ---- a word under a mask, as the sum of the bits in the mask
 
--- the bits of a list that are in a mask
+-- `masked` has the bits of a list that are in a mask
 abbrev pub masked : List Bool → List Bool → List Bool
 masked [] bits = []
 masked (m ∷ ms) [] = []
@@ -74,7 +74,7 @@ bitwise-masked [] (m ∷ ms) = refl
 bitwise-masked (bit ∷ bits) [] = refl
 bitwise-masked (bit ∷ bits) (m ∷ ms) = rw (and-comm bit m, bitwise-masked bits ms) refl
 
--- `count` bits of a word, from bit k up
+-- `bits_from` has `count` bits of a word, from bit k up
 abbrev pub bits_from : ℕ → ℕ → ℕ → List Bool
 bits_from zero k word = []
 bits_from (suc count) k word = is_set word k ∷ bits_from count (suc k) word

@@ -50,7 +50,7 @@ vector-is word below = omega (arith, above word below, by_places word 0xFFFFFFFD
 pub sstatus-kept : (status : Mstatus) (word : ℕ) → sstatus_word (with_sstatus status word) ≡ and_by_bits word 0x00080122
 sstatus-kept status word = omega (arith, by_places word 0x00080122)
 
--- the number of the mode that a write to the two bits of MPP stores
+-- a write to the two bits of MPP stores the mode with this number, and U for the number 2
 mpp-number : (two_bits : ℕ) → two_bits < 4 → mode_number (mode_of_mpp two_bits) ≡ (if two_bits == 2 then 0 else two_bits)
 mpp-number zero below = refl
 mpp-number (suc zero) below = refl

@@ -37,7 +37,7 @@ passed : (b : Bool) (fault : CsrFault) (r : Result CsrState CsrFault) (after : C
 passed true fault r after result_is = cc
 passed false fault r after result_is = result_is
 
--- the result of a write by the tests of mode, number and trap
+-- `stores` is the result of a write after the tests of the mode, the number and the trap
 abbrev stores : CsrState → ℕ → ℕ → Mode → CsrName → Result CsrState CsrFault
 stores c number word mode name =
     if nat_lt (mode_number mode) (least_mode number) then Err faults.Privilege

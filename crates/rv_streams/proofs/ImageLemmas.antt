@@ -107,7 +107,7 @@ before_separator_with unread left rest ends image shown so_far takes other =
     ap before_separator (lines_with unread left rest ends image shown so_far takes)
     ∙ before_separator-other so_far.lines (lines_of rest) takes.line so_far.unmarked other
 
--- an option that has an element with a property
+-- an option that has an element with a property is `Some` of this element
 some_and : (found : Option (List ℕ)) (P : List ℕ → Type 0) → IsSomeAnd found P → (bytes : List ℕ) × (found ≡ Some bytes) × P bytes
 some_and None P h = absurd h
 some_and (Some bytes) P h = (bytes, refl, h)

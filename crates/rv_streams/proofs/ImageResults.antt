@@ -25,7 +25,7 @@ pub other_word : (line word : List ℕ) → Some word ≡ line_word line → byt
 other_word line word word_is other = ap is_dashes (sym word_is) ∙ other
 
 module _ {S : Type 0} {g : Ghosts S} (Z : Type 0) (old new : Lines S g) (source : SourceWorked g old.source new.source) (emptied : held new ≡ []) where
-  -- the result at a line whose bytes are not appended
+  -- the result at a line whose bytes are not appended is the fault of this line
   pub refused : (left image added shown word : List ℕ) (fault : BenchFault)
       → (g.follows_input new.source → TakesInImage (unread old) left (unread new) new.is_at_end image shown)
       → Some word ≡ line_word shown → AddsBytes word image added (Err fault)

@@ -46,14 +46,14 @@ pub feed_next : (old left part text : List ℕ) (last : ℕ) → old ≡ part ++
 feed_next old left part text last all cut feed =
     all ∙ (ap (λ t. t ++ left) cut ∙ (append_assoc text (last ∷ []) left ∙ ap (λ n. text ++ n ∷ left) feed))
 
--- the first n bytes, or all if there are fewer
+-- the first min(length, n) bytes of a text are its first n bytes
 take-min : (n : ℕ) (text : List ℕ) → take (min (length text) n) text ≡ take n text
 take-min n text = elim (cases_lt n (length text)) [
   | inl less ↦ ap (λ k. take k text) (omega arith)
   | inr all ↦ take_all _ text (omega arith) ∙ sym (take_all n text all)
 ]
 
--- as much of the text as there is room for
+-- a line, and as many bytes of a text as there is room for, are the first `most` bytes of the line and the text
 pub take-room : (most count : ℕ) (line text : List ℕ) → length line ≤ most → count ≡ min (length text) (most - length line)
     → line ++ take count text ≡ take most (line ++ text)
 take-room most count line text short count_is =

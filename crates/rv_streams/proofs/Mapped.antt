@@ -27,6 +27,6 @@ mapped P Q f (Ok y) s cases only ok err = subst P (sym cases) (ok y refl)
 mapped P Q f (Err e) s cases only ok err =
     let bad = err_from_is_err_and s cases in subst P (sym (bad.1 ∙ ap Err (only e bad.0 bad.2))) (err e refl)
 
--- a property of an `Ok` whose value is known
+-- an `Ok` whose value x has a property is an `Ok` with this property
 pub IsOkAnd-at : {A E : Type 0} (r : Result A E) (x : A) (P : A → Type 0) → r ≡ Ok x → P x → IsOkAnd r P
 IsOkAnd-at r x P result_is p = subst (λ s. IsOkAnd s P) (sym result_is) p

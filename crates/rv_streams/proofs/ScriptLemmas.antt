@@ -48,7 +48,7 @@ script_lines-is Separator lines = refl
 pub script_lines-all : (end : ScriptEnd) (lines : List (List ℕ)) → list_all (is_script_line end) lines ≡ true → script_lines end lines ≡ lines
 script_lines-all end lines inside = script_lines-is end lines ∙ take_while-all (is_script_line end) lines inside
 
--- the lines of the script before the line that ends it
+-- the lines of the script are the lines before the line that ends it
 script_lines-stop : (end : ScriptEnd) (lines others : List (List ℕ)) (line : List ℕ) → list_all (is_script_line end) lines ≡ true
     → ends_script end line ≡ true → script_lines end (lines ++ line ∷ others) ≡ lines
 script_lines-stop end lines others line inside ends_script_is = script_lines-is end (lines ++ line ∷ others)

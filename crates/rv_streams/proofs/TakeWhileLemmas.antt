@@ -4,7 +4,7 @@ use Rattle.std.proofs.lemmas.List.Folds.{list_all-append}
 use Rattle.std.proofs.lemmas.List.Sums.{take_while-cons}
 use Rattle.std.specs.List.{list_all, take_while}
 
--- lines that all pass the test, and others
+-- if all lines xs pass the test, the passing lines of xs and ys are xs and the passing lines of ys
 take_while-append : (p : List ℕ → Bool) (xs ys : List (List ℕ)) → list_all p xs ≡ true → take_while p (xs ++ ys) ≡ xs ++ take_while p ys
 take_while-append p [] ys all_pass = refl
 take_while-append p (x ∷ xs) ys all_pass = take_while-cons p x (xs ++ ys) ∙ go (p x) all_pass (λ all. take_while-append p xs ys all) where

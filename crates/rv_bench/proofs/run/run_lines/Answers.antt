@@ -44,7 +44,7 @@ worked g c = record {
   unflushed = c.write_reply.ensures.flushes;
 }
 
--- whether the responder is over then
+-- the result of `is_over` after a response is the value of the definition `is_over` in the new state
 over : (g : given.Over) (c : After-is_over g)
     → (g.T.Responder.responding c.args.responding.now).is_over (g.T.Responder.state c.respond_to_line.new.self) ≡ c.is_over.result
 over g c = ap (λ (by : Responding g.row.T-State.Denot). by.is_over (g.T.Responder.state c.respond_to_line.new.self))
