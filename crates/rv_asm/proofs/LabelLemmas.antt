@@ -1,4 +1,4 @@
--- Lemmas about the map of labels after one more name, and the addresses of labels after one more line.
+-- This file proves lemmas about the map of labels after one more name, and the addresses of labels after one more line.
 use Rattle.std.proofs.Common.{◌≡◌, ◌∙◌, sym, ap, refl, ℕ, ◌+◌, Bool, true, false, cond, List, [], ◌∷◌, ◌++◌, length, Option, Some, None, is_some}
 use Rattle.std.proofs.Common.{option_map, append_assoc, append-nil, length-append, arith, ◌≤◌, nat_lt, Ok, if◌then◌else◌}
 use Rattle.std.specs.Str.{bytes_eq}

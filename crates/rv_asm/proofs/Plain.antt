@@ -1,5 +1,5 @@
--- Lemmas about the pieces of a line that the disassembler writes. No byte of a piece is a blank, a comma, the start of a comment, the end of a
--- label or the end of a line.
+-- This file proves lemmas about the pieces of a line that the disassembler writes. No byte of a piece is a blank, a comma, the start of a comment,
+-- the end of a label or the end of a line.
 use Rattle.std.proofs.Common.{◌≡◌, ℕ, zero, suc, ◌<◌, ◌≤◌, Bool, true, false, List, [], ◌∷◌, ◌++◌, length, reverse, map, All, refl, ap, ◌∙◌, arith, append-nil}
 use Rattle.std.specs.Prelude.{◌==◌, ◌&&◌, ◌||◌, not, slice_index_or, nat_lt, nat_le, codes, if◌then◌else◌}
 use Rattle.std.specs.List.{list_all, flat_map, slice_split}

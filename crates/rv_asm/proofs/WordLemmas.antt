@@ -1,4 +1,4 @@
--- Lemmas about the second pass, line by line.
+-- This file proves lemmas about the second pass, line by line.
 use Rattle.std.proofs.Common.{◌≡◌, ◌⊎◌, inl, inr, ◌∙◌, sym, ap, refl, ℕ, ◌+◌, ◌-◌, ◌≤◌, ◌<◌, nat_lt, Bool, true, false, if◌then◌else◌, List, [], ◌∷◌, ◌++◌}
 use Rattle.std.proofs.Common.{length, length-append, take, Option, Some, None, Result, Ok, Err, IsOk, append_assoc, map, arith}
 use Rattle.std.proofs.lemmas.Bool.Decides.{nat_tests}

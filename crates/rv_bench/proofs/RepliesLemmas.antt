@@ -1,4 +1,4 @@
--- The replies to lines, one after another.
+-- This file is about the replies to lines, one after another.
 use Rattle.std.proofs.Common.{◌≡◌, ℕ, List, [], ◌∷◌, ◌++◌, refl, sym, ◌∙◌, ap, append_assoc, append-nil}
 use Rattle.rv_bench.specs.Replies.{Replied, replies, state_after}
 

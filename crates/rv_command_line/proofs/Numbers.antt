@@ -1,4 +1,4 @@
--- The value that a typed getter of `clap` returns for an option's text.
+-- This file is about the value that a typed getter of `clap` returns for an option's text.
 use Rattle.std.proofs.Common.{◌≡◌, ◌∙◌, ◌&&◌, ◌∷◌, ◌^◌, ◌<◌, [], ap, Bool, cond, Err, false, length, List, None, ℕ, Ok, Option, refl, Result, Some, true}
 use Rattle.std.proofs.Common.{sym, true≢false}
 use Rattle.std.proofs.lemmas.Bool.Decides.{Decides-and, Decides-ltb}
@@ -33,7 +33,7 @@ module _ (bits : ℕ) (text : Text) where
   abbrev value : ℕ
   value = digits_value 10 (without_leading_plus text)
 
-  -- whether the text is a number of so many bits
+  -- the text is a number of `bits` bits
   abbrev is_word : Bool
   is_word = is_numeral (without_leading_plus text) && nat_lt value (2 ^ bits)
 
@@ -42,7 +42,7 @@ module _ (bits : ℕ) (text : Text) where
   word = Decides-and _ _ (Decides-and _ _ (Decides-ltb 0 (length (without_leading_plus text))) (digits (without_leading_plus text)))
       (Decides-ltb value (2 ^ bits))
 
-  -- the value that `get_one` returns for a text as a number of `bits` bits
+  -- the value that `get_one` returns for a text is the number of `bits` bits in the text
   pub reads_number : {E : Type 0} (G : Text → Result ℕ E → Type 0) (r : Option ℕ) → ReadsOne G text r
       → ((x : Result ℕ E) → G text x → ParsesUnsigned bits 10 text x) → r ≡ number_in_text bits text
   reads_number G (Some n) read only = let only_one = only (Ok n) read in rw (word.1 only_one.0) (ap Some only_one.1)

@@ -41,7 +41,7 @@ hart_texts e hart one other related text =
 
 -- ---- runs
 
--- the summary of a run of a machine
+-- `run_text` is the summary of a run of a machine
 abbrev pub run_text : ℕ → ℕ → MonitoredMachine → AfterRun MonitoredMachine → List ℕ
 run_text e hart machine after =
     let hart_state = hart_state_of hart after.state in
@@ -60,7 +60,7 @@ run_text_is : (e hart : ℕ) (breaks watches : List ℕ) (count : ℕ) (machine 
 run_text_is e hart breaks watches count machine =
     ap (observed_run e (selected_at hart machine)) (run_monitored hart breaks watches count (no_steps machine))
 
--- the text with the observed steps and trap
+-- `ran_with` is the summary with the observed steps and the observed trap
 abbrev ran_with : ℕ → Stop → HartRan → HartState → List ℕ
 ran_with hart stop ran hart_state =
     ran_text hart_state.hart.pc hart_state.hart.mode (world_name hart_state.world)
@@ -119,7 +119,7 @@ record IsScheduled (harts : List ℕ) (machine : MonitoredMachine) (after : Targ
   hart : ℕ
   is : after ≡ selected_at hart (sched harts machine).state
 
--- the machine after a schedule is that after its steps
+-- a schedule leaves the machine in the state after its steps
 scheduled : (harts : List ℕ) (machine : Selected) (did : Scheduled)
     → IsScheduled harts machine.state (scheduled_steps harts (after_schedule (Monitored machine) did)).state
 unfolding scheduled_steps

@@ -1,4 +1,4 @@
--- The bytes that S may store, from the law of access control.
+-- This file derives the bytes that S may store from the law of access control.
 use Rattle.std.proofs.Common.{◌≡◌, ◌<◌, ◌≤◌, ℕ, ◌+◌, Bool, true, false, List, [], ◌∷◌, length, Option, Some, None, refl, sym, ◌∙◌, ap, ap₂, arith}
 use Rattle.std.specs.List.{list_any, range_with_len}
 use Rattle.std.specs.Prelude.{not, ◌&&◌, ◌||◌, nat_le, nat_lt}
@@ -33,7 +33,7 @@ module _ (hart byte : ℕ) (machine : MonitoredMachine) (kept : Invariant machin
 
   -- ---- the host
 
-  -- tests that are equal everywhere hold of the same list
+  -- two tests that are equal for each number hold of the same lists
   any_same : (p q : ℕ → Bool) → ((k : ℕ) → p k ≡ q k) → (ks : List ℕ) → list_any p ks ≡ list_any q ks
   any_same p q same [] = refl
   any_same p q same (k ∷ ks) = ap₂ (λ (a b : Bool). a || b) (same k) (any_same p q same ks)

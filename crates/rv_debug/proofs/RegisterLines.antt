@@ -1,4 +1,4 @@
--- The lines that show registers: one more line, and their length.
+-- This file is about the lines that show registers: one more line, and their length.
 use Rattle.std.proofs.Common.{◌≡◌, ℕ, zero, suc, ◌+◌, ◌-◌, ◌*◌, ◌<◌, ◌≤◌, List, [], ◌∷◌, ◌++◌, length, ap, sym}
 use Rattle.std.proofs.Common.{◌∙◌, arith, add-one, length-append}
 use Rattle.std.specs.Prelude.{decimal}
@@ -6,7 +6,7 @@ use Rattle.std.proofs.lemmas.Fmt.{length-decimal-le}
 use Rattle.rv_text.proofs.HexDigits.{length-hex_digits}
 use Rattle.rv_debug.proofs.Prelude.{flat_map, flat_map_more, range_with_len, register_text}
 
--- the last number of a range
+-- a range with one more number ends with this number (last)
 range_with_len-suc : (a n last : ℕ) → a + n ≡ last → range_with_len a (suc n) ≡ range_with_len a n ++ last ∷ []
 range_with_len-suc a zero last is = ap (λ k. k ∷ []) (omega arith)
 range_with_len-suc a (suc n) last is = ap (λ t. a ∷ t) (range_with_len-suc (a + 1) n last (omega arith))

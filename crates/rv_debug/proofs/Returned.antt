@@ -17,7 +17,7 @@ use Rattle.rv_debug.proofs.ScheduledSteps.{schedule_is_sched}
 
 -- ---- steps of the harts in order
 
--- the machine after two lists of steps, one after the other
+-- the machine after two lists of steps is the machine after the second, from the machine after the first
 sched_on : (before rest : List ℕ) (machine : MonitoredMachine) → (sched (before ++ rest) machine).state ≡ (sched rest (sched before machine).state).state
 sched_on [] rest machine = refl
 sched_on (named ∷ before) rest machine = sched_on before rest (step_of named machine).state
@@ -39,7 +39,7 @@ poke_host : (hart : ℕ) (machine : Selected) (memory : Option (List ℕ)) → h
 poke_host hart machine None = refl
 poke_host hart machine (Some memory) = refl
 
--- the saved context after an effect is the one after its steps
+-- an effect leaves the same saved context of the host as its steps alone
 host_after : (hart : ℕ) (machine : Selected) (d : Effect)
     → host_in hart (done (Monitored machine) d) ≡ host_on hart (sched (harts_stepped d) machine.state).state
 host_after hart machine Nothing = refl

@@ -66,7 +66,7 @@ is-scheduled_steps breaks watches hart =
     (λ before end. selected_of before.state ≡ hart → IsScheduled hart before.state before.entered before.steps end)
     (ends hart) (λ before end more own. goes hart before end own (more (same_hart before.state ∙ own)))
 
--- the target after a run, and the slots that it entered
+-- the effect of a run leaves the target of the run
 pub run_done : (target : Target) (breaks watches : List ℕ) (count : ℕ)
     → done target (run_effect target breaks watches count) ≡ (steps_of target breaks watches count).state
 run_done target breaks watches count =

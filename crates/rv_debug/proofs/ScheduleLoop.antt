@@ -23,7 +23,7 @@ selected_harts hart (Monitored machine) = refl
 pub step_harts : (hart : ℕ) (target : Target) → harts_of (target_stepped (with_selected hart target)).state ≡ harts_of target
 step_harts hart target = stepped_harts (with_selected hart target) ∙ selected_harts hart target
 
--- the target after one step of a hart of the schedule
+-- `next` is the target after one step of a hart of the schedule
 abbrev next : ℕ → AfterSchedule → AfterSchedule
 next hart before = with_scheduled_step hart before (target_stepped (with_selected hart before.state))
 

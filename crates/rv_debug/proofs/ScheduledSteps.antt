@@ -3,7 +3,7 @@ use Rattle.std.proofs.Common.{◌≡◌, ℕ, List, [], ◌∷◌, refl}
 use Rattle.rv_debug.specs.Prelude.{Bare, Monitored, Scheduled, Machine, Target, sched, step_of}
 use Rattle.rv_debug.proofs.Prelude.{AfterSchedule, Selected, IsBare, selected_at, target_stepped, scheduled_steps, with_selected, with_scheduled_step}
 
--- a target with the summaries of the steps so far
+-- `after_schedule` is a target with the summaries of the steps so far
 abbrev pub after_schedule : Target → Scheduled → AfterSchedule
 after_schedule state did = record { state = state; did = did }
 

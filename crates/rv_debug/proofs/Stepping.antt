@@ -1,4 +1,4 @@
--- The steps of a run, one by one.
+-- This file is about the steps of a run, one by one.
 use Rattle.std.proofs.Common.{◌≡◌, ℕ, zero, suc, ◌+◌, ◌-◌, ◌<◌, ◌≤◌, ◌==◌, true, false, cond, List, [], Option, Some, None, refl, ◌∙◌, ap}
 use Rattle.std.proofs.Common.{arith, inl, inr, Bool}
 use Rattle.rv_debug.specs.Prelude.{Break, Done, Stop, Trap, Watch, option_case}
@@ -22,7 +22,7 @@ next_cases P a b one other None true here ends more = ends Done
 next_cases P a b one other None false true ends more = ends Break
 next_cases P a b one other None false false ends more = more
 
--- induction over one run, from its end back to its beginning
+-- a property of a run holds if it holds at the end of the run, and before a step whenever it holds after the step
 pub run_induction : {A : Type 0} (step : A → Stepped A) (pc : A → ℕ) (breaks watches : List ℕ) (P : AfterSteps A → AfterRun A → Type 0)
     → ((after : AfterSteps A) (stop : Stop) → P after (ended after stop))
     → ((before : AfterSteps A) (end : AfterRun A) → P (with_step before (step before.state)) end → P before end)
@@ -70,7 +70,7 @@ module _ {A : Type 0} (step : A → Stepped A) (pc : A → ℕ) (breaks watches 
       → run step pc breaks watches count before ≡ ended (with_step before (step before.state)) (Watch address)
   run-watch count left before address count_is hit = run-next count left before count_is ∙ rw (← hit) refl
 
-  -- a breakpoint after a step that was not the last
+  -- a run ends at a breakpoint after a step that was not the last
   run-break : (count left : ℕ) (before : AfterSteps A) → count ≡ left + 1 → 0 < left
       → None ≡ lowest_accessed watches (step before.state).outcome.touched → true ≡ is_among (pc (step before.state).state) breaks
       → run step pc breaks watches count before ≡ ended (with_step before (step before.state)) Break

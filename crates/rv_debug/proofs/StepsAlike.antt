@@ -54,15 +54,15 @@ abbrev with_state : AfterSteps MonitoredMachine → MonitoredMachine → AfterSt
 with_state before state = record before { state = state }
 
 module _ (e hart : ℕ) (breaks watches : List ℕ) where
-  -- the run of a machine from the steps so far
+  -- `on` is the run of a machine from the steps so far
   abbrev on : ℕ → AfterSteps MonitoredMachine → AfterRun MonitoredMachine
   on left before = run (hart_stepped hart) (hart_pc hart) breaks watches left before
 
-  -- the steps and one more
+  -- `after_step` has the steps so far and one more step
   abbrev after_step : AfterSteps MonitoredMachine → Outcome → MonitoredMachine → AfterSteps MonitoredMachine
   after_step before outcome state = with_step before (record { state = state; outcome = outcome.step; entered = outcome.entered })
 
-  -- the run after one more step
+  -- `next_run` is the run after one more step
   abbrev next_run : ℕ → AfterSteps MonitoredMachine → Outcome → MonitoredMachine → AfterRun MonitoredMachine
   next_run left before outcome state =
       let after = after_step before outcome state in

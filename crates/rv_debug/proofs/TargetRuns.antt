@@ -9,14 +9,14 @@ use Rattle.rv_debug.proofs.Stepping.{next_cases, run_induction, next_of}
 abbrev pub in_target : {A : Type 0} → (A → Target) → AfterSteps A → AfterSteps Target
 in_target target after = record { state = target after.state; steps = after.steps; trap = after.trap; entered = after.entered }
 
--- the result of a run of a machine, as that of the target with it
+-- `target_of` is the result of a run of a machine, as the result of a run of a target with this machine
 abbrev pub target_of : {A : Type 0} → (A → Target) → AfterRun A → AfterRun Target
 target_of target after = record { state = target after.state; ran = after.ran }
 
 module _ {A : Type 0} (target : A → Target) (step : A → Stepped A) (pc : A → ℕ)
     (steps : (machine : A) → target_stepped (target machine) ≡ with_target target (step machine))
     (pcs : (machine : A) → pc_of (target machine) ≡ pc machine) (breaks watches : List ℕ) where
-  -- the run of the target after one more step, by what ends it
+  -- `next_in` is the run of the target after one more step: ended, or continued
   abbrev next_in : ℕ → AfterSteps Target → Stepped Target → ℕ → AfterRun Target
   next_in left before last here =
       let after = with_step before last in
@@ -36,7 +36,7 @@ module _ {A : Type 0} (target : A → Target) (step : A → Stepped A) (pc : A �
       ∙ next_cases (λ (there : AfterRun Target) (here : AfterRun A). there ≡ target_of target here) (in_target target after) after _ _
       (lowest_accessed watches last.outcome.touched) (left == 0) (is_among (pc last.state) breaks) (λ stop. refl) (run-in left after))
 
-  -- a run of the machine, stated for the target
+  -- a run of the machine is a run of the target with this machine
   runs-in : (count : ℕ) (machine after : A) (ran : Ran)
       → run step pc breaks watches count (no_steps machine) ≡ record { state = after; ran = ran }
       → run target_stepped pc_of breaks watches count (no_steps (target machine)) ≡ record { state = target after; ran = ran }
@@ -46,7 +46,7 @@ module _ {A : Type 0} (target : A → Target) (step : A → Stepped A) (pc : A �
 abbrev pub machine_pc : Machine → ℕ
 machine_pc machine = machine.hart.pc
 
--- a step of the hart of a monitored machine, with its outcome and the slot that it entered
+-- `hart_stepped` is a step of the hart of a monitored machine, with its outcome and the slot that it entered
 abbrev pub hart_stepped : ℕ → MonitoredMachine → Stepped MonitoredMachine
 hart_stepped hart machine =
     let after = step_of hart machine in

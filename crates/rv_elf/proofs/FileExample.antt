@@ -1,4 +1,4 @@
--- Example: a file with one segment, addi x1, x0, -1 at address 80000000, followed by four zeros.
+-- This file has an example: a file with one segment, addi x1, x0, -1 at address 80000000, followed by four zeros.
 use Rattle.std.proofs.Common.{◌≡◌, ℕ, true, false, List, [], ◌∷◌, ◌++◌, take, Ok, Err, refl}
 use Rattle.rv_elf.specs.declared.elf_fault.ElfFault.TheVariants.{SegmentTruncated, SegmentOutside}
 use Rattle.rv_elf.specs.Faults.{header_faults, segment_faults, place_faults}

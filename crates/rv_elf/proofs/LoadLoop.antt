@@ -1,4 +1,4 @@
--- Lemmas about the segments of a plan, loaded one after the other.
+-- This file proves lemmas about the segments of a plan, loaded one after the other.
 use Rattle.std.proofs.Common.{◌≡◌, ◌∙◌, ℕ, ◌+◌, ◌<◌, ◌≤◌, Bool, true, false, not, ◌&&◌, arith, List, [], ◌∷◌, length, drop, slice_index_or, refl, sym}
 use Rattle.std.proofs.Math.ListN.{drop_of_length-le}
 use Rattle.std.proofs.lemmas.List.{drop_more}

@@ -1,4 +1,4 @@
--- Lemmas about the memory after segments are loaded, byte by byte.
+-- This file proves lemmas about the memory after segments are loaded, byte by byte.
 use Rattle.std.proofs.Common.{◌≡◌, ◌∙◌, sym, ℕ, zero, suc, ◌+◌, ◌-◌, ◌<◌, ◌≤◌, Bool, true, false, not, ◌&&◌, List, [], ◌∷◌, length}
 use Rattle.std.proofs.Common.{map, slice_index, Option, Some, None, refl, ap, inl, inr, true≢false, arith}
 use Rattle.std.specs.List.{range_with_len, find, list_any, list_all, Contains}

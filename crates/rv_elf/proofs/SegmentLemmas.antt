@@ -1,4 +1,4 @@
--- Lemmas about the segments of a file, read one header after the other.
+-- This file proves lemmas about the segments of a file, read one header after the other.
 use Rattle.std.proofs.Common.{◌≡◌, ◌≢◌, ◌∙◌, ℕ, ◌+◌, ◌*◌, ◌<◌, not, take, length, slice_index_or, arith, List, [], ◌∷◌, ◌++◌, map, cond, refl}
 use Rattle.std.specs.List.{filter, range_with_len}
 use Rattle.std.proofs.lemmas.Bool.{eq-eqb, ne_eqb}

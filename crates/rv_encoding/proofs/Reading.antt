@@ -12,7 +12,7 @@ use Rattle.rv_encoding.specs.declared.instr.Instr.TheVariants.{Csr, CsrImm, Ecal
 
 -- ---- the words of each opcode
 
--- the jalr of a word, if funct3 is 0
+-- `read_jalr` is the jalr of a word, if its funct3 is 0
 abbrev pub read_jalr : ℕ → Option Instr
 read_jalr word = if bits word 14 12 == 0 then Some (Jalr (taken rd_at word) (taken rs1_at word) (taken i_immediate_at word)) else None
 
@@ -28,7 +28,7 @@ read_load word = option_map (λ kind. Load kind (taken rd_at word) (taken rs1_at
 abbrev pub read_store : ℕ → Option Instr
 read_store word = option_map (λ kind. Store kind (taken rs1_at word) (taken rs2_at word) (taken s_immediate_at word)) (store_kind (bits word 14 12))
 
--- the shift of a word, or else the instruction with a register and an immediate
+-- `read_op_imm` is the shift of a word, or else the instruction with a register and an immediate
 abbrev pub read_op_imm : ℕ → Option Instr
 read_op_imm word =
     option_or
@@ -39,12 +39,12 @@ read_op_imm word =
 abbrev pub read_op : ℕ → Option Instr
 read_op word = option_map (λ kind. Op kind (taken rd_at word) (taken rs1_at word) (taken rs2_at word)) (op_kind (bits word 14 12) (bits word 31 25))
 
--- the fence of a word, if funct3 is 0
+-- `read_fence` is the fence of a word, if its funct3 is 0
 abbrev pub read_fence : ℕ → Option Instr
 read_fence word =
     if bits word 14 12 == 0 then Some (Fence (taken fm_at word) (taken pred_at word) (taken succ_at word) (taken rd_at word) (taken rs1_at word)) else None
 
--- the words that are rows by themselves, and sfence.vma
+-- `read_whole` is the instruction of a word that is a row by itself, or sfence.vma
 abbrev pub read_whole : ℕ → Option Instr
 read_whole word =
     if word == 0x00000073 then Some Ecall

@@ -1,5 +1,5 @@
--- Case analysis over the instructions that end in no exception: a property that holds of each way to change the hart holds after every such
--- instruction.
+-- This file is the case analysis over the instructions that end in no exception: a property that holds of each way to change the hart holds after
+-- every such instruction.
 use Rattle.std.proofs.Common.{◌≡◌, ℕ, Bool, true, false, List, Result, Ok, Err, refl, subst}
 use Rattle.std.specs.Prelude.{IfOk, ◌==◌, ◌%◌, if◌then◌else◌}
 use Rattle.rv_word.specs.BitFields.{sign_extended}

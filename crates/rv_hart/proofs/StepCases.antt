@@ -1,4 +1,4 @@
--- Case analysis over a step: a property that holds of each way in which a step can go holds of every step.
+-- This file is the case analysis over a step: a property that holds of each way in which a step can go holds of every step.
 use Rattle.std.proofs.Common.{◌≡◌, ℕ, List, Option, Some, None, Result, Ok, Err, refl, ◌∙◌, sym}
 use Rattle.rv_word.specs.Cases.{option_case, result_case}
 use Rattle.rv_word.specs.declared.width.Width.{Width}

@@ -1,4 +1,4 @@
--- Examples: single steps with their results.
+-- This file has examples: single steps with their results.
 use Rattle.std.proofs.Common.{◌≡◌, ℕ, List, [], ◌∷◌, Some, None, refl}
 use Rattle.std.specs.Prelude.{replicate}
 use Rattle.rv_encoding.specs.Decoding.{decoded}

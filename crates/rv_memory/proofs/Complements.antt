@@ -39,7 +39,7 @@ index-within : (memory : List ℕ) (index : ℕ) (bytes : List ℕ) (k : ℕ) �
     → get_or (write_bytes memory index bytes) k 0 ≡ get_or bytes (k - index) 0
 index-within memory index bytes k within low high = grind (arith, common_steps)
 
--- a byte that was complemented, and a byte that was not
+-- a byte inside the complemented range is complemented
 within : (memory : List ℕ) (index count k : ℕ) → index + count ≤ length memory → index ≤ k → k < index + count
     → get_or (with_complements memory index count) k 0 ≡ complement_of (get_or memory k 0)
 within memory index count k inside low high =

@@ -74,7 +74,7 @@ byte_at-write memory address bytes after other written apart =
       | inr here ↦ rw (written_is.2, index-apart memory address bytes other written_is.0 written_is.1 here apart) refl
     ])
 
--- a write of bytes that are all in the memory
+-- a write of bytes that are all in the memory succeeds
 pub write_at : (memory : List ℕ) (address : ℕ) (bytes after : List ℕ) → is_inside memory address (length bytes) ≡ true
     → after ≡ write_bytes memory (address - ram_base) bytes → write memory address bytes ≡ Some after
 unfolding write
@@ -94,7 +94,7 @@ changes_only memory address count bytes after inside length_is after_is =
 pub changes_nothing : (memory : List ℕ) (address count : ℕ) → ChangesOnly memory memory address count
 changes_nothing memory address count = record { size = refl; elsewhere = λ other apart. refl }
 
--- as many bytes of a word as a width has
+-- a word has as many bytes for a width as the width has
 pub length-bytes_of : (width : Width) (value : ℕ) → length (bytes_of (bytes_in width) value) ≡ bytes_in width
 length-bytes_of Byte value = refl
 length-bytes_of Half value = refl

@@ -1,4 +1,4 @@
--- Examples of verdicts and ranges, computed by the definitions alone.
+-- This file has examples of verdicts and ranges, computed by the definitions alone.
 use Rattle.std.proofs.Common.{◌≡◌, [], ◌∷◌, true, false, refl}
 use Rattle.rv_pmp.specs.declared.mode.Mode.TheVariants.{U, S, M}
 use Rattle.rv_pmp.specs.declared.access.Access.TheVariants.{Fetch, Read, Write}

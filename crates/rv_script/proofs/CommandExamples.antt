@@ -1,4 +1,4 @@
--- Examples: lines with their commands or errors.
+-- This file has examples: lines with their commands or errors.
 use Rattle.std.proofs.Common.{◌≡◌, ℕ, true, false, List, [], ◌∷◌, Result, Ok, Err, map, refl}
 use Rattle.std.specs.Prelude.{codes}
 use Rattle.rv_text.specs.GoodLines.{is_text}

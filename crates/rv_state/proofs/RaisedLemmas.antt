@@ -1,4 +1,4 @@
--- Lemmas about the parts of the word of pending interrupts.
+-- This file proves lemmas about the parts of the word of pending interrupts.
 use Rattle.std.proofs.Common.{◌≡◌, ℕ, ◌+◌, ◌/◌, ◌%◌, ◌^◌, Bool, true, false, refl, arith}
 use Rattle.rv_word.specs.BitFields.{is_set, flag}
 use Rattle.rv_state.specs.Interrupts.{software_pending_of}

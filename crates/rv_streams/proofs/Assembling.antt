@@ -1,4 +1,4 @@
--- Lemmas about the output for an assembler text.
+-- This file proves lemmas about the output for an assembler text.
 use Rattle.std.proofs.Common.{◌≡◌, ℕ, ◌<◌, ◌≤◌, true, false, nat_lt, List, length, Ok, Err, refl, arith}
 use Rattle.std.proofs.lemmas.Bool.Decides.{nat_tests}
 use Rattle.rv_asm.specs.Program.{assembled}

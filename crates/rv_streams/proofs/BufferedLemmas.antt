@@ -1,4 +1,4 @@
--- Lemmas about bytes that were read ahead.
+-- This file proves lemmas about bytes that were read ahead.
 use Rattle.std.proofs.Common.{◌≡◌, ◌<◌, ◌≤◌, ◌==◌, ◌||◌, ℕ, ◌+◌, ◌-◌, nat_lt, suc, min, Bool, true, false, not, cond, List, [], ◌∷◌, ◌++◌, take, drop, length}
 use Rattle.std.proofs.Common.{arith, refl, ◌∙◌, ap, sym, append_assoc}
 use Rattle.std.proofs.lemmas.Bool.Decides.{nat_tests}

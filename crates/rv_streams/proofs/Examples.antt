@@ -1,4 +1,4 @@
--- Examples: lines and images with their results.
+-- This file has examples: lines and images with their results.
 use Rattle.std.proofs.Common.{◌≡◌, [], ◌∷◌, codes, Ok, Err, refl}
 use Rattle.rv_streams.specs.declared.fault.BenchFault.TheVariants.{Hex}
 use Rattle.rv_text.specs.GoodLines.{is_text}

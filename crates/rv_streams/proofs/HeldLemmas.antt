@@ -1,4 +1,4 @@
--- Lemmas about bytes that a sink holds.
+-- This file proves lemmas about bytes that a sink holds.
 use Rattle.std.proofs.Common.{◌≡◌, ◌<◌, ◌≤◌, ◌≢◌, ◌==◌, ◌&&◌, ℕ, ◌+◌, Bool, false, true, List, ◌++◌, take, drop, length}
 use Rattle.std.proofs.Common.{arith, refl, ◌∙◌, ap, sym, append_assoc, append-nil}
 use Rattle.std.proofs.lemmas.Bool.Decides.{nat_tests}

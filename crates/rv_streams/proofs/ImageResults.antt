@@ -1,4 +1,4 @@
--- The results of reading an image, by the line that ends it.
+-- This file proves the results of reading an image, which depend on the line that ends it.
 use Rattle.std.proofs.Common.{◌≡◌, ◌≤◌, ℕ, false, arith, codes, List, [], Some, None, Ok, Err, Vec, vec_len, ap, sym, ◌∙◌}
 use Rattle.std.specs.Str.{bytes_eq}
 use Rattle.rv_streams.specs.declared.device.Source.{Ghosts}

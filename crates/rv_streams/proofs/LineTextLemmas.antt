@@ -1,4 +1,4 @@
--- Lemmas about a line whose bytes are read part by part.
+-- This file proves lemmas about a line whose bytes are read part by part.
 use Rattle.std.proofs.Common.{◌≡◌, ◌≢◌, ℕ, inl, inr, ◌+◌, ◌-◌, ◌<◌, ◌≤◌, Bool, true, false, ◌||◌, List, [], ◌∷◌, ◌++◌, length, take, drop, min, refl}
 use Rattle.std.proofs.Common.{sym, ◌∙◌, ap, arith, append_assoc, append-nil, add-one}
 use Rattle.std.proofs.Math.Seq.{take-append-add}

@@ -1,4 +1,4 @@
--- Lemmas about a call whose error is mapped to another.
+-- This file proves lemmas about a call whose error is mapped to another.
 use Rattle.std.proofs.Common.{◌≡◌, Result, Ok, Err, refl, sym, ◌∙◌, ap, subst}
 use Rattle.std.specs.Result.{MatchResult, IsOkAnd, IsErrAnd}
 use Rattle.std.proofs.lemmas.Result.{err_from_is_err_and}

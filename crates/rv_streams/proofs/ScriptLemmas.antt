@@ -1,4 +1,4 @@
--- Lemmas about the lines of a script that are read one by one, up to its end.
+-- This file proves lemmas about the lines of a script that are read one by one, up to its end.
 use Rattle.std.proofs.Common.{◌≡◌, ℕ, ◌+◌, ◌≤◌, Bool, true, false, not, ◌||◌, List, [], ◌∷◌, ◌++◌, length, take, inl, inr}
 use Rattle.std.proofs.Common.{IsTrue, None, refl, sym, ◌∙◌, ap, subst, lit≤, append-nil, add-one}
 use Rattle.std.proofs.lemmas.List.{length-append}

@@ -1,4 +1,4 @@
--- Lemmas about the lines before the first that fails a test.
+-- This file proves lemmas about the lines before the first that fails a test.
 use Rattle.std.proofs.Common.{◌≡◌, ℕ, Bool, true, false, cond, ◌&&◌, List, [], ◌∷◌, ◌++◌, refl, sym, ◌∙◌, ap, append-nil}
 use Rattle.std.proofs.lemmas.List.Folds.{list_all-append}
 use Rattle.std.proofs.lemmas.List.Sums.{take_while-cons}
@@ -36,7 +36,7 @@ pub take_while-pass : (p : List ℕ → Bool) (xs : List (List ℕ)) (x : List �
     → take_while p (xs ++ x ∷ ys) ≡ xs ++ x ∷ take_while p ys
 take_while-pass p xs x ys all e = take_while-append p xs (x ∷ ys) all ∙ ap (λ t. xs ++ t) (take_while-cons_yes p x ys e)
 
--- all elements pass the test, with one more that passes
+-- all elements of a list pass the test also with one more element that passes
 pub list_all-push : (p : List ℕ → Bool) (xs : List (List ℕ)) (x : List ℕ) → list_all p xs ≡ true → p x ≡ true
     → list_all p (xs ++ x ∷ []) ≡ true
 list_all-push p xs x all e = list_all-append p xs (x ∷ []) ∙ (rw (all, e) refl)

@@ -1,4 +1,4 @@
--- Lemmas about the lines of a text that is read byte by byte.
+-- This file proves lemmas about the lines of a text that is read byte by byte.
 use Rattle.std.proofs.Common.{◌≡◌, ◌≢◌, ℕ, suc, zero, inl, inr, ◌<◌, ◌≤◌, nat_eq, Bool, true, false, ◌&&◌, ◌||◌, cond, List}
 use Rattle.std.proofs.Common.{[], ◌∷◌, ◌++◌, length, take, drop, min, refl, sym, ◌∙◌, ap, arith, append-nil}
 use Rattle.std.proofs.lemmas.List.{take-append-le, take_all, take-take, length-take, length-append}
@@ -187,7 +187,7 @@ cut-kept xs = elim (cases_lt kept_bytes (length xs)) [
   | inr all ↦ rw (take_all kept_bytes xs all) refl
 ]
 
--- the first n bytes, or all if there are fewer
+-- the first min(length, n) bytes of a text are its first n bytes
 take-min : (n : ℕ) (xs : List ℕ) → take (min (length xs) n) xs ≡ take n xs
 take-min n xs = elim (cases_lt n (length xs)) [
   | inl more ↦ let e : min (length xs) n ≡ n = omega arith in rw e refl

@@ -11,7 +11,7 @@ abbrev joined : List (List ℕ) → List ℕ
 joined [] = []
 joined (word ∷ words) = word ++ joined words
 
--- whether no byte of a word is blank
+-- no byte of a word is blank
 abbrev has_no_blank : List ℕ → Bool
 has_no_blank word = list_all (λ byte. not (is_blank byte)) word
 

@@ -1,5 +1,5 @@
--- Examples: rows of table 7.1 (RISC-V Unprivileged ISA 20191213, section 7.2). They cover division by zero, and -2^31 by -1, the only signed
--- division whose quotient fits in no word.
+-- This file has examples: rows of table 7.1 (RISC-V Unprivileged ISA 20191213, section 7.2). They cover division by zero, and -2^31 by -1, the only
+-- signed division whose quotient fits in no word.
 use Rattle.std.proofs.Common.{◌≡◌, ℕ, refl}
 use Rattle.rv_word.specs.Division.{quotient, remainder, unsigned_quotient, unsigned_remainder}
 

@@ -15,7 +15,7 @@ use Rattle.rv_streams.proofs.image.read_image.Given as given
 use Rattle.rv_streams.proofs.image.read_image.Goals as goal
 use Rattle.rv_streams.proofs.image.read_image.Goals.{After-as_slice}
 
--- the lines so far, and the line that was taken
+-- after a line that is no separator, the lines so far and this line are taken as lines of the image
 taken : (g : given.Over) (c : After-as_slice g) → is_separator c.as_slice.result.now ≡ false → g.S.Source.follows_input c.next_line.new.self.source
     → TakesInImage (unread c.args.lines.now) (unread c.loop-image.lines)
     (unread c.next_line.new.self) c.next_line.new.self.is_at_end c.loop-image.image.items c.as_slice.result.now
