@@ -16,7 +16,7 @@ after_blanks (b ∷ text) = if is_blank b then after_blanks text else b ∷ text
 abbrev pub before_blanks : List ℕ → List ℕ
 before_blanks text = reverse (after_blanks (reverse text))
 
--- the text without the blanks at its start and at its end
+-- `trimmed` is the text without the blanks at its start and at its end
 unfoldable pub trimmed : List ℕ → List ℕ
 trimmed text = before_blanks (after_blanks text)
 
@@ -38,11 +38,11 @@ before_comment line = take (position_or_len (λ b. b == number_sign) line) line
 abbrev pub colon_place : List ℕ → ℕ
 colon_place text = position_or_len (λ b. b == colon) text
 
--- the text before the first `:`, if there is one, without leading blanks
+-- `label_text` is the text before the first `:`, if there is one, without leading blanks
 unfoldable pub label_text : List ℕ → Option (List ℕ)
 label_text text = if nat_lt (colon_place text) (length text) then Some (after_blanks (take (colon_place text) text)) else None
 
--- the text after the first `:`, or the whole text if there is none, without leading blanks
+-- `statement_text` is the text after the first `:`, or the whole text if there is none, without leading blanks
 unfoldable pub statement_text : List ℕ → List ℕ
 statement_text text = after_blanks (if nat_lt (colon_place text) (length text) then drop (colon_place text + 1) text else text)
 

@@ -15,7 +15,7 @@ plus magnitude = record { is_negative = false; magnitude = magnitude }
 abbrev pub minus : ℕ → Number
 minus magnitude = record { is_negative = true; magnitude = magnitude }
 
--- the value of one or more decimal digits; a value above 2^64 - 1, which is out of every range, counts as 2^64 - 1
+-- `decimal_digits` is the value of one or more decimal digits; a value above 2^64 - 1, which is out of every range, counts as 2^64 - 1
 unfoldable pub decimal_digits : List ℕ → Option ℕ
 decimal_digits text =
     if nat_lt 0 (length text) && list_all (λ c. is_digit c 10) text then Some (min (digits_value 10 text) (2 ^ 64 - 1)) else None

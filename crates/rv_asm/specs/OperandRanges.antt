@@ -9,7 +9,7 @@ use Rattle.rv_asm.specs.declared.fault.AsmFaultKind.TheVariants.{OutOfRange}
 abbrev pub is_number_within : ℕ → ℕ → Number → Bool
 is_number_within below above number = if number.is_negative then nat_le number.magnitude below else nat_le number.magnitude above
 
--- the number modulo `modulus`, as a field with that many values has it
+-- `residue` is the number modulo `modulus`, as a field with that many values has it
 abbrev pub residue : ℕ → Number → ℕ
 residue modulus number =
     if number.is_negative then (modulus - number.magnitude % modulus) % modulus else number.magnitude % modulus

@@ -17,19 +17,19 @@ use Rattle.rv_asm.specs.declared.operand.Target.TheVariants.{Label, Offset}
 use Rattle.rv_asm.specs.declared.fault.AsmFaultKind.{AsmFaultKind}
 use Rattle.rv_asm.specs.declared.fault.AsmFaultKind.TheVariants.{BadOperand}
 
--- the operand that was read, or an error
+-- `operand` is the operand that was read, or an error
 abbrev pub operand : {A : Type 0} → Option A → Result A AsmFaultKind
 operand read = ok_or read BadOperand
 
--- the number of the register that the text names
+-- `register_at` is the number of the register that the text names
 abbrev pub register_at : List ℕ → Result ℕ AsmFaultKind
 register_at text = operand (register_named text)
 
--- the number that the text writes
+-- `number_operand` is the number that the text writes
 abbrev pub number_operand : List ℕ → Result Number AsmFaultKind
 number_operand text = operand (written_number text)
 
--- a control and status register, by its name or its number
+-- `csr_operand` is a control and status register, by its name or its number
 abbrev pub csr_operand : List ℕ → Result Number AsmFaultKind
 csr_operand text = operand (option_case (csr_named text) (written_number text) (λ number. Some (plus number)))
 

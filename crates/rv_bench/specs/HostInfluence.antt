@@ -30,11 +30,11 @@ ScriptInfluenceLaw =
 
 -- ---- events
 
--- the line that selects hart 0 or hart 1
+-- `hart_line` is the line that selects hart 0 or hart 1
 abbrev pub hart_line : ℕ → List ℕ
 hart_line hart = if hart == 0 then codes "hart 0" else codes "hart 1"
 
--- the line that sets or clears the timer line of the selected hart
+-- `timer_line` is the line that sets or clears the timer line of the selected hart
 abbrev pub timer_line : Bool → List ℕ
 timer_line raised = if raised then codes "timer on" else codes "timer off"
 

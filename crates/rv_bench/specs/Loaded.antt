@@ -25,12 +25,12 @@ is_read_as_elf Auto image = bytes_eq (take 4 image) magic
 is_read_as_elf Raw image = false
 is_read_as_elf Elf image = true
 
--- the load plan, or the error of the lowest number
+-- `planned` is the load plan, or the error of the lowest number
 abbrev pub planned : List ℕ → Setup → Result LoadPlan ElfFault
 planned image setup =
     if is_read_as_elf setup.kind image then file_plan image setup.ram setup.monitored else raw_plan (length image) setup.ram setup.monitored
 
--- the loaded memory; every byte that the image does not set is 0
+-- `memory_loaded` is the loaded memory; every byte that the image does not set is 0
 abbrev pub memory_loaded : List ℕ → Setup → LoadPlan → List ℕ
 memory_loaded image setup plan = loaded_memory image plan.segments (replicate setup.ram 0)
 

@@ -9,11 +9,11 @@ use Rattle.clap.specs.declared.builder.value_parser.ValueParser.TheVariants as p
 use Rattle.rv_command_line.specs.declared.image_kind.ImageKind.{ImageKind}
 use Rattle.rv_command_line.specs.declared.image_kind.ImageKind.TheVariants as image
 
--- the kinds of image, and their names in the command line
+-- `kinds` has the kinds of image, and their names in the command line
 abbrev pub kinds : List (Text × ImageKind)
 kinds = (codes "auto", image.Auto) ∷ (codes "raw", image.Raw) ∷ (codes "elf", image.Elf) ∷ []
 
--- the names of the image kinds
+-- `kind_names` has the names of the image kinds
 abbrev pub kind_names : List Text
 kind_names = map (λ row. row.0) kinds
 
@@ -49,7 +49,7 @@ harts = valued (codes "harts") (parser.Signed (pos 1) (pos 2))
 abbrev pub slot : Rule
 slot = valued (codes "slot") (parser.Signed (pos 0) (pos 12))
 
--- a command with this name and these options
+-- `command` is a command with this name and these options
 abbrev pub command : Text → List Rule → App
 command name options = fold with_rule (new_app name) options
 
@@ -66,7 +66,7 @@ program names = fold with_subcommand (new_app (codes "rvbench"))
 abbrev pub lent : {X : Type 0} → X → Bor X
 lent x = record { ref_ptr = (0, 0); now = x }
 
--- the program, with the names of the image kinds as values of its options
+-- `rvbench` is the program, with the names of the image kinds as values of its options
 abbrev pub rvbench : App
 rvbench = program (lent (map lent kind_names))
 

@@ -16,7 +16,7 @@ use Rattle.rv_command_line.specs.declared.job.Job.{Job}
 use Rattle.rv_command_line.specs.declared.job.Job.TheVariants as job
 use Rattle.rv_command_line.specs.declared.setup.Setup.{Setup}
 
--- the image kind with a name
+-- `kind_of` is the image kind with a name
 abbrev pub kind_of : Text → Option ImageKind
 kind_of name = option_map (λ row. row.1) (find (λ row. bytes_eq row.0 name) kinds)
 
@@ -45,7 +45,7 @@ setup_of monitored options = record {
   harts = unwrap_or (option_and_then harts_in_text (one_of (codes "harts") options)) harts.One;
 }
 
--- the job of `run` with its options; without the monitor unless they have `--monitor`
+-- `run_of` is the job of `run` with its options, without the monitor unless they have `--monitor`
 abbrev pub run_of : List Row → Job
 run_of options = job.Run (setup_of (unwrap_or (option_and_then truth_in_text (one_of (codes "monitor") options)) false) options)
 
@@ -65,7 +65,7 @@ named_job (Some (name, options)) =
 abbrev pub job_of : List Text → Job
 job_of words = named_job (subcommand_of rvbench words)
 
--- the options for the subcommand with this name in the arguments
+-- `options_of` has the options for the subcommand with this name in the arguments
 abbrev pub options_of : Text → List Text → List Row
 options_of name words = option_map_or (λ met. if bytes_eq met.0 name then met.1 else []) (subcommand_of rvbench words) []
 
@@ -87,7 +87,7 @@ is_setup_read options = is_image_read options && are_harts_read options
 abbrev pub is_monitor_read : List Row → Bool
 is_monitor_read options = option_map_or (λ text. is_some (truth_in_text text)) (one_of (codes "monitor") options) true
 
--- whether a text is the number of one of the thirteen slots
+-- `is_slot` states whether a text is the number of one of the thirteen slots
 abbrev pub is_slot : Text → Bool
 is_slot text = option_map_or (λ n. nat_lt n 13) (number_in_text 8 text) false
 

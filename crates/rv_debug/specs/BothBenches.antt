@@ -39,7 +39,7 @@ pub record BenchesEquivExcept (e : ℕ) (one other : BenchState) : Type 0 where
 
 -- ---- what a command shows, and what it enters
 
--- the region of slot e, empty if its enclave is not live
+-- `region_in` is the region of slot e, which is empty if its enclave is not live
 abbrev pub region_in : ℕ → Target → Block
 region_in e target = option_case (machine_in target) no_block (λ machine. region machine.shared.table e)
 

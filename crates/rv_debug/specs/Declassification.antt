@@ -43,7 +43,7 @@ are_steps [] = true
 are_steps (Both (LineOf hart raised) ∷ moves) = false
 are_steps (_ ∷ moves) = are_steps moves
 
--- the harts that step in the first machine, and those that step in the second
+-- `first_steps` has the harts that step in the first machine
 abbrev pub first_steps : List Move → List ℕ
 first_steps [] = []
 first_steps (First hart ∷ moves) = hart ∷ first_steps moves
@@ -51,7 +51,7 @@ first_steps (Second hart ∷ moves) = first_steps moves
 first_steps (Both (StepOf hart) ∷ moves) = hart ∷ first_steps moves
 first_steps (Both (LineOf hart raised) ∷ moves) = first_steps moves
 
--- the harts that step in the second machine
+-- `second_steps` has the harts that step in the second machine
 abbrev pub second_steps : List Move → List ℕ
 second_steps [] = []
 second_steps (First hart ∷ moves) = second_steps moves
@@ -73,7 +73,7 @@ HandsOverAlike e first second command =
     IfSome (machine_in first.target) (λ one. IfSome (machine_in second.target) (λ other.
     StepsAreMoves e one other (harts_stepped (effect first command)) (harts_stepped (effect second command))))
 
--- what ends the steps of a command
+-- `stop_of` is what ends the steps of a command
 abbrev pub stop_of : BenchState → Command → Stop
 stop_of bench (Step count) = (steps_of bench.target [] [] count).ran.stop
 stop_of bench (Run count) = (steps_of bench.target bench.breaks bench.watches count).ran.stop
@@ -138,7 +138,7 @@ LowCommandLaw =
 
 -- ---- lists of commands
 
--- a list of commands for each bench, command by command
+-- two lists of commands, one for each bench, are alike command by command
 abbrev pub AllCommandsAlike : ℕ → BenchState → BenchState → List Command → List Command → Type 0
 AllCommandsAlike e first second [] [] = Unit {0}
 AllCommandsAlike e first second (here ∷ commands) (there ∷ others) =

@@ -23,7 +23,7 @@ IsForeignAction k (SetsByte address byte) machine = has (region machine.shared.t
 
 -- ---- two lives
 
--- an action in the first machine, an action in the second, or a step of the enclave on a hart of each
+-- a move is an action in the first machine, an action in the second, or a step of the enclave on a hart of each
 pub data BenchMove : Type 0 where
   InFirst : Action → BenchMove
   InSecond : Action → BenchMove
@@ -35,13 +35,13 @@ IsBenchMove i j (InFirst action) one other = IsForeignAction i action one
 IsBenchMove i j (InSecond action) one other = IsForeignAction j action other
 IsBenchMove i j (InBoth h g) one other = IsOwnStep (at i h) (at j g) one other
 
--- the first machine after a move
+-- `moved_first` is the first machine after a move
 abbrev pub moved_first : BenchMove → MonitoredMachine → MonitoredMachine
 moved_first (InFirst action) machine = after_action action machine
 moved_first (InSecond action) machine = machine
 moved_first (InBoth h g) machine = (step_of h machine).state
 
--- the second machine after a move
+-- `moved_second` is the second machine after a move
 abbrev pub moved_second : BenchMove → MonitoredMachine → MonitoredMachine
 moved_second (InFirst action) machine = machine
 moved_second (InSecond action) machine = after_action action machine
@@ -60,7 +60,7 @@ first_actions (InFirst action ∷ moves) = action ∷ first_actions moves
 first_actions (InSecond action ∷ moves) = first_actions moves
 first_actions (InBoth h g ∷ moves) = Occurs (StepOf h) ∷ first_actions moves
 
--- the actions of the moves in the second machine
+-- `second_actions` has the actions of the moves in the second machine
 abbrev pub second_actions : List BenchMove → List Action
 second_actions [] = []
 second_actions (InFirst action ∷ moves) = second_actions moves

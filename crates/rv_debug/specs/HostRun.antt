@@ -12,7 +12,7 @@ use Rattle.rv_debug.specs.SecretRun.{calling_host}
 abbrev pub hosted_enclave : List ℕ
 hosted_enclave = 0x03 ∷ 0x25 ∷ 0x06 ∷ 0 ∷ 0x23 ∷ 0x24 ∷ 0xA6 ∷ 0 ∷ []
 
--- the host's code at 80010000, and the window at 80014000, whose first word is 7
+-- `before_byte` has the host's code at 80010000, and the window at 80014000, whose first word is 7
 abbrev pub before_byte : List ℕ
 before_byte = replicate 65536 0 ++ (calling_host ++ (replicate 16360 0 ++ (7 ∷ replicate 15 0)))
 
@@ -33,13 +33,13 @@ hosted_asking =
 abbrev pub hosted_reset : ℕ → MonitoredMachine
 hosted_reset harts = at_start (hosted_ram 0) 0x80010000 harts
 
--- the hart that calls the monitor has the arguments of create
+-- `hosted_start` is the machine whose calling hart has the arguments of create
 abbrev pub hosted_start : ℕ → ℕ → MonitoredMachine
 hosted_start harts hart =
     let hart_state = hart_state_of hart (hosted_reset harts) in
     with_hart_state hart (record hart_state { hart = record hart_state.hart { regs = hosted_asking; csrs = record hart_state.hart.csrs { timer = false } } }) (hosted_reset harts)
 
--- the machine after one step of the hart
+-- `hosted_next` is the machine after one step of the hart
 abbrev pub hosted_next : ℕ → MonitoredMachine → MonitoredMachine
 hosted_next hart machine = (step_of hart machine).state
 

@@ -34,7 +34,7 @@ NoninterferenceLaw =
     → BenchesEquivExcept e first second → is_blind e first command ≡ true → AvoidsHart e first command
     → ExecuteAlike e (execute first command) (execute second command)
 
--- the harts that a command may step
+-- `harts_named` has the harts that a command may step
 abbrev pub harts_named : Target → Command → List ℕ
 harts_named target (Step count) = selected_of target ∷ []
 harts_named target (Run count) = selected_of target ∷ []

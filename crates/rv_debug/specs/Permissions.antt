@@ -12,7 +12,7 @@ use Rattle.rv_debug.specs.Prelude.{Block, Invariant, MonitoredMachine, S, Slots,
 abbrev pub is_within : Block → ℕ → Bool
 is_within block byte = nat_le block.base byte && nat_lt byte (block.base + block.size)
 
--- the host: above the monitor's range, and outside the region of each of the 13 slots
+-- the host may store above the monitor's range, and outside the region of each of the 13 slots
 abbrev pub host_stores : Slots → ℕ → Bool
 host_stores slots byte =
     nat_le 0x80010000 byte

@@ -73,7 +73,7 @@ unfoldable pub pmp_text : Entries → List ℕ
 pmp_text entries =
     flat_map (λ number. entry_text number (cfg_of entries number) (addr_of entries number)) (range_with_len 0 16)
 
--- the verdict on an access, with the entry that decides it, or `free` if none does
+-- a reply shows the verdict on an access, with the entry that decides it, or `free` if none does
 unfoldable pub verdict_text : Verdict → List ℕ
 verdict_text (Allowed number) = codes "allowed entry " ++ decimal number ++ codes "\n"
 verdict_text AllowedFree = codes "allowed free\n"
@@ -85,11 +85,11 @@ verdict_text DeniedFree = codes "denied free\n"
 unfoldable pub denied_outside_text : List ℕ
 denied_outside_text = codes "denied outside\n"
 
--- the reply of a command that was executed and shows nothing
+-- `ok_text` is the reply of a command that was executed and shows nothing
 unfoldable pub ok_text : List ℕ
 ok_text = codes "ok\n"
 
--- the reply if a set of 32 addresses has no room for another
+-- `full_text` is the reply if a set of 32 addresses has no room for another
 unfoldable pub full_text : List ℕ
 full_text = codes "error full\n"
 

@@ -21,7 +21,7 @@ calling_host =
 abbrev pub secret_enclave : List ℕ
 secret_enclave = 0x03 ∷ 0x25 ∷ 0x05 ∷ 0x10 ∷ 0x13 ∷ 0x05 ∷ 0 ∷ 0 ∷ []
 
--- the bytes of RAM before the secret: the monitor's range, the host's code, and the enclave's code with zeros up to its data
+-- `before_secret` has the bytes of RAM before the secret: the monitor's range, the host's code, and the enclave's code with zeros up to its data
 abbrev pub before_secret : List ℕ
 before_secret = replicate 65536 0 ++ (calling_host ++ (replicate 32744 0 ++ (secret_enclave ++ replicate 248 0)))
 
@@ -37,13 +37,13 @@ secret_asking = 0 ∷ 0 ∷ 0 ∷ 0 ∷ 0 ∷ 0 ∷ 0 ∷ 0 ∷ 0 ∷ 0 ∷ 0x80
 abbrev pub secret_reset : MonitoredMachine
 secret_reset = at_start (secret_ram 0) 0x80010000 1
 
--- the machine whose host has the arguments of create in its registers, and whose timer line is clear
+-- `secret_start` is the machine whose host has the arguments of create in its registers, and whose timer line is clear
 abbrev pub secret_start : MonitoredMachine
 secret_start =
     let hart_state = hart_state_of 0 secret_reset in
     with_hart_state 0 (record hart_state { hart = record hart_state.hart { regs = secret_asking; csrs = record hart_state.hart.csrs { timer = false } } }) secret_reset
 
--- the machine after one step of hart 0
+-- `secret_next` is the machine after one step of hart 0
 abbrev pub secret_next : MonitoredMachine → MonitoredMachine
 secret_next machine = (step_of 0 machine).state
 
@@ -69,7 +69,7 @@ secret_resumed secret = secret_next (secret_next (secret_next (secret_interrupte
 
 -- ---- the instance
 
--- the moves of the example; before and after the interrupt the enclave takes one step in each machine
+-- `secret_moves` has the moves of the example; before and after the interrupt the enclave takes one step in each machine
 abbrev pub secret_moves : List Move
 secret_moves =
     Both (StepOf 0) ∷ Both (StepOf 0) ∷ First 0 ∷ Second 0 ∷ Both (LineOf 0 true) ∷ Both (StepOf 0) ∷ Both (StepOf 0) ∷ Both (StepOf 0) ∷ Both (StepOf 0)

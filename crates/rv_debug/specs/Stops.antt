@@ -29,6 +29,6 @@ abbrev pub lowest : List ℕ → Option ℕ
 lowest [] = None
 lowest (address ∷ addresses) = lower (Some address) (lowest addresses)
 
--- the lowest of some addresses that was accessed
+-- `lowest_accessed` is the lowest of some addresses that was accessed
 unfoldable pub lowest_accessed : List ℕ → Touched → Option ℕ
 lowest_accessed addresses touched = lowest (filter (is_accessed touched) addresses)

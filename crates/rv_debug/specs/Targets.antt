@@ -12,7 +12,7 @@ use Rattle.rv_debug.specs.Selected.{Selected}
 use Rattle.rv_debug.specs.EnclaveText.{table_text}
 use Rattle.rv_debug.specs.Steps.{Stepped}
 
--- the monitored machine of a target, if it is monitored
+-- `machine_in` is the monitored machine of a target, if it is monitored
 abbrev pub machine_in : Target → Option MonitoredMachine
 machine_in (Bare machine) = None
 machine_in (Monitored selected) = Some selected.state
@@ -31,12 +31,12 @@ abbrev pub memory_of : Target → List ℕ
 memory_of (Bare machine) = machine.memory
 memory_of (Monitored selected) = selected.state.shared.memory
 
--- the name of a world: `host`, or `e` and the slot
+-- `world_name` is the name of a world: `host`, or `e` and the slot
 abbrev pub world_name : World → List ℕ
 world_name Host = codes "host"
 world_name (Enclave slot) = codes "e" ++ decimal slot
 
--- the name of the world of a target
+-- `world_text` is the name of the world of a target
 abbrev pub world_text : Target → List ℕ
 world_text (Bare machine) = codes "bare"
 world_text (Monitored selected) = world_name (selected_hart_state selected).world
@@ -45,7 +45,7 @@ world_text (Monitored selected) = world_name (selected_hart_state selected).worl
 abbrev pub enclaves_text : Target → List ℕ
 enclaves_text target = option_case (machine_in target) [] (λ machine. table_text machine.shared.table)
 
--- whether the enclave of slot e is live
+-- `is_live_in` states whether the enclave of slot e is live
 abbrev pub is_live_in : ℕ → Target → Bool
 is_live_in e target = option_case (machine_in target) false (λ machine. is_live machine.shared.table e)
 
@@ -53,17 +53,17 @@ is_live_in e target = option_case (machine_in target) false (λ machine. is_live
 abbrev pub pc_of : Target → ℕ
 pc_of target = (hart_of target).pc
 
--- a bare machine after one step, which enters no enclave
+-- `machine_stepped` is a bare machine after one step, which enters no enclave
 abbrev pub machine_stepped : Machine → Stepped Machine
 machine_stepped machine = let after = step machine in record { state = after.state; outcome = after.outcome; entered = None }
 
--- a monitored machine after one step of the selected hart
+-- `selected_stepped` is a monitored machine after one step of the selected hart
 abbrev pub selected_stepped : Selected → Stepped Selected
 selected_stepped selected =
     let after = step_of selected.hart selected.state in
     record { state = record { hart = selected.hart; state = after.state }; outcome = after.outcome.step; entered = after.outcome.entered }
 
--- a step of a machine, with the target of the machine after it
+-- `with_target` is a step of a machine, with the target of the machine after it
 abbrev pub with_target : {A : Type 0} → (A → Target) → Stepped A → Stepped Target
 with_target target after = record { state = target after.state; outcome = after.outcome; entered = after.entered }
 
@@ -71,7 +71,7 @@ with_target target after = record { state = target after.state; outcome = after.
 abbrev pub selected_at : ℕ → MonitoredMachine → Target
 selected_at hart state = Monitored (record { hart = hart; state = state })
 
--- a target after one step of the selected hart
+-- `target_stepped` is a target after one step of the selected hart
 abbrev pub target_stepped : Target → Stepped Target
 target_stepped (Bare machine) = with_target Bare (machine_stepped machine)
 target_stepped (Monitored selected) = with_target Monitored (selected_stepped selected)
@@ -108,7 +108,7 @@ abbrev pub over_memory : Target → List ℕ → Target
 over_memory (Bare machine) memory = Bare (record machine { memory = memory })
 over_memory (Monitored selected) memory = selected_at selected.hart (with_memory selected.state memory)
 
--- a byte written to memory, if its address is in RAM
+-- `poked` is the target with a byte written to memory, if its address is in RAM
 abbrev pub poked : Target → ℕ → ℕ → Option Target
 poked target address byte = option_map (over_memory target) (write (memory_of target) address (byte ∷ []))
 

@@ -11,7 +11,7 @@ use Rattle.rv_elf.specs.Fields.{magic, et_exec, em_riscv, class_data_version, ei
 use Rattle.rv_elf.specs.Places.{first_address, has_place}
 use Rattle.rv_elf.specs.Segments.{segments_of, occupying, raw_segments, is_truncated, is_oversized, is_outside, has_overlap}
 
--- a number for each kind of error, by which errors are compared
+-- `elf_fault_number` is a number for each kind of error, by which errors are compared
 abbrev pub elf_fault_number : ElfFault → ℕ
 elf_fault_number Truncated = 1
 elf_fault_number NotElf = 2
@@ -47,14 +47,14 @@ header_faults file =
     ∷ (has_bad_table file, BadHeader)
     ∷ []
 
--- the errors of the segments by themselves, in the order in which they are checked
+-- `segment_faults` has the errors of the segments by themselves, in the order in which they are checked
 unfoldable pub segment_faults : ℕ → List Segment → List (Bool × ElfFault)
 segment_faults len segments =
     (list_any (is_truncated len) segments, SegmentTruncated)
     ∷ (list_any is_oversized segments, SegmentSizes)
     ∷ []
 
--- the errors of the places of segments and entry in memory, in the order in which they are checked
+-- `place_faults` has the errors of the places of segments and entry in memory, in the order in which they are checked
 unfoldable pub place_faults : ℕ → Bool → List Segment → ℕ → List (Bool × ElfFault)
 place_faults ram_size monitored segments entry =
     (list_any (is_outside ram_size monitored) segments, SegmentOutside)
@@ -69,11 +69,11 @@ file_faults file ram_size monitored =
     ++ segment_faults (length file) (segments_of file)
     ++ place_faults ram_size monitored (occupying (segments_of file)) (e_entry file)
 
--- the table for a raw image of `len` bytes, whose first byte is also its entry
+-- `raw_faults` is the table for a raw image of `len` bytes, whose first byte is also its entry
 abbrev pub raw_faults : ℕ → ℕ → Bool → List (Bool × ElfFault)
 raw_faults len ram_size monitored = place_faults ram_size monitored (raw_segments len monitored) (first_address monitored)
 
--- the first error whose condition holds
+-- `first_fault` is the first error whose condition holds
 abbrev pub first_fault : List (Bool × ElfFault) → Option ElfFault
 first_fault [] = None
 first_fault ((true, fault) ∷ rows) = Some fault

@@ -27,7 +27,7 @@ et_exec = 2
 abbrev pub em_riscv : ℕ
 em_riscv = 243
 
--- the type of a program header whose segment is loaded
+-- `pt_load` is the type of a program header whose segment is loaded
 abbrev pub pt_load : ℕ
 pt_load = 1
 
@@ -79,6 +79,6 @@ p_filesz file place = word_at file (place + 16)
 abbrev pub p_memsz : List ℕ → ℕ → ℕ
 p_memsz file place = word_at file (place + 20)
 
--- the offsets of the program headers, which have 32 bytes each
+-- `header_places` has the offsets of the program headers, which have 32 bytes each
 abbrev pub header_places : List ℕ → List ℕ
 header_places file = map (λ k. e_phoff file + 32 * k) (range_with_len 0 (e_phnum file))

@@ -19,7 +19,7 @@ abbrev pub byte_after : List ℕ → List Segment → List ℕ → ℕ → ℕ
 byte_after image segments memory address =
     option_case (find (has_address address) segments) (slice_index memory (address - ram_base)) (byte_in image address)
 
--- the memory after the segments are loaded
+-- `loaded_memory` is the memory after the segments are loaded
 unfoldable pub loaded_memory : List ℕ → List Segment → List ℕ → List ℕ
 loaded_memory image segments memory = map (byte_after image segments memory) (range_with_len ram_base (length memory))
 

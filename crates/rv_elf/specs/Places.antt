@@ -12,7 +12,7 @@ is_reserved monitored address = monitored && has monitor_block address
 unfoldable pub meets_reserved : Bool → ℕ → ℕ → Bool
 meets_reserved monitored address count = monitored && meets monitor_block (record { base = address; size = count })
 
--- the first address that an image may use
+-- `first_address` is the first address that an image may use
 abbrev pub first_address : Bool → ℕ
 first_address monitored = if monitored then monitor_block.base + monitor_block.size else ram_base
 

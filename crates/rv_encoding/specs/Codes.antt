@@ -73,7 +73,7 @@ pub record Functs : Type 0 where
 abbrev pub functs : ℕ → ℕ → Functs
 functs funct7 funct3 = record { funct7 = funct7; funct3 = funct3 }
 
--- the name and the funct3 of each kind
+-- `branch_code` is the name and the funct3 of a branch
 abbrev pub branch_code : BranchKind → List ℕ × ℕ
 branch_code Beq = (codes "beq", 0b000)
 branch_code Bne = (codes "bne", 0b001)
@@ -82,7 +82,7 @@ branch_code Bge = (codes "bge", 0b101)
 branch_code Bltu = (codes "bltu", 0b110)
 branch_code Bgeu = (codes "bgeu", 0b111)
 
--- the mnemonic and funct3 of a load
+-- `load_code` is the mnemonic and funct3 of a load
 abbrev pub load_code : LoadKind → List ℕ × ℕ
 load_code Lb = (codes "lb", 0b000)
 load_code Lh = (codes "lh", 0b001)
@@ -90,7 +90,7 @@ load_code Lw = (codes "lw", 0b010)
 load_code Lbu = (codes "lbu", 0b100)
 load_code Lhu = (codes "lhu", 0b101)
 
--- the mnemonic and funct3 of a store
+-- `store_code` is the mnemonic and funct3 of a store
 abbrev pub store_code : StoreKind → List ℕ × ℕ
 store_code Sb = (codes "sb", 0b000)
 store_code Sh = (codes "sh", 0b001)
@@ -117,7 +117,7 @@ csr_imm_code Write = (codes "csrrwi", 0b101)
 csr_imm_code Set = (codes "csrrsi", 0b110)
 csr_imm_code Clear = (codes "csrrci", 0b111)
 
--- the name, the funct7 and the funct3 of each kind
+-- `shift_code` is the name, the funct7 and the funct3 of a shift
 abbrev pub shift_code : ShiftKind → List ℕ × Functs
 shift_code Slli = (codes "slli", functs 0b0000000 0b001)
 shift_code Srli = (codes "srli", functs 0b0000000 0b101)
@@ -144,7 +144,7 @@ op_code Divu = (codes "divu", functs 0b0000001 0b101)
 op_code Rem = (codes "rem", functs 0b0000001 0b110)
 op_code Remu = (codes "remu", functs 0b0000001 0b111)
 
--- the name alone, and the codes alone
+-- `branch_name` is the mnemonic of a branch
 abbrev pub branch_name : BranchKind → List ℕ
 branch_name kind = (branch_code kind).0
 
@@ -152,7 +152,7 @@ branch_name kind = (branch_code kind).0
 abbrev pub branch_funct3 : BranchKind → ℕ
 branch_funct3 kind = (branch_code kind).1
 
--- the mnemonic of a load
+-- `load_name` is the mnemonic of a load
 abbrev pub load_name : LoadKind → List ℕ
 load_name kind = (load_code kind).0
 
@@ -160,7 +160,7 @@ load_name kind = (load_code kind).0
 abbrev pub load_funct3 : LoadKind → ℕ
 load_funct3 kind = (load_code kind).1
 
--- the mnemonic of a store
+-- `store_name` is the mnemonic of a store
 abbrev pub store_name : StoreKind → List ℕ
 store_name kind = (store_code kind).0
 
@@ -192,7 +192,7 @@ csr_imm_name kind = (csr_imm_code kind).0
 abbrev pub csr_imm_funct3 : CsrKind → ℕ
 csr_imm_funct3 kind = (csr_imm_code kind).1
 
--- the mnemonic of a shift by an immediate
+-- `shift_name` is the mnemonic of a shift by an immediate
 abbrev pub shift_name : ShiftKind → List ℕ
 shift_name kind = (shift_code kind).0
 
@@ -244,36 +244,36 @@ rv32m_op_kinds = Mul ∷ Mulh ∷ Mulhsu ∷ Mulhu ∷ Div ∷ Divu ∷ Rem ∷ 
 
 -- ---- the kind of a code, if there is one
 
--- the branch with this funct3, if there is one
+-- `branch_kind` is the branch with this funct3, if there is one
 abbrev pub branch_kind : ℕ → Option BranchKind
 branch_kind funct3 = find (λ kind. branch_funct3 kind == funct3) branch_kinds
 
--- the load with this funct3, if there is one
+-- `load_kind` is the load with this funct3, if there is one
 abbrev pub load_kind : ℕ → Option LoadKind
 load_kind funct3 = find (λ kind. load_funct3 kind == funct3) load_kinds
 
--- the store with this funct3, if there is one
+-- `store_kind` is the store with this funct3, if there is one
 abbrev pub store_kind : ℕ → Option StoreKind
 store_kind funct3 = find (λ kind. store_funct3 kind == funct3) store_kinds
 
--- the instruction with a register and an immediate that has this funct3, if there is one
+-- `op_imm_kind` is the instruction with a register and an immediate that has this funct3, if there is one
 abbrev pub op_imm_kind : ℕ → Option OpImmKind
 op_imm_kind funct3 = find (λ kind. op_imm_funct3 kind == funct3) op_imm_kinds
 
--- the CSR instruction with a register that has this funct3, if there is one
+-- `csr_kind` is the CSR instruction with a register that has this funct3, if there is one
 abbrev pub csr_kind : ℕ → Option CsrKind
 csr_kind funct3 = find (λ kind. csr_funct3 kind == funct3) csr_kinds
 
--- the CSR instruction with an immediate that has this funct3, if there is one
+-- `csr_imm_kind` is the CSR instruction with an immediate that has this funct3, if there is one
 abbrev pub csr_imm_kind : ℕ → Option CsrKind
 csr_imm_kind funct3 = find (λ kind. csr_imm_funct3 kind == funct3) csr_kinds
 
--- the shift by an immediate with this funct3 and funct7, if there is one
+-- `shift_kind` is the shift by an immediate with this funct3 and funct7, if there is one
 abbrev pub shift_kind : ℕ → ℕ → Option ShiftKind
 shift_kind funct3 funct7 =
     find (λ kind. (shift_functs kind).funct3 == funct3 && (shift_functs kind).funct7 == funct7) shift_kinds
 
--- the instruction with two registers that has this funct3 and funct7, if there is one
+-- `op_kind` is the instruction with two registers that has this funct3 and funct7, if there is one
 abbrev pub op_kind : ℕ → ℕ → Option OpKind
 op_kind funct3 funct7 =
     find (λ kind. (op_functs kind).funct3 == funct3 && (op_functs kind).funct7 == funct7) (rv32i_op_kinds ++ rv32m_op_kinds)

@@ -48,6 +48,7 @@ with_fields_of word Mret = Mret
 with_fields_of word Wfi = Wfi
 with_fields_of word (SfenceVma rs1 rs2) = SfenceVma (taken rs1_at word) (taken rs2_at word)
 
--- the instruction of the first row whose match equals the word under the row's mask, with the fields of the word; no word matches two rows
+-- `decoded` is the instruction of the first row whose match equals the word under the row's mask, with the fields of the word; no word matches two
+-- rows
 unfoldable pub decoded : ℕ → Option Instr
 decoded word = option_map (with_fields_of word) (find (λ sample. and_by_bits word (row_of_instr sample).mask == (row_of_instr sample).match) samples)

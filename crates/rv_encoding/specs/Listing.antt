@@ -85,7 +85,7 @@ listing =
     ∷ listed (codes "sfence.vma") 0xFE007FFF 0x12000073
     ∷ []
 
--- the name of an instruction
+-- `name_of` is the name of an instruction
 abbrev pub name_of : Instr → List ℕ
 name_of (Lui rd imm) = codes "lui"
 name_of (Auipc rd imm) = codes "auipc"

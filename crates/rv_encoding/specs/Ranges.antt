@@ -1,7 +1,7 @@
 -- The ranges of the fields whose lowest bits are always 0 (RISC-V Unprivileged ISA 20191213, section 2.3).
 use Rattle.std.specs.Prelude.{◌≡◌, ℕ, ◌%◌, ◌^◌, ◌<◌}
 
--- a 32-bit word whose 12 lowest bits are 0
+-- an upper immediate is a 32-bit word whose 12 lowest bits are 0
 abbrev pub IsUpperImmediate : ℕ → Type 0
 IsUpperImmediate word = (word < 2 ^ 32) × (word % 2 ^ 12 ≡ 0)
 

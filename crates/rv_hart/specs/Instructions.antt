@@ -32,13 +32,13 @@ made_even n = n / 2 * 2
 
 -- ---- permission to execute an instruction
 
--- whether a mode may execute an instruction: always in mode M, in mode S unless a bit of mstatus forbids it, never in mode U
+-- `unless_refused` states whether a mode may execute an instruction: always in mode M, in mode S unless a bit of mstatus forbids it, never in mode U
 abbrev pub unless_refused : Mode → Bool → Bool
 unless_refused M refused = true
 unless_refused S refused = not refused
 unless_refused U refused = false
 
--- the hart after an instruction if it is allowed, otherwise the illegal-instruction exception
+-- `where_allowed` is the hart after an instruction if it is allowed, otherwise the illegal-instruction exception
 abbrev pub where_allowed : Bool → ℕ → Hart → Result Hart Trap
 where_allowed allowed word after = if allowed then Ok after else Err (illegal word)
 
@@ -60,7 +60,7 @@ returned_from_supervisor hart =
 
 -- ---- the access of an instruction
 
--- the access that an instruction requests, at most one
+-- `request` is the access that an instruction requests, at most one
 unfoldable pub request : Instr → Hart → Request
 request (Load kind rd rs1 offset) hart = requests.Load (address_of hart rs1 offset) (load_width kind)
 request (Store kind rs1 rs2 offset) hart = requests.Store (address_of hart rs1 offset) (store_width kind) (register hart.regs rs2)
@@ -77,11 +77,11 @@ module _ (hart : Hart) (word loaded : ℕ) where
   abbrev pub relative : ℕ → ℕ → ℕ
   relative offset width = sum_of hart.pc (sign_extended offset width)
 
-  -- the result of an instruction that only continues at the next instruction
+  -- `proceeds` is the result of an instruction that only continues at the next instruction
   abbrev pub proceeds : Result Hart Trap
   proceeds = Ok (advanced hart)
 
-  -- the result of an instruction that writes a register and continues at the next instruction
+  -- `gives` is the result of an instruction that writes a register and continues at the next instruction
   abbrev pub gives : ℕ → ℕ → Result Hart Trap
   gives rd value = Ok (with_result hart rd value)
 

@@ -24,7 +24,7 @@ use Rattle.rv_script.specs.declared.command.Command.TheVariants as command
 use Rattle.rv_script.specs.declared.command.CommandFault.{CommandFault}
 use Rattle.rv_script.specs.declared.command.CommandFault.TheVariants.{BadLine, UnknownCommand, BadOperand}
 
--- a decimal number in a range
+-- `decimal_within` is a decimal number in a range
 abbrev pub decimal_within : ℕ → ℕ → List ℕ → Option ℕ
 decimal_within low high operand = option_and_then (within low high) (decimal_of operand)
 
@@ -45,7 +45,7 @@ mode_of operand =
     else (if bytes_eq operand (codes "S") then Some S
     else (if bytes_eq operand (codes "U") then Some U else None))
 
--- the kind of access with the letter of the permission that it needs
+-- `access_of` is the kind of access with the letter of the permission that it needs
 abbrev pub access_of : List ℕ → Option Access
 access_of operand =
     if bytes_eq operand (codes "r") then Some Read
@@ -59,14 +59,14 @@ width_of operand =
     else (if bytes_eq operand (codes "2") then Some Half
     else (if bytes_eq operand (codes "4") then Some Word else None))
 
--- the operands of a command, and the command that they give: none, one, two, or four
+-- a form has the operands of a command, and the command that they give: none, one, two, or four operands
 pub data Form : Type 0 where
   NoOperand : (command : Command) → Form
   OneOperand : (make : List ℕ → Option Command) → Form
   TwoOperands : (make : List ℕ → List ℕ → Option Command) → Form
   FourOperands : (make : List ℕ → List ℕ → List ℕ → List ℕ → Option Command) → Form
 
--- the command of a form and its operands; none if their number is wrong or one cannot be read
+-- `made` is the command of a form and its operands, or none if their number is wrong or one cannot be read
 abbrev pub made : Form → List (List ℕ) → Option Command
 made (NoOperand command) [] = Some command
 made (OneOperand make) (t ∷ []) = make t
@@ -149,13 +149,13 @@ meaning_of (name ∷ operands) = if starts_with nat_eq name (codes "#") then Ok 
 unfoldable pub parse_of : List ℕ → Result Command CommandFault
 parse_of line = if is_good_line line then meaning_of (words_of line) else Err BadLine
 
--- the numbers of the errors, in the order in which they are checked
+-- `number_of_fault` is the number of an error, in the order in which the errors are checked
 abbrev pub number_of_fault : CommandFault → ℕ
 number_of_fault BadLine = 1
 number_of_fault UnknownCommand = 2
 number_of_fault BadOperand = 3
 
--- the bytes whose addresses are operands of a command
+-- `bytes_named` has the bytes whose addresses are operands of a command
 abbrev pub bytes_named : Command → Block
 bytes_named (command.Mem address count) = record { base = address; size = count }
 bytes_named (command.Dis address) = record { base = address; size = 4 }

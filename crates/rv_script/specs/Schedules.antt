@@ -26,7 +26,7 @@ unfoldable pub schedule_of : List ℕ → Option Schedule
 schedule_of word =
     if is_schedule word then Some (record { digits = word ++ replicate (64 - length word) 0; steps = length word }) else None
 
--- the harts of a schedule, in the order of their steps
+-- `harts_in` has the harts of a schedule, in the order of their steps
 abbrev pub harts_in : Schedule → List ℕ
 harts_in schedule = map hart_of_digit (take schedule.steps schedule.digits)
 

@@ -2,7 +2,7 @@
 use Rattle.std.specs.Prelude.{◌≡◌, ◌<◌, ℕ, ◌+◌, true, ◌&&◌, ◌==◌, List, [], ◌++◌, length, drop}
 use Rattle.rv_streams.specs.declared.log.CallLog.{CallLog}
 
--- the log before the first call, with the input that is assumed
+-- `no_call` is the log before the first call, with the input that is assumed
 abbrev pub no_call : List ℕ → CallLog
 no_call input = record { marker = record {}; bytes = []; empty_calls = 0; failures = 0; flushes = 0; is_flushed = true; input = input }
 
@@ -29,6 +29,6 @@ pub record FollowsInput (log : CallLog) : Type 0 where
   pub split : log.input ≡ log.bytes ++ rest
   pub ended : 0 < log.empty_calls → rest ≡ []
 
--- the bytes of the assumed input that the source has not given yet
+-- `still_to_come` has the bytes of the assumed input that the source has not given yet
 abbrev pub still_to_come : CallLog → List ℕ
 still_to_come log = drop (length log.bytes) log.input

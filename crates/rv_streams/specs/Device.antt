@@ -7,12 +7,12 @@ abbrev pub moved_count : {E : Type 0} → Result ℕ E → ℕ
 moved_count (Ok n) = n
 moved_count (Err e) = 0
 
--- whether a call that could have moved a byte succeeded without moving one
+-- `moves_none` states whether a call that could have moved a byte succeeded without moving one
 abbrev pub moves_none : {E : Type 0} → Result ℕ E → ℕ → Bool
 moves_none (Ok n) room = (n == 0) && nat_lt 0 room
 moves_none (Err e) room = false
 
--- the count after a call, which is or is not of the kind
+-- `counted_if` is the count after a call, which is or is not of the kind
 abbrev pub counted_if : Bool → ℕ → ℕ
 counted_if of_kind count = if of_kind then count + 1 else count
 

@@ -21,10 +21,10 @@ dis_line word = hex8 word ++ codes " " ++ spelling word ++ codes "\n"
 abbrev pub disassembly_text : List ℕ → List ℕ
 disassembly_text words = flat_map dis_line words
 
--- the lines of the words; `Hex` if the bytes are not whole words
+-- `dis_of` has the lines of the words, or `Hex` if the bytes are not whole words
 abbrev pub dis_of : List ℕ → Result (List ℕ) BenchFault
 dis_of image = if length image % 4 == 0 then Ok (disassembly_text (words_of_image image)) else Err Hex
 
--- the lines for the image at the start of an input, or the error: of the image's text, or of the number of its bytes
+-- `dis_output` has the lines for the image at the start of an input, or the error: of the image's text, or of the number of its bytes
 abbrev pub dis_output : List ℕ → Result (List ℕ) BenchFault
 dis_output input = result_case (image_in input) dis_of Err

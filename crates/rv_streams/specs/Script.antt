@@ -10,7 +10,7 @@ use Rattle.rv_streams.specs.LineText.{ReadsLines, TakesLine}
 use Rattle.rv_streams.specs.Separator.{is_separator, before_separator, has_separator, after_separator}
 use Rattle.rv_streams.specs.Unread.{held, unread}
 
--- whether a line ends the script; such a line does not belong to the script
+-- `ends_script` states whether a line ends the script; such a line does not belong to the script
 abbrev pub ends_script : ScriptEnd → List ℕ → Bool
 ends_script Input line = false
 ends_script Separator line = is_separator line

@@ -6,22 +6,22 @@ use Rattle.rv_text.specs.GoodLines.{is_good_line}
 use Rattle.rv_text.specs.Lines.{lines_of, after_lines}
 use Rattle.rv_text.specs.Words.{words_of}
 
--- the only word, or an empty word if there is none
+-- `only_word` is the only word, or an empty word if there is none
 abbrev pub only_word : List (List ℕ) → Option (List ℕ)
 only_word [] = Some []
 only_word (word ∷ []) = Some word
 only_word (first ∷ second ∷ words) = None
 
--- the only word of a well-formed line; None if the line is malformed or has more words
+-- `line_word` is the only word of a well-formed line, or `None` if the line is malformed or has more words
 unfoldable pub line_word : List ℕ → Option (List ℕ)
 line_word line = if is_good_line line then only_word (words_of line) else None
 
--- whether the first word of a line is `--`
+-- `is_dashes` states whether the first word of a line is `--`
 abbrev pub is_dashes : Option (List ℕ) → Bool
 is_dashes None = false
 is_dashes (Some word) = bytes_eq word (codes "--")
 
--- a line whose only word is `--`
+-- a separator is a line whose only word is `--`
 abbrev pub is_separator : List ℕ → Bool
 is_separator line = is_dashes (line_word line)
 

@@ -14,7 +14,7 @@ module _ {S : Type 0} {g : Ghosts S} where
   abbrev pub unread : Lines S g → List ℕ
   unread lines = held lines ++ g.remaining lines.source
 
-  -- an upper bound on the number of lines that are left
+  -- `calls_left` is an upper bound on the number of lines that are left
   abbrev pub calls_left : Lines S g → ℕ
   calls_left lines = g.calls_left lines.source + length (held lines)
 

@@ -5,11 +5,11 @@ use Rattle.std.specs.Prelude.{ℕ}
 abbrev pub tab : ℕ
 tab = 9
 
--- the code of LF, which ends a line
+-- `line_feed` is the code of LF, which ends a line
 abbrev pub line_feed : ℕ
 line_feed = 10
 
--- the code of CR, which may come before LF
+-- `carriage_return` is the code of CR, which may come before LF
 abbrev pub carriage_return : ℕ
 carriage_return = 13
 

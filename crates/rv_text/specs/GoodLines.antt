@@ -15,11 +15,11 @@ is_text byte = byte == tab || nat_le space byte && nat_le byte tilde
 abbrev pub max_line : ℕ
 max_line = 120
 
--- the number of significant bytes: lines that begin with the same significant bytes have the same meaning
+-- `significant_bytes` is the number of significant bytes: lines that begin with the same significant bytes have the same meaning
 abbrev pub significant_bytes : ℕ
 significant_bytes = max_line + 1
 
--- the number of bytes that are kept of an unfinished line: the significant bytes, and a carriage return
+-- `kept_bytes` is the number of bytes that are kept of an unfinished line: the significant bytes, and a carriage return
 abbrev pub kept_bytes : ℕ
 kept_bytes = significant_bytes + 1
 

@@ -12,7 +12,7 @@ abbrev pub starts_with_feed : List ℕ → Bool
 starts_with_feed [] = false
 starts_with_feed (b ∷ bs) = b == line_feed
 
--- the lines with a byte added at the start of the first
+-- `onto_first` has the lines with a byte added at the start of the first
 abbrev pub onto_first : ℕ → List (List ℕ) → List (List ℕ)
 onto_first b [] = (b ∷ []) ∷ []
 onto_first b (line ∷ lines) = (b ∷ line) ∷ lines
@@ -40,12 +40,12 @@ abbrev pub after_lines : ℕ → List ℕ → List ℕ
 after_lines zero text = text
 after_lines (suc n) text = after_lines n (after_line text)
 
--- whether the text has no byte
+-- `is_empty` states whether the text has no byte
 abbrev pub is_empty : List ℕ → Bool
 is_empty [] = true
 is_empty (b ∷ bs) = false
 
--- the text before a line feed, without a carriage return at its end
+-- `without_return` is the text before a line feed, without a carriage return at its end
 abbrev pub without_return : List ℕ → List ℕ
 without_return [] = []
 without_return (b ∷ bs) = if (b == carriage_return) && is_empty bs then [] else b ∷ without_return bs

@@ -3,7 +3,7 @@ use Rattle.std.specs.Prelude.{ℕ, Bool, ◌==◌, not, List, length, filter}
 use Rattle.std.specs.List.{slice_split}
 use Rattle.rv_text.specs.GoodLines.{is_blank}
 
--- whether the word has a byte
+-- `is_filled` states whether the word has a byte
 abbrev pub is_filled : List ℕ → Bool
 is_filled word = not (length word == 0)
 

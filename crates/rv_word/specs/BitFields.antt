@@ -2,11 +2,11 @@
 use Rattle.std.specs.Prelude.{ℕ, ◌+◌, ◌-◌, ◌*◌, ◌/◌, ◌%◌, ◌^◌, ◌==◌, Bool, ℤ, pos, ◌-ℤ◌, nat_lt, if◌then◌else◌}
 use Rattle.rv_word.specs.Logic.{digit}
 
--- whether bit k of a word is 1
+-- `is_set` states whether bit k of a word is 1
 abbrev pub is_set : ℕ → ℕ → Bool
 is_set word k = word / 2 ^ k % 2 == 1
 
--- the word with only bit k set, or 0
+-- `flag` is the word with only bit k set, or 0
 abbrev pub flag : ℕ → Bool → ℕ
 flag k set = digit set * 2 ^ k
 
