@@ -118,7 +118,7 @@ read-hex_text n small = let written = written-hex_text n small in rw written ref
 pub read-hex : (places n : ℕ) → 0 < places → places ≤ 8 → n < 16 ^ places → number_operand (48 ∷ 120 ∷ hex_digits places n) ≡ Ok (plus n)
 read-hex places n some few small = let written = written-hex places n some few small in rw written refl
 
--- no register's name begins with a digit
+-- the text of a CSR number is read as the number, since no register's name begins with a digit
 pub read-csr : (n : ℕ) → n < 2 ^ 12 → csr_operand (csr_operand_text n) ≡ Ok (plus n)
 unfolding csrs csr_listing
 read-csr n small = let written = written-hex 3 n (omega arith) (omega arith) (omega (arith, small)) in rw written refl

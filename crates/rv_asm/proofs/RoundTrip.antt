@@ -42,7 +42,7 @@ line-plain (b ∷ text) plain =
     let parts = and_parts (is_plain b) (list_all is_plain text) plain in
     and_from _ _ (one (is_plain b) parts.0) (line-plain text parts.1)
   where
-    -- a byte that passes one test of a line byte passes all three tests together
+    -- a plain byte (t) is a byte of a line
     one : (t : Bool) → t ≡ true → (t || b == 44 || b == 32) ≡ true
     one true is = refl
     one false is = grind (arith, nat_tests, is)

@@ -18,7 +18,7 @@ use Rattle.rv_command_line.specs.Job.{harts_in_text, is_slot, kind_of, number_in
 abbrev pub how : Text → Reading
 how id = cond (bytes_eq id (codes "ram") || bytes_eq id (codes "harts") || bytes_eq id (codes "slot")) reading.WithoutMinus reading.AsWritten
 
--- whether a text is a readable value of the option
+-- `is_read` states whether a text is a readable value of the option
 abbrev pub is_read : Text → Text → Bool
 is_read id text =
     cond (bytes_eq id (codes "kind")) (is_some (kind_of text))
