@@ -7,11 +7,11 @@ use Rattle.std.specs.Str.Parse.{digits_value}
 use Rattle.rv_text.specs.Numbers.{number_of_digits}
 use Rattle.rv_asm.specs.declared.number.Number.{Number}
 
--- `plus` is a nonnegative number, by its magnitude
+-- `plus` is the nonnegative number with this magnitude
 abbrev pub plus : ℕ → Number
 plus magnitude = record { is_negative = false; magnitude = magnitude }
 
--- `minus` is a negative number, by its magnitude
+-- `minus` is the negative number with this magnitude
 abbrev pub minus : ℕ → Number
 minus magnitude = record { is_negative = true; magnitude = magnitude }
 

@@ -29,7 +29,7 @@ register_at text = operand (register_named text)
 abbrev pub number_operand : List ℕ → Result Number AsmFaultKind
 number_operand text = operand (written_number text)
 
--- `csr_operand` is a control and status register, by its name or its number
+-- `csr_operand` is the control and status register with this name or this number
 abbrev pub csr_operand : List ℕ → Result Number AsmFaultKind
 csr_operand text = operand (option_case (csr_named text) (written_number text) (λ number. Some (plus number)))
 

@@ -47,7 +47,7 @@ acts_on (action ∷ first) second machine = acts_on first second (after_action a
 abbrev bench_over : List ℕ → List ℕ → Target → BenchState
 bench_over breaks watches target = record { target = target; breaks = breaks; watches = watches }
 
--- commands act on the machine of a target, if it has one, by their actions
+-- the actions of commands lead the machine of a target, if it has one, to its state after the commands
 acts_in : (target : Target) (breaks watches : List ℕ) (commands : List Command) → IfSome (machine_in target) (λ machine.
     let bench = bench_over breaks watches target in
     machine_in (after_commands bench commands).target ≡ Some (after_actions (actions_of bench commands) machine))

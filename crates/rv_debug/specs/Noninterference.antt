@@ -95,7 +95,7 @@ pub record NeitherDid (e : ℕ) (first second : BenchState) (command : Command) 
   pub here : is_blind e first command ≡ false
   pub there : is_blind e second command ≡ false
 
--- what is equal in both benches, by the reason for which the list of commands goes on or ends
+-- both benches are alike in what the reason requires for which the list of commands goes on or ends
 abbrev pub AlikeBy : ℕ → BenchState → BenchState → Command → BothExecuted → BothWhy → Type 0
 AlikeBy e first second command after All = BothRepliesAlike e after
 AlikeBy e first second command after Entered = BothEntered e first second command

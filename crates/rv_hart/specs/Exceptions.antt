@@ -30,7 +30,7 @@ illegal word = exception IllegalInstruction word
 abbrev pub breakpoint : ℕ → Trap
 breakpoint pc = exception Breakpoint pc
 
--- the exception of ecall, by the mode that executes it; its value is 0
+-- an ecall has the exception of the mode that executes it
 abbrev pub call_cause : Mode → Exception
 call_cause U = EnvironmentCallFromU
 call_cause S = EnvironmentCallFromS

@@ -80,7 +80,7 @@ complemented_twice memory index count inside bytes =
       ]
     ])
 
--- bytes that are in memory end at or below its size, by their index
+-- bytes that are in memory end, by their index, at or below the size of the memory
 pub inside-index : (memory : List ℕ) (address count : ℕ) → is_inside memory address count ≡ true → (address - ram_base) + count ≤ length memory
 inside-index memory address count inside = grind (arith, common_steps)
 

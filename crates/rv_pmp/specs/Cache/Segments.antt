@@ -60,7 +60,7 @@ abbrev pub verdict_of_one : Entries → Mode → Access → Option ℕ → Verdi
 verdict_of_one entries mode access None = no_match_verdict mode
 verdict_of_one entries mode access (Some i) = match_verdict entries mode access i true
 
--- `verdict_of_two` is the verdict on an access of at most four bytes, by the matching entries of its first and its last byte
+-- `verdict_of_two` is the verdict on an access of at most four bytes whose first and last bytes have these matching entries
 abbrev pub verdict_of_two : Entries → Mode → Access → Option ℕ → Option ℕ → Verdict
 verdict_of_two entries mode access None None = no_match_verdict mode
 verdict_of_two entries mode access (Some i) None = DeniedPartial i
