@@ -56,7 +56,7 @@ observed_run e before after =
     (ran_text (pc_of after.state) (hart_of after.state).mode (world_text after.state)
     (record { steps = observed_count e before after.ran.steps; trap = after.ran.trap; stop = after.ran.stop; entered = 0 }))
 
--- `observed_hart` is the summary of each hart on which the enclave does not run after a schedule
+-- `observed_hart` is the summary of a hart after a schedule, or nothing if the enclave runs on the hart
 abbrev pub observed_hart : ℕ → Target → ℕ → HartRan → List ℕ
 observed_hart e target hart ran = unless (is_selected e (with_selected hart target)) (hart_summary_text target hart ran)
 
