@@ -48,7 +48,7 @@ no_fault_at fault all before after line split none =
     let parts = no_fault_in fault [] before (line ∷ after) (rw split at none) in
     (parts.0, (no_fault_first fault before after line parts.1).0)
 
--- the words of two lists of lines are those of the first, and then those of the second
+-- the words of two lists of lines are the words of the first, followed by the words of the second
 words_from-append : (labels : List ℕ → Option ℕ) (before prefix after : List Reading)
     → words_from labels before (prefix ++ after) ≡ words_from labels before prefix ++ words_from labels (before ++ prefix) after
 words_from-append labels before [] after = rw (append-nil before) refl
@@ -67,11 +67,11 @@ length-words_from labels before (line ∷ lines) none =
     let others = length-words_from labels (before ++ line ∷ []) lines first.1 in
     length-append (words_or_none here) (words_from labels (before ++ line ∷ []) lines) ∙ ap₂ (λ m n. m + n) same_length others ∙ sym (sum_by-cons line_size line lines)
 
--- the middle one of three lists
+-- the m elements after the first n elements of three lists, one after another, are the second list
 mid_part : (n m : ℕ) (xs ys zs : List ℕ) → length xs ≡ n → length ys ≡ m → take m (drop n (xs ++ (ys ++ zs))) ≡ ys
 mid_part n m xs ys zs prefix mid = ap (take m) (drop_at xs (ys ++ zs) n prefix) ∙ ap (λ k. take k (ys ++ zs)) (sym mid) ∙ take-append_seam ys zs
 
--- the words of a line are those at its address in the words of all lines
+-- the words of a line are at its address in the words of all lines
 stands : (labels : List ℕ → Option ℕ) (all before after : List Reading) (line : Reading) → all ≡ before ++ line ∷ after
     → first_line_fault (name_fault labels) [] all ≡ None
     → line_words labels (words_in before) line ≡ Ok (take (line_size line) (drop (words_in before) (words_from labels [] all)))
@@ -101,7 +101,7 @@ once before line name has_name none = none_from_is_some (place_in before name) (
   untold true has_name = cc
   untold false has_name = refl
 
--- the line that defines a label
+-- a line of `all` defines the label `name`, and `place` is the number of words before this line
 abbrev FoundIn : List Reading → List ℕ → ℕ → Type 0
 FoundIn all name place =
     (before : List Reading) × (line : Line) × ((after : List Reading) × (all ≡ before ++ Ok line ∷ after)) × (line.label ≡ Some name)
@@ -118,7 +118,7 @@ found_here : (all before lines : List Reading) (line : Reading) (name : List ℕ
 found_here all before lines (Ok line) name place split names_it here = (before, line, (lines, split), label_is name line.label names_it, here)
 found_here all before lines (Err kind) name place split label here = cc
 
--- the claim for an address that is found, here or later
+-- the claim P holds for an address that is found, either here or later
 found_either : {P : Type 0} (b : Bool) (here place : ℕ) (others : Option ℕ) → (b ≡ true → place ≡ here → P) → (others ≡ Some place → P)
     → (if b then Some here else others) ≡ Some place → P
 found_either true here place others now later place_is = now refl cc
@@ -134,7 +134,7 @@ found all before (line ∷ lines) name place split place_from_is =
 
 -- ---- the assembled words are words that the text denotes
 
--- if no error comes first, neither has one
+-- if there is no first error, both options are `None`
 none_before : {F : Type 0} (o p : Option F) → option_case o p Some ≡ None → (o ≡ None) × (p ≡ None)
 none_before None p choice_is = (refl, choice_is)
 none_before (Some f) p choice_is = cc
@@ -188,7 +188,7 @@ option_case-is_some : (o : Option ℕ) (n : ℕ) → is_some (option_case o (Som
 option_case-is_some None n = refl
 option_case-is_some (Some m) n = refl
 
--- the addresses of labels are those of the definition
+-- the labels of words that a text denotes (said) have the addresses that the definition gives
 same_place : (text words : List ℕ) (said : Denotes text words) (name : List ℕ) → said.labels name ≡ place_in (readings text) name
 same_place text words said name =
     agree (said.labels name) (place_in (readings text) name)
@@ -200,7 +200,7 @@ same_place text words said name =
 join_parts : (n m : ℕ) (words others : List ℕ) → others ≡ drop (n + m) words → take m (drop n words) ++ others ≡ drop n words
 join_parts n m words others others_is = ap (λ ws. take m (drop n words) ++ ws) (others_is ∙ sym (drop-drop m n words)) ∙ take-append-drop m (drop n words)
 
--- words that are those of each line are the words of the text
+-- words that have the words of each line at its address are the words of the text
 words_from-each : (labels : List ℕ → Option ℕ) (all before lines : List Reading) (words : List ℕ) → all ≡ before ++ lines
     → length words ≡ words_in all
     → ((prefix : List Reading) (line : Reading) → (after : List Reading) × (all ≡ prefix ++ line ∷ after)
@@ -214,7 +214,7 @@ words_from-each labels all before (line ∷ lines) words split whole each =
     let next : words_in (before ++ line ∷ []) ≡ words_in before + line_size line = sum_by_push line_size before line in
     rw (each before line (lines, split)) (join_parts (words_in before) (line_size line) words _ (others ∙ ap (λ n. drop n words) next))
 
--- words that a text without an error denotes are those that the assembler gives
+-- a text without an error denotes only the words that the assembler gives
 pub assembled_denoted : (text words : List ℕ) → Denotes text words → fault_in (readings text) ≡ None → assembled text ≡ Ok words
 unfolding assembled
 assembled_denoted text words said none =

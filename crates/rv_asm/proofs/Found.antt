@@ -16,11 +16,11 @@ found_in_map : {A B : Type 0} (f : A → B) (test : B → Bool) (xs : List A) �
 found_in_map f test [] = refl
 found_in_map f test (x ∷ xs) = mapped_if f (test (f x)) x (find (λ x. test (f x)) xs) (find test (map f xs)) (found_in_map f test xs)
 
--- a borrowed row, as the table has it
+-- `row_of` is a borrowed row, as the table has it
 abbrev pub row_of : {A : Type 0} → Bor (List ℕ) × A → List ℕ × A
 row_of row = (row.0.now, row.1)
 
--- the value of the row that was found
+-- the value of the row that was found is the second part of the row
 values : {A : Type 0} (r : Option (Bor (Bor (List ℕ) × A)))
     → option_map (λ x. x.now.1) r ≡ option_map (λ (x : List ℕ × A). x.1) (option_map row_of (option_map (λ x. x.now) r))
 values None = refl

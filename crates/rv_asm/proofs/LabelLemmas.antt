@@ -1,4 +1,4 @@
--- Lemmas about the map of labels after one more name, and the addresses of labels after one more line.
+-- This file proves lemmas about the map of labels after one more name, and the addresses of labels after one more line.
 use Rattle.std.proofs.Common.{◌≡◌, ◌∙◌, sym, ap, refl, ℕ, ◌+◌, Bool, true, false, cond, List, [], ◌∷◌, ◌++◌, length, Option, Some, None, is_some}
 use Rattle.std.proofs.Common.{option_map, append_assoc, append-nil, length-append, arith, ◌≤◌, nat_lt, Ok, if◌then◌else◌}
 use Rattle.std.specs.Str.{bytes_eq}
@@ -21,12 +21,12 @@ option_case-some : {A : Type 0} (o : Option A) → option_case o None Some ≡ o
 option_case-some None = refl
 option_case-some (Some x) = refl
 
--- an option that has no element by the test is none
+-- an option is `None` if the test of an element is false
 pub none_from_is_some : {A : Type 0} (o : Option A) → is_some o ≡ false → o ≡ None
 none_from_is_some None none = refl
 none_from_is_some (Some x) none = cc
 
--- the address of a label after one more line with it, or without
+-- one more line changes the address of a label only if the line has the label (b). No line before it has the label then.
 added : (b : Bool) (old : Option ℕ) (words : ℕ) → (b ≡ true → old ≡ None) → cond b (Some words) old ≡ option_case old (cond b (Some words) None) Some
 added true old words none = rw (none refl) refl
 added false old words none = sym (option_case-some old)
@@ -53,7 +53,7 @@ place_from-append before (line ∷ prefix) after name =
     let others = place_from-append (before ++ line ∷ []) prefix after name in
     rw (others, append_assoc before (line ∷ []) prefix) (some_stays (has_label name line) (words_in before) (place_from (before ++ line ∷ []) prefix name) _)
 
--- an error of the line after `count` lines
+-- `fault_after` is an error of the line after `count` lines
 abbrev pub fault_after : ℕ → AsmFaultKind → AsmFault
 fault_after count kind = record { line = count + 1; kind = kind }
 
@@ -90,11 +90,11 @@ first_fault-push fault before (first ∷ lines) line =
 
 -- ---- the first pass reads one more line
 
--- the number of words with one more line
+-- one more line adds its words to the number of words
 words_in-push : (lines : List Reading) (line : Reading) → words_in (lines ++ line ∷ []) ≡ words_in lines + line_size line
 words_in-push lines line = sum_by_push line_size lines line
 
--- the first repeated label after one more line, by whether it is repeated
+-- the first repeated label after one more line is the earlier one, or else the new one if the label is already there (`there`)
 twice-next : (there : Bool) (repeated : Option ℕ) (count : ℕ)
     → option_case (option_map label_twice repeated) (option_map (fault_after count) (if there then Some LabelTwice else None)) Some
     ≡ option_map label_twice (if there then option_case repeated (Some (count + 1)) Some else repeated)
@@ -103,7 +103,7 @@ twice-next true (Some line) count = refl
 twice-next false None count = refl
 twice-next false (Some line) count = refl
 
--- the first repeated label after one more line
+-- the first repeated label after one more line is the one that the pass has then
 repeated-next : (pass : FirstPass) (before : List Reading) (label : Option (List ℕ)) → HasRead pass before
     → option_case (first_line_fault label_fault [] before) (option_map (fault_after (length before)) (repeated_name before label)) Some
     ≡ option_map label_twice (repeated_with pass label)
@@ -112,7 +112,7 @@ repeated-next pass before (Some name) has_read =
     let there : is_some (places_of pass.labels name) ≡ is_some (place_in before name) = λ i. is_some (has_read.labels i name) in
     rw (has_read.repeated, there, has_read.count) (twice-next (is_some (place_in before name)) pass.repeated (length before))
 
--- the pass has read one more line, if it added its label and counted its words
+-- the pass has read one more line, if it added its label and counted its words, which are at most 65536 in all (few)
 pub reads_more : (old mid : FirstPass) (before : List Reading) (line : Line) → HasRead old before → AddsLabel old mid line.label
     → old.words + line_size (Ok line) ≤ 65536
     → HasRead (record mid { words = old.words + line_size (Ok line); lines = old.lines + 1 }) (before ++ Ok line ∷ [])
@@ -126,7 +126,7 @@ reads_more old mid before line has_read adds few = record {
   repeated = first_fault-push label_fault [] before (Ok line) ∙ repeated-next old before line.label has_read ∙ ap (option_map label_twice) (sym adds.repeated);
 }
 
--- a line within the limit of 65536 words has no error of its own
+-- a line within the limit of 65536 words (few) has no error of its own
 pub own_fault-none : (before : List Reading) (line : Line) (words : ℕ) → words ≡ words_in before → words + line_size (Ok line) ≤ 65536
     → own_fault before (Ok line) ≡ None
 own_fault-none before line words words_is few =

@@ -1,4 +1,4 @@
--- Lemmas about the first pass, line by line.
+-- This file proves lemmas about the first pass, line by line.
 use Rattle.std.proofs.Common.{◌≡◌, ◌∙◌, refl, sym, ap, ℕ, ◌+◌, ◌≤◌, List, [], ◌∷◌, ◌++◌, length, length-append}
 use Rattle.std.proofs.Common.{None, append_assoc, map, arith}
 use Rattle.rv_asm.specs.LineReading.{line_read}

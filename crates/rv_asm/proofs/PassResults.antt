@@ -1,4 +1,4 @@
--- The results of both passes.
+-- This file is about the results of both passes.
 use Rattle.std.proofs.Common.{◌≡◌, ◌⊎◌, inl, inr, ◌∙◌, sym, ap, ℕ, ◌+◌, ◌-◌, ◌≤◌, ◌<◌, List, [], ◌∷◌, ◌++◌, length, length-append, Option, Some, None}
 use Rattle.std.proofs.Common.{Result, Ok, Err, IfOk, IfErr, Vec, option_map, arith, refl, take}
 use Rattle.std.proofs.lemmas.List.{length-map}
@@ -23,7 +23,7 @@ length-readings text = length-map (lines_of text) line_read
 abbrev IsWithin : ℕ → ℕ → AsmFault → Type 0
 IsWithin before count fault = (before + 1 ≤ fault.line) × (fault.line ≤ before + count)
 
--- the line of an error that is found later, or here
+-- the line of an error that is found later, or here, is one of the lines
 later_or_here : (before count longer : ℕ) (o : Option AsmFaultKind) (rest : Option AsmFault) (found : AsmFault) → longer ≡ before + 1
     → (rest ≡ Some found → IsWithin longer count found) → option_case o rest (λ kind. Some (fault_after before kind)) ≡ Some found
     → IsWithin before (count + 1) found
@@ -45,12 +45,12 @@ fault_line fault before (line ∷ lines) found first_line_fault_is =
     (first_line_fault fault (before ++ line ∷ []) lines) found (length-append before (line ∷ [])) (fault_line fault (before ++ line ∷ []) lines found) first_line_fault_is in
     (bounds.0, omega (arith, bounds.1))
 
--- the result if a line has an error of its own
+-- if a line has an error of its own, the result is the first such error
 pub own_decides : (text : List ℕ) (fault : AsmFault) → first_line_fault own_fault [] (readings text) ≡ Some fault → assembled text ≡ Err fault
 unfolding assembled
 own_decides text fault first_line_fault_is = rw first_line_fault_is refl
 
--- the result if a label is repeated
+-- if a label is repeated and no line has an error of its own, the result is the repeated label
 pub twice_decides : (text : List ℕ) (pass : FirstPass) (line : ℕ) → HasRead pass (readings text) → first_line_fault own_fault [] (readings text) ≡ None
     → pass.repeated ≡ Some line → assembled text ≡ Err (label_twice line)
 unfolding assembled
@@ -65,7 +65,7 @@ twice_line text pass line has_read repeated_at =
     let bounds = fault_line label_fault [] (readings text) (label_twice line) (has_read.repeated ∙ ap (option_map label_twice) repeated_at) in
     (omega (arith, bounds.0), omega (arith, bounds.1, length-readings text))
 
--- the result if no label is repeated: the error of a name, or the words
+-- if no label is repeated, no line has the error of a repeated label
 not_twice : (text : List ℕ) (pass : FirstPass) → HasRead pass (readings text) → pass.repeated ≡ None → first_line_fault label_fault [] (readings text) ≡ None
 not_twice text pass has_read none_repeated = has_read.repeated ∙ ap (option_map label_twice) none_repeated
 
@@ -79,7 +79,7 @@ name_decides text pass fault has_read none once first_line_fault_is =
     ap (λ labels. first_line_fault (name_fault labels) [] (readings text)) (sym has_read.labels) ∙ first_line_fault_is in
     rw (none, not_twice text pass has_read once, named) refl
 
--- without an error, the words of all lines are those of the text
+-- without an error, the words of all lines are the words of the text
 pub words_decide : (text : List ℕ) (pass : FirstPass) (words : List ℕ) → HasRead pass (readings text)
     → first_line_fault own_fault [] (readings text) ≡ None → pass.repeated ≡ None
     → first_line_fault (name_fault (places_of pass.labels)) [] (readings text) ≡ None → words ≡ words_from (places_of pass.labels) [] (readings text)

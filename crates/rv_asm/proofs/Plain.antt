@@ -1,5 +1,5 @@
--- Lemmas about the pieces of a line that the disassembler writes. No byte of a piece is a blank, a comma, the start of a comment, the end of a
--- label or the end of a line.
+-- This file proves lemmas about the pieces of a line that the disassembler writes. No byte of a piece is a blank, a comma, the start of a comment,
+-- the end of a label or the end of a line.
 use Rattle.std.proofs.Common.{◌≡◌, ℕ, zero, suc, ◌<◌, ◌≤◌, Bool, true, false, List, [], ◌∷◌, ◌++◌, length, reverse, map, All, refl, ap, ◌∙◌, arith, append-nil}
 use Rattle.std.specs.Prelude.{◌==◌, ◌&&◌, ◌||◌, not, slice_index_or, nat_lt, nat_le, codes, if◌then◌else◌}
 use Rattle.std.specs.List.{list_all, flat_map, slice_split}
@@ -17,11 +17,11 @@ use Rattle.rv_asm.specs.Cuts.{after_blanks, before_blanks, trimmed, comma_fields
 abbrev pub is_plain : ℕ → Bool
 is_plain b = nat_le 40 b && nat_le b 57 && not (b == 44) || nat_le 97 b && nat_le b 122
 
--- the test of a piece: 1 to 20 plain bytes
+-- a piece has 1 to 20 plain bytes
 abbrev pub is_piece : List ℕ → Bool
 is_piece text = nat_lt 0 (length text) && nat_le (length text) 20 && list_all is_plain text
 
--- a piece: 1 to 20 plain bytes, which are neither blank nor comma
+-- a piece has 1 to 20 plain bytes, which are neither blank nor comma
 pub record IsPiece (text : List ℕ) : Type 0 where
   pub some : 0 < length text
   pub short : length text ≤ 20
@@ -103,7 +103,7 @@ trimmed-some b text plain =
 
 -- ---- the operands, in the text after a mnemonic
 
--- operands as the disassembler writes them: a space before the first, and a comma and a space before each other
+-- the disassembler writes a space before the first operand, and a comma and a space before each other
 abbrev pub spaced : List ℕ → List (List ℕ) → List ℕ
 spaced first more = 32 ∷ (first ++ flat_map (λ operand. codes ", " ++ operand) more)
 
@@ -138,6 +138,6 @@ operands_of-spaced (b ∷ first) more piece pieces =
     let some = trimmed-some b (first ++ flat_map (λ operand. codes ", " ++ operand) more) (and_parts (is_plain b) (list_all is_plain first) piece.plain).0 in
     taken (length (trimmed (spaced (b ∷ first) more))) some ∙ fields_of-spaced (b ∷ first) more piece pieces
   where
-    -- a text with a comma field has these fields
+    -- a text with at least one field has all its comma fields
     taken : (n : ℕ) → 0 < n → (if n == 0 then [] else comma_fields (spaced (b ∷ first) more)) ≡ comma_fields (spaced (b ∷ first) more)
     taken n some = let not_none : (n == 0) ≡ false = grind (arith, nat_tests) in rw not_none refl

@@ -17,7 +17,7 @@ use Rattle.rv_asm.specs.declared.statement.Statement.{Statement}
 use Rattle.rv_asm.specs.declared.statement.Statement.TheVariants.{Instruction, Word}
 use Rattle.rv_asm.proofs.Plain.{is_plain, after_blanks-start}
 
--- a plain byte, a comma or a space
+-- a byte of a line is a plain byte, a comma or a space
 abbrev pub is_line_byte : ℕ → Bool
 is_line_byte b = is_plain b || b == 44 || b == 32
 
@@ -30,9 +30,11 @@ line_byte-text b of_line = grind (arith, nat_tests)
 line_byte-other : (b other : ℕ) → is_line_byte other ≡ false → is_line_byte b ≡ true → (b == other) ≡ false
 line_byte-other b other bad of_line = false_from_ne_true (b == other) (λ same. clash (equal b other same))
   where
+    -- two numbers are equal if the test of equality is true
     equal : (x y : ℕ) → (x == y) ≡ true → x ≡ y
     equal x y same = grind (arith, nat_tests)
 
+    -- a byte of the line is not the byte `other`, which no line has
     clash : b ≡ other → ⊥
     clash is = grind (arith, nat_tests, is, bad, of_line)
 
@@ -111,7 +113,7 @@ line_at-plain b line s plain of_line short says =
 
 -- ---- the words of the line
 
--- the words of a text of one line, which is an instruction or a word
+-- a text of one line with an instruction assembles to the word of the instruction
 pub assembled-instruction : (text : List ℕ) (instr : Instr) → lines_of text ≡ text ∷ []
     → line_read text ≡ Ok (record { label = None; statement = Some (Instruction instr) }) → assembled text ≡ Ok (word_of instr ∷ [])
 unfolding assembled statement_size statement_words

@@ -19,7 +19,7 @@ use Rattle.rv_asm.proofs.Plain.{is_piece, IsPiece, IsPiece-from_test}
 
 -- ---- the mnemonic of an instruction
 
--- the mnemonic of an instruction
+-- each instruction has a mnemonic
 abbrev pub mnemonic_of : Instr → Mnemonic
 mnemonic_of (instr.Lui a b) = mnemonic.Lui
 mnemonic_of (instr.Auipc a b) = mnemonic.Auipc
@@ -110,7 +110,8 @@ piece-name i = IsPiece-from_test (name_of i) (test i)
 
 -- ---- the mnemonic is read back
 
--- the name of an instruction at the start of a line is read as its mnemonic
+-- A statement whose mnemonic is followed by a blank (32) is read as this mnemonic with the operands after it. Each mnemonic is a constant text, so
+-- each case holds by computation.
 pub read-name : (i : Instr) (rest : List ℕ) → statement_at (name_of i ++ 32 ∷ rest) ≡ statement_of (mnemonic_of i) (operands_in (32 ∷ rest))
 unfolding statement_at mnemonics is_name is_name_byte
 read-name (instr.Lui a b) rest = refl

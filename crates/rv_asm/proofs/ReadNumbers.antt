@@ -25,6 +25,7 @@ list_all-digits : (base : ℕ) (text : List ℕ) → AllDigits base text → lis
 list_all-digits base [] digits = refl
 list_all-digits base (c ∷ text) digits = and_from _ _ (below digits.0) (list_all-digits base text digits.1)
   where
+    -- a digit whose value is below the base passes the test of a digit
     below : digit_value c < base → is_digit c base ≡ true
     below small = grind (arith, nat_tests)
 
@@ -90,6 +91,7 @@ signed_number width field = if nat_lt field (2 ^ (width - 1)) then plus field el
 pub written-signed : (width field : ℕ) → field < 2 ^ 64 → 2 ^ width < 2 ^ 64 → written_number (signed_text width field) ≡ Some (signed_number width field)
 written-signed width field small wide = either (nat_lt field (2 ^ (width - 1))) (2 ^ width - field) (omega (arith, wide))
   where
+    -- the text is read as the number that it has, whether the field is a nonnegative number (t) or a negative one
     either : (t : Bool) (left : ℕ) → left < 2 ^ 64
         → written_number (if t then decimal field else codes "-" ++ decimal left) ≡ Some (if t then plus field else minus left)
     either true left fits = written-decimal field small
@@ -125,7 +127,7 @@ upper-plus imm small whole = grind (arith, nat_tests)
 
 -- ---- hexadecimal numbers
 
--- `0x` and the hexadecimal digits of a number are read as the number
+-- `0x` and 1 to 8 hexadecimal digits (some, few) of a number are read as the number
 pub written-hex : (places n : ℕ) → 0 < places → places ≤ 8 → n < 16 ^ places → written_number (48 ∷ 120 ∷ hex_digits places n) ≡ Some (plus n)
 unfolding written_number number_of_digits
 written-hex places n some few small =
@@ -140,9 +142,11 @@ written-hex places n some few small =
 pub written-hex_text : (n : ℕ) → n < 2 ^ 20 → written_number (hex_text n) ≡ Some (plus n)
 written-hex_text n small = by_size (nat_lt n 0x10) (nat_lt n 0x100) (nat_lt n 0x1000) (nat_lt n 0x10000) refl refl refl refl
   where
+    -- a hexadecimal number without leading zeros is read back, if `places` digits are all of its digits
     of : (places : ℕ) → 0 < places → places ≤ 8 → n < 16 ^ places → hex_digits places n ≡ digits 16 false n → written_number (hex_text n) ≡ Some (plus n)
     of places some few fits same = ap (λ t. written_number (48 ∷ 120 ∷ t)) (sym same) ∙ written-hex places n some few fits
 
+    -- the number is read back whatever its size is: below 2^4, 2^8, 2^12, 2^16 or 2^20
     by_size : (a b c d : Bool) → nat_lt n 0x10 ≡ a → nat_lt n 0x100 ≡ b → nat_lt n 0x1000 ≡ c → nat_lt n 0x10000 ≡ d
         → written_number (hex_text n) ≡ Some (plus n)
     by_size true b c d one two three four =

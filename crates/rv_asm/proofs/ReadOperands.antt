@@ -89,7 +89,7 @@ plain-hex (suc places) n =
     list_all-append is_plain (hex_digits places (n / 16)) (digit_char (n % 16) ∷ [])
     ∙ and_from _ _ (plain-hex places (n / 16)) (and_from _ _ (digit_char-plain (n % 16) (omega arith)) refl)
 
--- `0x` and up to eight hexadecimal digits are a piece
+-- `0x` and up to 8 hexadecimal digits (few) are a piece
 pub piece-hex : (places n : ℕ) → places ≤ 8 → IsPiece (48 ∷ 120 ∷ hex_digits places n)
 piece-hex places n few =
     record { some = omega arith; short = omega (arith, few, length-hex_digits places n); plain = plain-hex places n }
@@ -98,9 +98,11 @@ piece-hex places n few =
 pub piece-hex_text : (n : ℕ) → n < 2 ^ 20 → IsPiece (hex_text n)
 piece-hex_text n small = by_size (nat_lt n 0x10) (nat_lt n 0x100) (nat_lt n 0x1000) (nat_lt n 0x10000) refl refl refl refl
   where
+    -- the text of a number is a piece, if `places` digits are all of its digits
     of : (places : ℕ) → places ≤ 8 → hex_digits places n ≡ digits 16 false n → IsPiece (hex_text n)
     of places few same = subst (λ t. IsPiece (48 ∷ 120 ∷ t)) same (piece-hex places n few)
 
+    -- the text of a number is a piece whatever its size is: below 2^4, 2^8, 2^12, 2^16 or 2^20
     by_size : (a b c d : Bool) → nat_lt n 0x10 ≡ a → nat_lt n 0x100 ≡ b → nat_lt n 0x1000 ≡ c → nat_lt n 0x10000 ≡ d → IsPiece (hex_text n)
     by_size true b c d one two three four = of 1 (omega arith) (one_digit n (grind (arith, nat_tests)))
     by_size false true c d one two three four = of 2 (omega arith) (two_digits n (grind (arith, nat_tests)) (grind (arith, nat_tests)))
@@ -112,18 +114,18 @@ piece-hex_text n small = by_size (nat_lt n 0x10) (nat_lt n 0x100) (nat_lt n 0x10
 pub read-hex_text : (n : ℕ) → n < 2 ^ 20 → number_operand (hex_text n) ≡ Ok (plus n)
 read-hex_text n small = let written = written-hex_text n small in rw written refl
 
--- `0x` and the hexadecimal digits of a number are read as the number operand
+-- `0x` and 1 to 8 hexadecimal digits (some, few) of a number are read as the number operand
 pub read-hex : (places n : ℕ) → 0 < places → places ≤ 8 → n < 16 ^ places → number_operand (48 ∷ 120 ∷ hex_digits places n) ≡ Ok (plus n)
 read-hex places n some few small = let written = written-hex places n some few small in rw written refl
 
--- no register's name begins with a digit
+-- the text of a CSR number is read as the number, since no register's name begins with a digit
 pub read-csr : (n : ℕ) → n < 2 ^ 12 → csr_operand (csr_operand_text n) ≡ Ok (plus n)
 unfolding csrs csr_listing
 read-csr n small = let written = written-hex 3 n (omega arith) (omega arith) (omega (arith, small)) in rw written refl
 
 -- ---- signed numbers
 
--- `-` or a digit, or one of `.` and `/`
+-- a byte of a signed number is `-`, a digit, or one of `.` and `/` (a test by range that is wide enough here)
 abbrev is_signed : ℕ → Bool
 is_signed b = nat_le 45 b && nat_le b 57
 
@@ -141,10 +143,11 @@ signed-plain (c ∷ text) signed =
     let parts = and_parts (is_signed c) (list_all is_signed text) signed in
     and_from _ _ (one parts.0) (signed-plain text parts.1)
   where
+    -- a byte of a signed number is plain
     one : is_signed c ≡ true → is_plain c ≡ true
     one here = grind (arith, nat_tests)
 
--- the text of a signed number: up to 9 digits, with a minus or without
+-- a signed number has up to 9 digits, with a minus or without
 pub record IsSignedText (text : List ℕ) : Type 0 where
   pub some : 0 < length text
   pub short : length text ≤ 9
@@ -182,6 +185,7 @@ signed-minus n small =
 signed-signed : (width field : ℕ) → field < 10 ^ 8 → 2 ^ width < 10 ^ 8 → IsSignedText (signed_text width field)
 signed-signed width field small wide = either (nat_lt field (2 ^ (width - 1))) (2 ^ width - field) (omega (arith, wide))
   where
+    -- the text is that of a signed number, whether the field is a nonnegative number (t) or a negative one
     either : (t : Bool) (left : ℕ) → left < 10 ^ 8 → IsSignedText (if t then decimal field else codes "-" ++ decimal left)
     either true left fits = signed-decimal field small
     either false left fits = signed-minus left fits
@@ -207,7 +211,7 @@ read-target width field small wide =
 
 -- ---- addresses
 
--- the text of a base register in parentheses
+-- `base_text` is the text of a base register in parentheses
 abbrev base_text : ℕ → List ℕ
 base_text base = 40 ∷ (register_operand_text base ++ codes ")")
 
@@ -245,6 +249,7 @@ opening-signed (c ∷ prefix) back signed =
     let other : (c == 40) ≡ false = one parts.0 in
     rw other (omega (arith, opening-signed prefix back parts.1))
   where
+    -- a byte of a signed number is not the parenthesis `(` (40)
     one : is_signed c ≡ true → (c == 40) ≡ false
     one here = grind (arith, nat_tests)
 
@@ -266,6 +271,7 @@ read-address offset base small small_base =
     (piece-base base small_base).2 in
     ap address_operand (address-parts offset base) ∙ again found
   where
+    -- an operand whose offset and base register are found is read as both
     again : offset_and_base (signed_text 12 offset ++ base_text base) ≡ Some (signed_number 12 offset, base)
         → address_operand (signed_text 12 offset ++ base_text base) ≡ Ok (signed_number 12 offset, base)
     again found = rw found refl

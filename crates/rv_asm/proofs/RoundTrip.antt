@@ -42,6 +42,7 @@ line-plain (b ∷ text) plain =
     let parts = and_parts (is_plain b) (list_all is_plain text) plain in
     and_from _ _ (one (is_plain b) parts.0) (line-plain text parts.1)
   where
+    -- a plain byte (t) is a byte of a line
     one : (t : Bool) → t ≡ true → (t || b == 44 || b == 32) ≡ true
     one true is = refl
     one false is = grind (arith, nat_tests, is)
@@ -68,7 +69,7 @@ line-spaced name first more of_name of_first of_more =
     (list_all-append is_line_byte first (flat_map (λ operand. codes ", " ++ operand) more)
     ∙ and_from _ _ (line-plain first of_first.plain) (line-commas more of_more))
 
--- a name and up to three operands have at most `max_line` bytes
+-- a name and one to three operands (few) have at most `max_line` bytes
 length-spaced : (name first : List ℕ) (more : List (List ℕ)) → IsPiece name → IsPiece first → ArePieces more → length more ≤ 2
     → length (name ++ spaced first more) ≤ max_line
 length-spaced name first more of_name of_first of_more few =
@@ -82,12 +83,12 @@ length-spaced name first more of_name of_first of_more few =
       length-append first (flat_map (λ operand. codes ", " ++ operand) more),
     )
 
--- a text has one line, and this statement
+-- a text has one line, and the line has the statement s
 record Says (text : List ℕ) (s : Statement) : Type 0 where
   one : lines_of text ≡ text ∷ []
   says : line_read text ≡ Ok (record { label = None; statement = Some s })
 
--- a line of a name and operands has the statement of the line
+-- a line of a name and one to three operands (few) has the statement of the line
 says_line : (name first : List ℕ) (more : List (List ℕ)) (s : Statement) → IsPiece name → IsPiece first → ArePieces more → length more ≤ 2
     → statement_at (name ++ spaced first more) ≡ Ok s → Says (name ++ spaced first more) s
 says_line [] first more s of_name of_first of_more few statement_at_is = absurd (omega (arith, of_name.some))
@@ -102,7 +103,7 @@ line_text-is : (name first : List ℕ) (more : List (List ℕ)) → line_text na
 unfolding line_text
 line_text-is name first more = append_assoc name (32 ∷ []) (first ++ flat_map (λ operand. codes ", " ++ operand) more)
 
--- an instruction with operands assembles to its word
+-- an instruction with one to three operands (few) assembles to its word
 assembled-line : (i : Instr) (first : List ℕ) (more : List (List ℕ)) → IsPiece first → ArePieces more → length more ≤ 2
     → statement_of (mnemonic_of i) (first ∷ more) ≡ Ok (Instruction i) → assembled (line_text (name_of i) (first ∷ more)) ≡ Ok (word_of i ∷ [])
 assembled-line i first more of_first of_more few read =
@@ -253,7 +254,7 @@ assembled-told : (word : ℕ) (i : Instr) (told : Bool) → is_told_by_operands 
 assembled-told word i true test_is small encodes = assembled-instr_text i encodes.0 test_is ∙ ap (λ w. Ok (w ∷ [])) encodes.1
 assembled-told word i false test_is small encodes = assembled-word_text word small
 
--- the disassembly of a word assembles to the word, by its instruction
+-- the disassembly of a word assembles to the word, whether or not the word encodes an instruction (found)
 assembled-found : (word : ℕ) (found : Option Instr) → word < 2 ^ 32 → IfSome found (Encodes word)
     → assembled (option_case found (word_text word) (λ i. if is_told_by_operands i then instr_text i else word_text word)) ≡ Ok (word ∷ [])
 assembled-found word None small encodes = assembled-word_text word small

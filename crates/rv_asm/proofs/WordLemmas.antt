@@ -1,4 +1,4 @@
--- Lemmas about the second pass, line by line.
+-- This file proves lemmas about the second pass, line by line.
 use Rattle.std.proofs.Common.{◌≡◌, ◌⊎◌, inl, inr, ◌∙◌, sym, ap, refl, ℕ, ◌+◌, ◌-◌, ◌≤◌, ◌<◌, nat_lt, Bool, true, false, if◌then◌else◌, List, [], ◌∷◌, ◌++◌}
 use Rattle.std.proofs.Common.{length, length-append, take, Option, Some, None, Result, Ok, Err, IsOk, append_assoc, map, arith}
 use Rattle.std.proofs.lemmas.Bool.Decides.{nat_tests}
@@ -35,6 +35,7 @@ no_fault (Some kind) f rest choice_is = cc
 stays_few : (before : List Reading) (line : Reading) → own_fault before line ≡ None → words_in before + line_size line ≤ 65536
 stays_few before (Err kind) own_fault_is = cc
 stays_few before (Ok line) no_fault = few (nat_lt 65536 (words_in before + line_size (Ok line))) refl no_fault where
+  -- there are at most 65536 words, if the test of too many words (b) gives no error
   few : (b : Bool) → nat_lt 65536 (words_in before + line_size (Ok line)) ≡ b → (if b then Some TooLong else None) ≡ None
       → words_in before + line_size (Ok line) ≤ 65536
   few true test no_fault = cc
@@ -85,7 +86,7 @@ no_name_fault : (words : Result (List ℕ) AsmFaultKind) → IsOk words → resu
 no_name_fault (Ok found) is = refl
 no_name_fault (Err kind) is = cc
 
--- the lines up to and including this one
+-- the readings of the lines up to and including the next one are those before it and its own
 lines_through : (labels : List ℕ → Option ℕ) (words : List ℕ) (lines : ℕ) (text rest after line : List ℕ)
     → (so_far : HasWrittenUpTo labels words lines text rest) → lines_of rest ≡ line ∷ lines_of after
     → take (lines + 1) (readings text) ≡ so_far.before ++ line_read line ∷ []
@@ -106,7 +107,7 @@ none_through labels words lines text rest after line so_far lines_are passes =
     let here : name_fault labels so_far.before this ≡ None = no_name_fault (line_words labels (words_in so_far.before) this) (rw (← so_far.place) passes) in
     ap (first_line_fault (name_fault labels) []) prefix ∙ (first_fault-push (name_fault labels) [] so_far.before this ∙ rw (so_far.none, here) refl)
 
--- this line has words, and they follow those of the lines before it
+-- if the next line has words, they follow the words of the lines before it
 words_through : (labels : List ℕ → Option ℕ) (words : List ℕ) (lines : ℕ) (text rest after line : List ℕ)
     → (so_far : HasWrittenUpTo labels words lines text rest) → lines_of rest ≡ line ∷ lines_of after → 0 < line_size (line_read line)
     → words_in (take (lines + 1 - 1) (readings text)) < words_in (take (lines + 1) (readings text))

@@ -4,7 +4,7 @@ use Rattle.std.specs.Prelude.{ℕ, List, [], ◌∷◌, map, Option, unwrap_or}
 use Rattle.rv_state.specs.CsrTable.{name_of_number}
 use Rattle.rv_asm.specs.Tables.{looked_up}
 
--- the numbers of the registers that have a name here, in the order of the tables
+-- `named_csrs` has the numbers of the registers that have a name here, in the order of the tables
 abbrev pub named_csrs : List ℕ
 named_csrs =
     -- table 2.3

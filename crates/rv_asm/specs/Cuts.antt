@@ -7,20 +7,20 @@ use Rattle.rv_text.specs.GoodLines.{is_blank}
 
 -- ---- blanks and commas
 
--- the text without leading blanks
+-- `after_blanks` is the text without leading blanks
 abbrev pub after_blanks : List ℕ → List ℕ
 after_blanks [] = []
 after_blanks (b ∷ text) = if is_blank b then after_blanks text else b ∷ text
 
--- the text without trailing blanks
+-- `before_blanks` is the text without trailing blanks
 abbrev pub before_blanks : List ℕ → List ℕ
 before_blanks text = reverse (after_blanks (reverse text))
 
--- the text without the blanks at its start and at its end
+-- `trimmed` is the text without the blanks at its start and at its end
 unfoldable pub trimmed : List ℕ → List ℕ
 trimmed text = before_blanks (after_blanks text)
 
--- the fields between commas, without leading and trailing blanks
+-- `comma_fields` has the fields between commas, without leading and trailing blanks
 unfoldable pub comma_fields : List ℕ → List (List ℕ)
 comma_fields text = map trimmed (slice_split (λ b. b == comma) text)
 
@@ -30,39 +30,39 @@ operands_in text = if length (trimmed text) == 0 then [] else comma_fields text
 
 -- ---- comment and label
 
--- the line before the first `#`
+-- `before_comment` is the line before the first `#`
 abbrev pub before_comment : List ℕ → List ℕ
 before_comment line = take (position_or_len (λ b. b == number_sign) line) line
 
--- the index of the first `:`, or the length of the text
+-- `colon_place` is the index of the first `:`, or the length of the text
 abbrev pub colon_place : List ℕ → ℕ
 colon_place text = position_or_len (λ b. b == colon) text
 
--- the text before the first `:`, if there is one, without leading blanks
+-- `label_text` is the text before the first `:`, if there is one, without leading blanks
 unfoldable pub label_text : List ℕ → Option (List ℕ)
 label_text text = if nat_lt (colon_place text) (length text) then Some (after_blanks (take (colon_place text) text)) else None
 
--- the text after the first `:`, or the whole text if there is none, without leading blanks
+-- `statement_text` is the text after the first `:`, or the whole text if there is none, without leading blanks
 unfoldable pub statement_text : List ℕ → List ℕ
 statement_text text = after_blanks (if nat_lt (colon_place text) (length text) then drop (colon_place text + 1) text else text)
 
 -- ---- mnemonic and operands
 
--- the bytes of a statement before the first blank
+-- `first_word` has the bytes of a statement before the first blank
 abbrev pub first_word : List ℕ → List ℕ
 first_word text = take (position_or_len is_blank text) text
 
--- the bytes of a statement from the first blank on
+-- `after_word` has the bytes of a statement from the first blank on
 abbrev pub after_word : List ℕ → List ℕ
 after_word text = drop (position_or_len is_blank text) text
 
 -- ---- names
 
--- a letter, `_` or `.`
+-- a letter of a name is a letter, `_` or `.`
 abbrev pub is_letter : ℕ → Bool
 is_letter b = nat_le 97 b && nat_le b 122 || nat_le 65 b && nat_le b 90 || b == low_line || b == full_stop
 
--- a letter, `_`, `.` or a digit
+-- a byte of a name is a letter, `_`, `.` or a digit
 unfoldable pub is_name_byte : ℕ → Bool
 is_name_byte b = is_letter b || nat_le 48 b && nat_le b 57
 

@@ -3,7 +3,7 @@ use Rattle.std.specs.Prelude.{ℕ}
 use Rattle.rv_asm.specs.declared.fault.AsmFaultKind.{AsmFaultKind}
 use Rattle.rv_asm.specs.declared.fault.AsmFaultKind.TheVariants.{BadText, UnknownName, BadOperand, OutOfRange, UnknownLabel, LabelTwice, TooLong, NoMemory}
 
--- a number for each kind of error, by which errors are compared
+-- `asm_fault_number` is a number for each kind of error, by which errors are compared
 abbrev pub asm_fault_number : AsmFaultKind → ℕ
 asm_fault_number BadText = 1
 asm_fault_number UnknownName = 2

@@ -9,24 +9,24 @@ use Rattle.rv_asm.specs.declared.statement.Statement.{Statement}
 use Rattle.rv_asm.specs.declared.fault.AsmFaultKind.{AsmFaultKind}
 use Rattle.rv_asm.specs.declared.fault.AsmFaultKind.TheVariants.{BadText}
 
--- the label of a line, if it has one, or the error of a label that is no name
+-- `label_at` is the label of a line, if it has one, or the error of a label that is no name
 abbrev pub label_at : Option (List ℕ) → Result (Option (List ℕ)) AsmFaultKind
 label_at None = Ok None
 label_at (Some name) = if is_name name then Ok (Some name) else Err BadText
 
--- the statement of a text, or none if the text is empty
+-- `optional_statement_at` is the statement of a text, or none if the text is empty
 abbrev pub optional_statement_at : List ℕ → Result (Option Statement) AsmFaultKind
 optional_statement_at text = if length text == 0 then Ok None else (do
   statement ← statement_at text
   Ok (Some statement))
 
--- the label and the statement of a line without its comment
+-- `uncommented_line_at` is the label and the statement of a line without its comment
 abbrev pub uncommented_line_at : List ℕ → Result Line AsmFaultKind
 uncommented_line_at text = do
   label ← label_at (label_text text)
   statement ← optional_statement_at (statement_text text)
   Ok (record { label = label; statement = statement })
 
--- the content of a line, or the first of its own errors
+-- `line_read` is the content of a line, or the first of its own errors
 unfoldable pub line_read : List ℕ → Result Line AsmFaultKind
 line_read text = if is_good_line text then uncommented_line_at (before_comment text) else Err BadText

@@ -10,7 +10,7 @@ use Rattle.rv_asm.specs.declared.mnemonic.Mnemonic.{Mnemonic}
 use Rattle.rv_asm.specs.declared.mnemonic.Mnemonic.TheVariants.{Lui, Auipc, Jal, Jalr, Branch, Load, Store, OpImm, ShiftImm, Op, Fence, Csr, CsrImm}
 use Rattle.rv_asm.specs.declared.mnemonic.Mnemonic.TheVariants.{Ecall, Ebreak, Sret, Mret, Wfi, SfenceVma, Word, Nop, Ret, Li}
 
--- the name of each mnemonic: that of its instructions in the listing, or one of four names of the assembler
+-- `mnemonic_name` is the name of each mnemonic: that of its instructions in the listing, or one of four names of the assembler
 abbrev pub mnemonic_name : Mnemonic → List ℕ
 mnemonic_name Lui = name_of (instr.Lui 0 0)
 mnemonic_name Auipc = name_of (instr.Auipc 0 0)
@@ -36,7 +36,7 @@ mnemonic_name Nop = codes "nop"
 mnemonic_name Ret = codes "ret"
 mnemonic_name Li = codes "li"
 
--- every mnemonic of an instruction, in the order of the manual's listing
+-- `all_mnemonics` has every mnemonic of an instruction, in the order of the manual's listing
 abbrev pub all_mnemonics : List Mnemonic
 all_mnemonics =
     -- RV32I
@@ -51,7 +51,7 @@ all_mnemonics =
     -- names that the assembler adds
     ++ Word ∷ Nop ∷ Ret ∷ Li ∷ []
 
--- the table of names, each with its mnemonic
+-- `mnemonics` is the table of names, each with its mnemonic
 unfoldable pub mnemonics : List (List ℕ × Mnemonic)
 mnemonics = map (λ mnemonic. (mnemonic_name mnemonic, mnemonic)) all_mnemonics
 

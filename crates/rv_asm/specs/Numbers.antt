@@ -7,20 +7,20 @@ use Rattle.std.specs.Str.Parse.{digits_value}
 use Rattle.rv_text.specs.Numbers.{number_of_digits}
 use Rattle.rv_asm.specs.declared.number.Number.{Number}
 
--- the sign and the absolute value of a number
+-- `plus` is the nonnegative number with this magnitude
 abbrev pub plus : ℕ → Number
 plus magnitude = record { is_negative = false; magnitude = magnitude }
 
--- a negative number, by its magnitude
+-- `minus` is the negative number with this magnitude
 abbrev pub minus : ℕ → Number
 minus magnitude = record { is_negative = true; magnitude = magnitude }
 
--- the value of one or more decimal digits; a value above 2^64 - 1, which is out of every range, counts as 2^64 - 1
+-- `decimal_digits` is the value of one or more decimal digits; a value above 2^64 - 1, which is out of every range, counts as 2^64 - 1
 unfoldable pub decimal_digits : List ℕ → Option ℕ
 decimal_digits text =
     if nat_lt 0 (length text) && list_all (λ c. is_digit c 10) text then Some (min (digits_value 10 text) (2 ^ 64 - 1)) else None
 
--- a number: `0x` and one to eight hexadecimal digits of either case, or decimal digits with an optional `-` before them
+-- A number is written as `0x` and one to eight hexadecimal digits of either case, or as decimal digits with an optional `-` before them.
 unfoldable pub written_number : List ℕ → Option Number
 written_number text =
     if starts_with nat_eq text (codes "0x") then option_map plus (number_of_digits 16 8 (drop 2 text))

@@ -17,40 +17,40 @@ use Rattle.rv_asm.specs.declared.operand.Target.TheVariants.{Label, Offset}
 use Rattle.rv_asm.specs.declared.fault.AsmFaultKind.{AsmFaultKind}
 use Rattle.rv_asm.specs.declared.fault.AsmFaultKind.TheVariants.{BadOperand}
 
--- the operand that was read, or an error
+-- `operand` is the operand that was read, or an error
 abbrev pub operand : {A : Type 0} → Option A → Result A AsmFaultKind
 operand read = ok_or read BadOperand
 
--- the number of the register that the text names
+-- `register_at` is the number of the register that the text names
 abbrev pub register_at : List ℕ → Result ℕ AsmFaultKind
 register_at text = operand (register_named text)
 
--- the number that the text writes
+-- `number_operand` is the number that the text writes
 abbrev pub number_operand : List ℕ → Result Number AsmFaultKind
 number_operand text = operand (written_number text)
 
--- a control and status register, by its name or its number
+-- `csr_operand` is the control and status register with this name or this number
 abbrev pub csr_operand : List ℕ → Result Number AsmFaultKind
 csr_operand text = operand (option_case (csr_named text) (written_number text) (λ number. Some (plus number)))
 
--- the register between `(` and `)`
+-- `base_of` is the register between `(` and `)`
 unfoldable pub base_of : List ℕ → Option ℕ
 base_of text =
     if starts_with nat_eq text (codes "(")
     then (if ends_with nat_eq (drop 1 text) (codes ")") then register_named (take (length (drop 1 text) - 1) (drop 1 text)) else None)
     else None
 
--- the index of the first `(`, or the length of the text
+-- `opening` is the index of the first `(`, or the length of the text
 abbrev pub opening : List ℕ → ℕ
 opening text = position_or_len (λ b. b == left_parenthesis) text
 
--- `n(rs1)`, an offset and a base register
+-- an operand `n(rs1)` is an offset and a base register
 unfoldable pub offset_and_base : List ℕ → Option (Number × ℕ)
 offset_and_base text =
     option_and_then (λ offset. option_map (λ base. (offset, base)) (base_of (drop (opening text) text)))
     (written_number (take (opening text) text))
 
--- the offset and the base register of an operand such as `8(x2)`
+-- `address_operand` is the offset and the base register of an operand such as `8(x2)`
 abbrev pub address_operand : List ℕ → Result (Number × ℕ) AsmFaultKind
 address_operand text = operand (offset_and_base text)
 

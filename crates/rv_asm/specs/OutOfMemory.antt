@@ -5,7 +5,7 @@ use Rattle.rv_asm.specs.declared.fault.AsmFault.{AsmFault}
 use Rattle.rv_asm.specs.declared.fault.AsmFaultKind.{AsmFaultKind}
 use Rattle.rv_asm.specs.declared.fault.AsmFaultKind.TheVariants.{NoMemory}
 
--- whether a line that can be read has a label
+-- `is_labelled` states whether a line that can be read has a label
 abbrev pub is_labelled : Reading → Bool
 is_labelled (Ok line) = is_some line.label
 is_labelled (Err kind) = false
@@ -31,8 +31,8 @@ pub record OutOfMemoryForLabel (lines : List Reading) (fault : AsmFault) : Type 
   pub none : first_line_fault own_fault [] before ≡ None
   pub here : OutOfMemoryAt before line fault.kind
 
--- Memory is exhausted at the words of one of the lines, which has at least one. No line has an error of its own or repeats a label. No line up to and including this one
--- uses a label that is undefined or too far away.
+-- Memory is exhausted at the words of one of the lines, which has at least one. No line has an error of its own or repeats a label. No line up to
+-- and including this one uses a label that is undefined or too far away.
 pub record OutOfMemoryForWords (lines : List Reading) (fault : AsmFault) : Type 0 where
   pub memory : fault.kind ≡ NoMemory
   pub some : words_in (take (fault.line - 1) lines) < words_in (take fault.line lines)

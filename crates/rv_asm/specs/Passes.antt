@@ -7,7 +7,7 @@ use Rattle.rv_asm.specs.declared.first_pass.FirstPass.{FirstPass}
 use Rattle.rv_asm.specs.declared.fault.AsmFault.{AsmFault}
 use Rattle.rv_asm.specs.declared.fault.AsmFaultKind.TheVariants.{LabelTwice}
 
--- the error of a label that an earlier line has too
+-- `label_twice` is the error of a label that an earlier line has too
 abbrev pub label_twice : ℕ → AsmFault
 label_twice line = record { line = line; kind = LabelTwice }
 
@@ -20,7 +20,7 @@ pub record HasRead (pass : FirstPass) (lines : List Reading) : Type 0 where
   pub labels : places_of pass.labels ≡ place_in lines
   pub repeated : first_line_fault label_fault [] lines ≡ option_map label_twice pass.repeated
 
--- the first line that repeats a label, after one more line with this label
+-- `repeated_with` is the first line that repeats a label, after one more line with this label
 abbrev pub repeated_with : FirstPass → Option (List ℕ) → Option ℕ
 repeated_with pass None = pass.repeated
 repeated_with pass (Some name) =

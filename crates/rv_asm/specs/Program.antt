@@ -34,13 +34,13 @@ is_short value = nat_lt value 2048 || nat_le (2 ^ 32 - 2048) value
 abbrev pub without_low_part : ℕ → ℕ
 without_low_part value = (value + 2 ^ 32 - sign_extended value 12) % 2 ^ 32
 
--- the instructions of `li`: addi alone for a short value, otherwise lui, and addi unless the low 12 bits are 0
+-- `li_code` has the instructions of `li`: addi alone for a short value, otherwise lui, and addi unless the low 12 bits are 0
 unfoldable pub li_code : ℕ → ℕ → List Instr
 li_code rd value =
     if is_short value then OpImm Addi rd 0 (value % 2 ^ 12) ∷ []
     else Lui rd (without_low_part value) ∷ (if value % 2 ^ 12 == 0 then [] else OpImm Addi rd rd (value % 2 ^ 12) ∷ [])
 
--- the number of words of a statement
+-- `statement_size` is the number of words of a statement
 unfoldable pub statement_size : Statement → ℕ
 statement_size (Instruction instruction) = 1
 statement_size (JumpTo rd name) = 1
@@ -48,11 +48,11 @@ statement_size (BranchTo kind rs1 rs2 name) = 1
 statement_size (Li rd value) = length (li_code rd value)
 statement_size (Word word) = 1
 
--- the distance from one address to another, in bytes; addresses count words
+-- `distance` is the distance from one address to another, in bytes; addresses count words
 abbrev pub distance : ℕ → ℕ → Number
 distance here there = if nat_lt there here then minus (4 * (here - there)) else plus (4 * (there - here))
 
--- the words of a statement at an address, with these addresses of the labels
+-- `statement_words` has the words of a statement at an address, with these addresses of the labels
 unfoldable pub statement_words : (List ℕ → Option ℕ) → ℕ → Statement → Result (List ℕ) AsmFaultKind
 statement_words labels place (Instruction instruction) = Ok (word_of instruction ∷ [])
 statement_words labels place (JumpTo rd name) = do
@@ -68,66 +68,66 @@ statement_words labels place (Word word) = Ok (word ∷ [])
 
 -- ---- lines, each an error or its content
 
--- a line as it is read: its label and statement, or its error
+-- a line is read as its label and statement, or as its error
 abbrev pub Reading : Type 0
 Reading = Result Line AsmFaultKind
 
--- the readings of all lines of a text
+-- `readings` has the readings of all lines of a text
 abbrev pub readings : List ℕ → List Reading
 readings text = map line_read (lines_of text)
 
--- the number of words of a line
+-- `line_size` is the number of words of a line
 abbrev pub line_size : Reading → ℕ
 line_size (Ok line) = option_case line.statement 0 statement_size
 line_size (Err kind) = 0
 
--- the number of words of the lines, which is the address of the line after them
+-- `words_in` is the number of words of the lines, which is the address of the line after them
 abbrev pub words_in : List Reading → ℕ
 words_in lines = sum_by line_size lines
 
--- whether the label, if there is one, is this name
+-- `is_label` states whether the label, if there is one, is this name
 abbrev pub is_label : List ℕ → Option (List ℕ) → Bool
 is_label name None = false
 is_label name (Some label) = bytes_eq label name
 
--- whether a line has the label with this name
+-- `has_label` states whether a line has the label with this name
 abbrev pub has_label : List ℕ → Reading → Bool
 has_label name (Ok line) = is_label name line.label
 has_label name (Err kind) = false
 
--- the address of a label: that of the first line that has it; `before` has the lines before these
+-- `place_from` is the address of a label: that of the first line that has it; `before` has the lines before these
 abbrev pub place_from : List Reading → List Reading → List ℕ → Option ℕ
 place_from before [] name = None
 place_from before (line ∷ lines) name =
     if has_label name line then Some (words_in before) else place_from (before ++ line ∷ []) lines name
 
--- the address of a label: that of the first line that has it
+-- `place_in` is the address of a label: that of the first line that has it
 abbrev pub place_in : List Reading → List ℕ → Option ℕ
 place_in lines name = place_from [] lines name
 
--- the words of a line at an address
+-- `line_words` has the words of a line at an address
 abbrev pub line_words : (List ℕ → Option ℕ) → ℕ → Reading → Result (List ℕ) AsmFaultKind
 line_words labels place (Ok line) = option_case line.statement (Ok []) (statement_words labels place)
 line_words labels place (Err kind) = Err kind
 
 -- ---- the error of a text
 
--- the error of a line by itself, or `TooLong` if there are more than 65536 words with it
+-- `own_fault` is the error of a line by itself, or `TooLong` if there are more than 65536 words with it
 abbrev pub own_fault : List Reading → Reading → Option AsmFaultKind
 own_fault before (Ok line) = if nat_lt 65536 (words_in before + line_size (Ok line)) then Some TooLong else None
 own_fault before (Err kind) = Some kind
 
--- the error of a label that a line before has
+-- `repeated_name` is the error of a label that a line before has
 abbrev pub repeated_name : List Reading → Option (List ℕ) → Option AsmFaultKind
 repeated_name before None = None
 repeated_name before (Some name) = if is_some (place_in before name) then Some LabelTwice else None
 
--- the error of the label of a line, if a line before has the label too
+-- `label_fault` is the error of the label of a line, if a line before has the label too
 abbrev pub label_fault : List Reading → Reading → Option AsmFaultKind
 label_fault before (Ok line) = repeated_name before line.label
 label_fault before (Err kind) = None
 
--- the error of the label that a line uses
+-- `name_fault` is the error of the label that a line uses
 abbrev pub name_fault : (List ℕ → Option ℕ) → List Reading → Reading → Option AsmFaultKind
 name_fault labels before line = result_case (line_words labels (words_in before) line) (λ words. None) Some
 
@@ -138,7 +138,7 @@ first_line_fault fault before (line ∷ lines) =
     option_case (fault before line) (first_line_fault fault (before ++ line ∷ []) lines)
     (λ kind. Some (record { line = length before + 1; kind = kind }))
 
--- the error of the lines: the first error of a line by itself; otherwise the first repeated label; otherwise the first error of a used label
+-- the lines have the first error of a line by itself; otherwise the first repeated label; otherwise the first error of a used label
 abbrev pub fault_in : List Reading → Option AsmFault
 fault_in lines =
     option_case (first_line_fault own_fault [] lines)
@@ -146,20 +146,20 @@ fault_in lines =
 
 -- ---- the words of a text
 
--- the words of a line, or none if it has an error
+-- `words_or_none` has the words of a line, or none if it has an error
 abbrev pub words_or_none : Result (List ℕ) AsmFaultKind → List ℕ
 words_or_none words = result_case words (λ found. found) (λ kind. [])
 
--- the words of these lines, one line after another; `before` has the lines before these
+-- `words_from` has the words of these lines, one line after another; `before` has the lines before these
 abbrev pub words_from : (List ℕ → Option ℕ) → List Reading → List Reading → List ℕ
 words_from labels before [] = []
 words_from labels before (line ∷ lines) =
     words_or_none (line_words labels (words_in before) line) ++ words_from labels (before ++ line ∷ []) lines
 
--- the words of all lines, with the labels of these lines
+-- `words_of_lines` has the words of all lines, with the labels of these lines
 abbrev pub words_of_lines : List Reading → List ℕ
 words_of_lines lines = words_from (place_in lines) [] lines
 
--- the words of a text, or its error
+-- `assembled` has the words of a text, or its error
 unfoldable pub assembled : List ℕ → Result (List ℕ) AsmFault
 assembled text = option_case (fault_in (readings text)) (Ok (words_of_lines (readings text))) Err

@@ -28,7 +28,7 @@ infixl 10 ◌>>=◌
 abbrev pub ◌>>=◌ : {A B : Type 0} → Result A AsmFaultKind → (A → Result B AsmFaultKind) → Result B AsmFaultKind
 read >>= next = result_case read next Err
 
--- `rd, n` of lui and auipc
+-- lui and auipc have the operands `rd, n`
 abbrev pub upper_operands : List (List ℕ) → Result (ℕ × ℕ) AsmFaultKind
 upper_operands (rd ∷ n ∷ []) = do
   rd ← register_at rd
@@ -37,14 +37,14 @@ upper_operands (rd ∷ n ∷ []) = do
   Ok (rd, imm)
 upper_operands _ = Err BadOperand
 
--- `jal rd, t`
+-- a jump is written `jal rd, t`
 abbrev pub jump_statement : ℕ → Target → Result Statement AsmFaultKind
 jump_statement rd (Label name) = Ok (JumpTo rd name)
 jump_statement rd (Offset number) = do
   offset ← jump_offset_of number
   Ok (Instruction (instr.Jal rd offset))
 
--- the statement of jal: a register and a target
+-- the statement of jal has a register and a target
 abbrev pub jal_statement : List (List ℕ) → Result Statement AsmFaultKind
 jal_statement (rd ∷ t ∷ []) = do
   rd ← register_at rd
@@ -52,14 +52,14 @@ jal_statement (rd ∷ t ∷ []) = do
   jump_statement rd target
 jal_statement _ = Err BadOperand
 
--- `beq rs1, rs2, t`
+-- a branch is written `beq rs1, rs2, t`
 abbrev pub branch : BranchKind → ℕ → ℕ → Target → Result Statement AsmFaultKind
 branch kind rs1 rs2 (Label name) = Ok (BranchTo kind rs1 rs2 name)
 branch kind rs1 rs2 (Offset number) = do
   offset ← branch_offset_of number
   Ok (Instruction (instr.Branch kind rs1 rs2 offset))
 
--- the statement of a branch: two registers and a target
+-- the statement of a branch has two registers and a target
 abbrev pub branch_statement : BranchKind → List (List ℕ) → Result Statement AsmFaultKind
 branch_statement kind (rs1 ∷ rs2 ∷ t ∷ []) = do
   rs1 ← register_at rs1
@@ -77,7 +77,7 @@ address_operands (r ∷ address ∷ []) = do
   Ok (r, address.1, offset)
 address_operands _ = Err BadOperand
 
--- `addi rd, rs1, n`
+-- an instruction with an immediate is written `addi rd, rs1, n`
 abbrev pub immediate_statement : OpImmKind → List (List ℕ) → Result Statement AsmFaultKind
 immediate_statement kind (rd ∷ rs1 ∷ n ∷ []) = do
   rd ← register_at rd
@@ -87,7 +87,7 @@ immediate_statement kind (rd ∷ rs1 ∷ n ∷ []) = do
   Ok (Instruction (instr.OpImm kind rd rs1 imm))
 immediate_statement kind _ = Err BadOperand
 
--- `slli rd, rs1, n`
+-- a shift by an immediate is written `slli rd, rs1, n`
 abbrev pub shift_statement : ShiftKind → List (List ℕ) → Result Statement AsmFaultKind
 shift_statement kind (rd ∷ rs1 ∷ n ∷ []) = do
   rd ← register_at rd
@@ -106,7 +106,7 @@ register_statement kind (rd ∷ rs1 ∷ rs2 ∷ []) = do
   Ok (Instruction (instr.Op kind rd rs1 rs2))
 register_statement kind _ = Err BadOperand
 
--- `fence p, s`
+-- a fence is written `fence p, s`
 abbrev pub fence_statement : List (List ℕ) → Result Statement AsmFaultKind
 fence_statement (p ∷ s ∷ []) = do
   pred ← fence_set_at p
@@ -114,7 +114,7 @@ fence_statement (p ∷ s ∷ []) = do
   Ok (Instruction (instr.Fence 0 pred succ 0 0))
 fence_statement _ = Err BadOperand
 
--- `csrrw rd, c, rs1`
+-- a CSR instruction with a register is written `csrrw rd, c, rs1`
 abbrev pub csr_statement : CsrKind → List (List ℕ) → Result Statement AsmFaultKind
 csr_statement kind (rd ∷ c ∷ rs1 ∷ []) = do
   rd ← register_at rd
@@ -124,7 +124,7 @@ csr_statement kind (rd ∷ c ∷ rs1 ∷ []) = do
   Ok (Instruction (instr.Csr kind rd rs1 csr))
 csr_statement kind _ = Err BadOperand
 
--- `csrrwi rd, c, n`
+-- a CSR instruction with an immediate is written `csrrwi rd, c, n`
 abbrev pub csr_immediate_statement : CsrKind → List (List ℕ) → Result Statement AsmFaultKind
 csr_immediate_statement kind (rd ∷ c ∷ n ∷ []) = do
   rd ← register_at rd
@@ -135,7 +135,7 @@ csr_immediate_statement kind (rd ∷ c ∷ n ∷ []) = do
   Ok (Instruction (instr.CsrImm kind rd uimm csr))
 csr_immediate_statement kind _ = Err BadOperand
 
--- `sfence.vma rs1, rs2`
+-- sfence.vma is written `sfence.vma rs1, rs2`
 abbrev pub sfence_statement : List (List ℕ) → Result Statement AsmFaultKind
 sfence_statement (rs1 ∷ rs2 ∷ []) = do
   rs1 ← register_at rs1
@@ -143,12 +143,12 @@ sfence_statement (rs1 ∷ rs2 ∷ []) = do
   Ok (Instruction (instr.SfenceVma rs1 rs2))
 sfence_statement _ = Err BadOperand
 
--- a mnemonic without operands
+-- `plain_statement` is the statement of a mnemonic without operands
 abbrev pub plain_statement : Instr → List (List ℕ) → Result Statement AsmFaultKind
 plain_statement instruction [] = Ok (Instruction instruction)
 plain_statement instruction _ = Err BadOperand
 
--- `.word n`
+-- a word is written `.word n`
 abbrev pub word_statement : List (List ℕ) → Result Statement AsmFaultKind
 word_statement (n ∷ []) = do
   number ← number_operand n
@@ -156,7 +156,7 @@ word_statement (n ∷ []) = do
   Ok (Word word)
 word_statement _ = Err BadOperand
 
--- `li rd, n`
+-- a load of a number is written `li rd, n`
 abbrev pub li_statement : List (List ℕ) → Result Statement AsmFaultKind
 li_statement (rd ∷ n ∷ []) = do
   rd ← register_at rd
@@ -165,7 +165,7 @@ li_statement (rd ∷ n ∷ []) = do
   Ok (Li rd word)
 li_statement _ = Err BadOperand
 
--- the table of statements, by mnemonic
+-- `statement_of` is the table of statements, by mnemonic
 abbrev pub statement_of : Mnemonic → List (List ℕ) → Result Statement AsmFaultKind
 statement_of mnemonic.Lui operands = do
   read ← upper_operands operands
@@ -203,11 +203,11 @@ statement_of mnemonic.Nop operands = plain_statement (instr.OpImm Addi 0 0 0) op
 statement_of mnemonic.Ret operands = plain_statement (instr.Jalr 0 1 0) operands
 statement_of mnemonic.Li operands = li_statement operands
 
--- the mnemonic of the first word of a statement
+-- `mnemonic_at` is the mnemonic of the first word of a statement
 abbrev pub mnemonic_at : List ℕ → Result Mnemonic AsmFaultKind
 mnemonic_at word = if is_name word then ok_or (mnemonic_named word) UnknownName else Err BadText
 
--- the statement of a text without leading blanks
+-- `statement_at` is the statement of a text without leading blanks
 unfoldable pub statement_at : List ℕ → Result Statement AsmFaultKind
 statement_at text = do
   mnemonic ← mnemonic_at (first_word text)

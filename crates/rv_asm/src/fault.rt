@@ -6,21 +6,21 @@ ghost use Rattle.rv_asm.specs.Faults.{asm_fault_number};
 /// The kind of an error in a line of an assembler text.
 #[derive(Clone, Copy, Debug, PartialEq, Eq)]
 pub enum AsmFaultKind {
-    /// 1: the line has more than 120 bytes, or a byte that is neither a tab nor from 0x20 to 0x7E. Or its label or its mnemonic is not a name.
+    /// Error 1: the line has more than 120 bytes, or a byte that is neither a tab nor from 0x20 to 0x7E. Or its label or its mnemonic is not a name.
     BadText,
-    /// 2: the mnemonic is not known.
+    /// Error 2: the mnemonic is not known.
     UnknownName,
-    /// 3: the mnemonic does not have this number or form of operands, or a register or CSR name is not known.
+    /// Error 3: the mnemonic does not have this number or form of operands, or a register or CSR name is not known.
     BadOperand,
-    /// 4: a number is out of its range, or an offset is odd.
+    /// Error 4: a number is out of its range, or an offset is odd.
     OutOfRange,
-    /// 5: no line has the label.
+    /// Error 5: no line has the label.
     UnknownLabel,
-    /// 6: an earlier line has the same label.
+    /// Error 6: an earlier line has the same label.
     LabelTwice,
-    /// 7: with this line there are more than 65536 words.
+    /// Error 7: with this line there are more than 65536 words.
     TooLong,
-    /// 8: memory is exhausted.
+    /// Error 8: memory is exhausted.
     NoMemory,
 }
 

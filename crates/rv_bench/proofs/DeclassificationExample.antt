@@ -31,11 +31,11 @@ use Rattle.rv_bench.specs.Output.{bench_in}
 use Rattle.rv_bench.specs.Replies.{bench_line, state_after}
 use Rattle.rv_bench.proofs.Declassified.{secret_declassification}
 
--- a script that pokes a secret, sets a register of the enclave, and shows the registers
+-- `script` pokes a secret, sets a register of the enclave, and shows the registers
 abbrev script : List ℕ
 script = codes "poke 80020000 41\nsetreg 9 5ec2e701\nregs\n"
 
--- the same script with another secret
+-- `other_script` is the script above with another secret
 abbrev other_script : List ℕ
 other_script = codes "poke 80020ffc 5a\nsetreg 5 0badc0de\nregs\n"
 

@@ -45,6 +45,7 @@ module _ (e : ℕ) where
   unfolding execute_line
   line_observed first second line other kept kept' related alike =
       let both = go (parse_of line) (parse_of other) alike in record { text = both.0; state = both.1 } where
+        -- the two parsed lines have equal observations and leave related benches, if they are alike
         go : (parsed parsed' : Result Command CommandFault) → ParsedAlike e first second parsed parsed'
             → (result_case parsed (observed e first) command_fault_text ≡ result_case parsed' (observed e second) command_fault_text)
             × BenchesAreRelated e (execute_or_fault first parsed).state (execute_or_fault second parsed').state
@@ -75,6 +76,7 @@ module _ (e : ℕ) where
       → ParsedAlike e first second (parse_of line) (parse_of line) × WindowsAreEqual e (execute_line first line).state (execute_line second line).state
   unfolding execute_line
   line_low first second line kept kept' related equal = go (parse_of line) where
+    -- a low parsed line is alike in both benches, and leaves equal windows
     go : (parsed : Result Command CommandFault)
         → IfOk parsed (λ command. RunsOnNoneIn e (harts_named first.target command) first.target × (is_entered e (execute first command).entered ≡ false))
         → ParsedAlike e first second parsed parsed × WindowsAreEqual e (execute_or_fault first parsed).state (execute_or_fault second parsed).state
@@ -100,6 +102,7 @@ module _ (e : ℕ) where
       → ParsedAlike e first second (parse_of line) (parse_of line) × AreRelatedForAll (execute_line first line).state (execute_line second line).state
   unfolding execute_line
   line_ended first second line kept kept' related = go (parse_of line) where
+    -- a parsed line is alike in both benches, and leaves benches that are related for every slot
     go : (parsed : Result Command CommandFault) → ParsedAlike e first second parsed parsed
         × AreRelatedForAll (execute_or_fault first parsed).state (execute_or_fault second parsed).state
     go (Ok command) = (
@@ -165,7 +168,7 @@ started_declassification image setup = declassified_from (started image setup) (
 -- ---- inputs
 
 module _ (setup : Setup) (e : ℕ) (prefix : List ℕ) (whole : through_last_feed prefix ≡ prefix) (separated : has_separator prefix ≡ true) where
-  -- the observed output of a script, if the bench starts
+  -- `Observed` is the observed output of a script, if the bench starts
   abbrev Observed : Result BenchState BenchFault → List (List ℕ) → Result (List ℕ) BenchFault
   Observed bench script = result_case bench (λ state. Ok (replies (observed_line e) state script)) Err
 

@@ -1,4 +1,4 @@
--- The end of the second script of a pair: at the line that enters the slot, or at the end of the input.
+-- This file is about the end of the second script of a pair: at the line that enters the slot, or at the end of the input.
 use Rattle.std.proofs.Common.{◌≡◌, ℕ, true, false, cond, List, [], ◌++◌, inl, inr, Option, Some, None, Ok, Err, sym}
 use Rattle.std.proofs.Common.{◌∙◌, ap, subst, append-nil}
 use Rattle.std.specs.Option.{IsSomeAnd}
@@ -29,9 +29,9 @@ use Rattle.rv_bench.proofs.PairLemmas.{at_input_end, ended_all, ended_prefix, en
 use Rattle.rv_bench.proofs.Runs.{RespondsToLines-all, RespondsToLines-state}
 use Rattle.rv_bench.proofs.Runs.{RespondsToNext-going, RespondsToNext-state, RespondsToNext-stops, RespondsToNext-taken, RespondsToNext-wrote}
 
--- ---- the same, for equal written bytes
+-- ---- the meaning of a failure, for equal written bytes
 
--- a failed read has the same meaning after equal earlier output
+-- a failed read has the same meaning after two outputs with equal bytes, `old` and `other`
 StopsAtRead-after : {A : Type 0} {by : Responding A} {start : A} {unread left kept old other new : List ℕ}
     → old ≡ other → StopsAtRead by Input start unread left kept old new → StopsAtRead by Input start unread left kept other new
 StopsAtRead-after {by = by} {start = start} same stops = record {
@@ -46,14 +46,14 @@ StopsAtRead-after {by = by} {start = start} same stops = record {
   written = stops.written ∙ ap (λ (t : List ℕ). t ++ replies by.respond start (lines_of stops.text)) same;
 }
 
--- a source that fails in the second script leaves equal output after equal earlier output
+-- a read that fails in the second script has the same meaning after two outputs with equal bytes, `old` and `other`
 pub read_after : (slot : ℕ) (pair : Option Pair) (unread left kept old other new : List ℕ) → old ≡ other
     → IsSomeAnd pair (λ pair. StopsAtRead (both_benches slot) Input pair unread left kept old new)
     → IsSomeAnd pair (λ pair. StopsAtRead (both_benches slot) Input pair unread left kept other new)
 read_after slot None unread left kept old other new same never = never
 read_after slot (Some pair) unread left kept old other new same stops = StopsAtRead-after same stops
 
--- a failed write has the same meaning after equal earlier output
+-- a failed write has the same meaning after two outputs with equal bytes, `old` and `other`
 StopsAtWrite-after : {A : Type 0} {by : Responding A} {start : A} {unread left old other new : List ℕ} → old ≡ other
     → StopsAtWrite by Input start unread left old new → StopsAtWrite by Input start unread left other new
 StopsAtWrite-after {by = by} {start = start} {new = new} same stops =
@@ -70,7 +70,7 @@ StopsAtWrite-after {by = by} {start = start} {new = new} same stops =
           stops.written;
     }
 
--- a sink that fails in the second script has a prefix of the output after equal earlier output
+-- a write that fails in the second script leaves a prefix of the output, also after other output with equal bytes
 pub write_after : (slot : ℕ) (pair : Option Pair) (unread left old other new : List ℕ) → old ≡ other
     → StopsSecondAtWrite slot pair unread left old new → StopsSecondAtWrite slot pair unread left other new
 write_after slot None unread left old other new same stopped =
@@ -85,7 +85,7 @@ write_after slot (Some pair) unread left old other new same (inr stopped) =
 
 -- ---- a line that enters the slot
 
--- the reply to a line that enters the slot reports it
+-- the reply to a line that enters the slot (over) reports the entry, where `now` is the pair before the line and `after` the pair after it
 pub told_entered : (slot : ℕ) (now after : Pair) (line reply : List ℕ) → pair_line slot now line ≡ record { state = after; reply = reply }
     → now.entered ≡ false → after.entered ≡ true
     → reply ≡ entered_text after.ran
@@ -93,15 +93,15 @@ unfolding pair_line
 told_entered slot now after line reply line_is going over =
     let both = both_execute_line slot now.first now.second line in
     by both.line both (sym (ap (λ b. cond b (record { state = now; reply = [] }) (pair_replied now both)) going) ∙ line_is) where
-      -- a reply after which the slot is entered is the text of the entry
+      -- a result of the line is the pair after the line with this reply
       Gives : Replied Pair → Type 0
       Gives replied = replied ≡ record { state = after; reply = reply }
 
-      -- a line whose reply is the text of the entry has entered the slot
+      -- the slot is entered in a result of the line
       enters : (replied : Replied Pair) → Gives replied → replied.state.entered ≡ true
       enters replied replied_is = ap (λ (r : Replied Pair). r.state.entered) replied_is ∙ over
 
-      -- the reply by the result of the line
+      -- each outcome of the line on the two benches leads to the text of the entry; an outcome that enters no slot is impossible
       by : (what : BothLine) (both : BothLineExecuted) → Gives (done_by what both now.ran) → reply ≡ entered_text after.ran
       by (Given Entered blank) both replied_is = ap (λ (r : Replied Pair). r.reply) (sym replied_is) ∙ ap (λ (r : Replied Pair). entered_text r.state.ran) replied_is
       by (Given All blank) both replied_is = absurd (false≢true (enters (done_by (Given All blank) both now.ran) replied_is))
@@ -110,7 +110,7 @@ told_entered slot now after line reply line_is going over =
 
 -- ---- the script that both benches respond to
 
--- a failure in a line
+-- an error that stops the lines of the second script is the error of the second script
 pub two_benches-stop : {S W : Type 0} {g : SourceGhosts S} (h : SinkGhosts W) (slot : ℕ) (start : Pair) (old new : Lines S g) (before after : W)
     (fault : BenchFault) → FailsIn h (both_benches slot) Input start old new before after fault
     → RunsSecond h slot (Some start) old new before after (Err fault)
@@ -169,12 +169,12 @@ module _ {S W : Type 0} {g : SourceGhosts S} (h : SinkGhosts W) (slot : ℕ) {st
     last_going : now.entered ≡ false → last ≡ end_text now.ran
     last_going going = last_is ∙ ap (λ b. cond b [] (end_text now.ran)) going
 
-    -- after an entry, the last text is empty
+    -- the last text is empty after an entry (over)
     last_over : now.entered ≡ true → last ≡ []
     last_over over = last_is ∙ ap (λ b. cond b [] (end_text now.ran)) over
 
     module _ {after : W} (ends : EndsWithSource old new) (wrote : h.taken after ≡ h.taken mid ++ last) where
-      -- after an entry, the last text writes nothing
+      -- the last text writes nothing after an entry (over)
       nothing_more : now.entered ≡ true → h.taken after ≡ h.taken mid
       nothing_more over = wrote ∙ (ap (λ t. h.taken mid ++ t) (last_over over) ∙ append-nil (h.taken mid))
 
@@ -212,11 +212,11 @@ module _ {S W : Type 0} {g : SourceGhosts S} (h : SinkGhosts W) (slot : ℕ) {st
 
     -- the sink fails in the last text
     module _ {after : W} (stops : WritesPrefix (h.taken mid) (h.taken after) last) where
-      -- after an entry, a failure in the last text has written nothing
+      -- a failure in the last text has written nothing after an entry (over)
       nothing_wrote : now.entered ≡ true → h.taken after ≡ h.taken mid
       nothing_wrote over = prefix_none (h.taken mid) (h.taken after) (subst (WritesPrefix (h.taken mid) (h.taken after)) (last_over over) stops)
 
-      -- the sink failed in the last line: the meaning of a write error
+      -- a failure of the sink in the last line is the write error of the second script
       pub two_benches-fail : SinkFailed h mid after → RunsSecond h slot (Some start) old new before after (Err Write)
       two_benches-fail failed = (
         record {

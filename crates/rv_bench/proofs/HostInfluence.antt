@@ -84,24 +84,24 @@ HasEntry plan = IfOk plan (λ plan. aligned_to_4 plan.entry ≡ plan.entry)
 -- the entry of each plan is a multiple of 4
 planned_entry : (image : List ℕ) (setup : Setup) → HasEntry (planned image setup)
 planned_entry image setup = either (is_read_as_elf setup.kind image) where
-  -- the plan of these segments and this entry, without an error
+  -- `ok_plan` is the plan with these segments and this entry, without an error
   ok_plan : List Segment → ℕ → Result LoadPlan ElfFault
   ok_plan segments entry =
       Ok (record { segments = segments; entry = entry; image_size = length image; ram_size = setup.ram; monitored = setup.monitored })
 
-  -- the entry of the plan of a file
+  -- the entry of the plan of an ELF file is a multiple of 4, if the file has no error (o)
   from_file : (o : Option ElfFault) → file_fault image setup.ram setup.monitored ≡ o
       → HasEntry (option_case o (ok_plan (occupying (segments_of image)) (e_entry image)) Err)
   from_file None none = file_entry image setup.ram setup.monitored none
   from_file (Some fault) is = tt
 
-  -- the entry of the plan of a raw image
+  -- the entry of the plan of a raw image is a multiple of 4, if the image has no error (o)
   from_raw : (o : Option ElfFault)
       → HasEntry (option_case o (ok_plan (raw_segments (length image) setup.monitored) (first_address setup.monitored)) Err)
   from_raw None = first_aligned setup.monitored
   from_raw (Some fault) = tt
 
-  -- the entry of the plan, by the kind of the image
+  -- the entry of the plan is a multiple of 4, whether the image is read as an ELF file or as raw bytes
   either : (elf : Bool)
       → HasEntry (cond elf (file_plan image setup.ram setup.monitored) (raw_plan (length image) setup.ram setup.monitored))
   either true = from_file (file_fault image setup.ram setup.monitored) refl
@@ -112,6 +112,7 @@ planned_entry image setup = either (is_read_as_elf setup.kind image) where
 -- a bench at reset is legal, if the entry is aligned
 reset_legal : (setup : Setup) (memory : List ℕ) (entry : ℕ) → aligned_to_4 entry ≡ entry → IsLegalTarget (reset_over setup memory entry).target
 reset_legal setup memory entry aligned = go setup.monitored where
+  -- a bench at reset is legal, whether or not it is monitored
   go : (monitored : Bool) → IsLegalTarget (reset_over (record setup { monitored = monitored }) memory entry).target
   go false = tt
   go true = legal_law.start memory entry (number_of_harts setup.harts) aligned
@@ -120,6 +121,7 @@ reset_legal setup memory entry aligned = go setup.monitored where
 started_legal : (image : List ℕ) (setup : Setup) → IfOk (started image setup) (λ state. IsLegalTarget state.target)
 unfolding started
 started_legal image setup = go (is_ram_size setup.ram) (planned image setup) (planned_entry image setup) where
+  -- each bench that starts is legal, where `valid` states whether the RAM has a valid size, and `plan` is the plan of the image or its error
   go : (valid : Bool) (plan : Result LoadPlan ElfFault) → HasEntry plan
       → IfOk
       (cond valid (result_case (result_case plan (λ plan. Ok (reset_over setup (memory_loaded image setup plan) plan.entry)) Err) Ok
@@ -132,6 +134,7 @@ started_legal image setup = go (is_ram_size setup.ram) (planned image setup) (pl
 legal_line : (bench : BenchState) (line : List ℕ) → TargetInvariant bench.target → IsLegalTarget bench.target → IsLegalTarget (execute_line bench line).state.target
 unfolding execute_line
 legal_line bench line kept legal = go (parse_of line) where
+  -- a parsed line leaves the target legal
   go : (parsed : Result Command CommandFault) → IsLegalTarget (execute_or_fault bench parsed).state.target
   go (Ok command) = host_influence.legal bench command kept legal
   go (Err fault) = legal
@@ -162,6 +165,7 @@ pub script_influence : ScriptInfluenceLaw
 script_influence i j image image_too setup setup_too before before_too lines others =
     go (started image setup) (started image_too setup_too) (started_keeps image setup) (started_keeps image_too setup_too) (started_legal image setup)
     (started_legal image_too setup_too) where
+      -- the law holds for the two starts a and b, which are benches or errors
       go : (a b : Result BenchState BenchFault) → IfOk a (λ s. TargetInvariant s.target) → IfOk b (λ s. TargetInvariant s.target)
           → IfOk a (λ s. IsLegalTarget s.target) → IfOk b (λ s. IsLegalTarget s.target) → IfOk a (λ first. IfOk b (λ second.
           RestsAreSame i j (state_after bench_line first before) (state_after bench_line second before_too) lines others))
@@ -191,12 +195,12 @@ unfolding parse_of is_text meaning_of words_of keyword_of
 timer_parsed true = refl
 timer_parsed false = refl
 
--- the commands of two lines and those after them
+-- if two lines are read as two commands, all lines have these two commands, and then the commands of the other lines
 two_commands : (line other : List ℕ) (lines : List (List ℕ)) (first second : Command) → parse_of line ≡ Ok first → parse_of other ≡ Ok second
     → commands_of (line ∷ other ∷ lines) ≡ first ∷ second ∷ commands_of lines
 two_commands line other lines first second parsed is_too = rw (parsed, is_too) refl
 
--- the commands of the lines for events are those for the events
+-- the lines for events have the commands for these events
 lines_are : (list : List Event) → are_of_harts 2 list ≡ true → commands_of (lines_for list) ≡ commands_for list
 lines_are [] fits = refl
 lines_are (StepOf hart ∷ more) fits =
@@ -218,6 +222,7 @@ events_from start list fits =
       end : state_after bench_line start (lines_for list) ≡ after_commands start (commands_for list)
       end = after_lines start (lines_for list) ∙ ap (after_commands start) (lines_are list fits)
 
+      -- the lines lead a monitored machine to the state after the events, where `o` is the machine, or `None` for a bare one
       go : (o : Option MonitoredMachine) → IfSome o (λ machine. actions_of start (commands_for list) ≡ map Occurs list
           → machine_in (after_commands start (commands_for list)).target ≡ Some (events list machine).state)
           → IfSome o (λ machine. are_of_harts (count_of machine) list ≡ true → actions_of start (commands_for list) ≡ map Occurs list)
@@ -229,6 +234,7 @@ events_from start list fits =
 -- proves that lines can bring about every list of events
 pub script_events : ScriptEventsLaw
 script_events image setup before list fits = go (started image setup) where
+  -- the lines lead the machine to the state after the events, if the script starts a bench; an error at the start leaves nothing to prove
   go : (bench : Result BenchState BenchFault) → IfOk bench (λ bench.
       let start = state_after bench_line bench before in
       IfSome (machine_in start.target) (λ machine. are_of_harts (count_of machine) list ≡ true

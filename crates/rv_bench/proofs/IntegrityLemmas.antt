@@ -25,6 +25,7 @@ pub after_lines : (bench : BenchState) (lines : List (List ℕ)) → state_after
 unfolding execute_line
 after_lines bench [] = refl
 after_lines bench (line ∷ lines) = go (λ next. after_lines next lines) (parse_of line) where
+  -- a parsed line and the lines after it have the effect of their commands
   go : ((next : BenchState) → state_after bench_line next lines ≡ after_commands next (commands_of lines)) → (parsed : Result Command CommandFault)
       → state_after bench_line (execute_or_fault bench parsed).state lines
       ≡ after_commands bench (result_case parsed (λ command. command ∷ commands_of lines) (λ _. commands_of lines))
@@ -35,6 +36,7 @@ after_lines bench (line ∷ lines) = go (λ next. after_lines next lines) (parse
 pub keeps_line : (bench : BenchState) (line : List ℕ) → TargetInvariant bench.target → TargetInvariant (execute_line bench line).state.target
 unfolding execute_line
 keeps_line bench line kept = go (parse_of line) where
+  -- a parsed line preserves the invariant of the target
   go : (parsed : Result Command CommandFault) → TargetInvariant (execute_or_fault bench parsed).state.target
   go (Ok command) = keeps_monitor bench command kept
   go (Err fault) = kept
@@ -64,6 +66,7 @@ started_integrity image setup = from_start (started image setup) (started_keeps 
 -- each bench that an input starts preserves every enclave that its lines leave undisturbed
 pub stream_integrity : (setup : Setup) (input : List ℕ) → IfOk (bench_in setup input) PreservesThrough
 stream_integrity setup input = go (image_in input) where
+  -- the bench that is started from this image preserves every enclave that its lines leave undisturbed
   go : (image : Result (List ℕ) BenchFault) → IfOk (result_case image (λ bytes. started bytes setup) Err) PreservesThrough
   go (Ok bytes) = started_integrity bytes setup
   go (Err fault) = tt

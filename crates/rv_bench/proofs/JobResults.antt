@@ -1,4 +1,4 @@
--- The result of each job, by its output for the input.
+-- This file proves that each result of a job has the meaning that the output of the job for the input gives it.
 use Rattle.std.proofs.Common.{◌≡◌, ◌<◌, List, ℕ, ◌++◌, length, inl, inr, Ok, Err, sym, ap, ◌∙◌, subst, arith}
 use Rattle.std.specs.Result.{IsOkAnd}
 use Rattle.rv_memory.specs.declared.ram_fault.RamFault.TheVariants.{BadSize, NoMemory as NoRamMemory}
@@ -21,11 +21,11 @@ use Rattle.rv_bench.specs.Stream.{RunsStream}
 use Rattle.rv_bench.specs.Twin.{RunsTwin}
 
 module _ {S W : Type 0} (g : SourceGhosts S) (h : SinkGhosts W) (source left : S) (before after : W) where
-  -- the sink took exactly this text
+  -- the sink took exactly this text in the call
   abbrev Wrote : List ℕ → Type 0
   Wrote text = h.taken after ≡ h.taken before ++ text
 
-  -- the sink took a prefix of this text
+  -- the sink took a prefix of this text in the call
   abbrev WrotePrefix : List ℕ → Type 0
   WrotePrefix text = WritesPrefix (h.taken before) (h.taken after) text
 
@@ -42,7 +42,7 @@ module _ {S W : Type 0} (g : SourceGhosts S) (h : SinkGhosts W) (source left : S
     follows : g.follows_input left → g.follows_input new.source
     follows = subst g.follows_input lines.back
 
-    -- a failure of the source of the lines is one of the source
+    -- a failure of the source of the lines is a failure of the source
     failed : SourceFailed g old.source new.source → SourceFailed g source left
     failed risen = subst (λ left. SourceFailed g source left) (sym lines.back) (subst (λ source. SourceFailed g source new.source) lines.made risen)
 
@@ -51,7 +51,7 @@ module _ {S W : Type 0} (g : SourceGhosts S) (h : SinkGhosts W) (source left : S
     of_input P holds agrees = subst P input_is (holds (follows agrees))
 
     module _ (setup : Setup) where
-      -- the results of a run are those of the job
+      -- a result of the run has the meaning that the job `run` has
       stream_meets : (outcome : Outcome) → RunsStream h setup old new before after outcome → MeetsOutput g h source left before after (Run setup) outcome
       stream_meets (Ok done) (size, run) = (run.sink, of_input (λ input. IsOkAnd (job_output (Run setup) input) Wrote) run.written)
       stream_meets (Err Read) (run, stops) = failed run.source
@@ -69,11 +69,11 @@ module _ {S W : Type 0} (g : SourceGhosts S) (h : SinkGhosts W) (source left : S
       stream_meets (Err (AsmText fault)) never = absurd never
 
       module _ (slot : ℕ) where
-        -- the job of a twin run
+        -- `twin` is the job of a twin run
         abbrev twin : Job
         twin = Twin setup slot
 
-        -- the results of a twin run are those of the job
+        -- a result of the twin run has the meaning that the job `twin` has
         twin_meets : (outcome : Outcome) → RunsTwin h setup slot old new before after outcome → MeetsOutput g h source left before after twin outcome
         twin_meets (Ok done) (size, run) = (run.sink, of_input (λ input. IsOkAnd (job_output twin input) Wrote) run.written)
         twin_meets (Err Read) (run, stops) = failed run.source
@@ -89,7 +89,7 @@ module _ {S W : Type 0} (g : SourceGhosts S) (h : SinkGhosts W) (source left : S
             (unwritten, of_input (λ input. FailsBy twin input (Image fault)) (λ agrees. inl (told agrees)))
         twin_meets (Err (AsmText fault)) never = absurd never
 
-    -- the results of a disassembly are those of the job
+    -- a result of the disassembly has the meaning that the job `dis` has
     dis_meets : (outcome : Outcome) → RunsDis h old new before after outcome → MeetsOutput g h source left before after Dis outcome
     dis_meets (Ok done) (reads, sink, written) = (sink, of_input (λ input. IsOkAnd (job_output Dis input) Wrote) written)
     dis_meets (Err Read) (fails, unwritten) = failed fails.source
@@ -101,7 +101,7 @@ module _ {S W : Type 0} (g : SourceGhosts S) (h : SinkGhosts W) (source left : S
     dis_meets (Err (Image fault)) never = absurd never
     dis_meets (Err (AsmText fault)) never = absurd never
 
-  -- the results of an assembly are those of the job
+  -- a result of the assembly has the meaning that the job `asm` has
   asm_meets : (outcome : Outcome) → RunsAsm g h source left before after outcome → MeetsOutput g h source left before after Asm outcome
   asm_meets (Ok done) (reads, sink, written) = (sink, written)
   asm_meets (Err Read) (fails, unwritten) = fails.source
@@ -113,7 +113,7 @@ module _ {S W : Type 0} (g : SourceGhosts S) (h : SinkGhosts W) (source left : S
   asm_meets (Err (Image fault)) never = absurd never
   asm_meets (Err (AsmText fault)) (reads, line, fails, unwritten) = (unwritten, fails)
 
-  -- the results of each job are those of its output
+  -- each result of a job has the meaning that the output of the job gives it
   pub does_meets : (job : Job) (outcome : Outcome) → DoesJob g h source left before after job outcome
       → MeetsOutput g h source left before after job outcome
   does_meets (Run setup) outcome does = stream_meets does.0 does.1 does.2 setup outcome does.3

@@ -1,4 +1,4 @@
--- The loop over the lines of a script, iteration by iteration.
+-- This file is about the loop over the lines of a script, iteration by iteration.
 use Rattle.std.proofs.Common.{◌≡◌, ℕ, false, true, arith, inl, inr, List, [], ◌++◌, ◌∙◌, refl}
 use Rattle.rv_streams.specs.declared.device.Sink.{Ghosts as SinkGhosts}
 use Rattle.rv_streams.specs.declared.device.Source.{Ghosts as SourceGhosts}
@@ -79,7 +79,7 @@ module _ {S W : Type 0} {g : SourceGhosts S} {h : SinkGhosts W} {A : Type 0} {by
         )
 
     module _ {after : A} {new : Lines S g} {reply : List ℕ} (turn : Turn h by end start old before now mid between after new reply) where
-      -- after one more line, its response follows those so far
+      -- after one more line, the response to this line follows the responses so far
       next : g.follows_input new.source
           → RespondsToNext by end start (unread old) (h.taken before) (h.taken between) after (unread new) new.is_at_end reply
       next follows = record {

@@ -1,4 +1,4 @@
--- The program from bytes in memory to bytes in memory.
+-- This file states the effect of the program on bytes in memory.
 use Rattle.std.proofs.Common.{◌≡◌, ℕ, List, [], ◌++◌, inl, inr, ◌∙◌, ap, subst}
 use Rattle.clap.specs.Words.{Text}
 use Rattle.rv_streams.specs.declared.device.Sink.{Ghosts as SinkGhosts}

@@ -1,4 +1,4 @@
--- Noninterference of scripts: over the lines of a part, by the law of one command; and from one input to another.
+-- This file proves noninterference of scripts: first over the lines of a part, by the law of one command, and then from one input to another.
 use Rattle.std.proofs.Common.{◌≡◌, inl, inr, ℕ, Bool, true, false, List, [], ◌∷◌, ◌++◌, Result, Ok, Err, IfOk, IsOkAnd, refl, sym, ◌∙◌, ap, ap₂, subst}
 use Rattle.rv_word.specs.Cases.{result_case}
 use Rattle.rv_text.specs.Lines.{lines_of, through_last_feed}
@@ -41,6 +41,7 @@ module _ (e : ℕ) where
       → LineAvoidsEnclave e first line → LineAvoidsHart e first line → Alike (execute_line first line) (execute_line second line)
   unfolding execute_line
   line_alike first second line kept kept' equiv = go (parse_of line) where
+    -- a parsed line that avoids the enclave (`over`) and its hart (`by`) is executed alike
     go : (parsed : Result Command CommandFault) → IfOk parsed (AvoidsEnclave e first) → IfOk parsed (AvoidsHart e first)
         → Alike (execute_or_fault first parsed) (execute_or_fault second parsed)
     go (Ok command) over by =
@@ -56,7 +57,7 @@ module _ (e : ℕ) where
   while_live first second kept kept' equiv P false test_is differ same =
       subst (P first) ((equiv_again e first second kept equiv).gone test_is) (same kept)
 
-  -- lines that avoid the enclave and its hart have equal replies
+  -- lines that avoid the enclave (over) and its hart (by) have equal replies
   lines_alike : (first second : BenchState) (lines : List (List ℕ)) → TargetInvariant first.target → TargetInvariant second.target
       → BenchesEquivExcept e first second → LinesAvoidEnclave e first lines → LinesAvoidHart e first lines → RepliesAlike e first second lines
   lines_alike first second [] kept kept' equiv over by = record { text = refl; state = equiv_again e first second kept equiv }
@@ -80,6 +81,7 @@ module _ (e : ℕ) where
       → LineAvoidsHart e bench line × RunsOnNoHart e (execute_line bench line).state.target
   unfolding execute_line
   line_rests bench line kept not_running = go (parse_of line) where
+    -- a parsed line that avoids the enclave (`over`) leaves it on no hart, and avoids its hart
     go : (parsed : Result Command CommandFault) → IfOk parsed (AvoidsEnclave e bench)
         → IfOk parsed (AvoidsHart e bench) × RunsOnNoHart e (execute_or_fault bench parsed).state.target
     go (Ok command) over = let stays = rest_law e bench command kept not_running in (stays.by, stays.not_running over.past)
@@ -88,11 +90,12 @@ module _ (e : ℕ) where
   -- while the enclave runs on no hart, each line avoids its hart
   by_at_rest : (bench : BenchState) (line : List ℕ) → TargetInvariant bench.target → RunsOnNoHart e bench.target → LineAvoidsHart e bench line
   by_at_rest bench line kept not_running = go (parse_of line) where
+    -- a parsed line avoids the hart of an enclave that runs on no hart
     go : (parsed : Result Command CommandFault) → IfOk parsed (AvoidsHart e bench)
     go (Ok command) = (rest_law e bench command kept not_running).by
     go (Err fault) = tt
 
-  -- while the enclave runs on no hart, lines that avoid it avoid its hart
+  -- while the enclave runs on no hart, lines that avoid the enclave (over) avoid its hart
   lines_rest : (bench : BenchState) (lines : List (List ℕ)) → TargetInvariant bench.target → RunsOnNoHart e bench.target → LinesAvoidEnclave e bench lines
       → LinesAvoidHart e bench lines
   lines_rest bench [] kept not_running over = tt
@@ -109,6 +112,7 @@ module _ (e : ℕ) where
       → Alike (execute_line first line) (execute_line second line')
   unfolding execute_line
   poke_alike first second line line' kept kept' equiv = go (parse_of line) (parse_of line') where
+    -- two parsed lines that poke into the region are executed alike
     go : (parsed parsed' : Result Command CommandFault) → IsOkAnd parsed (PokesInto e first) → IsOkAnd parsed' (PokesInto e second)
         → Alike (execute_or_fault first parsed) (execute_or_fault second parsed')
     go (Ok here) (Ok there) pokes pokes' =
@@ -125,12 +129,12 @@ module _ (e : ℕ) where
       subst (λ (l : List ℕ). Alike (execute_line first line) (execute_line second l)) passes.0
       (line_alike first second line kept kept' equiv passes.1 by)
 
-  -- lines of either bench
+  -- the replies to two lists of lines are equal, and the benches after them are equivalent except for the enclave
   record PokedAlike (first second : BenchState) (lines others : List (List ℕ)) : Type 0 where
     pub text : replies bench_line first lines ≡ replies bench_line second others
     pub equiv : BenchesEquivExcept e (state_after bench_line first lines) (state_after bench_line second others)
 
-  -- lists of such lines have equal replies
+  -- two lists of lines that differ in pokes into the region have equal replies
   pokes_alike : (first second : BenchState) (lines others : List (List ℕ)) → TargetInvariant first.target → TargetInvariant second.target
       → BenchesEquivExcept e first second → EachLineAvoidsHart e first lines → DifferInPokes e first second lines others → PokedAlike first second lines others
   pokes_alike first second [] [] kept kept' equiv by differ = record { text = refl; equiv = equiv }
@@ -147,23 +151,24 @@ module _ (e : ℕ) where
       → RunsOnNoHart e (execute_line bench line).state.target
   unfolding execute_line
   poke_rests bench line kept not_running = go (parse_of line) where
+    -- after a parsed line that pokes into the region, the enclave still runs on no hart
     go : (parsed : Result Command CommandFault) → IsOkAnd parsed (PokesInto e bench) → RunsOnNoHart e (execute_or_fault bench parsed).state.target
     go (Ok command) pokes = poked_rests e bench command kept not_running pokes
     go (Err fault) pokes = absurd pokes
 
-  -- such a line leaves the enclave on no hart
+  -- a line that pokes into the region, or avoids the enclave, leaves the enclave on no hart
   poke_or_pass_rests : (first second : BenchState) (line other : List ℕ) → TargetInvariant first.target → RunsOnNoHart e first.target
       → PokeOrPass e first second line other → LineAvoidsHart e first line × RunsOnNoHart e (execute_line first line).state.target
   poke_or_pass_rests first second line other kept not_running (inl pokes) =
       (by_at_rest first line kept not_running, poke_rests first line kept not_running pokes.0)
   poke_or_pass_rests first second line other kept not_running (inr passes) = line_rests first line kept not_running passes.1
 
-  -- the facts after lines that differ in pokes
+  -- the enclave runs on no hart after these lines, and each line avoids its hart
   record RestsThrough (bench : BenchState) (lines : List (List ℕ)) : Type 0 where
     pub by : EachLineAvoidsHart e bench lines
     pub not_running : RunsOnNoHart e (state_after bench_line bench lines).target
 
-  -- lists of such lines leave the enclave on no hart
+  -- lines that poke into the region or avoid the enclave leave the enclave on no hart
   pokes_rest : (first second : BenchState) (lines others : List (List ℕ)) → TargetInvariant first.target → RunsOnNoHart e first.target
       → DifferInPokes e first second lines others → RestsThrough first lines
   pokes_rest first second [] [] kept not_running differ = record { by = tt; not_running = not_running }
@@ -225,6 +230,7 @@ started_noninterference image setup = from_start (started image setup) (started_
 -- each bench that an input starts has the invariant
 pub bench_keeps : (setup : Setup) (input : List ℕ) → IfOk (bench_in setup input) (λ state. TargetInvariant state.target)
 bench_keeps setup input = go (image_in input) where
+  -- the bench that is started from this image satisfies the invariant
   go : (image : Result (List ℕ) BenchFault) → IfOk (result_case image (λ bytes. started bytes setup) Err) (λ state. TargetInvariant state.target)
   go (Ok bytes) = started_keeps bytes setup
   go (Err fault) = tt
@@ -233,7 +239,7 @@ bench_keeps setup input = go (image_in input) where
 
 module _ (setup : Setup) (e : ℕ) (prefix secret another rest : List ℕ) (whole : through_last_feed prefix ≡ prefix) (separated : has_separator prefix ≡ true)
     (whole_secret : through_last_feed secret ≡ secret) (whole_another : through_last_feed another ≡ another) where
-  -- the output for an input with this prefix
+  -- the output for an input with this prefix is the replies to the lines of the prefix, of the text after it, and of the rest
   output_is : (text : List ℕ) → through_last_feed text ≡ text
       → output setup (prefix ++ (text ++ rest)) ≡ replies_of (bench_in setup prefix) (lines_of (after_separator prefix) ++ (lines_of text ++ lines_of rest))
   output_is text all =

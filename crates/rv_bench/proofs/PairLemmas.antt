@@ -1,4 +1,4 @@
--- The replies of a pair to the lines of a script.
+-- This file is about the replies of a pair to the lines of a script.
 use Rattle.std.proofs.Common.{◌≡◌, ℕ, ◌+◌, ◌<◌, ◌==◌, Bool, true, cond, List, [], ◌∷◌, ◌++◌, length, take, drop, get_or}
 use Rattle.std.proofs.Common.{refl, sym, ◌∙◌, ap, ap₂, subst, inl, inr, append_assoc, append-nil}
 use Rattle.std.proofs.lemmas.Bool.{false≢true}
@@ -41,7 +41,7 @@ pair_line-prefix slot pair other line same =
     ap (λ both. cond pair.entered (record { state = pair; reply = [] }) (pair_replied pair both))
     (both_line-prefix slot pair.first pair.second other line same)
 
--- once the slot was entered, a line has no reply
+-- a line has no reply once the slot was entered (over)
 silent : (slot : ℕ) (pair : Pair) (line : List ℕ) → pair.entered ≡ true → pair_line slot pair line ≡ record { state = pair; reply = [] }
 unfolding pair_line
 silent slot pair line over = rw over refl
@@ -58,7 +58,7 @@ silent_state slot pair (line ∷ lines) over = rw (silent slot pair line over) (
 
 -- ---- a script
 
--- the text of a script with a line that entered the slot
+-- the text of a script whose first `lines` entered the slot is the replies to these lines
 pub entered_script : (slot : ℕ) (start now : Pair) (lines others : List (List ℕ)) (unread : List ℕ) → now ≡ state_after (pair_line slot) start lines
     → now.entered ≡ true → lines_of unread ≡ lines ++ others → script_text slot start (lines_of unread) ≡ replies (pair_line slot) start lines
 entered_script slot start now lines others unread now_is over all =
@@ -74,7 +74,7 @@ entered_script slot start now lines others unread now_is over all =
     ∙ (ap (λ t. t ++ last_text (state_after (pair_line slot) start (lines ++ others))) texts
     ∙ (ap (λ t. replies (pair_line slot) start lines ++ t) last ∙ append-nil (replies (pair_line slot) start lines)))
 
--- the written bytes after a line that entered the slot are the whole text
+-- the written bytes after a line that entered the slot (over) are the whole text
 pub entered_all : (slot : ℕ) (start now : Pair) (unread left : List ℕ) (is_at_end : Bool) (lines : List (List ℕ)) (old new : List ℕ)
     → ReadsLines unread left is_at_end lines → now ≡ state_after (pair_line slot) start lines → now.entered ≡ true
     → new ≡ old ++ replies (pair_line slot) start lines → new ≡ old ++ script_text slot start (lines_of unread)
@@ -88,7 +88,7 @@ pub prefix_more : (old new text more : List ℕ) → WritesPrefix old new text �
 prefix_more old new text more (rest, (prefix, wrote, split)) =
     (rest ++ more, (prefix, wrote, ap (λ t. t ++ more) split ∙ append_assoc prefix rest more))
 
--- a prefix of the text that follows a written text
+-- a prefix of a text, after another text that is written, is a prefix of both texts
 pub prefix_after : (old mid new text more : List ℕ) → mid ≡ old ++ text → WritesPrefix mid new more → WritesPrefix old new (text ++ more)
 prefix_after old mid new text more mid_is (rest, (prefix, wrote, split)) = (
   rest,

@@ -1,4 +1,4 @@
--- Inputs that begin with the same whole lines, including the separator.
+-- This file is about inputs that begin with the same whole lines, including the separator.
 use Rattle.std.proofs.Common.{◌≡◌, ℕ, zero, suc, ◌+◌, ◌≤◌, Bool, true, false, cond, not, ◌||◌, List, [], ◌∷◌, ◌++◌}
 use Rattle.std.proofs.Common.{length, drop, Err, refl, sym, ◌∙◌, ap, arith, subst, nat_eq}
 use Rattle.std.proofs.lemmas.List.Sums.{take_while-cons}
@@ -15,27 +15,29 @@ use Rattle.rv_bench.specs.Output.{bench_in}
 -- ---- the first line that satisfies a test
 
 module _ (found : List ℕ → Bool) where
-  -- the lines before the first that passes the test
+  -- `before` has the lines before the first that passes the test
   abbrev before : List (List ℕ) → List (List ℕ)
   before lines = take_while (λ line. not (found line)) lines
 
-  -- these lines depend on a prefix with such a line only
+  -- the lines before the first that passes the test depend only on a prefix that has such a line
   before-append : (xs ys : List (List ℕ)) → list_any found xs ≡ true → before (xs ++ ys) ≡ before xs
   before-append [] ys some_pass = cc
   before-append (x ∷ xs) ys has_found =
       take_while-cons (λ line. not (found line)) x (xs ++ ys)
       ∙ (go (found x) has_found (before-append xs ys) ∙ sym (take_while-cons (λ line. not (found line)) x xs)) where
+        -- the lines up to the first that passes the test do not depend on ys, where `b` is the result of the test for x
         go : (b : Bool) → b || list_any found xs ≡ true → (list_any found xs ≡ true → before (xs ++ ys) ≡ before xs)
             → cond (not b) (x ∷ before (xs ++ ys)) [] ≡ cond (not b) (x ∷ before xs) []
         go true has_found more = refl
         go false has_found more = ap (λ t. x ∷ t) (more has_found)
 
-  -- these lines are fewer, if there is such a line
+  -- the lines before the first that passes the test are fewer than all lines, if there is such a line
   before-shorter : (xs : List (List ℕ)) → list_any found xs ≡ true → length (before xs) + 1 ≤ length xs
   before-shorter [] some_pass = cc
   before-shorter (x ∷ xs) has_found =
       subst (λ (t : List (List ℕ)). length t + 1 ≤ length (x ∷ xs)) (sym (take_while-cons (λ line. not (found line)) x xs))
       (go (found x) has_found (before-shorter xs)) where
+        -- the lines before the first that passes the test are fewer than all lines, where `b` is the result of the test for x
         go : (b : Bool) → b || list_any found xs ≡ true → (list_any found xs ≡ true → length (before xs) + 1 ≤ length xs)
             → length (cond (not b) (x ∷ before xs) []) + 1 ≤ length (x ∷ xs)
         go true has_found more = omega arith
@@ -43,17 +45,19 @@ module _ (found : List ℕ → Bool) where
 
 -- ---- whole lines
 
--- the rest of a text of whole lines is one, and has a line feed if its first byte is none
+-- in a text of whole lines, the first byte or a later one is a line feed, and the rest consists of whole lines
 whole_tail : (x : ℕ) (xs : List ℕ) → through_last_feed (x ∷ xs) ≡ x ∷ xs → (nat_eq x 10 || has_feed xs ≡ true) × (through_last_feed xs ≡ xs)
 whole_tail x xs = go (nat_eq x 10 || has_feed xs) where
+  -- a text of whole lines has a line feed in x or after it, where `b` states whether it has one, and its rest consists of whole lines
   go : (b : Bool) → cond b (x ∷ through_last_feed xs) [] ≡ x ∷ xs → (b ≡ true) × (through_last_feed xs ≡ xs)
   go true is = (refl, ap (drop 1) is)
   go false is = cc
 
--- a text of whole lines without its first line is one
+-- the text after the first line of a text of whole lines consists of whole lines
 after_line-whole : (xs : List ℕ) → through_last_feed xs ≡ xs → through_last_feed (after_line xs) ≡ after_line xs
 after_line-whole [] whole = refl
 after_line-whole (x ∷ xs) whole = let all = (whole_tail x xs whole).1 in go (nat_eq x 10) all (after_line-whole xs all) where
+  -- the text after the first line consists of whole lines, where `b` states whether x is a line feed
   go : (b : Bool) → through_last_feed xs ≡ xs → through_last_feed (after_line xs) ≡ after_line xs
       → through_last_feed (cond b xs (after_line xs)) ≡ cond b xs (after_line xs)
   go true all more = all
@@ -63,6 +67,7 @@ after_line-whole (x ∷ xs) whole = let all = (whole_tail x xs whole).1 in go (n
 after_line-append : (xs ys : List ℕ) → has_feed xs ≡ true → after_line (xs ++ ys) ≡ after_line xs ++ ys
 after_line-append [] ys feed = cc
 after_line-append (x ∷ xs) ys feeds = go (nat_eq x 10) feeds (after_line-append xs ys) where
+  -- a text appended after a line feed is appended to the text after the first line, where `b` states whether x is a line feed
   go : (b : Bool) → b || has_feed xs ≡ true → (has_feed xs ≡ true → after_line (xs ++ ys) ≡ after_line xs ++ ys)
       → cond b (xs ++ ys) (after_line (xs ++ ys)) ≡ cond b xs (after_line xs) ++ ys
   go true feeds more = refl
@@ -73,7 +78,7 @@ has_line : (xs : List ℕ) (n : ℕ) → through_last_feed xs ≡ xs → n + 1 �
 has_line [] n whole some = absurd (omega (arith, some))
 has_line (x ∷ xs) n whole some = (whole_tail x xs whole).0
 
--- a text of whole lines without n lines is one
+-- the text after the first n lines of a text of whole lines consists of whole lines
 after_lines-whole : (n : ℕ) (xs : List ℕ) → through_last_feed xs ≡ xs → through_last_feed (after_lines n xs) ≡ after_lines n xs
 after_lines-whole zero xs whole = whole
 after_lines-whole (suc n) xs whole = after_lines-whole n (after_line xs) (after_line-whole xs whole)
@@ -83,7 +88,7 @@ one_less : (lines : List (List ℕ)) (n : ℕ) → suc n ≤ length lines → n 
 one_less [] n some = absurd (omega (arith, some))
 one_less (line ∷ lines) n some = omega (arith, some)
 
--- the text after n lines, with more text at its end
+-- the text after n lines is followed by a text that is appended to the whole text
 after_lines-append : (n : ℕ) (xs ys : List ℕ) → through_last_feed xs ≡ xs → n ≤ length (lines_of xs)
     → after_lines n (xs ++ ys) ≡ after_lines n xs ++ ys
 after_lines-append zero xs ys whole some = refl
@@ -109,7 +114,7 @@ module _ (prefix : List ℕ) (whole : through_last_feed prefix ≡ prefix) (sepa
       ap (λ (lines : List (List ℕ)). after_lines (length lines + 1) (prefix ++ rest)) (same_before rest)
       ∙ after_lines-append (length (before_separator (lines_of prefix)) + 1) prefix rest whole (before-shorter is_separator (lines_of prefix) separated)
 
-  -- the lines of the script are those in the prefix, followed by those of the rest
+  -- the lines of the script are the lines of the prefix after its separator, followed by the lines of the rest
   pub script_lines-prefix : (rest : List ℕ) → lines_of (after_separator (prefix ++ rest)) ≡ lines_of (after_separator prefix) ++ lines_of rest
   script_lines-prefix rest =
       ap lines_of (after_separator-prefix rest)

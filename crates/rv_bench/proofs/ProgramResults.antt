@@ -1,4 +1,4 @@
--- The output of the program, by its effects.
+-- This file proves that the effects of the program give its output.
 use Rattle.std.proofs.Common.{◌≡◌, ◌⊎◌, ℕ, List, ◌++◌, inl, inr, Result, Ok, Err, refl, sym, ap, subst}
 use Rattle.std.specs.Result.{IsOkAnd}
 use Rattle.clap.specs.Words.{Text}
@@ -42,7 +42,7 @@ module _ {S W : Type 0} (g : SourceGhosts S) (h : SinkGhosts W) (source left : S
       (λ writes. inl (subst (λ result. Writes g h source left before after (output_of result) 1) (sym is) writes)) refl
   fails job fault told (inr memory) = tries (Ok job) (fault_text fault) 1 told (λ writes. inr (output_of (Err fault), (fault, memory, refl), writes)) refl
 
-  -- the arguments name no job
+  -- if the arguments name no job, the program ends with their fault
   refuses : (fault : WordsFault) (status : ℕ) → Refuses h before after fault status → Ends (Err fault) status
   refuses words.Refused status (told, is) = subst (Ends (Err words.Refused)) (sym is) (tries (Err words.Refused) _ 2 told (λ writes. inl writes) refl)
   refuses words.NoMemory status (told, is) = subst (Ends (Err words.NoMemory)) (sym is) (tries (Err words.NoMemory) _ 1 told (λ writes. inl writes) refl)
@@ -92,7 +92,7 @@ runs_program g h source left before after given status (inr refused) = record {
   writes = λ follows. refuses g h source left before after refused.fault status refused.refuses;
 }
 
--- arguments that name no job
+-- the program writes the fault of arguments that name no job, and reads nothing
 pub runs_refused : {S W : Type 0} (g : SourceGhosts S) (h : SinkGhosts W) (source : S) (before after : W) (IsMeaning : Result Job WordsFault → Type 0)
     (fault : WordsFault) (status : ℕ) → IsMeaning (Err fault) → Refuses h before after fault status
     → RunsProgram g h source source before after IsMeaning status

@@ -1,9 +1,9 @@
--- The replies to lines, one after another.
+-- This file is about the replies to lines, one after another.
 use Rattle.std.proofs.Common.{◌≡◌, ℕ, List, [], ◌∷◌, ◌++◌, refl, sym, ◌∙◌, ap, append_assoc, append-nil}
 use Rattle.rv_bench.specs.Replies.{Replied, replies, state_after}
 
 module _ {A : Type 0} (respond : A → List ℕ → Replied A) where
-  -- the replies to two lists of lines are those to the first, and then those to the second from the state after the first
+  -- the replies to two lists of lines are the replies to the first, followed by the replies to the second from the state after the first
   pub replies-append : (start : A) (xs ys : List (List ℕ))
       → replies respond start (xs ++ ys) ≡ replies respond start xs ++ replies respond (state_after respond start xs) ys
   replies-append start [] ys = refl

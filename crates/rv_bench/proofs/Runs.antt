@@ -1,4 +1,4 @@
--- A run, line by line.
+-- This file describes a run, line by line.
 use Rattle.std.proofs.Common.{◌≡◌, ℕ, Bool, false, not, length, inl, inr, Result, Ok, arith, List, [], ◌∷◌, ◌++◌, take, refl, sym}
 use Rattle.std.proofs.Common.{◌∙◌, ap, subst, append_assoc, append-nil, lit≤}
 use Rattle.std.proofs.lemmas.Bool.{false≢true}
@@ -39,7 +39,7 @@ RespondsToLine-same {old = old} {now = now} {line = line} {responded = responded
 -- ---- the lines so far
 
 module _ {A : Type 0} {by : Responding A} {end : ScriptEnd} {start : A} {unread old : List ℕ} where
-  -- before the first line, the responses are those to no lines
+  -- before the first line, there is no response
   pub RespondsToLines-none : {is_at_end : Bool} → RespondsToLines by end start unread old start unread is_at_end old
   RespondsToLines-none {is_at_end = is_at_end} = record {
     lines = [];
@@ -120,7 +120,7 @@ module _ {A : Type 0} {by : Responding A} {end : ScriptEnd} {start : A} {unread 
 
 module _ {A : Type 0} {by : Responding A} {end : ScriptEnd} {start : A} {unread old mid : List ℕ} {after : A} {rest : List ℕ}
     {ends : Bool} {reply : List ℕ} (next : RespondsToNext by end start unread old mid after rest ends reply) where
-  -- the lines so far, with one more
+  -- `lines` has the lines so far, and one more
   abbrev lines : List (List ℕ)
   lines = next.so_far.lines ++ next.takes.line ∷ []
 
@@ -139,7 +139,7 @@ module _ {A : Type 0} {by : Responding A} {end : ScriptEnd} {start : A} {unread 
   pub RespondsToNext-state : after ≡ state_after by.respond start lines
   RespondsToNext-state = sym (state_after-append by.respond start next.so_far.lines (next.takes.line ∷ []) ∙ ap (λ (a : Replied A). a.state) next_response)
 
-  -- the lines taken from the source are those of the script so far, with the last one
+  -- the lines taken from the source are the lines of the script so far, and the last one
   pub RespondsToNext-taken : TakesScript end unread rest ends lines
   RespondsToNext-taken = record {
     reads = ReadsLines-more unread next.left rest ends next.shown next.so_far.lines next.so_far.taken.reads next.takes;
@@ -161,7 +161,7 @@ module _ {A : Type 0} {by : Responding A} {end : ScriptEnd} {start : A} {unread 
         ∙ ap (λ (a : Replied A). replies by.respond start so_far.lines ++ a.reply) next_response))));
   }
 
-  -- the sink stops within it
+  -- if the sink fails within the reply to a line, the script stops at this write
   pub RespondsToNext-stops : {new : List ℕ} → WritesPrefix mid new reply → StopsAtWrite by end start unread rest old new
   RespondsToNext-stops stops =
       let so_far = next.so_far in
@@ -267,7 +267,7 @@ module _ {S W : Type 0} {g : SourceGhosts S} (h : SinkGhosts W) where
         | inr run ↦ absurd (false≢true run.over)
       ]
 
-      -- the sink failed after the replies: the meaning of a write error
+      -- a failure of the sink after the replies is the write error of the run
       pub one_bench-fails : SinkFailed h mid after → FailsIn h one_bench end start old new before after Write
       one_bench-fails failed = elim responds.stopped [
         | inl run ↦

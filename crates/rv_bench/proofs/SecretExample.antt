@@ -21,15 +21,15 @@ use Rattle.rv_bench.specs.Replies.{bench_line, state_after}
 use Rattle.rv_streams.proofs.Mapped.{IsOkAnd-at}
 use Rattle.rv_bench.proofs.NoninterferenceLemmas.{secret_noninterference}
 
--- lines that poke a key
+-- `key` has lines that poke a key
 abbrev key : List ℕ
 key = codes "poke 80020000 41\n# that was the key\n"
 
--- lines that poke another key
+-- `other_key` has lines that poke another key
 abbrev other_key : List ℕ
 other_key = codes "poke 80020ffc 5a\n# that was the key\n"
 
--- the rest of the script
+-- `rest` is the rest of the script
 abbrev rest : List ℕ
 rest = codes "enclaves\nregs\n"
 

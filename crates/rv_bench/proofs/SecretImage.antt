@@ -1,4 +1,4 @@
--- The memory of the closed instance after its image is loaded.
+-- This file computes the memory of the closed instance after its image is loaded.
 use Rattle.std.proofs.Common.{◌≡◌, ◌<◌, ℕ, ◌+◌, ◌-◌, Bool, true, false, List, [], ◌∷◌, ◌++◌, length, replicate, get_or, refl, sym, ◌∙◌, ap, inl, inr, arith}
 use Rattle.std.specs.Prelude.{map, nat_lt}
 use Rattle.std.specs.List.{range_with_len}
@@ -12,25 +12,25 @@ use Rattle.rv_elf.specs.Segments.{has_address, occupying, raw_segments}
 use Rattle.rv_elf.specs.declared.segment.Segment.{Segment}
 use Rattle.rv_debug.specs.SecretRun.{calling_host}
 
--- the memory after the load: the host's code at 80010000, and zeros elsewhere
+-- `loaded` is the memory after the load: the host's code at 80010000, and zeros elsewhere
 abbrev pub loaded : List ℕ
 loaded = replicate 65536 0 ++ (calling_host ++ replicate 65512 0)
 
--- the segment of the raw image
+-- `segment` is the segment of the raw image
 abbrev segment : Segment
 segment = record { offset = 0; address = 0x80010000; file_size = 24; memory_size = 24 }
 
--- the byte at an address after the load
+-- `byte_at_index` is the byte at an address after the load
 abbrev byte_at_index : ℕ → ℕ
 byte_at_index address = byte_after calling_host (segment ∷ []) (replicate 131072 0) address
 
--- a byte outside the segment
+-- a byte of RAM outside the segment is 0 after the load
 outside : (i : ℕ) → i < 131072 → has_address (ram_base + i) segment ≡ false → byte_at_index (ram_base + i) ≡ 0
 outside i inside none =
     let index : ram_base + i - ram_base ≡ i = omega arith in
     rw (none, index) (get_or-replicate {A = ℕ} 131072 i 0 0 inside)
 
--- each byte after the load is that of `loaded`
+-- each byte after the load is the byte of `loaded`
 byte_is : (i : ℕ) → i < 131072 → byte_at_index (ram_base + i) ≡ get_or loaded i 0
 byte_is i inside = elim (cases_lt i 65536) [
   | inl below ↦

@@ -1,4 +1,4 @@
--- The program over a reader and a writer, by their logs.
+-- This file states the effect of the program over a reader and a writer, in terms of their call logs.
 use Rattle.std.proofs.Common.{◌≡◌, ◌<◌, ◌+◌, ◌⊎◌, ℕ, List, [], ◌++◌, inl, inr, Result, Ok, Err, zero, suc, true, refl, sym, ◌∙◌, ap, subst, arith}
 use Rattle.std.specs.Result.{OnErr}
 use Rattle.clap.specs.Words.{Text}
@@ -36,7 +36,7 @@ held_ghosts h = record {
   failures = failures_of h;
 }
 
--- the counts of a sink that holds bytes for another one, which has a log
+-- a sink that holds bytes for another sink with a log has the counts of this log
 pub held_logs : {W : Type 0} (h : SinkGhosts W) (before after : BufferedSink W h) (log : CallLog) → taken_of h before ≡ [] → failures_of h before ≡ 0
     → h.flushes before.sink ≡ 0 → h.taken after.sink ≡ log.bytes → h.is_flushed after.sink ≡ log.is_flushed → failures_of h after ≡ log.failures + log.empty_calls
     → h.flushes after.sink ≡ log.flushes → LogsSink (held_ghosts h) before after log
@@ -58,7 +58,7 @@ one_of_both (suc m) n some = inl (omega arith)
 
 module _ {S W : Type 0} (g : SourceGhosts S) (h : SinkGhosts W) (source left : S) (before after : W) (writer : CallLog)
     (logs : LogsSink h before after writer) where
-  -- the program's output passed to standard output
+  -- standard output gets the output of the program
   passed : (output : ProgramOutput) (status : ℕ) → Writes g h source left before after output status → Passed writer output status
   passed output status writes = let worked = writes.sink.worked in record {
     bytes = sym (logs.taken writes.sink.flushed) ∙ (writes.written ∙ ap (λ taken. taken ++ output.text) logs.nothing);
@@ -69,14 +69,14 @@ module _ {S W : Type 0} (g : SourceGhosts S) (h : SinkGhosts W) (source left : S
     status_is = writes.status_is;
   }
 
-  -- the output for the arguments passed to standard output, or memory ran out
+  -- standard output gets the output for the arguments, or another output if memory runs out
   outputs : (read : Result Job WordsFault) (input : List ℕ) (status : ℕ) → WritesOutput g h source left before after read input status
       → Passed writer (program_output read input) status
       ⊎ ((output : ProgramOutput) × StopsOutOfMemory read input output × Passed writer output status)
   outputs read input status (inl writes) = inl (passed (program_output read input) status writes)
   outputs read input status (inr (output, stops, writes)) = inr (output, stops, passed output status writes)
 
-  -- a failure of the sink is one of standard output
+  -- a failure of the sink is a failure of standard output, or a call that took no byte
   sink_failed : SinkFailed h before after → (0 < writer.failures) ⊎ (0 < writer.empty_calls)
   sink_failed (inl risen) = one_of_both writer.failures writer.empty_calls (omega (arith, risen, logs.failures))
   sink_failed (inr risen) = one_of_both writer.failures writer.empty_calls (omega (arith, risen, logs.failures))
@@ -86,7 +86,7 @@ module _ {S W : Type 0} (g : SourceGhosts S) (h : SinkGhosts W) (source left : S
   read_nothing (Ok job) Nothing none same = tt
   read_nothing (Err fault) Nothing none same = none same
 
-  -- the result over standard input and output, for arguments that are read or refused
+  -- the program over standard input and output has its specified result, whether its arguments are read or refused
   pub runs_over : (given : Result (List Text) WordsFault) (input : List ℕ) (reader : CallLog) (status : ℕ)
       → (g.input left ≡ g.input source → Gave reader input → g.follows_input left) → g.remaining source ≡ input → g.failures source ≡ 0 → g.failures left ≡ reader.failures
       → (left ≡ source → reader ≡ no_call input)

@@ -1,4 +1,4 @@
--- The bench that an image starts.
+-- This file is about the bench that an image starts.
 use Rattle.std.proofs.Common.{◌≡◌, ℕ, Bool, true, false, cond, List, length, replicate, Result, Ok, Err, IfOk, refl, ◌∙◌}
 use Rattle.rv_word.specs.Cases.{result_case}
 use Rattle.rv_memory.specs.Harts.{number_of_harts}
@@ -23,11 +23,11 @@ pub bench_of-ok : (image : List ℕ) (setup : Setup) (plan : LoadPlan) (zeros me
     → bench ≡ reset_over setup memory entry → Ok bench ≡ bench_of image setup
 bench_of-ok image setup plan zeros memory entry bench plans made loads enters bench_is = rw (plans, bench_is, enters, loads, made) refl
 
--- an image that cannot be loaded
+-- an image that cannot be loaded has its error as the result
 pub bench_of-err : (image : List ℕ) (setup : Setup) (fault : ElfFault) → planned image setup ≡ Err fault → Err fault ≡ bench_of image setup
 bench_of-err image setup fault faulty = rw faulty refl
 
--- the result if there is a RAM
+-- if there is a RAM, the bench of the image starts
 pub started_ok : (image : List ℕ) (setup : Setup) (bench : BenchState) → is_ram_size setup.ram ≡ true → Ok bench ≡ bench_of image setup
     → started image setup ≡ Ok bench
 unfolding started
@@ -39,7 +39,7 @@ pub started_err : (image : List ℕ) (setup : Setup) (fault : ElfFault) → is_r
 unfolding started
 started_err image setup fault valid bench_is = rw (valid, ← bench_is) refl
 
--- a RAM of an invalid size
+-- a RAM of an invalid size is an error
 pub no_ram : (image : List ℕ) (setup : Setup) → is_ram_size setup.ram ≡ false → started image setup ≡ Err (Ram BadSize)
 unfolding started
 no_ram image setup invalid = rw invalid refl
@@ -48,6 +48,7 @@ no_ram image setup invalid = rw invalid refl
 pub has_ram : (image : List ℕ) (setup : Setup) (bench : BenchState) → started image setup ≡ Ok bench → is_ram_size setup.ram ≡ true
 unfolding started
 has_ram image setup bench started_is = go (is_ram_size setup.ram) started_is where
+  -- a bench can only be the result if the test of the RAM size, b, is true
   go : (b : Bool)
       → cond b (result_case (bench_of image setup) Ok (λ fault. Err (Image fault))) (Err (Ram BadSize)) ≡ Ok bench → b ≡ true
   go true e = refl
@@ -57,6 +58,7 @@ has_ram image setup bench started_is = go (is_ram_size setup.ram) started_is whe
 pub fault_has_ram : (image : List ℕ) (setup : Setup) (fault : ElfFault) → started image setup ≡ Err (Image fault) → is_ram_size setup.ram ≡ true
 unfolding started
 fault_has_ram image setup fault started_is = go (is_ram_size setup.ram) started_is where
+  -- an error of the image can only be the result if the test of the RAM size, b, is true
   go : (b : Bool)
       → cond b (result_case (bench_of image setup) Ok (λ fault. Err (Image fault))) (Err (Ram BadSize)) ≡ Err (Image fault) → b ≡ true
   go true e = refl
@@ -72,6 +74,7 @@ loaded_size image setup plan =
 -- a bench at reset has the invariant
 reset_keeps : (setup : Setup) (memory : List ℕ) (entry : ℕ) → is_ram_size (length memory) ≡ true → TargetInvariant (reset_over setup memory entry).target
 reset_keeps setup memory entry valid = go setup.monitored where
+  -- a bench at reset satisfies the invariant, whether or not it is monitored
   go : (monitored : Bool) → TargetInvariant (reset_over (record setup { monitored = monitored }) memory entry).target
   go false = tt
   go true = start_invariant memory entry (number_of_harts setup.harts) valid
@@ -80,6 +83,8 @@ reset_keeps setup memory entry valid = go setup.monitored where
 pub started_keeps : (image : List ℕ) (setup : Setup) → IfOk (started image setup) (λ state. TargetInvariant state.target)
 unfolding started
 started_keeps image setup = go (is_ram_size setup.ram) refl (planned image setup) where
+  -- each bench that starts has the invariant, where `valid` states whether the RAM has a valid size, and `plan` is the plan of the image or its
+  -- error
   go : (valid : Bool) → is_ram_size setup.ram ≡ valid → (plan : Result LoadPlan ElfFault)
       → IfOk
       (cond valid (result_case (result_case plan (λ plan. Ok (reset_over setup (memory_loaded image setup plan) plan.entry)) Err) Ok

@@ -1,4 +1,4 @@
--- A run over an input, from its image and its script.
+-- This file derives the meaning of a run over an input from its image and its script.
 use Rattle.std.proofs.Common.{◌≡◌, ℕ, List, ◌++◌, inr, Result, Ok, Err, refl, sym, ◌∙◌, ap, subst, arith}
 use Rattle.std.specs.Result.{IsOkAnd}
 use Rattle.rv_text.specs.Lines.{lines_of}
@@ -49,7 +49,7 @@ module _ {S W : Type 0} {g : SourceGhosts S} (h : SinkGhosts W) (setup : Setup) 
   fault_is : (fault : BenchFault) → started image setup ≡ Err fault → g.follows_input mid.source → output setup (unread old) ≡ Err fault
   fault_is fault starts follows = ap (λ m. replies_of m (lines_of (after_separator (unread old)))) (bench_is (Err fault) starts follows)
 
-  -- a failure of the source after the image is one of the whole source
+  -- a failure of the source after the image is a failure of the source in the whole call
   failed : SourceFailed g mid.source new.source → SourceFailed g old.source new.source
   failed risen = let same = reads.source in omega (arith, risen, same)
 

@@ -41,7 +41,7 @@ use Rattle.rv_bench.proofs.NoninterferenceLemmas.{bench_keeps}
 use Rattle.rv_bench.proofs.RepliesLemmas.{state_after-append}
 use Rattle.rv_bench.proofs.IntegrityLemmas.{keeps_lines, stream_integrity}
 
--- both benches after a command, as the result of a line
+-- `with_line` is the result of a line whose command had this result on both benches
 abbrev with_line : BothExecuted → BothLine → BothLineExecuted
 with_line after line =
     record { first = after.first; second = after.second; first_reply = after.first_reply; second_reply = after.second_reply; line = line }
@@ -49,11 +49,11 @@ with_line after line =
 module _ (slot : ℕ) where
   -- ---- one command
 
-  -- both benches after a command that both execute
+  -- `done` is the result of a command that both benches execute
   abbrev done : BenchState → BenchState → Command → BothExecuted
   done a b c = both_do slot (execute a c) (execute b c)
 
-  -- both execute a command that is blind in both; neither executes any other
+  -- `after_if` is the result of a command: both benches execute it if it is blind in both, and neither executes any other
   abbrev after_if : Bool → BenchState → BenchState → Command → BothExecuted
   after_if blind a b c = if blind then done a b c else record { first = a; second = b; first_reply = []; second_reply = []; why = NotBlind }
 
@@ -70,7 +70,7 @@ module _ (slot : ℕ) where
     pub first : after.first ≡ after_commands a (done_by_both after.why c)
     pub second : after.second ≡ after_commands b (done_by_both after.why c)
 
-  -- each bench after a command that both execute is that after the command
+  -- after a command that both benches execute, each bench is in the state after the command
   ended : (x : Bool) (a : BenchState) (c : Command) → (execute a c).state ≡ after_commands a (done_by_both (if x then Entered else All) c)
   ended true a c = refl
   ended false a c = refl
@@ -90,6 +90,7 @@ module _ (slot : ℕ) where
       → Becomes a b c (both_execute slot a b c)
   unfolding both_execute
   becomes a b c kept kept' together = go (is_blind slot a c && is_blind slot b c) (both_alike slot a b c kept kept') where
+    -- a command keeps the benches together or ends the list, where `blind` states whether the command is blind to the slot in both benches
     go : (blind : Bool) → StayAlike slot a b c (after_if blind a b c) → Becomes a b c (after_if blind a b c)
     go true alike = record {
       first_kept = keeps_monitor a c kept;
@@ -119,7 +120,7 @@ module _ (slot : ℕ) where
     pub first : TargetInvariant pair.first.target
     pub second : TargetInvariant pair.second.target
 
-  -- the result of a line with this command on both benches
+  -- `of_command` is the result of a line with this command on both benches
   abbrev of_command : Command → BothExecuted → BothWhy → Pair → Replied Pair
   of_command command after why pair = done_by (Given why (has_no_command command)) (with_line after (Given after.why (has_no_command command))) pair.ran
 
@@ -142,6 +143,7 @@ module _ (slot : ℕ) where
   line_going : (pair : Pair) (line : List ℕ) → Going pair → Going (pair_line slot pair line).state
   unfolding pair_line
   line_going pair line going = go pair.entered refl where
+    -- a line keeps a pair that goes on, where `entered` states whether the slot was entered before the line
     go : (entered : Bool) → pair.entered ≡ entered
         → Going (if entered then record { state = pair; reply = [] } else pair_replied pair (both_execute_line slot pair.first pair.second line)).state
     go true is = going
@@ -157,6 +159,7 @@ module _ (slot : ℕ) where
   -- the replies of both benches to a line are equal
   told_alike : (pair : Pair) (line : List ℕ) → Going pair → pair.entered ≡ false → RepliesAlikeTo slot pair line
   told_alike pair line going unentered = go (parse_of line) where
+    -- the two replies to a parsed line are equal, if both benches execute its command
     go : (parsed : Result Command CommandFault) → IfOk parsed (λ command.
         let after = both_execute slot pair.first pair.second command in
         after.why ≡ All → after.first_reply ≡ after.second_reply)
@@ -177,23 +180,24 @@ module _ (slot : ℕ) where
     pub first : end.first ≡ after_commands pair.first commands
     pub second : end.second ≡ after_commands pair.second commands
 
-  -- the benches after a command are those after the commands that both executed
+  -- after a command, the benches are in the state after the commands that both executed
   done_follows : (pair : Pair) (command : Command) (after : BothExecuted) (why : BothWhy) → after.why ≡ why
       → Becomes pair.first pair.second command after → Follows pair (done_by_both why command) (of_command command after why pair).state
   done_follows pair command after why why_is becomes = record {
     first = (left why).0 ∙ becomes.first ∙ ap (λ (why : BothWhy). after_commands pair.first (done_by_both why command)) why_is;
     second = (left why).1 ∙ becomes.second ∙ ap (λ (why : BothWhy). after_commands pair.second (done_by_both why command)) why_is;
   } where
-    -- the benches of the pair after the command
+    -- the benches of the pair after a line are those after the command, for each reason
     left : (why : BothWhy) → (let end = (of_command command after why pair).state in (end.first ≡ after.first) × (end.second ≡ after.second))
     left All = (refl, refl)
     left Entered = (refl, refl)
     left NotBlind = (refl, refl)
 
-  -- the benches after a line are those after the commands that both executed
+  -- after a line, the benches are in the state after the commands that both executed
   line_follows : (pair : Pair) (line : List ℕ) → Going pair → Follows pair (done_in_line slot pair line) (pair_line slot pair line).state
   unfolding pair_line
   line_follows pair line going = go pair.entered refl (parse_of line) where
+    -- the benches after a parsed line are those after the commands that both executed, where `entered` states whether the slot was entered before
     go : (entered : Bool) → pair.entered ≡ entered → (parsed : Result Command CommandFault)
         → Follows pair
         (if entered then [] else result_case parsed (λ command. done_by_both (both_execute slot pair.first pair.second command).why command) (λ _. []))
@@ -204,12 +208,12 @@ module _ (slot : ℕ) where
         (becomes pair.first pair.second command going.first going.second (going.equiv is))
     go false is (Err fault) = record { first = refl; second = refl }
 
-  -- the bench after two lists of commands, one after the other
+  -- the bench after two lists of commands is the bench after the second, from the bench after the first
   commands-append : (bench : BenchState) (xs ys : List Command) → after_commands bench (xs ++ ys) ≡ after_commands (after_commands bench xs) ys
   commands-append bench [] ys = refl
   commands-append bench (x ∷ xs) ys = commands-append (execute bench x).state xs ys
 
-  -- the benches after lines are those after the commands that both executed
+  -- after lines, the benches are in the state after the commands that both executed
   lines_follow : (pair : Pair) (lines : List (List ℕ)) → Going pair
       → Follows pair (commands_done slot pair lines) (state_after (pair_line slot) pair lines)
   lines_follow pair [] going = record { first = refl; second = refl }
@@ -251,6 +255,7 @@ module _ (slot : ℕ) where
   -- the pair of a bench and its scrambled copy goes on
   start_going : (bench : BenchState) → TargetInvariant bench.target → IfSome (make_pair slot bench) Going
   start_going bench kept = go (can_scramble slot bench) refl where
+    -- the pair of the slot goes on, if the slot can be scrambled
     go : (may : Bool) → can_scramble slot bench ≡ may
         → IfSome (if may then Some (record { first = bench; second = scrambled slot bench; ran = 0; entered = false }) else None) Going
     go true is =
@@ -268,11 +273,12 @@ module _ (slot : ℕ) where
 of_pair : (Law : Pair → Type 0) (slot : ℕ) → ((pair : Pair) → Going slot pair → Law pair) → (setup : Setup) (input : List ℕ)
     → OfPair setup slot input Law
 of_pair Law slot law setup input = go (bench_in (monitored_setup setup) input) (bench_keeps (monitored_setup setup) input) where
-  -- the law for the pair of the slot, if it has one
+  -- the law holds for the pair of the slot, if there is one
   some : (pair : Option Pair) → IfSome pair (Going slot) → IfSome pair Law
   some (Some pair) going = law pair going
   some None going = tt
 
+  -- the law holds of the pair of the bench that the input starts
   go : (bench : Result BenchState BenchFault) → IfOk bench (λ state. TargetInvariant state.target)
       → IfOk bench (λ bench. IfSome (make_pair slot (after_first_script bench (after_separator input))) Law)
   go (Ok bench) kept =

@@ -1,4 +1,4 @@
--- A twin run over an input, from its image and its two scripts.
+-- This file derives the meaning of a twin run over an input from its image and its two scripts.
 use Rattle.std.proofs.Common.{◌≡◌, ℕ, true, false, List, ◌++◌, inl, inr, Option, Some, None, Result, Ok, Err, refl, sym, ◌∙◌, ap}
 use Rattle.std.proofs.Common.{subst, arith, append_assoc}
 use Rattle.std.specs.Option.{IsSomeAnd}
@@ -118,7 +118,7 @@ module _ {S W : Type 0} {g : SourceGhosts S} (h : SinkGhosts W) (setup : Setup) 
     has_size = has_ram image (monitored_setup setup) bench starts
 
     module _ (new : Lines S g) (after : W) (script_end : EndsWithSource mid new) where
-      -- the source failed in the first script
+      -- a failure of the source in the first script is the read error of the twin run
       first_read : RunsLines h Separator bench mid new before after (Err Read) → RunsTwin h setup slot old new before after (Err Read)
       first_read run =
           let same = read.through.source in
@@ -134,7 +134,7 @@ module _ {S W : Type 0} {g : SourceGhosts S} (h : SinkGhosts W) (setup : Setup) 
             ),
           )
 
-      -- the sink failed in the first script
+      -- a failure of the sink in the first script is the write error of the twin run
       first_write : RunsLines h Separator bench mid new before after (Err Write) → RunsTwin h setup slot old new before after (Err Write)
       first_write run = (
         has_size,
@@ -163,11 +163,11 @@ module _ {S W : Type 0} {g : SourceGhosts S} (h : SinkGhosts W) (setup : Setup) 
     -- ---- after the first script, the slot is scrambled in the second bench
 
     module _ (ran : RunsFirst h bench mid before) (new : Lines S g) (after : W) (second_end : EndsWithSource ran.next new) where
-      -- the lines after the first script
+      -- `next` has the unread lines after the first script
       abbrev next : Lines S g
       next = ran.next
 
-      -- the bench after the first script
+      -- `then` is the bench after the first script
       abbrev then : BenchState
       then = ran.then
 
@@ -175,7 +175,7 @@ module _ {S W : Type 0} {g : SourceGhosts S} (h : SinkGhosts W) (setup : Setup) 
       abbrev first : RunsLines h Separator bench mid ran.next before ran.between (Ok tt)
       first = ran.runs
 
-      -- the pair after the first script of the text
+      -- `pair_at` is the pair after the first script of a text
       abbrev pair_at : List ℕ → Option Pair
       pair_at scripts = make_pair slot (after_first_script bench scripts)
 
@@ -183,7 +183,7 @@ module _ {S W : Type 0} {g : SourceGhosts S} (h : SinkGhosts W) (setup : Setup) 
       pair_is : g.follows_input next.source → make_pair slot then ≡ pair_at (unread mid)
       pair_is follows = ap (make_pair slot) (ran.state follows)
 
-      -- the replies to the first script and the second text are those of both scripts
+      -- the replies to the first script and the text of the second script are the text of both scripts
       text_is : (text : List ℕ) → (follows : g.follows_input next.source) → second_text slot (make_pair slot then) (unread next) ≡ text
           → first_text bench (unread mid) ++ text ≡ scripts_text slot bench (unread mid)
       text_is text follows same =
@@ -201,7 +201,7 @@ module _ {S W : Type 0} {g : SourceGhosts S} (h : SinkGhosts W) (setup : Setup) 
       of_rest follows P holds =
           subst (P (pair_at (unread mid))) (first.reads.rest follows) (subst (λ (pair : Option Pair). P pair (unread next)) (pair_is follows) holds)
 
-      -- a property of the second script and the pair is one of the whole input
+      -- a property of the second script and its pair is a property of the whole input
       of_scripts : g.follows_input next.source → (P : Option Pair → List ℕ → Type 0) → P (make_pair slot then) (unread next)
           → IsOkAnd (bench_in (monitored_setup setup) (unread old))
           (λ bench. P (make_pair slot (after_first_script bench (after_separator (unread old)))) (after_separator (after_separator (unread old))))
@@ -259,7 +259,7 @@ module _ {S W : Type 0} {g : SourceGhosts S} (h : SinkGhosts W) (setup : Setup) 
                   ))),
             ),
           ) where
-            -- a failed read in the second script, by the pair and the text
+            -- a read in the second script has failed, where the arguments are the pair and the unread text
             Stops : Option Pair → List ℕ → Type 0
             Stops pair script = IsSomeAnd pair
                 (λ pair. StopsAtRead (both_benches slot) Input pair script (g.remaining new.source) (held new)
@@ -284,7 +284,7 @@ module _ {S W : Type 0} {g : SourceGhosts S} (h : SinkGhosts W) (setup : Setup) 
             (inr (of_rest (second_end.before follows) Stops
             (write_after slot (make_pair slot then) _ _ _ _ _ (first.written (second_end.before follows)) (run.1 follows))))),
       ) where
-        -- a failed write in the second script, by the pair and the text
+        -- a write in the second script has failed, where the arguments are the pair and the unread text
         Stops : Option Pair → List ℕ → Type 0
         Stops pair script = StopsSecondAtWrite slot pair script (unread new) (h.taken before ++ first_text bench (unread mid)) (h.taken after)
       second_part (Err _) run = absurd run

@@ -28,7 +28,7 @@ abbrev pub observed_line : ℕ → BenchState → List ℕ → Replied BenchStat
 observed_line e bench line =
     record { state = (bench_line bench line).state; reply = result_case (parse_of line) (observed e bench) command_fault_text }
 
--- what others observe of the output for an input, or the error
+-- others observe this output for an input, or its error
 abbrev pub observed_output : ℕ → Setup → List ℕ → Result (List ℕ) BenchFault
 observed_output e setup input =
     result_case (bench_in setup input) (λ bench. Ok (replies (observed_line e) bench (lines_of (after_separator input)))) Err

@@ -30,15 +30,15 @@ ScriptInfluenceLaw =
 
 -- ---- events
 
--- the line that selects hart 0 or hart 1
+-- `hart_line` is the line that selects hart 0 or hart 1
 abbrev pub hart_line : ℕ → List ℕ
 hart_line hart = if hart == 0 then codes "hart 0" else codes "hart 1"
 
--- the line that sets or clears the timer line of the selected hart
+-- `timer_line` is the line that sets or clears the timer line of the selected hart
 abbrev pub timer_line : Bool → List ℕ
 timer_line raised = if raised then codes "timer on" else codes "timer off"
 
--- two lines for each event
+-- each event has two lines
 abbrev pub lines_for : List Event → List (List ℕ)
 lines_for [] = []
 lines_for (StepOf hart ∷ more) = hart_line hart ∷ codes "step 1" ∷ lines_for more

@@ -25,26 +25,27 @@ is_read_as_elf Auto image = bytes_eq (take 4 image) magic
 is_read_as_elf Raw image = false
 is_read_as_elf Elf image = true
 
--- the load plan, or the error of the lowest number
+-- `planned` is the load plan, or the error of the lowest number
 abbrev pub planned : List ℕ → Setup → Result LoadPlan ElfFault
 planned image setup =
     if is_read_as_elf setup.kind image then file_plan image setup.ram setup.monitored else raw_plan (length image) setup.ram setup.monitored
 
--- the loaded memory; every byte that the image does not set is 0
+-- `memory_loaded` is the loaded memory; every byte that the image does not set is 0
 abbrev pub memory_loaded : List ℕ → Setup → LoadPlan → List ℕ
 memory_loaded image setup plan = loaded_memory image plan.segments (replicate setup.ram 0)
 
--- the bench at reset with a memory: the image on one hart in mode M, or the host on each hart above the monitor, with hart 0 selected
+-- `reset_over` is the bench at reset with a memory: the image on one hart in mode M, or the host on each hart above the monitor, with hart 0
+-- selected
 abbrev pub reset_over : Setup → List ℕ → ℕ → BenchState
 reset_over setup memory entry =
     if setup.monitored then monitored_bench (at_start memory entry (number_of_harts setup.harts))
     else bare (record { hart = at_reset entry M; memory = memory })
 
--- the bench at reset, with the image in its RAM, or the error of the image
+-- `bench_of` is the bench at reset, with the image in its RAM, or the error of the image
 abbrev pub bench_of : List ℕ → Setup → Result BenchState ElfFault
 bench_of image setup = result_case (planned image setup) (λ plan. Ok (reset_over setup (memory_loaded image setup plan) plan.entry)) Err
 
--- the bench at reset, or the first error: of the RAM's size, then of the image
+-- `started` is the bench at reset, or the first error: of the RAM's size, then of the image
 unfoldable pub started : List ℕ → Setup → Result BenchState BenchFault
 started image setup =
     if is_ram_size setup.ram then result_case (bench_of image setup) Ok (λ fault. Err (Image fault)) else Err (Ram BadSize)

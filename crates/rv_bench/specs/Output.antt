@@ -14,7 +14,7 @@ use Rattle.rv_debug.specs.BenchState.{BenchState}
 abbrev pub replies_of : Result BenchState BenchFault → List (List ℕ) → Result (List ℕ) BenchFault
 replies_of bench script = result_case bench (λ state. Ok (replies bench_line state script)) Err
 
--- the bench that the image of an input starts, or the first error: of the image's text, the RAM's size or the image
+-- `bench_in` is the bench that the image of an input starts, or the first error: of the image's text, the RAM's size or the image
 abbrev pub bench_in : Setup → List ℕ → Result BenchState BenchFault
 bench_in setup input = result_case (image_in input) (λ image. started image setup) Err
 

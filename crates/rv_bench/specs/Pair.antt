@@ -11,20 +11,20 @@ use Rattle.rv_bench.specs.declared.pair.Pair.{Pair}
 
 -- ---- the texts
 
--- the text with the mark before each of its lines
+-- `marked` is the text with the mark before each of its lines
 abbrev pub marked : List ℕ → Bool → List ℕ → List ℕ
 marked mark begins [] = []
 marked mark begins (byte ∷ text) = (if begins then mark else []) ++ byte ∷ marked mark (byte == line_feed) text
 
--- the lines of the first bench's reply, and then those of the second's
+-- `both_text` has the lines of the first bench's reply, and then those of the second's
 abbrev pub both_text : List ℕ → List ℕ → List ℕ
 both_text first second = marked (codes "a: ") true first ++ marked (codes "b: ") true second
 
--- the reply to a command that is blocked
+-- `blind_text` is the reply to a command that is blocked
 abbrev pub blind_text : List ℕ
 blind_text = codes "error blind\n"
 
--- the reply if the slot cannot be scrambled
+-- `no_slot_text` is the reply if the slot cannot be scrambled
 abbrev pub no_slot_text : List ℕ
 no_slot_text = codes "twin no slot\n"
 
@@ -38,7 +38,7 @@ end_text ran = codes "twin end " ++ (decimal ran ++ codes "\n")
 
 -- ---- one line
 
--- the count after one more command; it saturates at the largest `u64`
+-- `one_more` is the count after one more command; it saturates at the largest `u64`
 abbrev pub one_more : ℕ → ℕ
 one_more count = min (count + 1) (2 ^ 64 - 1)
 
@@ -46,7 +46,7 @@ one_more count = min (count + 1) (2 ^ 64 - 1)
 abbrev pub with_line : Bool → ℕ → ℕ
 with_line is_blank ran = if is_blank then ran else one_more ran
 
--- the result of a line on both benches
+-- `done_by` is the result of a line on both benches
 abbrev pub done_by : BothLine → BothLineExecuted → ℕ → Replied Pair
 done_by Faulty both ran = record {
   state = record { first = both.first; second = both.second; ran = ran; entered = false };
@@ -65,7 +65,7 @@ done_by (Given NotBlind is_blank) both ran = record {
   reply = blind_text;
 }
 
--- the pair of benches after a line, and the reply of both
+-- `pair_replied` is the pair of benches after a line, and the reply of both
 abbrev pub pair_replied : Pair → BothLineExecuted → Replied Pair
 pair_replied pair both = done_by both.line both pair.ran
 

@@ -19,7 +19,7 @@ use Rattle.rv_bench.specs.Jobs.{DoesJob}
 
 -- ---- exit statuses
 
--- the exit status: 0 after success, and 1 after an error
+-- `exit_status` is the exit status: 0 after success, and 1 after an error
 abbrev pub exit_status : Outcome → ℕ
 exit_status (Ok _) = 0
 exit_status (Err fault) = 1
@@ -41,7 +41,7 @@ module _ {W : Type 0} (h : SinkGhosts W) where
   abbrev pub TriesToWrite : W → W → List ℕ → Type 0
   TriesToWrite before after text = WritesAll before after text ⊎ WritesOnlyPrefix before after text
 
-  -- the report of an outcome, after the output of the job: the line of its error
+  -- an outcome is reported after the output of the job by the line of its error
   abbrev pub ReportsOutcome : Outcome → W → W → Type 0
   ReportsOutcome (Ok _) before after = after ≡ before
   ReportsOutcome (Err Write) before after = after ≡ before
@@ -74,7 +74,7 @@ module _ {S W : Type 0} (g : SourceGhosts S) (h : SinkGhosts W) (source left : S
   abbrev pub Performs : List Text → ℕ → Type 0
   Performs given status = ((refusals_of given ≡ []) × DoesAndReports (job_of given) status) ⊎ RefusesArguments given status
 
-  -- The same for arguments that may be unreadable. Then the program reports why, and reads nothing.
+  -- The program performs the job of arguments that may be unreadable. If they are, the program reports why, and reads nothing.
   abbrev pub PerformsGiven : Result (List Text) WordsFault → ℕ → Type 0
   PerformsGiven (Ok given) status = Performs given status
   PerformsGiven (Err fault) status = Refuses h before after fault status × (left ≡ source)

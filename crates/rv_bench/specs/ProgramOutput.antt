@@ -31,7 +31,7 @@ use Rattle.rv_bench.specs.Twin.{twin_output}
 
 -- ---- a job
 
--- the output of a job for an input, or the error of the input
+-- `job_output` is the output of a job for an input, or the error of the input
 abbrev pub job_output : Job → List ℕ → Result (List ℕ) BenchFault
 job_output (Run setup) input = output setup input
 job_output (Twin setup slot) input = twin_output setup slot input
@@ -76,41 +76,41 @@ module _ {S W : Type 0} (g : SourceGhosts S) (h : SinkGhosts W) (source left : S
 
 -- ---- the program
 
--- The text that the program writes, and its exit status.
+-- `ProgramOutput` has the text that the program writes, and its exit status
 pub record ProgramOutput : Type 0 where
   pub text : List ℕ
   pub status : ℕ
 
--- the output for the result of a job
+-- `output_of` is the output for the result of a job
 abbrev pub output_of : Result (List ℕ) BenchFault → ProgramOutput
 output_of (Ok text) = record { text = text; status = 0 }
 output_of (Err fault) = record { text = fault_text fault; status = 1 }
 
--- the output for what the arguments mean, and the input
+-- `program_output` is the output for the meaning of the arguments, and the input
 abbrev pub program_output : Result Job WordsFault → List ℕ → ProgramOutput
 program_output (Ok job) input = output_of (job_output job input)
 program_output (Err words.Refused) input = record { text = codes "rvbench: command line\n"; status = 2 }
 program_output (Err words.NoMemory) input = record { text = codes "rvbench: memory\n"; status = 1 }
 program_output (Err (words.Help text)) input = record { text = string_bytes text; status = 0 }
 
--- the exit status if a device failed
+-- `failed_status` is the exit status if a device failed
 abbrev pub failed_status : Result Job WordsFault → ℕ
 failed_status (Ok job) = 1
 failed_status (Err words.Refused) = 2
 failed_status (Err words.NoMemory) = 1
 failed_status (Err (words.Help text)) = 1
 
--- what the arguments mean: their job, or a reason that they have none
+-- the arguments mean a job, or have a reason that they mean none
 abbrev pub Means : List Text → Result Job WordsFault → Type 0
 Means given (Ok job) = (refusals_of given ≡ []) × (job ≡ job_of given)
 Means given (Err fault) = IsFaultOf (refusals_of given) fault
 
--- what arguments mean that may be unreadable
+-- arguments that may be unreadable mean a job, or have a reason that they mean none
 abbrev pub MeansGiven : Result (List Text) WordsFault → Result Job WordsFault → Type 0
 MeansGiven (Ok given) read = Means given read
 MeansGiven (Err fault) read = read ≡ Err fault
 
--- the bytes of each argument
+-- `given_by` has the bytes of each argument
 abbrev pub given_by : {A Z : Type 0} → Result (Vec (String A) Z) WordsFault → Result (List Text) WordsFault
 given_by arguments = result_case arguments (λ words. Ok (map string_bytes words.items)) Err
 

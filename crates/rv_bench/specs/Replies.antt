@@ -24,7 +24,7 @@ abbrev pub state_after : {A : Type 0} → (A → List ℕ → Replied A) → A �
 state_after respond state [] = state
 state_after respond state (line ∷ script) = state_after respond (respond state line).state script
 
--- the reply of a bench
+-- `bench_line` is the reply of a bench to a line, and the bench after the line
 abbrev pub bench_line : BenchState → List ℕ → Replied BenchState
 bench_line bench line = let responded = execute_line bench line in record { state = responded.state; reply = responded.reply }
 

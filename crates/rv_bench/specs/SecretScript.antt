@@ -11,7 +11,7 @@ use Rattle.rv_bench.specs.Declassification.{DifferInEnclave, observed_output}
 use Rattle.rv_bench.specs.Output.{bench_in}
 use Rattle.rv_bench.specs.Replies.{bench_line, state_after}
 
--- the options --monitor --ram 131072 --kind raw
+-- `secret_setup` has the options --monitor --ram 131072 --kind raw
 abbrev pub secret_setup : Setup
 secret_setup = record { kind = Raw; ram = 131072; monitored = true; harts = One }
 
@@ -27,7 +27,7 @@ abbrev pub secret_script : List ℕ → List ℕ
 secret_script digits =
     codes "step 1\npoke 80018100 " ++ (digits ++ codes "\nstep 2\nstep 1\ntimer on\nstep 1\nregs\nstep 3\nstep 1\n")
 
--- an input: the image and the first lines, and then the script with the secret
+-- an input has the image and the first lines, and then the script with the secret
 abbrev pub secret_input : List ℕ → List ℕ
 secret_input digits = secret_prefix ++ secret_script digits
 

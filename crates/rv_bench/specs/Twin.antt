@@ -35,7 +35,7 @@ monitored_setup setup = record setup { monitored = true }
 
 -- ---- the text
 
--- both benches after the first script, which is before the first separator
+-- `after_first_script` is the bench after the lines before the first separator
 abbrev pub after_first_script : BenchState → List ℕ → BenchState
 after_first_script bench input = state_after bench_line bench (before_separator (lines_of input))
 
@@ -43,16 +43,16 @@ after_first_script bench input = state_after bench_line bench (before_separator 
 abbrev pub first_text : BenchState → List ℕ → List ℕ
 first_text bench input = replies bench_line bench (before_separator (lines_of input))
 
--- the text for the second script, which is the rest of the input, once the benches differ
+-- `second_text` is the text for the second script, which is the rest of the input, once the benches differ
 abbrev pub second_text : ℕ → Option Pair → List ℕ → List ℕ
 second_text slot None input = no_slot_text
 second_text slot (Some pair) input = script_text slot pair (lines_of input)
 
--- the text for both scripts
+-- `scripts_text` is the text for both scripts
 abbrev pub scripts_text : ℕ → BenchState → List ℕ → List ℕ
 scripts_text slot bench input = first_text bench input ++ second_text slot (make_pair slot (after_first_script bench input)) (after_separator input)
 
--- the text for a whole input, or the error of its image
+-- `twin_output` is the text for a whole input, or the error of its image
 abbrev pub twin_output : Setup → ℕ → List ℕ → Result (List ℕ) BenchFault
 twin_output setup slot input =
     result_case (bench_in (monitored_setup setup) input) (λ bench. Ok (scripts_text slot bench (after_separator input))) Err
@@ -92,7 +92,7 @@ StopsSecondAtWrite slot (Some pair) unread left old new =
 abbrev pub EndsIn : List ℕ → List ℕ → Type 0
 EndsIn last written = (prefix : List ℕ) × (written ≡ prefix ++ last)
 
--- the last line, if the run was over before the end
+-- the last line reports the end, if the run was over before the end
 abbrev pub ReportsEnd : {W : Type 0} → SinkGhosts W → W → Type 0
 ReportsEnd h after = EndsIn no_slot_text (h.taken after) ⊎ ((ran : ℕ) × EndsIn (entered_text ran) (h.taken after))
 
@@ -113,7 +113,7 @@ module _ {S W : Type 0} {g : SourceGhosts S} (h : SinkGhosts W) where
     pub read : GoesToEnd NeverEntered old new after ⊎ ((g.follows_input new.source → Over) × ReportsEnd h after)
     pub written : g.follows_input new.source → IsOkAnd output (λ text. h.taken after ≡ h.taken before ++ text)
 
-  -- The meaning of each result of the second part, for the pair after the scramble.
+  -- Each result of the second part has a meaning, for the pair after the scramble.
   abbrev pub RunsSecond : ℕ → Option Pair → Lines S g → Lines S g → W → W → Outcome → Type 0
   RunsSecond slot pair old new before after (Ok _) =
       TellsTwin (Ok (second_text slot pair (unread old))) (IsNeverEntered slot pair (unread old)) (IsOver slot pair (unread old) (unread new) new.is_at_end)

@@ -36,18 +36,18 @@ StayTogether slot start =
 
 -- ---- integrity
 
--- the command that both benches executed, or none
+-- `done_by_both` is the command that both benches executed, or none
 abbrev pub done_by_both : BothWhy → Command → List Command
 done_by_both NotBlind command = []
 done_by_both _ command = command ∷ []
 
--- the command of a line that both benches execute; none after the slot was entered, or if the line has an error
+-- `done_in_line` is the command of a line that both benches execute, or none after the slot was entered, or if the line has an error
 abbrev pub done_in_line : ℕ → Pair → List ℕ → List Command
 done_in_line slot pair line =
     if pair.entered then []
     else result_case (parse_of line) (λ command. done_by_both (both_execute slot pair.first pair.second command).why command) (λ _. [])
 
--- the commands of lines that both benches executed, in their order
+-- `commands_done` has the commands of lines that both benches executed, in their order
 abbrev pub commands_done : ℕ → Pair → List (List ℕ) → List Command
 commands_done slot pair [] = []
 commands_done slot pair (line ∷ lines) =
@@ -66,7 +66,7 @@ BothPreserve slot start =
 
 -- ---- a whole input
 
--- the pair after the scramble, if the input starts a bench and the slot can be scrambled
+-- a law holds of the pair after the scramble, if the input starts a bench and the slot can be scrambled
 abbrev pub OfPair : Setup → ℕ → List ℕ → (Pair → Type 0) → Type 0
 OfPair setup slot input Law =
     IfOk (bench_in (monitored_setup setup) input) (λ bench. IfSome (make_pair slot (after_first_script bench (after_separator input))) Law)
@@ -82,7 +82,7 @@ pub record TwinIntegrity (setup : Setup) (slot : ℕ) (input : List ℕ) : Type 
 
 -- ---- the laws
 
--- the laws of a twin run, for every input
+-- `TwinLaw` has the laws of a twin run, for every input
 pub record TwinLaw : Type 0 where
   pub noninterference : (setup : Setup) (slot : ℕ) (input : List ℕ) → TwinNoninterference setup slot input
   pub integrity : (setup : Setup) (slot : ℕ) (input : List ℕ) → TwinIntegrity setup slot input

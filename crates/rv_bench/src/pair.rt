@@ -158,10 +158,12 @@ impl Responder for PairOnSlot {
 
     ghost responding = { λ benches. both_benches benches.slot };
 
+    /// See `Responder::respond_to_line`.
     fn respond_to_line(&mut self, line: &[u8], out: &mut Told) {
         self.pair.respond_to_line(self.slot, line, out);
     }
 
+    /// See `Responder::is_over`.
     fn is_over(&self) -> bool {
         self.pair.entered
     }

@@ -43,10 +43,12 @@ impl Responder for Bench {
 
     ghost responding = { λ _. one_bench };
 
+    /// See `Responder::respond_to_line`.
     fn respond_to_line(&mut self, line: &[u8], out: &mut Reply) {
         Bench::execute_line(self, line, out);
     }
 
+    /// See `Responder::is_over`.
     fn is_over(&self) -> bool {
         false
     }

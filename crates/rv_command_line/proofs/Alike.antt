@@ -27,7 +27,7 @@ use Rattle.rv_command_line.specs.CommandLine.{kind_names, lent, Names}
 
 -- ---- the names of an option at another address
 
--- the names of the image kinds at the address of the definition
+-- `first` has the names of the image formats at the address of the definition
 abbrev pub first : Names
 first = lent (map lent kind_names)
 
@@ -36,11 +36,11 @@ abbrev pub with_names : Names → ValueParser → ValueParser
 with_names names (parser.Names other) = parser.Names names
 with_names names p = p
 
--- the rule with the names of its parser at another address
+-- `rule_at` is the rule with the names of its parser at another address
 abbrev pub rule_at : Names → Rule → Rule
 rule_at names a = record a { parser = option_map (with_names names) a.parser }
 
--- the shape with the names of its rules at another address
+-- `shape_at` is the shape with the names of its rules at another address
 abbrev pub shape_at : Names → Shape → Shape
 shape_at names s = record s { rules = map (rule_at names) s.rules }
 
@@ -51,15 +51,15 @@ pub record Alike (here : Names) {X : Type 0} (rows : X → List Row) (before : L
   pub same : met here ≡ met first
   pub kept : fault first ≡ [] → Good before → Good (rows (met first))
 
--- the rows themselves, for a step whose result is rows
+-- `itself` has the rows themselves, for a step whose result is rows
 abbrev pub itself : List Row → List Row
 itself rows = rows
 
--- the rows that are held
+-- `of_held` has the rows that are held
 abbrev of_held : Held → List Row
 of_held h = h.rows
 
--- the rows of a walk over the arguments
+-- `of_walk` has the rows of a walk over the arguments
 abbrev of_walk : Walk → List Row
 of_walk w = w.held.rows
 
@@ -69,7 +69,7 @@ pub record Fits (here : Names) (a : Rule) : Type 0 where
       → Alike here itself rows (λ n. use_fault again (rule_at n a) values rows) (λ n. used (rule_at n a) values rows)
   pub default : (rows : List Row) → Alike here itself rows (λ n. default_fault rows (rule_at n a)) (λ n. with_default rows (rule_at n a))
 
--- if a sequence of two has no error, neither part has one
+-- if a sequence of two parts has no error, neither part has an error
 pub parts : (a b : Kinds) → or_else a b ≡ [] → (a ≡ []) × (b ≡ [])
 parts [] b or_else_is = (refl, or_else_is)
 parts (k ∷ ks) b or_else_is = cc
@@ -84,7 +84,7 @@ module _ {here : Names} {X Y : Type 0} {rows : X → List Row} {rows' : Y → Li
     kept = λ e good. let and_parts = parts (f first) (g first (m first)) e in (two (m first)).kept and_parts.1 (one.kept and_parts.0 good);
   }
 
-  -- a step without an error of its own, followed by another
+  -- a step without an error of its own, followed by another step, is alike if the other step is alike
   thence : {m' : Names → X → Y} → Alike here rows before f m → ((x : X) → Alike here rows' (rows x) (λ _. []) (λ n. m' n x))
       → Alike here rows' before f (λ n. m' n (m n))
   thence one two = record {
@@ -115,6 +115,7 @@ found : {X : Type 0} (at : Names → X → X) (Is : X → Type 0) (P : (Names �
 found at Is P test same none some [] all = none
 found at Is P test same none some (x ∷ xs) all = go (test x) (λ n. same n x) (found at Is P test same none some xs all.1)
   where
+    -- the claim holds for a list with first element x, where `b` states whether x passes the test at every address
     go : (b : Bool) → ((n : Names) → test (at n x) ≡ b) → P (λ n. find test (map (at n) xs))
         → P (λ n. cond (test (at n x)) (Some (at n x)) (find test (map (at n) xs)))
     go true e rest = simp e (some x all.0)
@@ -123,15 +124,15 @@ found at Is P test same none some (x ∷ xs) all = go (test x) (λ n. same n x) 
 -- ---- reading the arguments of a subcommand
 
 module _ (here : Names) (s : Shape) (fits : AllByRecursion (Fits here) s.rules) where
-  -- the shape with the names at an address
+  -- `shape` is the shape with the names at an address
   abbrev shape : Names → Shape
   shape n = shape_at n s
 
-  -- the rules with the names at an address
+  -- `rules` has the rules with the names at an address
   abbrev rules : Names → List Rule
   rules n = (shape n).rules
 
-  -- whether a later use of an option replaces an earlier one
+  -- a later use of an option replaces an earlier one
   abbrev again : Bool
   again = s.args_override_self
 
@@ -139,7 +140,7 @@ module _ (here : Names) (s : Shape) (fits : AllByRecursion (Fits here) s.rules) 
   abbrev Met : {X : Type 0} → Held → (Names → Kinds) → (Names → Held × X) → Type 0
   Met h = Alike here (λ m. m.0.rows) h.rows
 
-  -- the claim for a rule that is found, or none
+  -- the claim P holds for a rule that is found, if it holds for each rule and for none
   by : (P : (Names → Option Rule) → Type 0) (test : Rule → Bool) → ((n : Names) (a : Rule) → test (rule_at n a) ≡ test a) → P (λ _. None)
       → ((a : Rule) → Fits here a → P (λ n. Some (rule_at n a))) → P (λ n. find test (rules n))
   by P test same none some = found rule_at (Fits here) P test same none some s.rules fits
@@ -148,6 +149,7 @@ module _ (here : Names) (s : Shape) (fits : AllByRecursion (Fits here) s.rules) 
   settles : (h : Held) → Alike here of_held h.rows (λ n. settle_fault (rules n) again h) (λ n. settled (rules n) h)
   settles h = lift (λ rows. record h { rows = rows; pending = None }) (λ _. refl) (go h.pending)
     where
+      -- the end of the option p that waits for its values, or of none, is alike
       go : (p : Option (Text × List Text)) → Alike here itself h.rows
           (λ n. option_map_or (λ x. option_map_or (λ a. use_fault again a x.1 h.rows) (arg_by_id (rules n) x.0) []) p [])
           (λ n. settled_rows (rules n) p h.rows)
@@ -189,6 +191,7 @@ module _ (here : Names) (s : Shape) (fits : AllByRecursion (Fits here) s.rules) 
   bundles zero flags skip so_far h = stays
   bundles (suc k) flags skip so_far h = go (slice_get (chars flags) 0) skip (bundles k)
     where
+      -- a bundle that continues with the character x, or ends, is alike, if each later bundle is alike
       go : (x : Option ℕ) (skip : ℕ) → ((flags : Text) (skip : ℕ) (so_far : Outcome) (h : Held) → Bundle k flags skip so_far h)
           → Met h (λ n. bundle_step_fault (rules n) again x flags skip h (flags_fault (rules n) again k))
           (λ n. bundle_step (rules n) x flags skip so_far h (bundle_met (rules n) k))
@@ -295,7 +298,7 @@ module _ (here : Names) (s : Shape) (fits : AllByRecursion (Fits here) s.rules) 
 
 -- ---- the subcommand that is entered
 
--- the rows of the subcommand that was entered; none without a subcommand
+-- `entered_rows` has the rows of the subcommand that was entered, or none without a subcommand
 abbrev pub entered_rows : Option (Text × List Row) → List Row
 entered_rows met = option_map_or (λ x. x.1) met []
 

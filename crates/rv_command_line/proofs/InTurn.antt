@@ -1,4 +1,4 @@
--- Lemmas about subcommands that are added to a command one after another.
+-- This file proves lemmas about subcommands that are added to a command one after another.
 use Rattle.std.proofs.Common.{◌≡◌, ◌∙◌, Err, IfOk, List, [], ◌∷◌, Ok, Result, ap, fold, map, refl}
 use Rattle.std.proofs.lemmas.List.Elements.{All-head, All-tail}
 use Rattle.std.specs.List.{All}

@@ -1,4 +1,4 @@
--- The value that a typed getter of `clap` returns for an option's text.
+-- This file is about the value that a typed getter of `clap` returns for an option's text.
 use Rattle.std.proofs.Common.{◌≡◌, ◌∙◌, ◌&&◌, ◌∷◌, ◌^◌, ◌<◌, [], ap, Bool, cond, Err, false, length, List, None, ℕ, Ok, Option, refl, Result, Some, true}
 use Rattle.std.proofs.Common.{sym, true≢false}
 use Rattle.std.proofs.lemmas.Bool.Decides.{Decides-and, Decides-ltb}
@@ -18,6 +18,7 @@ pub got : {X : Type 0} (read : Text → Option X) (f : Found) (id : Text) (r : O
     → ((text : Text) → one_text f id ≡ Some text → r ≡ read text) → r ≡ option_and_then read (one_of id (rows_of f))
 got read f id r none some = rw (sym (one_text-rows f id)) (go (one_text f id) refl)
   where
+    -- the value of a getter is the value that is read from the option's text o, or none if the option is not given
     go : (o : Option Text) → one_text f id ≡ o → r ≡ option_and_then read o
     go None e = none e
     go (Some text) e = some text e
@@ -28,11 +29,11 @@ digits [] = ((λ e. tt), (λ h. refl))
 digits (d ∷ ds) = Decides-and _ _ (Decides-ltb (digit_value d) 10) (digits ds)
 
 module _ (bits : ℕ) (text : Text) where
-  -- the value of the digits
+  -- `value` is the value of the digits
   abbrev value : ℕ
   value = digits_value 10 (without_leading_plus text)
 
-  -- whether the text is a number of so many bits
+  -- the text is a number of `bits` bits
   abbrev is_word : Bool
   is_word = is_numeral (without_leading_plus text) && nat_lt value (2 ^ bits)
 
@@ -41,20 +42,22 @@ module _ (bits : ℕ) (text : Text) where
   word = Decides-and _ _ (Decides-and _ _ (Decides-ltb 0 (length (without_leading_plus text))) (digits (without_leading_plus text)))
       (Decides-ltb value (2 ^ bits))
 
-  -- the value that `get_one` returns for a text as a number of `bits` bits
+  -- the value that `get_one` returns for a text is the number of `bits` bits in the text
   pub reads_number : {E : Type 0} (G : Text → Result ℕ E → Type 0) (r : Option ℕ) → ReadsOne G text r
       → ((x : Result ℕ E) → G text x → ParsesUnsigned bits 10 text x) → r ≡ number_in_text bits text
   reads_number G (Some n) read only = let only_one = only (Ok n) read in rw (word.1 only_one.0) (ap Some only_one.1)
   reads_number G None read only = go is_word refl
     where
+      -- a getter returns no value only if the text is no number in range, where `b` states whether it is one
       go : (b : Bool) → is_word ≡ b → None ≡ cond b (Some value) None
       go true e = absurd (only (Err read.0) read.1 (word.0 e))
       go false e = refl
 
-  -- this value, for every text
+  -- for every text, the number in the text is a value that `get_one` may return, where `bits` is the width of the number
   pub number_reads : ReadsOne {E = Bool} (λ u x. ParsesUnsigned bits 10 u x) text (number_in_text bits text)
   number_reads = go is_word refl
     where
+      -- the number in the text is a value that `get_one` may return, where `b` states whether the text is a number in range
       go : (b : Bool) → is_word ≡ b → ReadsOne {E = Bool} (λ u x. ParsesUnsigned bits 10 u x) text (cond b (Some value) None)
       go true e = (word.0 e, refl)
       go false e = (true, λ h. true≢false (sym (word.1 h) ∙ e))

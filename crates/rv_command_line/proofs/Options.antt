@@ -39,6 +39,7 @@ use Rattle.rv_command_line.specs.declared.image_kind.ImageKind.TheVariants as im
 kind_read : (v : Text) → accepts false (parser.Names first) v ≡ true → is_some (kind_of v) ≡ true
 kind_read v = go (bytes_eq (codes "auto") v) (bytes_eq (codes "raw") v) (bytes_eq (codes "elf") v)
   where
+    -- a text that is auto (a), raw (b) or elf (c) is the name of an image format
     go : (a b c : Bool) → (a || (b || (c || false))) ≡ true → is_some (option_map (λ (row : Text × ImageKind). row.1)
         (cond a (Some (codes "auto", image.Auto)) (cond b (Some (codes "raw", image.Raw)) (cond c (Some (codes "elf", image.Elf)) None)))) ≡ true
     go true b c e = refl
@@ -79,6 +80,7 @@ passed : (p : ValueParser) (test : Text → Bool) → ((v : Text) → accepts fa
 passed p test each [] values_kinds_is = refl
 passed p test each (v ∷ vs) e = let and_parts = parts _ _ e in rw (each v (taken (accepts false p v) and_parts.0), passed p test each vs and_parts.1) refl
   where
+    -- a value is accepted (b) if there is no error for it
     taken : (b : Bool) → cond b [] (refused_kind p ∷ []) ≡ [] → b ≡ true
     taken true e = refl
     taken false e = cc
@@ -115,11 +117,12 @@ module _ (here : Names) (alike : texts here.now ≡ kind_names) where
   nameless : {rows after : List Row} {fault : Kinds} → (fault ≡ [] → Good rows → Good after) → Alike here itself rows (λ _. fault) (λ _. after)
   nameless kept = record { faults = refl; same = refl; kept = kept }
 
-  -- an option with a value
+  -- an option with a value does not depend on the address of the names
   valued_fits : (name : Text) (p : ValueParser) → ((n : Names) → reading_of (with_names n p) ≡ how name)
       → ((v : Text) → accepts false (with_names first p) v ≡ true → is_read name (read_as (how name) v) ≡ true) → Fits here (filled (valued name p))
   valued_fits name p reads each = record { uses = go; default = λ rows. nameless (λ e good. either_good (has_row name rows) rows rows good good) }
     where
+      -- a use of the option with these values does not depend on the address of the names
       go : (again : Bool) (values : List Text) (rows : List Row) → Alike here itself rows
           (λ n. use_fault again (rule_at n (filled (valued name p))) values rows) (λ n. used (rule_at n (filled (valued name p))) values rows)
       go again [] rows = record { faults = refl; same = rw (reads here, reads first) refl; kept = λ e good. no_fault _ _ e }
@@ -140,6 +143,7 @@ module _ (here : Names) (alike : texts here.now ≡ kind_names) where
         either_good (has_row (codes "monitor") rows) rows _ good unset);
   }
     where
+      -- a use of `--monitor` with these values does not depend on the address of the names
       go : (again : Bool) (values : List Text) (rows : List Row) → Alike here itself rows
           (λ n. use_fault again (rule_at n (filled line.monitor)) values rows) (λ n. used (rule_at n (filled line.monitor)) values rows)
       go again [] rows = nameless (λ e good.
@@ -176,7 +180,7 @@ module _ (here : Names) (alike : texts here.now ≡ kind_names) where
 
 -- ---- the program, with the names at any address and at that of the definition
 
--- the word of the subcommand, and the words after it
+-- `stop_at` is the word of the subcommand, and the words after it
 abbrev stop_at : List Text → Option (Text × List Text)
 stop_at words = let a = built rvbench in stop_after a.top.rules (names_of a) (argument_words a words)
 

@@ -14,11 +14,11 @@ use Rattle.clap.specs.declared.builder.value_parser.Reading.TheVariants as readi
 use Rattle.clap.specs.declared.parser.matches.ValueSource.{ValueSource}
 use Rattle.rv_command_line.specs.Job.{harts_in_text, is_slot, kind_of, number_in_text, truth_in_text}
 
--- how the value of an option is read, by the id of the option
+-- `how` is the way in which the value of the option with this id is read
 abbrev pub how : Text → Reading
 how id = cond (bytes_eq id (codes "ram") || bytes_eq id (codes "harts") || bytes_eq id (codes "slot")) reading.WithoutMinus reading.AsWritten
 
--- whether a text is a readable value of the option
+-- `is_read` states whether a text is a readable value of the option
 abbrev pub is_read : Text → Text → Bool
 is_read id text =
     cond (bytes_eq id (codes "kind")) (is_some (kind_of text))
@@ -27,7 +27,7 @@ is_read id text =
     (cond (bytes_eq id (codes "monitor")) (is_some (truth_in_text text))
     (cond (bytes_eq id (codes "slot")) (is_slot text) true))))
 
--- each of these texts is a readable value of the option
+-- each text of a list is a readable value of the option
 abbrev pub are_values : Text → List Text → Bool
 are_values id = list_all (λ v. is_read id (read_as (how id) v))
 
@@ -39,16 +39,17 @@ GoodRow r = (r.reading ≡ how r.id) × (are_values r.id r.values ≡ true)
 abbrev pub Good : List Row → Type 0
 Good = AllByRecursion GoodRow
 
--- the rows of a choice are good if those of both branches are
+-- the chosen rows are good if the rows of both branches are good
 pub either_good : (b : Bool) (rows others : List Row) → Good rows → Good others → Good (cond b rows others)
 either_good true rows others good other = good
 either_good false rows others good other = other
 
--- the rows without those of one option stay good
+-- the rows stay good without the rows of one option
 pub without_good : (id : Text) (rows : List Row) → Good rows → Good (without id rows)
 without_good id [] good = tt
 without_good id (r ∷ rs) good = go (bytes_eq r.id id) (without_good id rs good.1)
   where
+    -- the rows without those of one option stay good, where `b` states whether the first row r is one of that option
     go : (b : Bool) → Good (without id rs) → Good (cond b rs (r ∷ without id rs))
     go true rest = good.1
     go false rest = (good.0, rest)
@@ -59,6 +60,7 @@ pub values_good : (id : Text) (s : ValueSource) (values : List Text) (rows : Lis
 values_good id s values [] new good = ((refl, new), tt)
 values_good id s values (r ∷ rs) new good = go (bytes_eq r.id id) refl (values_good id s values rs new good.1)
   where
+    -- the rows with new values stay good, where `b` states whether the first row r is one of the option
     go : (b : Bool) → bytes_eq r.id id ≡ b → Good (with_values id (how id) s values rs)
         → Good (cond b (more_values s values r ++ rs) (r ∷ with_values id (how id) s values rs))
     go true e rest =
@@ -72,6 +74,7 @@ row_read : (id : Text) (text : Row → Option Text) → ((r : Row) → r.id ≡ 
 row_read id text each [] good = refl
 row_read id text each (r ∷ rs) good = go (bytes_eq r.id id) refl (row_read id text each rs good.1)
   where
+    -- the property holds of the row that is found, where `b` states whether the first row r has the id
     go : (b : Bool) → bytes_eq r.id id ≡ b → option_map_or (is_read id) (option_and_then text (find (λ r. bytes_eq r.id id) rs)) true ≡ true
         → option_map_or (is_read id) (option_and_then text (cond b (Some r) (find (λ r. bytes_eq r.id id) rs))) true ≡ true
     go true e rest = each r ((bytes_eq-Decides r.id id).0 e) good.0
@@ -83,14 +86,15 @@ first_read : (id : Text) (vs : List Text) → are_values id vs ≡ true
 first_read id [] values = refl
 first_read id (v ∷ vs) values = (both (is_read id (read_as (how id) v)) (are_values id vs) values).0
 
--- in good rows, the value of an option is readable, if it has one
+-- in good rows, the value of an option is readable, if the option has a value
 pub one_read : (id : Text) (rows : List Row) → Good rows → option_map_or (is_read id) (one_of id rows) true ≡ true
 one_read id = row_read id row_text (λ r same good. rw (good.0, sym same) (first_read r.id r.values good.1))
 
--- in good rows, the value of `--kind` is readable, if it has one
+-- in good rows, the value of `--kind` is readable, if the option has a value
 pub kind_read : (rows : List Row) → Good rows → option_map_or (is_read (codes "kind")) (first_of (codes "kind") rows) true ≡ true
 kind_read = row_read (codes "kind") (λ r. slice_get r.values 0) (λ r same good. first r.values (rw same at good.1))
   where
+    -- the first of readable values of `--kind` is readable, if there is one
     first : (vs : List Text) → are_values (codes "kind") vs ≡ true → option_map_or (is_read (codes "kind")) (slice_get vs 0) true ≡ true
     first [] e = refl
     first (v ∷ vs) e = (both (is_read (codes "kind") v) (are_values (codes "kind") vs) e).0

@@ -44,6 +44,7 @@ slot_below : (o : Option Text) → option_map_or is_slot o true ≡ true → nat
 slot_below None option_map_or_is = refl
 slot_below (Some text) e = go (number_in_text 8 text) e
   where
+    -- the slot is below 13, where `o` is the number in the text, or `None` if the text is no number
     go : (o : Option ℕ) → option_map_or (λ n. nat_lt n 13) o false ≡ true → nat_lt (unwrap_or o 0) 13 ≡ true
     go None e = refl
     go (Some n) e = e
@@ -53,6 +54,7 @@ named_valid : (met : Option (Text × List Row)) → Good (entered_rows met) → 
 named_valid None good = refl
 named_valid (Some met) good = go (bytes_eq met.0 (codes "asm")) (bytes_eq met.0 (codes "dis")) (bytes_eq met.0 (codes "twin"))
   where
+    -- the job that the name selects is valid, where the arguments state which subcommand has this name
     go : (is_asm is_dis is_twin : Bool)
         → is_valid_job (cond is_asm job.Asm (cond is_dis job.Dis (cond is_twin (twin_of met.1) (run_of met.1)))) ≡ true
     go true d t = refl

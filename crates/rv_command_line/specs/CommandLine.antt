@@ -9,11 +9,11 @@ use Rattle.clap.specs.declared.builder.value_parser.ValueParser.TheVariants as p
 use Rattle.rv_command_line.specs.declared.image_kind.ImageKind.{ImageKind}
 use Rattle.rv_command_line.specs.declared.image_kind.ImageKind.TheVariants as image
 
--- the kinds of image, and their names in the command line
+-- `kinds` has the kinds of image, and their names in the command line
 abbrev pub kinds : List (Text × ImageKind)
 kinds = (codes "auto", image.Auto) ∷ (codes "raw", image.Raw) ∷ (codes "elf", image.Elf) ∷ []
 
--- the names of the image kinds
+-- `kind_names` has the names of the image kinds
 abbrev pub kind_names : List Text
 kind_names = map (λ row. row.0) kinds
 
@@ -25,7 +25,7 @@ Names = Bor (List (Bor Text))
 abbrev pub valued : Text → ValueParser → Rule
 valued name parser = record (new_rule name) { long = Some name; value_names = 1; parser = Some parser }
 
--- a flag: an option without a value
+-- `flag_rule` is the rule of a flag, which is an option without a value
 abbrev pub flag_rule : Text → Rule
 flag_rule name = record (new_rule name) { long = Some name; action = Some action.SetTrue }
 
@@ -33,27 +33,27 @@ flag_rule name = record (new_rule name) { long = Some name; action = Some action
 abbrev pub kind : Names → Rule
 kind names = valued (codes "kind") (parser.Names names)
 
--- `--ram BYTES`: a number of 32 bits
+-- the value of `--ram BYTES` is a number of 32 bits
 abbrev pub ram : Rule
 ram = valued (codes "ram") (parser.Signed (pos 0) (pos 4294967295))
 
--- `--monitor`: a flag
+-- `--monitor` is a flag
 abbrev pub monitor : Rule
 monitor = flag_rule (codes "monitor")
 
--- `--harts HARTS`: a number, 1 or 2
+-- the value of `--harts HARTS` is a number, 1 or 2
 abbrev pub harts : Rule
 harts = valued (codes "harts") (parser.Signed (pos 1) (pos 2))
 
--- `--slot K`: a number from 0 to 12
+-- the value of `--slot K` is a number from 0 to 12
 abbrev pub slot : Rule
 slot = valued (codes "slot") (parser.Signed (pos 0) (pos 12))
 
--- a command with this name and these options
+-- `command` is a command with this name and these options
 abbrev pub command : Text → List Rule → App
 command name options = fold with_rule (new_app name) options
 
--- the program with its subcommands
+-- `program` is the program with its subcommands
 abbrev pub program : Names → App
 program names = fold with_subcommand (new_app (codes "rvbench"))
     ((command (codes "run") (kind names ∷ ram ∷ monitor ∷ harts ∷ [])).top
@@ -66,7 +66,7 @@ program names = fold with_subcommand (new_app (codes "rvbench"))
 abbrev pub lent : {X : Type 0} → X → Bor X
 lent x = record { ref_ptr = (0, 0); now = x }
 
--- the program, with the names of the image kinds as values of its options
+-- `rvbench` is the program, with the names of the image kinds as values of its options
 abbrev pub rvbench : App
 rvbench = program (lent (map lent kind_names))
 

@@ -9,18 +9,18 @@ use Rattle.std.specs.declared.io.ErrorKind.TheVariants as io
 use Rattle.rv_command_line.specs.declared.words_fault.WordsFault.{WordsFault}
 use Rattle.rv_command_line.specs.declared.words_fault.WordsFault.TheVariants as fault
 
--- a number for each kind of error, by which errors are compared
+-- `words_fault_number` is a number for each kind of error, by which errors are compared
 abbrev pub words_fault_number : WordsFault → ℕ
 words_fault_number fault.Refused = 1
 words_fault_number fault.NoMemory = 2
 words_fault_number (fault.Help text) = 3
 
--- the error of arguments that the system does not give
+-- `unreadable` is the error of arguments that the system does not give
 abbrev pub unreadable : IoErrorKind → WordsFault
 unreadable io.OutOfMemory = fault.NoMemory
 unreadable _ = fault.Refused
 
--- whether the arguments ask for help
+-- an error is the request for help
 abbrev pub is_help : ErrorKind → Bool
 is_help kind.DisplayHelp = true
 is_help _ = false

@@ -16,7 +16,7 @@ use Rattle.rv_command_line.specs.declared.job.Job.{Job}
 use Rattle.rv_command_line.specs.declared.job.Job.TheVariants as job
 use Rattle.rv_command_line.specs.declared.setup.Setup.{Setup}
 
--- the image kind with a name
+-- `kind_of` is the image kind with a name
 abbrev pub kind_of : Text → Option ImageKind
 kind_of name = option_map (λ row. row.1) (find (λ row. bytes_eq row.0 name) kinds)
 
@@ -26,17 +26,17 @@ number_in_text bits text =
     let digits = without_leading_plus text in
     if is_numeral digits && nat_lt (digits_value 10 digits) (2 ^ bits) then Some (digits_value 10 digits) else None
 
--- the number of harts in a text
+-- `harts_in_text` is the number of harts in a text
 abbrev pub harts_in_text : Text → Option Harts
 harts_in_text text = option_and_then counted_harts (number_in_text 8 text)
 
--- the Boolean in a text
+-- `truth_in_text` is the Boolean in a text
 abbrev pub truth_in_text : Text → Option Bool
 truth_in_text text =
     if bytes_eq text (codes "true") then Some true
     else (if bytes_eq text (codes "false") then Some false else None)
 
--- the setup from `--kind`, `--ram` and `--harts`, with or without the monitor
+-- `setup_of` is the setup from `--kind`, `--ram` and `--harts`, with or without the monitor
 abbrev pub setup_of : Bool → List Row → Setup
 setup_of monitored options = record {
   kind = unwrap_or (option_and_then kind_of (first_of (codes "kind") options)) image.Auto;
@@ -45,15 +45,15 @@ setup_of monitored options = record {
   harts = unwrap_or (option_and_then harts_in_text (one_of (codes "harts") options)) harts.One;
 }
 
--- the job of `run` with its options; without the monitor unless they have `--monitor`
+-- `run_of` is the job of `run` with its options, without the monitor unless they have `--monitor`
 abbrev pub run_of : List Row → Job
 run_of options = job.Run (setup_of (unwrap_or (option_and_then truth_in_text (one_of (codes "monitor") options)) false) options)
 
--- the job of `twin` with its options; always with the monitor, and slot 0 by default
+-- `twin_of` is the job of `twin` with its options; always with the monitor, and slot 0 by default
 abbrev pub twin_of : List Row → Job
 twin_of options = job.Twin (setup_of true options) (unwrap_or (option_and_then (number_in_text 8) (one_of (codes "slot") options)) 0)
 
--- the job of a subcommand with its options, or the job without a subcommand
+-- `named_job` is the job of a subcommand with its options, or the job without a subcommand
 abbrev pub named_job : Option (Text × List Row) → Job
 named_job None = run_of []
 named_job (Some (name, options)) =
@@ -65,7 +65,7 @@ named_job (Some (name, options)) =
 abbrev pub job_of : List Text → Job
 job_of words = named_job (subcommand_of rvbench words)
 
--- the options for the subcommand with this name in the arguments
+-- `options_of` has the options for the subcommand with this name in the arguments
 abbrev pub options_of : Text → List Text → List Row
 options_of name words = option_map_or (λ met. if bytes_eq met.0 name then met.1 else []) (subcommand_of rvbench words) []
 
@@ -87,7 +87,7 @@ is_setup_read options = is_image_read options && are_harts_read options
 abbrev pub is_monitor_read : List Row → Bool
 is_monitor_read options = option_map_or (λ text. is_some (truth_in_text text)) (one_of (codes "monitor") options) true
 
--- whether a text is the number of one of the thirteen slots
+-- `is_slot` states whether a text is the number of one of the thirteen slots
 abbrev pub is_slot : Text → Bool
 is_slot text = option_map_or (λ n. nat_lt n 13) (number_in_text 8 text) false
 
@@ -103,7 +103,7 @@ are_run_read options = is_setup_read options && is_monitor_read options
 abbrev pub are_twin_read : List Row → Bool
 are_twin_read options = is_setup_read options && is_slot_read options
 
--- this holds for all options in the arguments
+-- all options in the arguments have readable values
 abbrev pub are_options_read : List Text → Bool
 are_options_read words = are_run_read (options_of (codes "run") words) && are_twin_read (options_of (codes "twin") words)
 

@@ -10,11 +10,11 @@ use std::io::ErrorKind;
 /// Why arguments give no job.
 #[derive(Debug, Drop)]
 pub enum WordsFault {
-    /// 1: the command line does not accept the arguments.
+    /// Error 1: the command line does not accept the arguments.
     Refused,
-    /// 2: memory is exhausted.
+    /// Error 2: memory is exhausted.
     NoMemory,
-    /// 3: the arguments ask for help, and this is its text.
+    /// Error 3: the arguments ask for help, and this is its text.
     Help(String),
 }
 

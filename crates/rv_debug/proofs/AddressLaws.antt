@@ -1,4 +1,4 @@
--- The members of a set of addresses after an insertion or a removal.
+-- This file states the members of a set of addresses after an insertion or a removal.
 use Rattle.std.proofs.Common.{◌≡◌, ℕ, ◌==◌, ltb, Bool, true, false, not, cond, ◌&&◌, ◌||◌, List, [], ◌∷◌, filter, refl, sym}
 use Rattle.std.proofs.Common.{◌∙◌, ap, arith}
 use Rattle.std.proofs.lemmas.List.Folds.{list_any-append}
@@ -9,6 +9,7 @@ use Rattle.rv_debug.proofs.Prelude.{is_among, nat_tests, with_address, without_a
 among-filter : (p : ℕ → Bool) (x : ℕ) (xs : List ℕ) → is_among x (filter p xs) ≡ (p x && is_among x xs)
 among-filter p x [] = sym (and-false (p x))
 among-filter p x (y ∷ ys) = go (p y) refl (y == x) refl (among-filter p x ys) where
+  -- the members of a filtered list with first element y, where `kept` is the test of y, and `same` states whether y is the address x
   go : (kept : Bool) → p y ≡ kept → (same : Bool) → (y == x) ≡ same → is_among x (filter p ys) ≡ (p x && is_among x ys)
       → is_among x (cond kept (y ∷ filter p ys) (filter p ys)) ≡ (p x && (same || is_among x ys))
   go true passes true is more = let e : y ≡ x = grind arith in let px : p x ≡ true = sym (ap p e) ∙ passes in rw (is, px) refl
@@ -16,7 +17,7 @@ among-filter p x (y ∷ ys) = go (p y) refl (y == x) refl (among-filter p x ys) 
   go false fails true is more = let e : y ≡ x = grind arith in let px : p x ≡ false = sym (ap p e) ∙ fails in rw px (rw px at more)
   go false fails false is more = more
 
--- the inserted address, and the previous members
+-- after an insertion, the members of the set are the inserted address and the previous members
 pub among-with : (x address : ℕ) (xs : List ℕ) → is_among x (with_address address xs) ≡ ((address == x) || is_among x xs)
 among-with x address xs =
     list_any-append (λ a. a == x) (filter (λ a. ltb a address) xs) (address ∷ filter (λ a. ltb address a) xs)
@@ -25,6 +26,6 @@ among-with x address xs =
       joined : (there : Bool) → ((ltb x address && there) || ((address == x) || (ltb address x && there))) ≡ ((address == x) || there)
       joined there = grind (arith, nat_tests)
 
--- the previous members, except the removed address
+-- after a removal, the members of the set are the previous members without the removed address
 pub among-without : (x address : ℕ) (xs : List ℕ) → is_among x (without_address address xs) ≡ (not (x == address) && is_among x xs)
 among-without x address xs = among-filter (λ a. not (a == address)) x xs

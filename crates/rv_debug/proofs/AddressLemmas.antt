@@ -1,4 +1,4 @@
--- Sets of addresses as sorted lists.
+-- This file proves that operations on sorted lists are the operations on sets of addresses.
 use Rattle.std.proofs.Common.{◌≡◌, ◌≢◌, ℕ, zero, suc, ◌+◌, ◌-◌, ◌<◌, ◌≤◌, ◌==◌, ltb, Bool, true, false, cond, ◌||◌, List, [], ◌∷◌, ◌++◌}
 use Rattle.std.proofs.Common.{length, take, drop, filter, get_or, Option, Some, None, Result, Ok, Err, MatchResult, refl, sym, ◌∙◌, ap}
 use Rattle.std.proofs.Common.{arith, inl, inr, ap₂}
@@ -30,24 +30,25 @@ sorted_above-at a (x ∷ xs) (suc k) all inside =
     let more : x < get_or xs k 0 = sorted_above-at x xs k all.1 (omega arith) in
     omega arith
 
--- each address is above those before it
+-- each address of a sorted list is above the addresses before it
 pub sorted-at : (xs : List ℕ) → IsSorted xs → (i j : ℕ) → i < j → j < length xs → get_or xs i 0 < get_or xs j 0
 sorted-at [] all i j lt inside = absurd (omega arith)
 sorted-at (x ∷ xs) all i zero lt inside = absurd (omega arith)
 sorted-at (x ∷ xs) all zero (suc j) lt inside = sorted_above-at x xs j all (omega arith)
 sorted-at (x ∷ xs) all (suc i) (suc j) lt inside = sorted-at xs (sorted_above-is x xs all) i j (omega arith) (omega arith)
 
--- an address is at or below those after it, as a binary search needs
+-- each address of a sorted list is at or below the addresses after it, as a binary search needs
 pub sorted-le : (xs : List ℕ) → IsSorted xs → (i j : ℕ) → i ≤ j → j < length xs → get_or xs i 0 ≤ get_or xs j 0
 sorted-le xs all i j le inside = elim (cases_lt i j) [
   | inl lt ↦ let up : get_or xs i 0 < get_or xs j 0 = sorted-at xs all i j lt inside in omega arith
   | inr ge ↦ let same : i ≡ j = omega arith in let e : get_or xs i 0 ≡ get_or xs j 0 = ap (λ k. get_or xs k 0) same in omega arith
 ]
 
--- the result of a binary search
+-- a binary search of a sorted list for x returns either the index of x, or the index at which x would be inserted
 pub searched-place : (xs : List ℕ) (x : ℕ) (r : Result ℕ ℕ) → IsSorted xs → IsBinarySearchResult (λ y. nat_cmp y x) xs r
     → MatchResult r (λ i. (i < length xs) × (get_or xs i 0 ≡ x)) (HasPlace xs x)
 searched-place xs x r all search_result = go r (searched xs x r search_result (sorted-le xs all)) where
+  -- if the search fails, its index is the one at which x would be inserted: lower addresses are before it, and higher addresses from it on
   go : (r : Result ℕ ℕ)
       → MatchResult r (λ i. (i < length xs) × (get_or xs i 0 ≡ x))
       (λ i. (i ≤ length xs) × ((k : ℕ) → k < i → get_or xs k 0 < x) × ((k : ℕ) → i ≤ k → k < length xs → x < get_or xs k 0))
@@ -75,7 +76,7 @@ among-absent x (y ∷ ys) none =
     let no : (y == x) ≡ false = let other = none 0 (omega arith) in grind arith in
     rw no (among-absent x ys (λ k inside. none (suc k) (omega arith)))
 
--- an address that has an index for insertion is not in the list, by the test
+-- the test of membership is false for an address that has an index for insertion
 pub among-not : (x : ℕ) (xs : List ℕ) (i : ℕ) → HasPlace xs x i → is_among x xs ≡ false
 among-not x xs i place = among-absent x xs (not_there x xs i place)
 
@@ -87,7 +88,7 @@ found-is x xs (Err i) place = sym (among-not x xs i place)
 
 -- ---- an address inserted at its index: the lower addresses before it, the higher ones after it
 
--- its index without the first address, which is above it or below it
+-- an address that would be inserted before the first address of a list would also be inserted before the rest of the list
 place_first : (x y : ℕ) (ys : List ℕ) → HasPlace (y ∷ ys) x zero → HasPlace ys x zero
 place_first x y ys place = record {
   within = omega arith;
@@ -95,7 +96,7 @@ place_first x y ys place = record {
   above = λ k le inside. place.above (suc k) (omega arith) (omega (arith, inside));
 }
 
--- the index for insertion in the rest of a list is one less
+-- an address that would be inserted after the first address has an index in the rest of the list that is less by one
 place_after : (x y : ℕ) (ys : List ℕ) (i : ℕ) → HasPlace (y ∷ ys) x (suc i) → HasPlace ys x i
 place_after x y ys i place = record {
   within = let within = place.within in omega (arith, within);
@@ -107,7 +108,7 @@ place_after x y ys i place = record {
 no_place : (x i : ℕ) → HasPlace [] x (suc i) → ⊥
 no_place x i place = let within = place.within in omega (arith, within)
 
--- the elements below x are those before its index, and those above x are the others
+-- if i is the index for insertion of x, the addresses below x are the first i, and the addresses above x are the others
 filters : (x : ℕ) (xs : List ℕ) (i : ℕ) → HasPlace xs x i → (filter (λ a. ltb a x) xs ≡ take i xs) × (filter (λ a. ltb x a) xs ≡ drop i xs)
 filters x [] zero place = (refl, refl)
 filters x [] (suc i) place = absurd (no_place x i place)
@@ -128,7 +129,7 @@ filters x (y ∷ ys) (suc i) place =
 pub insert-is : (x : ℕ) (xs : List ℕ) (i : ℕ) → HasPlace xs x i → insert xs i x ≡ with_address x xs
 insert-is x xs i place = let parts = filters x xs i place in ap₂ (λ (low high : List ℕ). low ++ x ∷ high) (sym parts.0) (sym parts.1)
 
--- an insertion into a sorted list above low leaves it so, if the address is above low
+-- an insertion of an address above low leaves a sorted list above low sorted above low
 sorted_above-insert : (low x : ℕ) (xs : List ℕ) (i : ℕ) → IsSortedAbove low xs → low < x → HasPlace xs x i → IsSortedAbove low (insert xs i x)
 sorted_above-insert low x [] zero all up place = (up, tt)
 sorted_above-insert low x [] (suc i) all up place = absurd (no_place x i place)
@@ -180,10 +181,11 @@ remove-is x (y ∷ ys) (suc i) all inside element_is =
 pub keep-is : (x : ℕ) (xs : List ℕ) (i : ℕ) → HasPlace xs x i → xs ≡ without_address x xs
 keep-is x xs i place = sym (without-absent x xs (not_there x xs i place))
 
--- a filtered sorted list above low is so
+-- a filter leaves a sorted list above low sorted above low
 sorted_above-filter : (p : ℕ → Bool) (low : ℕ) (xs : List ℕ) → IsSortedAbove low xs → IsSortedAbove low (filter p xs)
 sorted_above-filter p low [] all = tt
 sorted_above-filter p low (x ∷ xs) all = go (p x) (sorted_above-filter p x xs all.1) where
+  -- a filtered list with first element x is sorted above low, whether or not x passes the test, where `b` is the result of the test
   go : (b : Bool) → IsSortedAbove x (filter p xs) → IsSortedAbove low (cond b (x ∷ filter p xs) (filter p xs))
   go true more = (all.0, more)
   go false more = let first : low < x = all.0 in sorted_above-weaker low x (filter p xs) (omega arith) more
@@ -192,6 +194,7 @@ sorted_above-filter p low (x ∷ xs) all = go (p x) (sorted_above-filter p x xs 
 pub sorted-filter : (p : ℕ → Bool) (xs : List ℕ) → IsSorted xs → IsSorted (filter p xs)
 sorted-filter p [] all = tt
 sorted-filter p (x ∷ xs) all = go (p x) (sorted_above-filter p x xs all) where
+  -- a filtered list with first element x is sorted, whether or not x passes the test, where `b` is the result of the test
   go : (b : Bool) → IsSortedAbove x (filter p xs) → IsSorted (cond b (x ∷ filter p xs) (filter p xs))
   go true more = more
   go false more = sorted_above-is x (filter p xs) more
@@ -214,6 +217,7 @@ find-none p (x ∷ xs) none = rw (none 0 (omega arith)) (find-none p xs (λ k in
 find-above : (p : ℕ → Bool) (low : ℕ) (xs : List ℕ) (a : ℕ) → IsSortedAbove low xs → find p xs ≡ Some a → low < a
 find-above p low [] a all found = cc
 find-above p low (x ∷ xs) a all found = go (p x) found (find-above p x xs a all.1) where
+  -- the address that is found in a list with first element x is above low, where `b` states whether x itself passes the test
   go : (b : Bool) → cond b (Some x) (find p xs) ≡ Some a → (find p xs ≡ Some a → x < a) → low < a
   go true e more = let same : x ≡ a = cc in let up : low < x = all.0 in omega arith
   go false e more = let up : low < x = all.0 in let higher : x < a = more e in omega arith
@@ -232,6 +236,7 @@ lower-after x (Some a) above = let up : x < a = above a refl in let min_is : min
 pub find-either : (p q : ℕ → Bool) (xs : List ℕ) → IsSorted xs → lower (find p xs) (find q xs) ≡ find (λ x. p x || q x) xs
 find-either p q [] all = refl
 find-either p q (x ∷ xs) all = go (p x) (q x) (find-either p q xs (sorted_above-is x xs all)) where
+  -- the lower of the two found addresses is the first that passes either test, where `b` and `c` are the results of the two tests for x
   go : (b c : Bool) → lower (find p xs) (find q xs) ≡ find (λ x. p x || q x) xs
       → lower (cond b (Some x) (find p xs)) (cond c (Some x) (find q xs)) ≡ cond (b || c) (Some x) (find (λ x. p x || q x) xs)
   go true true more = let min_is : min x x ≡ x = omega arith in ap Some min_is
@@ -243,11 +248,12 @@ find-either p q (x ∷ xs) all = go (p x) (q x) (find-either p q xs (sorted_abov
 pub lowest-is : (p : ℕ → Bool) (xs : List ℕ) → IsSorted xs → find p xs ≡ lowest (filter p xs)
 lowest-is p [] all = refl
 lowest-is p (x ∷ xs) all = go (p x) (lowest-is p xs (sorted_above-is x xs all)) where
+  -- the first address that passes a test is the lowest one in the filtered list, where `b` is the result of the test for x
   go : (b : Bool) → find p xs ≡ lowest (filter p xs) → cond b (Some x) (find p xs) ≡ lowest (cond b (x ∷ filter p xs) (filter p xs))
   go true more = sym (ap (lower (Some x)) (sym more) ∙ lower-before x (find p xs) (λ a. find-above p x xs a all))
   go false more = more
 
--- the first of `count` addresses from x on: x itself, if it is in the list
+-- the first of the `count` addresses from x on is x itself, if x is in the list
 pub find-here : (x count : ℕ) (xs : List ℕ) (i : ℕ) → IsSorted xs → 0 < count → i < length xs → get_or xs i 0 ≡ x
     → Some x ≡ find (is_between x count) xs
 find-here x count xs i all some inside element_is =
@@ -270,6 +276,7 @@ find-near x count xs i place inside near =
 pub find-far : (x count : ℕ) (xs : List ℕ) (i : ℕ) → IsSorted xs → HasPlace xs x i → (i < length xs → x + count ≤ get_or xs i 0)
     → None ≡ find (is_between x count) xs
 find-far x count xs i all place far = sym (find-none (is_between x count) xs each) where
+  -- no address of the list is one of the `count` addresses from x on
   each : (k : ℕ) → k < length xs → is_between x count (get_or xs k 0) ≡ false
   each k inside = elim (cases_lt k i) [
     | inl lt ↦ let down : get_or xs k 0 < x = place.below k lt in grind (arith, nat_tests)
@@ -287,6 +294,7 @@ find-no_span xs = sym (find-none (is_in None) xs (λ k inside. refl))
 pub gap-free : (xs : List ℕ) (i from to x : ℕ) → IsSorted xs → i ≤ length xs → (0 < i → get_or xs (i - 1) 0 < from)
     → (i < length xs → to ≤ get_or xs i 0) → from ≤ x → x < to → is_among x xs ≡ false
 gap-free xs i from to x all within below above low high = among-absent x xs each where
+  -- no address of the list is x
   each : (k : ℕ) → k < length xs → get_or xs k 0 ≢ x
   each k inside same = elim (cases_lt k i) [
     | inl lt ↦

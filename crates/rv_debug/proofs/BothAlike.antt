@@ -1,4 +1,4 @@
--- Two benches that execute the same commands one after another: the state of each, and their equivalence.
+-- This file is about two benches that execute the same commands one after another: the state of each, and their equivalence.
 use Rattle.std.proofs.Common.{◌≡◌, ℕ, suc, ◌+◌, ◌<◌, Bool, true, false, List, [], ◌∷◌, length, take, drop, get_or, ◌⊎◌, refl, sym}
 use Rattle.std.proofs.Common.{◌∙◌, ap, ap₂, subst, inl, inr, arith, not}
 use Rattle.std.specs.Prelude.{◌&&◌, ◌||◌, if◌then◌else◌}
@@ -10,17 +10,17 @@ use Rattle.rv_debug.proofs.ExecuteAlike.{equiv_again, noninterference}
 use Rattle.rv_debug.proofs.EffectsInvariant.{keeps_monitor}
 
 module _ (e : ℕ) where
-  -- both benches unchanged, after a command that is not blind
+  -- both benches are unchanged after a command that is not blind
   abbrev pub stopped : BenchState → BenchState → BothExecuted
   stopped a b = record { first = a; second = b; first_reply = []; second_reply = []; why = NotBlind }
 
-  -- both benches after a command that both execute
+  -- `done` is the result of a command that both benches execute
   abbrev pub done : BenchState → BenchState → Command → BothExecuted
   done a b c = both_do e (execute a c) (execute b c)
 
   -- ---- one command
 
-  -- both benches execute a command that is blind in both; neither executes any other
+  -- both benches execute a command that is blind in both benches, and neither bench executes any other command
   one_cases : (a b : BenchState) (c : Command)
       → (((is_blind e a c && is_blind e b c) ≡ false) × (both_execute e a b c ≡ stopped a b))
       ⊎ ((is_blind e a c ≡ true) × (both_execute e a b c ≡ done a b c))
@@ -49,12 +49,12 @@ module _ (e : ℕ) where
   neither true y same none = same ∙ none
   neither false y same none = refl
 
-  -- the reason after a command that both executed
+  -- the reason after a command that both benches execute is `Entered` if the slot is entered in either bench (x, y), and else `All`
   why_is : (a b : BenchState) (c : Command) (x y : Bool) → is_entered e (execute a c).entered ≡ x → is_entered e (execute b c).entered ≡ y
       → (done a b c).why ≡ (if x || y then Entered else All)
   why_is a b c x y here test_is = ap₂ (λ (x y : Bool). if x || y then Entered else All) here test_is
 
-  -- two executions that are alike by the law are so for the reason that the command gives
+  -- two executions that the law relates are alike for the reason that the command gives
   done_alike : (a b : BenchState) (c : Command) → ExecuteAlike e (execute a c) (execute b c) → AlikeBy e a b c (done a b c) (done a b c).why
   done_alike a b c alike = elim (cases_Bool (is_entered e (execute a c).entered)) [
     | inl here ↦
@@ -93,11 +93,11 @@ module _ (e : ℕ) where
   unfolding both_run
   none_by a b = refl
 
-  -- each bench ends as if it alone had executed its commands
+  -- each bench ends in the state that it has if it executes its commands alone
   abbrev pub Folded : BenchState → BenchState → List Command → BothRan → Type 0
   Folded a b cs end = (end.first ≡ after_commands a (take end.ran cs)) × (end.second ≡ after_commands b (take end.ran cs))
 
-  -- the result for the first command, and then for the remaining ones
+  -- if the benches end so after the remaining commands, they end so after the first command and the remaining ones
   folded_by : (a b : BenchState) (c : Command) (cs : List Command) (why : BothWhy) (rest : BothRan)
       → (why ≡ NotBlind → ⊥) → Folded (execute a c).state (execute b c).state cs rest → Folded a b (c ∷ cs) (go_on why (done a b c) rest)
   folded_by a b c cs All rest goes more = more
@@ -144,7 +144,7 @@ module _ (e : ℕ) where
   more_passed a b c cs ran NotBlind reply more = one_passed a b c (take ran cs) reply more
   more_passed a b c cs ran Entered reply more = (suc more.0, ap (λ (n : ℕ). suc n) more.1, one_passed a b c (take more.0 cs) reply more.2)
 
-  -- the last executed command entered the slot
+  -- a list whose first command enters the slot ends alike in both benches, with this command as its last
   entered_last : (a b : BenchState) (c : Command) (cs : List Command) → TargetInvariant a.target → BenchesEquivExcept e a b
       → both_execute e a b c ≡ done a b c → (done a b c).why ≡ Entered → EndAlike a b (c ∷ cs) (both_run e a b (c ∷ cs))
   entered_last a b c cs kept equiv both_execute_is why =
@@ -173,28 +173,28 @@ module _ (e : ℕ) where
 
   -- ---- in the loop
 
-  -- the result, counted with `n` commands before it
+  -- `later` is the result with n more commands counted before it
   abbrev pub later : ℕ → BothRan → BothRan
   later n rest = record { first = rest.first; second = rest.second; ran = n + rest.ran; why = rest.why }
 
-  -- the commands from index n on are the one at n and those after it
+  -- the commands from index n on are the command at n and the commands after it
   next_command : (cs : List Command) (n : ℕ) (c : Command) → n < length cs → c ≡ get_or cs n c → drop n cs ≡ c ∷ drop (n + 1) cs
   next_command cs n c inside command_is = drop_more cs n c inside ∙ ap (λ (first : Command). first ∷ drop (n + 1) cs) (sym command_is)
 
   module _ (a b : BenchState) (cs : List Command) (n : ℕ) (c : Command) (all : BothRan) (after : BothExecuted)
       (inside : n < length cs) (command_is : c ≡ get_or cs n c)
       (so_far : later n (both_run e a b (drop n cs)) ≡ all) (executed : both_execute e a b c ≡ after) where
-    -- the result of all commands, by the reason of the command at n
+    -- the result of all commands is that of the first n + 1 commands if the reason (why) of the command at n ends them
     goes_at : (why : BothWhy) → after.why ≡ why → all ≡ later n (go_on why after (both_run e after.first after.second (drop (n + 1) cs)))
     goes_at why because =
         sym so_far ∙ ap (λ (rest : List Command). later n (both_run e a b rest)) (next_command cs n c inside command_is)
         ∙ ap (later n) (goes_by a b c (drop (n + 1) cs) after why executed because)
 
-    -- after a command that enters slot e, the list ends with this command counted
+    -- after a command that enters slot e, the list ends, and this command is counted
     pub at_entered : after.why ≡ Entered → all ≡ record { first = after.first; second = after.second; ran = n + 1; why = Entered }
     at_entered why = goes_at Entered why
 
-    -- at a command that is not blind, the list ends with this command not counted
+    -- at a command that is not blind, the list ends, and this command is not counted
     pub at_blind : after.why ≡ NotBlind → all ≡ record { first = after.first; second = after.second; ran = n; why = NotBlind }
     at_blind why =
         let count : n + 0 ≡ n = omega arith in

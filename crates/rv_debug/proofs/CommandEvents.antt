@@ -37,17 +37,17 @@ effect_acts selected (OneByte address byte) = poke_acts selected (write selected
 
 -- ---- a list of commands
 
--- the machine after two lists of actions, one after the other
+-- the machine after two lists of actions is the machine after the second, from the machine after the first
 acts_on : (first second : List Action) (machine : MonitoredMachine)
     → after_actions (first ++ second) machine ≡ after_actions second (after_actions first machine)
 acts_on [] second machine = refl
 acts_on (action ∷ first) second machine = acts_on first second (after_action action machine)
 
--- the bench over a target, with these breakpoints and watchpoints
+-- `bench_over` is the bench over a target, with the given breakpoints and watchpoints
 abbrev bench_over : List ℕ → List ℕ → Target → BenchState
 bench_over breaks watches target = record { target = target; breaks = breaks; watches = watches }
 
--- commands act on the machine by their actions, for each target
+-- the actions of commands lead the machine of a target, if it has one, to its state after the commands
 acts_in : (target : Target) (breaks watches : List ℕ) (commands : List Command) → IfSome (machine_in target) (λ machine.
     let bench = bench_over breaks watches target in
     machine_in (after_commands bench commands).target ≡ Some (after_actions (actions_of bench commands) machine))
@@ -76,10 +76,11 @@ occur (LineOf hart raised ∷ more) machine = occur more (with_timer hart machin
 occurs_in : (bench : BenchState) (commands : List Command) (list : List Event) → IfSome (machine_in bench.target) (λ machine.
     actions_of bench commands ≡ map Occurs list → machine_in (after_commands bench commands).target ≡ Some (events list machine).state)
 occurs_in bench commands list = go (machine_in bench.target) (acts_in bench.target bench.breaks bench.watches commands) where
-  -- the machine as an option
+  -- `some` is the machine as an option
   some : MonitoredMachine → Option MonitoredMachine
   some machine = Some machine
 
+  -- the commands lead a monitored machine to the state after their events, where `o` is the machine, or `None` for a bare one
   go : (o : Option MonitoredMachine)
       → IfSome o (λ machine. machine_in (after_commands bench commands).target ≡ Some (after_actions (actions_of bench commands) machine))
       → IfSome o (λ machine. actions_of bench commands ≡ map Occurs list

@@ -30,7 +30,7 @@ use Rattle.rv_monitor.proofs.RelatedChanges.{changed_related, memory_related, re
 use Rattle.rv_debug.proofs.RelatedMoves.{moved_by}
 use Rattle.rv_debug.proofs.ScheduledSteps.{by_bare, schedule_is_sched}
 
--- the same command, pokes of secrets, or own registers set to secrets
+-- the two commands are the same command, two pokes of secrets, or two writes of secrets to registers of the enclave
 abbrev SecretsOrSame : ℕ → BenchState → BenchState → Command → Command → Type 0
 SecretsOrSame e first second here there =
     IsSameCommand e first second here there
@@ -38,11 +38,11 @@ SecretsOrSame e first second here there =
 
 module _ (e hart : ℕ) (one other : MonitoredMachine) (here : Invariant one) (there : Invariant other) (related : AreRelated e one other)
     (breaks watches : List ℕ) where
-  -- the target with the machine, and with the same selected hart
+  -- `at` is the target with the given machine and an unchanged selected hart
   abbrev at : MonitoredMachine → Target
   at machine = selected_at hart machine
 
-  -- the bench with the machine
+  -- `on` is the bench with the given machine
   abbrev on : MonitoredMachine → BenchState
   on machine = over (at machine) breaks watches
 
@@ -52,7 +52,7 @@ module _ (e hart : ℕ) (one other : MonitoredMachine) (here : Invariant one) (t
 
   -- ---- effects
 
-  -- the targets are related after steps that are those of moves
+  -- the targets are related after steps that are moves of the two machines
   stepped : (harts others : List ℕ) (selected : ℕ) → StepsAreMoves e one other harts others
       → TargetsAreRelated e (done (at one) (Steps harts selected)) (done (at other) (Steps others selected))
   stepped harts others selected steps =
@@ -98,7 +98,7 @@ module _ (e hart : ℕ) (one other : MonitoredMachine) (here : Invariant one) (t
     });
   }
 
-  -- the reply to a poke, by the memory after it
+  -- `poked_text` is the reply to a poke, where the option is the memory after the write, or `None` outside RAM
   abbrev poked_text : MonitoredMachine → Option (List ℕ) → List ℕ
   poked_text machine memory = option_case (option_map (over_memory (at machine)) memory) outside_text (λ after. ok_text)
 
@@ -107,7 +107,7 @@ module _ (e hart : ℕ) (one other : MonitoredMachine) (here : Invariant one) (t
     state : TargetsAreRelated e (poke_of (at one) m) (poke_of (at other) n)
     reply : poked_text one m ≡ poked_text other n
 
-  -- the same poke leaves related targets and has equal replies
+  -- equal pokes of related targets have equal replies and leave related targets
   poked_alike : (address byte : ℕ) → PokedAlike (write one.shared.memory address (byte ∷ [])) (write other.shared.memory address (byte ∷ []))
   poked_alike address byte =
       let memory = related.memory in
@@ -131,7 +131,7 @@ module _ (e hart : ℕ) (one other : MonitoredMachine) (here : Invariant one) (t
             rw (first, second) (record { state = both; reply = refl })
       ]
 
-  -- pokes of two bytes into the region
+  -- two pokes into the region, of two bytes and at two addresses, leave related targets and have equal replies
   secrets_poked : (address byte address_too byte_too : ℕ) → has (region one.shared.table e) address ≡ true
       → has (region other.shared.table e) address_too ≡ true
       → PokedAlike (write one.shared.memory address (byte ∷ [])) (write other.shared.memory address_too (byte_too ∷ []))
@@ -160,11 +160,11 @@ module _ (e hart : ℕ) (one other : MonitoredMachine) (here : Invariant one) (t
   hart_chosen number true false same = cc
   hart_chosen number false true same = cc
 
-  -- the effect of a schedule, by whether its harts exist
+  -- `sched_of` is the effect of a schedule, where the test states whether its harts exist
   abbrev sched_of : List ℕ → Bool → Effect
   sched_of harts has = if has then Steps harts hart else Nothing
 
-  -- the targets are related after a schedule whose steps are those of moves
+  -- the targets are related after a schedule whose steps are moves of the two machines
   scheduled : (harts : List ℕ) (has has_too : Bool) → has ≡ has_too
       → StepsAreMoves e one other (harts_stepped (sched_of harts has)) (harts_stepped (sched_of harts has_too))
       → TargetsAreRelated e (done (at one) (sched_of harts has)) (done (at other) (sched_of harts has_too))
@@ -177,7 +177,7 @@ module _ (e hart : ℕ) (one other : MonitoredMachine) (here : Invariant one) (t
   abbrev Ends : Command → Type 0
   Ends command = TargetsAreRelated e (done (at one) (effect (on one) command)) (done (at other) (effect (on other) command))
 
-  -- the same command leaves related targets, if the enclave hands over the same
+  -- a command that both benches execute leaves related targets, if the enclave hands over the same in both
   ends : (command : Command) → HandsOverAlike e (on one) (on other) command → Ends command
   ends (Step count) steps = stepped _ _ hart steps
   ends (Run count) steps = stepped _ _ hart steps
@@ -192,12 +192,12 @@ module _ (e hart : ℕ) (one other : MonitoredMachine) (here : Invariant one) (t
 
   -- ---- observations
 
-  -- what is observed of a schedule, by whether its harts exist
+  -- `sched_observed` is the observation of a schedule, where the test states whether its harts exist
   abbrev sched_observed : MonitoredMachine → List ℕ → Bool → List ℕ
   sched_observed machine harts has =
       if has then observed_harts e (scheduled_steps harts (schedule_start (at machine))) else no_hart_text
 
-  -- the same schedule has equal observations, if its steps are those of moves
+  -- equal schedules have equal observations, if the steps in both machines are moves
   schedule_observed : (harts : List ℕ) (has has_too : Bool) → has ≡ has_too
       → StepsAreMoves e one other (harts_stepped (sched_of harts has)) (harts_stepped (sched_of harts has_too))
       → sched_observed one harts has ≡ sched_observed other harts has_too
@@ -210,7 +210,7 @@ module _ (e hart : ℕ) (one other : MonitoredMachine) (here : Invariant one) (t
   abbrev Shows : Command → Type 0
   Shows command = observed e (on one) command ≡ observed e (on other) command
 
-  -- the same command has equal observations, if the enclave hands over the same and both stop alike
+  -- a command that both benches execute has equal observations, if the enclave hands over the same and both runs stop alike
   shows : (command : Command) → HandsOverAlike e (on one) (on other) command → stop_of (on one) command ≡ stop_of (on other) command → Shows command
   shows (Step count) steps stop = runs_alike e hart one other [] [] count here there related steps stop
   shows (Run count) steps stop = runs_alike e hart one other breaks watches count here there related steps stop
@@ -242,7 +242,7 @@ module _ (e hart : ℕ) (one other : MonitoredMachine) (here : Invariant one) (t
   abbrev Alike : Command → Command → Type 0
   Alike command command_too = ObservedAlike e (on one) (on other) command command_too
 
-  -- the same command is observed alike, if the enclave hands over the same and both stop alike
+  -- a command that both benches execute is observed alike, if the enclave hands over the same and both runs stop alike
   same_command : (command : Command) → HandsOverAlike e (on one) (on other) command → stop_of (on one) command ≡ stop_of (on other) command
       → Alike command command
   unfolding execute
@@ -290,11 +290,11 @@ module _ (e hart : ℕ) (one other : MonitoredMachine) (here : Invariant one) (t
 
 -- a command of a bare bench
 module _ (e : ℕ) (machine : Machine) (breaks watches : List ℕ) where
-  -- the bench over the bare machine
+  -- `bench` is the bench over the bare machine
   abbrev bench : BenchState
   bench = over (Bare machine) breaks watches
 
-  -- the same command on the same bare machine is observed alike
+  -- a command that two equal bare benches execute is observed alike
   bare_itself : (command : Command) → ObservedAlike e bench bench command command
   unfolding execute
   bare_itself command = record {
@@ -342,7 +342,7 @@ targets_alike e (Bare one) (Bare other) breaks watches command command_too here 
 targets_alike e (Bare one) (Monitored other) breaks watches command command_too here there related alike = absurd related
 targets_alike e (Monitored one) (Bare other) breaks watches command command_too here there related alike = absurd related
 
--- every case but that of a low command
+-- two commands that are equal, or that set secrets, are observed alike and leave related benches
 secrets_or_same : (e : ℕ) (first second : BenchState) (command command_too : Command) → TargetInvariant first.target → TargetInvariant second.target
     → BenchesAreRelated e first second → SecretsOrSame e first second command command_too → ObservedAlike e first second command command_too
 secrets_or_same e first second command command_too here there related =
@@ -352,7 +352,7 @@ secrets_or_same e first second command command_too here there related =
     → ObservedAlike e first (over second.target first.breaks watches) command command_too) related.watches
     (targets_alike e first.target second.target first.breaks first.watches command command_too here there related.target))
 
--- proves the law of declassification for a command, by the kinds of pairs of commands
+-- the law of declassification holds for two commands of each kind
 pub declassification : CommandDeclassificationLaw
 declassification e first second command command_too here there related (inl (inl is)) =
     secrets_or_same e first second command command_too here there related (inl is)

@@ -7,13 +7,13 @@ use Rattle.rv_debug.proofs.Prelude.{over_memory, sched_invariant}
 use Rattle.rv_debug.proofs.Prelude.{written_invariant}
 use Rattle.rv_debug.proofs.ScheduledSteps.{by_bare, stays_bare, step_scheduled_bare, schedule_is_sched}
 
--- the target after a write of a byte, or unchanged if the address is not in RAM
+-- `poke_of` is the target after a poke: with the memory after the write, or unchanged if the address is not in RAM
 abbrev pub poke_of : Target → Option (List ℕ) → Target
 poke_of target memory = option_case (option_map (over_memory target) memory) target (λ after. after)
 
 -- ---- a bare machine stays bare
 
--- a poke leaves a bare machine bare
+-- a bare machine is a bare machine after a poke, whether or not the address is in RAM
 bare_poked : (machine : Machine) (memory : Option (List ℕ)) → IsBare (poke_of (Bare machine) memory)
 bare_poked machine None = tt
 bare_poked machine (Some memory) = tt
@@ -26,7 +26,7 @@ bare_done machine _ = tt
 
 -- ---- a monitored machine
 
--- a poke preserves the invariant of a target
+-- a poke preserves the invariant, where `memory` is the result of the write, and `kept` is the invariant before the poke
 poke_keeps : (machine : Selected) (address byte : ℕ) (memory : Option (List ℕ)) → write machine.state.shared.memory address (byte ∷ []) ≡ memory
     → Invariant machine.state → TargetInvariant (poke_of (Monitored machine) memory)
 poke_keeps machine address byte None written kept = kept

@@ -73,7 +73,7 @@ never_enters hart machine kept = entered_by slot_count (step_of hart machine).ou
 
 -- ---- a command does not enter it
 
--- a slot that was not entered still was not, after a step that does not enter it
+-- a slot that is not among the entered slots (out) stays so after a step that does not enter it (passes)
 keeps_out : (slots : ℕ) (o : Option ℕ) → enters slot_count o ≡ false → is_entered slot_count slots ≡ false → is_entered slot_count (slots_with slots o) ≡ false
 keeps_out slots None passes out = out
 keeps_out slots (Some k) passes out =
@@ -193,7 +193,7 @@ module _ (e hart : ℕ) (machine : MonitoredMachine) (kept : Invariant machine) 
       record { first = runs; second = runs; hart = refl; slot = refl; memory = record { size = refl; bytes = λ i shown. refl } } in
       ((enclave_step place place machine machine kept kept itself).state.exits out).first.world
 
-  -- a step of the enclave exits now, by its trap
+  -- a step of the enclave after which the host runs is an exit by a trap, where `o` is the trap of the step
   by_trap : (o : Option Trap) → (step_of hart machine).outcome.step.trap ≡ o → ExitsNow hart machine
   by_trap (Some trap) trapped = record { trap = trap; traps = trapped; world = to_host }
   by_trap None none =
@@ -204,7 +204,7 @@ module _ (e hart : ℕ) (machine : MonitoredMachine) (kept : Invariant machine) 
   exits_now : ExitsNow hart machine
   exits_now = by_trap (step_of hart machine).outcome.step.trap refl
 
--- the same steps of machines that are related for no enclave are those of moves
+-- equal steps of two machines that are related for no enclave (`slot_count` is no slot) are moves
 guest_moves : (e : ℕ) (harts : List ℕ) (one other : MonitoredMachine) → Invariant one → Invariant other → AreRelated slot_count one other
     → StepsAreMoves e one other harts harts
 guest_moves e [] one other here there related = record { moves = []; steps = refl; first = refl; second = refl; are = tt }
@@ -278,7 +278,7 @@ steps_of_both (Both (StepOf hart) ∷ moves) one other here there are =
     ap (λ (hs : List ℕ). hart ∷ hs)
     (steps_of_both moves (step_of hart one).state (step_of hart other).state (invariant_law hart one here) (invariant_law hart other there) are.1)
 
--- the same steps of related targets are those of moves for every slot
+-- equal steps of related targets are moves, for every slot
 moves_again : (e : ℕ) (one other : Target) (harts others : List ℕ) → TargetInvariant one → TargetInvariant other → TargetsAreRelated slot_count one other
     → IfSome (machine_in one) (λ m. IfSome (machine_in other) (λ n. StepsAreMoves slot_count m n harts others))
     → IfSome (machine_in one) (λ m. IfSome (machine_in other) (λ n. StepsAreMoves e m n harts others))
@@ -288,7 +288,7 @@ moves_again e (Monitored one) (Monitored other) harts others here there related 
     let same = sym steps.first ∙ steps_of_both steps.moves one.state other.state here there steps.are ∙ steps.second in
     subst (StepsAreMoves e one.state other.state harts) same (guest_moves e harts one.state other.state here there related.state)
 
--- the same command on related benches satisfies the condition on its steps
+-- a command that related benches both execute satisfies the condition on its steps
 same_command : (k : ℕ) (first second : BenchState) (command : Command) → TargetInvariant first.target → TargetInvariant second.target
     → AreRelatedForAll first second → IsSameCommand k first second command command
 same_command k first second command here there related =

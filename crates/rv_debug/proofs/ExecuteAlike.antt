@@ -45,11 +45,11 @@ record Alike (e : ℕ) (first second : Executed) : Type 0 where
   pub entered : is_entered e first.entered ≡ is_entered e second.entered
   pub passed : is_entered e first.entered ≡ false → Passes e first second
 
--- the bench over a target, with these breakpoints and watchpoints
+-- `over` is the bench over a target, with the given breakpoints and watchpoints
 abbrev pub over : Target → List ℕ → List ℕ → BenchState
 over target breaks watches = record { target = target; breaks = breaks; watches = watches }
 
--- a command that enters no enclave
+-- `executed_with` is the result of a command that enters no enclave
 abbrev executed_with : Target → List ℕ → List ℕ → List ℕ → Executed
 executed_with target breaks watches reply = record { state = over target breaks watches; reply = reply; entered = 0 }
 
@@ -79,7 +79,7 @@ same_lines e did one other equiv not_running =
     ap₂ (λ (line lines : List ℕ). line ++ lines) (same_line e 0 did.first one other equiv not_running)
     (ap₂ (λ (n : ℕ) (line : List ℕ). if nat_lt 1 n then line else []) state.harts (same_line e 1 did.second one other equiv not_running))
 
--- the execution of a schedule
+-- `schedule_executed` is the result of the command `sched`: the bench after the schedule, the summary and the entered slots
 abbrev pub schedule_executed : ℕ → List ℕ → List ℕ → AfterSchedule → Executed
 schedule_executed hart breaks watches after =
     record { state = over (with_selected hart after.state) breaks watches; reply = harts_summary_text after; entered = after.did.entered }
@@ -114,11 +114,11 @@ both_past e hart breaks watches start one other idle past =
 
 -- ---- a run
 
--- the execution of a run, by its result
+-- `steps_execute` is the result of a command whose run has this result
 abbrev steps_execute : List ℕ → List ℕ → AfterRun Target → Executed
 steps_execute breaks watches after = record { state = over after.state breaks watches; reply = ran_reply after; entered = after.ran.entered }
 
--- the execution of a run with these breakpoints and watchpoints
+-- `run_execute` is the result of a command that runs the target, with these breakpoints and watchpoints
 abbrev run_execute : Target → List ℕ → List ℕ → List ℕ → List ℕ → ℕ → Executed
 run_execute target breaks watches at_breaks at_watches count =
     let d = run_effect target at_breaks at_watches count in
@@ -151,19 +151,19 @@ all_rest e machine none hart = elim (cases_lt hart (count_of machine)) [
 ]
 
 module _ (e hart : ℕ) (one other : MonitoredMachine) (equiv : EquivExcept e one other) (breaks watches : List ℕ) where
-  -- the target with the machine, and with the same selected hart
+  -- `at` is the target with the given machine and an unchanged selected hart
   abbrev at : MonitoredMachine → Target
   at machine = selected_at hart machine
 
-  -- the machine with the selected hart
+  -- `on` is the given machine with the selected hart
   abbrev on : MonitoredMachine → Selected
   on machine = record { hart = hart; state = machine }
 
-  -- the first bench
+  -- `here` is the first bench
   abbrev here : BenchState
   here = over (at one) breaks watches
 
-  -- the second bench
+  -- `there` is the second bench
   abbrev there : BenchState
   there = over (at other) breaks watches
 
@@ -171,18 +171,18 @@ module _ (e hart : ℕ) (one other : MonitoredMachine) (equiv : EquivExcept e on
   both : TargetsEquivExcept e (at one) (at other)
   both = record { hart = refl; state = equiv }
 
-  -- a command that leaves both unchanged
+  -- a command that leaves both benches unchanged and has equal replies is executed alike
   shown : (reply reply' : List ℕ) → reply ≡ reply'
       → Alike e (executed_with (at one) breaks watches reply) (executed_with (at other) breaks watches reply')
   shown reply reply' same = passes e (at one) (at other) breaks watches reply reply' both same
 
   -- ---- replies about a hart that does not run the enclave
 
-  -- a command that shows the selected hart shows equal hart states, if it avoids the hart of the enclave
+  -- a command that avoids the hart of the enclave (by) and shows the selected hart shows equal hart states
   hart_states : AvoidsHart e here Regs → hart_state_of hart one ≡ hart_state_of hart other
   hart_states by = let own = equiv.hart_states hart in own.same by.0
 
-  -- the PMP entries of every hart, which are those of the table and its world
+  -- two equivalent machines have equal PMP entries in each hart, since the entries depend only on the table and the hart's world
   same_entries : Invariant one → Invariant other → (hart_state_of hart one).hart.csrs.pmp ≡ (hart_state_of hart other).hart.csrs.pmp
   same_entries kept kept' =
       let own = equiv.hart_states hart in
@@ -231,12 +231,12 @@ module _ (e hart : ℕ) (one other : MonitoredMachine) (equiv : EquivExcept e on
 
   -- ---- a poked byte
 
-  -- the execution of a poke, by the memory after it
+  -- `poke_execute` is the result of a poke, where the option is the memory after the write, or `None` outside RAM
   abbrev poke_execute : MonitoredMachine → Option (List ℕ) → Executed
   poke_execute machine memory =
       executed_with (poke_of (at machine) memory) breaks watches (option_case (option_map (over_memory (at machine)) memory) outside_text (λ after. ok_text))
 
-  -- the same poke is alike in both
+  -- equal pokes are alike in both benches
   poke-alike : (address byte : ℕ)
       → Alike e (poke_execute one (write one.shared.memory address (byte ∷ []))) (poke_execute other (write other.shared.memory address (byte ∷ [])))
   poke-alike address byte =
@@ -285,7 +285,7 @@ module _ (e hart : ℕ) (one other : MonitoredMachine) (equiv : EquivExcept e on
     };
   }
 
-  -- the run of the target, stated for the machine
+  -- the run of the target is the run of its machine
   run-is : (machine : MonitoredMachine) (at_breaks at_watches : List ℕ) (count : ℕ)
       → (let ran = run (hart_stepped hart) (hart_pc hart) at_breaks at_watches count (no_steps machine) in
       run_execute (at machine) breaks watches at_breaks at_watches count ≡ steps_execute breaks watches (target_of (selected_at hart) ran))
@@ -293,7 +293,7 @@ module _ (e hart : ℕ) (one other : MonitoredMachine) (equiv : EquivExcept e on
       run_told (at machine) breaks watches at_breaks at_watches count
       ∙ ap (steps_execute breaks watches) (run_monitored hart at_breaks at_watches count (no_steps machine))
 
-  -- a run that avoids the hart of the enclave is executed alike
+  -- a run that avoids the hart of the enclave (by) is executed alike
   run-answers : (at_breaks at_watches : List ℕ) (count : ℕ) → Invariant one → Invariant other → AvoidsHart e here Regs
       → Alike e (run_execute (at one) breaks watches at_breaks at_watches count) (run_execute (at other) breaks watches at_breaks at_watches count)
   run-answers at_breaks at_watches count kept kept' by =
@@ -318,7 +318,7 @@ module _ (e hart : ℕ) (one other : MonitoredMachine) (equiv : EquivExcept e on
   hart-answers number true false reply same = cc
   hart-answers number false true reply same = cc
 
-  -- the execution of a schedule, by whether its harts exist
+  -- `sched-told` is the result of a schedule, where the test states whether its harts exist
   abbrev sched-told : MonitoredMachine → List ℕ → Bool → Executed
   sched-told machine harts has =
       let d : Effect = (if has then Steps harts hart else Nothing) in
@@ -345,7 +345,7 @@ module _ (e hart : ℕ) (one other : MonitoredMachine) (equiv : EquivExcept e on
 
   -- ---- a command
 
-  -- each command that is blind and avoids the hart of the enclave is executed alike
+  -- each command that is blind and avoids the hart of the enclave (by) is executed alike
   alike : (command : Command) → Invariant one → Invariant other → is_blind e here command ≡ true → AvoidsHart e here command
       → Alike e (execute here command) (execute there command)
   unfolding execute is_blind
@@ -388,7 +388,7 @@ module _ (e hart : ℕ) (one other : MonitoredMachine) (equiv : EquivExcept e on
 
 -- ---- any two benches
 
--- a blind command that avoids the hart is executed alike, for two monitored targets
+-- a blind command that avoids the hart of the enclave (by) is executed alike, for two monitored targets
 monitored-alike : (e : ℕ) (one other : Selected) (breaks watches : List ℕ) (command : Command) → Invariant one.state → Invariant other.state
     → SelectedEquivExcept e one other
     → is_blind e (over (Monitored one) breaks watches) command ≡ true → AvoidsHart e (over (Monitored one) breaks watches) command
@@ -449,7 +449,7 @@ equiv_again e one other kept equiv =
     (subst (λ (watches : List ℕ). RemainEquiv e one (over other.target one.breaks watches)) equiv.watches
     (again e one.target other.target one.breaks one.watches kept equiv.target))
 
--- proves the noninterference law for a command, by the kinds of commands
+-- the noninterference law holds for a command of each kind that is blind and avoids the hart of the enclave (by)
 pub noninterference : NoninterferenceLaw
 noninterference e first second command kept kept' equiv blind by =
     let both = subst (λ (breaks : List ℕ). Alike e (execute first command) (execute (over second.target breaks second.watches) command)) equiv.breaks

@@ -1,4 +1,4 @@
--- The execution of lines, on one bench and on two.
+-- This file is about the execution of lines, on one bench and on two.
 use Rattle.std.proofs.Common.{◌≡◌, ℕ, List, take, ap, sym, ◌∙◌}
 use Rattle.rv_text.specs.GoodLines.{significant_bytes}
 use Rattle.rv_script.proofs.Commands.{parse_of-cut}

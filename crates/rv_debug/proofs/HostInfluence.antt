@@ -40,6 +40,7 @@ by_write : (P : MonitoredMachine → Type 0) (machine : MonitoredMachine) (addre
     → ((memory : List ℕ) → write machine.shared.memory address (byte ∷ []) ≡ Some memory → P (with_memory machine memory))
     → P (after_action (SetsByte address byte) machine)
 by_write P machine address byte same writes = go (write machine.shared.memory address (byte ∷ [])) refl where
+  -- the property holds whether the write succeeds with a new memory, or fails
   go : (o : Option (List ℕ)) → write machine.shared.memory address (byte ∷ []) ≡ o → P (option_case o machine (with_memory machine))
   go None is = same
   go (Some memory) is = writes memory is
@@ -106,7 +107,7 @@ register_stays k hart number value context machine continues none =
       bytes = λ i own. refl;
     }
 
--- a write of a byte outside the region leaves the enclave as it is
+-- a write of a byte outside the region (out) leaves the enclave as it is
 byte_stays : (k address byte : ℕ) (context : Context) (machine : MonitoredMachine) → ContinuesWith k context machine
     → has (region machine.shared.table k) address ≡ false → Stays k context machine (after_action (SetsByte address byte) machine)
 byte_stays k address byte context machine continues out =
@@ -157,7 +158,7 @@ module _ (i j : ℕ) (one other : MonitoredMachine) (point : AreAtOnePoint i j o
     };
   }
 
-  -- both enclaves have the same region
+  -- the two enclaves, of slots i and j, have equal regions
   same_region : region one.shared.table i ≡ region other.shared.table j
   same_region = sym (region_by (slot_at one.shared.table i)) ∙ ap region_of point.identity ∙ region_by (slot_at other.shared.table j)
 
@@ -177,7 +178,7 @@ module _ (i j : ℕ) (one other : MonitoredMachine) (point : AreAtOnePoint i j o
   }
 
   module _ (here : IsSound one) (there : IsSound other) where
-    -- one move of two lives
+    -- after one move of two lives, the enclaves make equal steps and are at one point again
     lives : (move : LifeMove) → IsLifeMove i j move one other → LiveAlike i j (move ∷ []) one other
     lives move permitted = life_law i j (move ∷ []) one other here.kept there.kept here.legal there.legal point (permitted, tt)
 
@@ -197,7 +198,7 @@ module _ (i j : ℕ) (one other : MonitoredMachine) (point : AreAtOnePoint i j o
 
 -- ---- moves
 
--- the steps of the enclave are the same, and both enclaves are at one point after the moves
+-- the steps of the two enclaves are equal, and the enclaves are at one point of their lives after the moves
 record MovedAlike (i j : ℕ) (moves : List BenchMove) (one other : MonitoredMachine) : Type 0 where
   steps : EnclaveStepsAreSame i j moves one other
   point : AreAtOnePoint i j (after_actions (first_actions moves) one) (after_actions (second_actions moves) other)
@@ -225,7 +226,7 @@ module _ (i j : ℕ) (first second : BenchState) (commands others : List Command
   abbrev leads : BenchState → List Command → MonitoredMachine → Type 0
   leads bench list machine = machine_in (after_commands bench list).target ≡ Some (after_actions (actions_of bench list) machine)
 
-  -- the law for two monitored machines
+  -- the law of influence holds for two monitored machines
   by_machines : (one other : MonitoredMachine) → IsSound one → IsSound other → leads first commands one → leads second others other
       → (life : IsSameLife i j first second commands others one other)
       → HasSameLife i j life.moves one other (after_commands first commands).target (after_commands second others).target
@@ -241,7 +242,7 @@ module _ (i j : ℕ) (first second : BenchState) (commands others : List Command
             (subst (λ (o : Option MonitoredMachine). IsSomeAnd o (AreAtOnePoint i j (after_actions (first_actions life.moves) one))) (sym end_too) all.point);
       }
 
-  -- the law for two targets, bare or monitored
+  -- the law of influence holds for two targets, where each option is the machine of a target, or `None` if the target is bare
   by_options : (a b : Option MonitoredMachine) → IfSome a Invariant → IfSome b Invariant → IfSome a IsLegalMachine → IfSome b IsLegalMachine
       → IfSome a (leads first commands) → IfSome b (leads second others) → IfSome a (λ one. IfSome b (λ other.
       (life : IsSameLife i j first second commands others one other)

@@ -1,4 +1,4 @@
--- The closed instance of the law about the whole life of an enclave, by computing the steps.
+-- This file computes the steps of the closed instance of the law about the whole life of an enclave.
 use Rattle.std.proofs.Common.{◌≡◌, ◌≢◌, ℕ, zero, suc, ◌+◌, true, false, List, [], ◌∷◌, ◌++◌, length, Some, refl, sym, ◌∙◌, ap, subst, inl, inr}
 use Rattle.std.specs.Prelude.{Bool, ◌&&◌, not, slice_index}
 use Rattle.rv_memory.specs.Memory.{read, write}
@@ -43,27 +43,27 @@ use Rattle.rv_debug.specs.HostRun.{HostRunLaw, after_byte, hosted_asking, before
 
 -- ---- the points in the runs
 
--- after run, after the load, and after resume
+-- `entered` is the first machine after the call run
 abbrev entered : ℕ → MonitoredMachine
 entered a = hosted_next 0 (hosted_next 0 (first a))
 
--- the first machine after the load
+-- `loaded` is the first machine after the load
 abbrev loaded : ℕ → MonitoredMachine
 loaded a = with_timer 0 (hosted_next 0 (entered a)) true
 
--- the first machine after the timer interrupt
+-- `interrupted` is the first machine after the timer interrupt
 abbrev interrupted : ℕ → MonitoredMachine
 interrupted a = hosted_next 0 (loaded a)
 
--- the first machine after resume
+-- `resumed` is the first machine after the call resume
 abbrev resumed : ℕ → MonitoredMachine
 resumed a = hosted_next 0 (hosted_next 0 (hosted_next 0 (interrupted a)))
 
--- the second machine after run
+-- `entered_too` is the second machine after the call run
 abbrev entered_too : ℕ → MonitoredMachine
 entered_too b = hosted_next 1 (hosted_next 1 (second b))
 
--- the second machine after the refused call of the other hart
+-- `beside` is the second machine after the refused call of the other hart
 abbrev beside : ℕ → MonitoredMachine
 beside b = hosted_next 0 (hosted_next 1 (entered_too b))
 
@@ -74,7 +74,7 @@ record IsOther (hart : ℕ) (machine : MonitoredMachine) : Type 0 where
   low : runs_on 0 hart machine ≡ false
   live : is_live (hosted_next hart machine).shared.table 0 ≡ true
 
--- the enclave runs on a hart whose timer line is clear, over these bytes
+-- the enclave runs on a hart whose timer line is clear, and the memory has the image for this byte of the host
 record IsOwn (hart byte : ℕ) (machine : MonitoredMachine) : Type 0 where
   runs : runs_on 0 hart machine ≡ true
   clear : (hart_state_of hart machine).hart.csrs.timer ≡ false
@@ -84,7 +84,7 @@ record IsOwn (hart byte : ℕ) (machine : MonitoredMachine) : Type 0 where
 abbrev reads_choice : ℕ → MonitoredMachine → Bool
 reads_choice hart machine = not (has (window machine.shared.table 0) 0x80014010 && reads_byte (step_of hart machine).outcome.step.touched 0x80014010)
 
--- the context of a new enclave
+-- `context` is the saved context of a new enclave
 abbrev context : Context
 context = first_context (record {
   region = record { base = 0x80018000; size = 0x1000 };
@@ -94,7 +94,7 @@ context = first_context (record {
   state = Fresh;
 })
 
--- the facts of the first machine that are computed
+-- these facts of the first machine are computed
 record FirstIs (a : ℕ) : Type 0 where
   size : length (hosted_next 0 (hosted_start 1 0)).shared.memory ≡ length (hosted_ram a)
   live : is_live (first a).shared.table 0 ≡ true
@@ -113,7 +113,7 @@ record FirstIs (a : ℕ) : Type 0 where
   stores_other : reads_choice 0 (resumed a) ≡ true
   stored : slice_index (hosted_next 0 (resumed a)).shared.memory 0x14008 ≡ 7
 
--- the facts of the second machine that are computed
+-- these facts of the second machine are computed
 record SecondIs (b : ℕ) : Type 0 where
   size : length (hosted_next 1 (hosted_start 2 1)).shared.memory ≡ length (hosted_ram b)
   saved : context_at (second b).shared.contexts 0 ≡ Some context
@@ -124,7 +124,7 @@ record SecondIs (b : ℕ) : Type 0 where
   stores : IsOwn 1 b (beside b)
   stored : slice_index (hosted_next 1 (beside b)).shared.memory 0x14008 ≡ 7
 
--- the facts of the first machine, for each byte
+-- the first machine has the facts of `FirstIs`, whatever byte its enclave has
 first_is : (a : ℕ) → FirstIs a
 unfolding at_start step_of monitored_step handled call_handled called performed created create_refusals is_valid_block is_window overlaps is_entry
     free_slot call_requested first_context layout entry_at step request executed retired_or_trapped from_access from_decode from_fetch written_csr csr_changed
@@ -148,7 +148,7 @@ first_is a = record {
   stored = refl;
 }
 
--- the facts of the second machine, for each byte
+-- the second machine has the facts of `SecondIs`, whatever byte its enclave has
 second_is : (b : ℕ) → SecondIs b
 unfolding at_start step_of monitored_step handled call_handled called performed created create_refusals is_valid_block is_window overlaps is_entry
     free_slot call_requested first_context layout entry_at step request executed retired_or_trapped from_access from_decode from_fetch written_csr csr_changed
@@ -214,7 +214,7 @@ other_byte (x ∷ xs) ys a b (suc i) other = other_byte xs ys a b i (λ same. ot
 place : length before_byte ≡ 81936
 place = refl
 
--- memories that differ in that byte are equal where it is hidden
+-- memories that differ in the byte of the host's choice are equal outside a set of bytes that has this byte (hidden)
 equal_but : (hidden : ℕ → Bool) (a b : ℕ) → hidden 0x80014010 ≡ true → EqualOutside hidden (hosted_ram a) (hosted_ram b)
 equal_but hidden a b hides = record {
   size = refl;
@@ -224,13 +224,13 @@ equal_but hidden a b hides = record {
   ];
 }
 
--- two memories that differ in the byte of the host's choice are equal outside it
+-- two memories that are the image for two bytes of the host are equal outside a set of bytes that has this byte (hidden)
 equal_of : (hidden : ℕ → Bool) (a b : ℕ) (m n : List ℕ) → m ≡ hosted_ram a → n ≡ hosted_ram b → hidden 0x80014010 ≡ true → EqualOutside hidden m n
 equal_of hidden a b m n one other hides = rw (one, other) (equal_but hidden a b hides)
 
 -- ---- the law
 
--- both enclaves are at one point after create
+-- the two enclaves are at the same point of their lives after the call `create`
 at_one_point : (a b : ℕ) → AreAtOnePoint 0 0 (first a) (second b)
 at_one_point a b =
     let x = first_is a in

@@ -1,4 +1,4 @@
--- The isolation laws, for an effect, for a command and for a list of commands.
+-- This file proves the isolation laws, for an effect, for a command and for a list of commands.
 use Rattle.std.proofs.Common.{◌≡◌, ◌≢◌, ℕ, ◌+◌, ◌<◌, ◌≤◌, ◌⊎◌, true, false, List, [], ◌∷◌, Option, Some, None, refl}
 use Rattle.std.proofs.Common.{sym, ◌∙◌, subst, inl, inr, arith, ap, IfSome}
 use Rattle.std.specs.Prelude.{IsSomeAnd}
@@ -78,6 +78,7 @@ rests_by k own machine _ kept runs none pokes = running_law k own [] machine kep
 -- proves that commands that step other harts and poke no byte of the region leave a running enclave undisturbed
 pub running : RunningLaw
 running k own bench command = by (machine_in bench.target) where
+  -- the command leaves the enclave undisturbed in the machine of the target, if there is one (found)
   by : (found : Option MonitoredMachine) → IfSome found Invariant
       → IfSome found (λ machine.
       let does = effect bench command in
@@ -117,6 +118,7 @@ changes (Monitored machine) _ kept byte = inl refl
 pub changes_memory : (bench : BenchState) (command : Command) → TargetInvariant bench.target → ChangesMemory bench command (execute bench command).state
 unfolding execute
 changes_memory bench command kept byte = by bench.target (effect bench command) kept where
+  -- the effect changes only bytes that it may change, in the machine of the target
   by : (target : Target) (d : Effect) → TargetInvariant target → IfSome (machine_in target) (λ machine.
       byte_at (memory_of (done target d)) byte ≡ byte_at machine.shared.memory byte ⊎ MayChange machine d byte)
   by (Bare machine) d kept = tt

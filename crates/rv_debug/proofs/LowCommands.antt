@@ -53,7 +53,7 @@ same_window e one other here equiv =
 low_step : (e hart : ℕ) (one other : MonitoredMachine) → Invariant one → EquivToGuests e one other → runs_on e hart one ≡ false → IsLowStep e hart one other
 low_step e hart one other here equiv low = record { low = low; window = λ running. window_read e hart one other (same_window e one other here equiv) }
 
--- the moves of the same steps in both
+-- `both` has the moves in which both machines make the same steps
 abbrev both : List ℕ → List Move
 both [] = []
 both (hart ∷ harts) = Both (StepOf hart) ∷ both harts
@@ -63,17 +63,17 @@ both_steps : (harts : List ℕ) → are_steps (both harts) ≡ true
 both_steps [] = refl
 both_steps (hart ∷ harts) = both_steps harts
 
--- the steps in the first machine are those of the list
+-- the first machine makes the steps of the list
 both_first : (harts : List ℕ) → first_steps (both harts) ≡ harts
 both_first [] = refl
 both_first (hart ∷ harts) = ap (λ (hs : List ℕ). hart ∷ hs) (both_first harts)
 
--- the steps in the second machine are those of the list
+-- the second machine makes the steps of the list
 both_second : (harts : List ℕ) → second_steps (both harts) ≡ harts
 both_second [] = refl
 both_second (hart ∷ harts) = ap (λ (hs : List ℕ). hart ∷ hs) (both_second harts)
 
--- these steps of both are moves, after which the machines are equivalent in the guest view
+-- the steps of these harts are low in both machines, and are moves that leave the machines equivalent in the guest view
 pub record AreLowMoves (e : ℕ) (harts : List ℕ) (one other : MonitoredMachine) : Type 0 where
   pub low : AreLowSteps e harts one
   moves : AreMoves e (both harts) one other
@@ -83,7 +83,7 @@ pub record AreLowMoves (e : ℕ) (harts : List ℕ) (one other : MonitoredMachin
 no_moves : (e : ℕ) (one other : MonitoredMachine) → EquivToGuests e one other → AreLowMoves e [] one other
 no_moves e one other equiv = record { low = tt; moves = tt; state = equiv }
 
--- one more low step before low moves
+-- one more low step before low moves gives low moves
 one_more_move : (e hart : ℕ) (harts : List ℕ) (one other : MonitoredMachine) → Invariant one → EquivToGuests e one other → runs_on e hart one ≡ false
     → AreLowMoves e harts (step_of hart one).state (step_of hart other).state → AreLowMoves e (hart ∷ harts) one other
 one_more_move e hart harts one other here equiv low rest =
@@ -114,7 +114,7 @@ low_schedule e (hart ∷ harts) one other did here there equiv none passed =
 
 -- ---- runs
 
--- both runs execute this many steps after `before`, and end alike
+-- both runs execute `count` steps after the first `before` steps, and end alike
 record IsLowRun (e hart before : ℕ) (one other : MonitoredMachine) (a b : AfterRun MonitoredMachine) : Type 0 where
   count : ℕ
   steps : a.ran.steps ≡ before + count
@@ -122,19 +122,19 @@ record IsLowRun (e hart before : ℕ) (one other : MonitoredMachine) (a b : Afte
   low : AreLowMoves e (replicate count hart) one other
 
 module _ (e hart : ℕ) (breaks watches : List ℕ) where
-  -- the run of a machine from the steps so far
+  -- `on` is the run of a machine from the steps so far
   abbrev on : ℕ → AfterSteps MonitoredMachine → AfterRun MonitoredMachine
   on left before = run (hart_stepped hart) (hart_pc hart) breaks watches left before
 
-  -- the same steps so far, with another machine
+  -- the number of steps and the outcomes so far are unchanged, with another machine
   abbrev with_state : AfterSteps MonitoredMachine → MonitoredMachine → AfterSteps MonitoredMachine
   with_state before state = record before { state = state }
 
-  -- the steps so far with one more step
+  -- `after_step` has the steps so far and one more step
   abbrev after_step : AfterSteps MonitoredMachine → Outcome → MonitoredMachine → AfterSteps MonitoredMachine
   after_step before outcome state = with_step before (record { state = state; outcome = outcome.step; entered = outcome.entered })
 
-  -- the run after one more step
+  -- `next_run` is the run after one more step
   abbrev next_run : ℕ → AfterSteps MonitoredMachine → Outcome → MonitoredMachine → AfterRun MonitoredMachine
   next_run left before outcome state =
       let after = after_step before outcome state in
@@ -144,7 +144,7 @@ module _ (e hart : ℕ) (breaks watches : List ℕ) where
   abbrev Low : AfterSteps MonitoredMachine → MonitoredMachine → AfterRun MonitoredMachine → AfterRun MonitoredMachine → Type 0
   Low before other a b = is_entered e a.ran.entered ≡ false → IsLowRun e hart before.steps before.state other a b
 
-  -- both harts are at the same pc
+  -- the pcs of the hart are equal in both machines, if the enclave does not run on the hart
   pc_alike : (one other : MonitoredMachine) → EquivToGuests e one other → runs_on e hart one ≡ false → hart_pc hart one ≡ hart_pc hart other
   pc_alike one other equiv low =
       let pc : HartState → ℕ = λ s. s.hart.pc in
@@ -193,11 +193,11 @@ module _ (e hart : ℕ) (breaks watches : List ℕ) where
 
 module _ (e hart : ℕ) (one other : MonitoredMachine) (here : Invariant one) (there : Invariant other) (related : AreRelated e one other)
     (window_equal : runs one.shared.table e ≡ true → SameWindow e one other) (breaks watches : List ℕ) where
-  -- the target with the machine, and with the same selected hart
+  -- `at` is the target with the given machine and an unchanged selected hart
   abbrev pub at : MonitoredMachine → Target
   at machine = selected_at hart machine
 
-  -- the bench with the machine
+  -- `bench` is the bench with the given machine
   abbrev bench : MonitoredMachine → BenchState
   bench machine = over (at machine) breaks watches
 
@@ -205,7 +205,7 @@ module _ (e hart : ℕ) (one other : MonitoredMachine) (here : Invariant one) (t
   equiv : EquivToGuests e one other
   equiv = related_equiv e one other related window_equal
 
-  -- the windows after low steps
+  -- the windows of the enclave are equal in the benches over two targets
   abbrev SameAfter : Target → Target → Type 0
   SameAfter first second = WindowsAreEqual e (over first breaks watches) (over second breaks watches)
 
@@ -219,11 +219,11 @@ module _ (e hart : ℕ) (one other : MonitoredMachine) (here : Invariant one) (t
       (sym (schedule_is_sched harts (record { hart = hart; state = other }) _ selected))
       (λ running. same_window e (sched harts one).state (sched harts other).state (sched_invariant harts one here) low.state))
 
-  -- the summary of a run of the machine
+  -- `runs_of` is the summary of a run of the machine
   abbrev pub runs_of : MonitoredMachine → List ℕ → List ℕ → ℕ → Ran
   runs_of machine at_breaks at_watches count = (steps_of (at machine) at_breaks at_watches count).ran
 
-  -- the two runs of a command
+  -- the two runs of a command have equal summaries, and their steps are low
   pub record LowRuns (at_breaks at_watches : List ℕ) (count : ℕ) : Type 0 where
     ran : runs_of one at_breaks at_watches count ≡ runs_of other at_breaks at_watches count
     pub low : AreLowMoves e (replicate (runs_of one at_breaks at_watches count).steps hart) one other
@@ -261,7 +261,7 @@ module _ (e hart : ℕ) (one other : MonitoredMachine) (here : Invariant one) (t
             (after_steps harts hart runs.low),
       )
 
-  -- the effect of a schedule, by whether its harts exist
+  -- `sched_of` is the effect of a schedule, where the test states whether its harts exist
   abbrev sched_of : List ℕ → Bool → Effect
   sched_of harts has = if has then Steps harts hart else Nothing
 
@@ -270,7 +270,7 @@ module _ (e hart : ℕ) (one other : MonitoredMachine) (here : Invariant one) (t
   LowSched first second =
       StepsAreMoves e one other (harts_stepped first) (harts_stepped second) × SameAfter (done (at one) first) (done (at other) second)
 
-  -- no steps are those of no moves
+  -- two empty lists of steps are an empty list of moves
   no_steps_at_all : StepsAreMoves e one other [] []
   no_steps_at_all = record { moves = []; steps = refl; first = refl; second = refl; are = tt }
 
@@ -362,7 +362,7 @@ targets_low e (Bare one) (Bare other) breaks watches command here there related 
 targets_low e (Bare one) (Monitored other) breaks watches command here there related equal none passed = absurd related
 targets_low e (Monitored one) (Bare other) breaks watches command here there related equal none passed = absurd related
 
--- proves the law of low commands, by the kinds of commands
+-- the law of low commands holds for a command of each kind
 pub low_command : LowCommandLaw
 low_command e first second command here there related equal none passed =
     subst (λ (breaks : List ℕ). IsLowCommand e first (over second.target breaks second.watches) command) related.breaks

@@ -14,7 +14,7 @@ use Rattle.rv_debug.proofs.ScheduledSteps.{by_bare}
 
 -- ---- every command avoids its hart
 
--- an enclave that runs on no hart runs on none of these harts of the target
+-- an enclave that runs on no hart of a target runs on none of the given harts
 pub on_none_in : (e : ℕ) (harts : List ℕ) (target : Target) → RunsOnNoHart e target → RunsOnNoneIn e harts target
 on_none_in e harts (Bare machine) not_running = tt
 on_none_in e harts (Monitored selected) not_running = on_none_of e harts selected.state not_running

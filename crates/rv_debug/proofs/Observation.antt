@@ -87,11 +87,11 @@ module _ (e hart : ℕ) (target : Target) where
 -- ---- a monitored bench
 
 module _ (e hart : ℕ) (machine : MonitoredMachine) (kept : Invariant machine) (none : runs machine.shared.table e ≡ false) (breaks watches : List ℕ) where
-  -- the target
+  -- `at` is the target of the bench
   abbrev at : Target
   at = selected_at hart machine
 
-  -- the bench
+  -- `bench` is the bench whose replies are observed
   abbrev bench : BenchState
   bench = over at breaks watches
 
@@ -134,7 +134,7 @@ module _ (e hart : ℕ) (machine : MonitoredMachine) (kept : Invariant machine) 
 -- ---- a bare bench
 
 module _ (e : ℕ) (machine : Machine) (breaks watches : List ℕ) where
-  -- the bench over the bare machine
+  -- `bare` is the bench over the bare machine
   abbrev bare : BenchState
   bare = over (Bare machine) breaks watches
 

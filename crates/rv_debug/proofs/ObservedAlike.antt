@@ -41,7 +41,7 @@ hart_texts e hart one other related text =
 
 -- ---- runs
 
--- the summary of a run of a machine
+-- `run_text` is the summary of a run of a machine
 abbrev pub run_text : ℕ → ℕ → MonitoredMachine → AfterRun MonitoredMachine → List ℕ
 run_text e hart machine after =
     let hart_state = hart_state_of hart after.state in
@@ -60,13 +60,13 @@ run_text_is : (e hart : ℕ) (breaks watches : List ℕ) (count : ℕ) (machine 
 run_text_is e hart breaks watches count machine =
     ap (observed_run e (selected_at hart machine)) (run_monitored hart breaks watches count (no_steps machine))
 
--- the text with the observed steps and trap
+-- `ran_with` is the summary with the observed steps and the observed trap
 abbrev ran_with : ℕ → Stop → HartRan → HartState → List ℕ
 ran_with hart stop ran hart_state =
     ran_text hart_state.hart.pc hart_state.hart.mode (world_name hart_state.world)
     (record { steps = ran.steps; trap = ran.trap; stop = stop; entered = 0 })
 
--- two runs whose steps are those of moves, and that stop alike, have the same observed text
+-- two runs whose steps are moves, and that stop alike, have the same observed text
 run_texts : (e hart : ℕ) (one other : MonitoredMachine) (a b : AfterRun MonitoredMachine) → RunObserved e hart one a → RunObserved e hart other b
     → Moved e hart (replicate a.ran.steps hart) (replicate b.ran.steps hart) one other nothing_ran nothing_ran → a.ran.stop ≡ b.ran.stop
     → run_text e hart one a ≡ run_text e hart other b
@@ -90,7 +90,7 @@ run_texts e hart one other a b first second both_moved stop =
           ∙ ap₂ (text (guest_state (hart_state_of hart b.state)) ran_b.steps) trap stop)
     ]
 
--- two runs of related machines whose steps are those of moves, and that stop alike, have equal observations
+-- two runs of related machines whose steps are moves, and that stop alike, have equal observations
 pub runs_alike : (e hart : ℕ) (one other : MonitoredMachine) (breaks watches : List ℕ) (count : ℕ) → Invariant one → Invariant other
     → AreRelated e one other
     → StepsAreMoves e one other (replicate (steps_of (selected_at hart one) breaks watches count).ran.steps hart)
@@ -114,12 +114,12 @@ runs_alike e hart one other breaks watches count here there related steps stop =
 
 -- ---- schedules
 
--- the target after a schedule, with some hart selected
+-- `after` is the target after a schedule, with some hart selected
 record IsScheduled (harts : List ℕ) (machine : MonitoredMachine) (after : Target) : Type 0 where
   hart : ℕ
   is : after ≡ selected_at hart (sched harts machine).state
 
--- the machine after a schedule is that after its steps
+-- a schedule leaves the machine in the state after its steps
 scheduled : (harts : List ℕ) (machine : Selected) (did : Scheduled)
     → IsScheduled harts machine.state (scheduled_steps harts (after_schedule (Monitored machine) did)).state
 unfolding scheduled_steps
@@ -130,12 +130,12 @@ scheduled (hart ∷ harts) machine did =
     (with_scheduled_step hart before (target_stepped (with_selected hart before.state))).did in
     record { hart = rest.hart; is = rest.is }
 
--- the observed summary of a hart
+-- `hart_line` is the observation of the summary of one hart
 abbrev hart_line : ℕ → MonitoredMachine → ℕ → HartRan → List ℕ
 hart_line e machine hart ran =
     let s = hart_state_of hart machine in unless (runs_on e hart machine) (hart_text hart s.hart.pc s.hart.mode (world_name s.world) ran)
 
--- the observed summaries of all harts
+-- `hart_lines` is the observation of the summaries of all harts
 abbrev hart_lines : ℕ → MonitoredMachine → HartRan → HartRan → List ℕ
 hart_lines e machine first second = hart_line e machine 0 first ++ (if nat_lt 1 (count_of machine) then hart_line e machine 1 second else [])
 
@@ -185,7 +185,7 @@ module _ (e : ℕ) (harts : List ℕ) (one other : MonitoredMachine)
       ap₂ (λ (line lines : List ℕ). line ++ lines) (same_line 0)
       (ap₂ (λ (n : ℕ) (line : List ℕ). if nat_lt 1 n then line else []) moved_alike.state.harts (same_line 1))
 
--- two schedules of related machines whose steps are those of moves have equal observations
+-- two schedules of related machines whose steps are moves have equal observations
 pub schedules_alike : (e hart : ℕ) (harts : List ℕ) (one other : MonitoredMachine) → Invariant one → Invariant other → AreRelated e one other
     → StepsAreMoves e one other harts harts
     → observed_harts e (scheduled_steps harts (schedule_start (selected_at hart one)))
@@ -197,7 +197,7 @@ schedules_alike e hart harts one other here there related steps =
 
 -- ---- registers
 
--- a CSR of related machines has equal observations: none if the enclave runs on the hart
+-- two related machines give the same observation of a CSR: none if the enclave runs on the hart, and else the reply to `csr`
 pub csrs_alike : (e hart : ℕ) (one other : MonitoredMachine) (number : ℕ) → AreRelated e one other
     → unless (runs_on e hart one) (csr_reply (guest_target (selected_at hart one)) number)
     ≡ unless (runs_on e hart other) (csr_reply (guest_target (selected_at hart other)) number)
@@ -208,7 +208,7 @@ csrs_alike e hart one other number related =
     ∙ hart_texts e hart one other related text
     ∙ sym (ap (λ (s : HartState). unless (runs_on e hart other) (text s)) (guest_hart_state hart other))
 
--- the PMP entries of every hart are those of the table and its world
+-- two related machines have equal PMP entries in each hart, since the entries depend only on the enclave table and the hart's world
 pub entries_alike : (e hart : ℕ) (one other : MonitoredMachine) → Invariant one → Invariant other → AreRelated e one other
     → (hart_state_of hart one).hart.csrs.pmp ≡ (hart_state_of hart other).hart.csrs.pmp
 entries_alike e hart one other here there related =
@@ -226,18 +226,18 @@ entries_alike e hart one other here there related =
 
 -- ---- memory
 
--- if an or fails, both parts fail
+-- two conditions are false if neither of them is true
 neither : (a b : Bool) → (a || b) ≡ false → (a ≡ false) × (b ≡ false)
 neither false b is = (refl, is)
 neither true b is = cc
 
 module _ (e : ℕ) (one other : MonitoredMachine) (related : AreRelated e one other) where
-  -- whether a block names private bytes of the enclave
+  -- a block names private bytes of the enclave if it has bytes of the region, or bytes of the window while the enclave runs
   abbrev names : MonitoredMachine → Block → Bool
   names machine block =
       meets block (region machine.shared.table e) || (runs machine.shared.table e && meets block (window machine.shared.table e))
 
-  -- a block without private bytes has equal bytes in both memories
+  -- a block that names no private bytes has only bytes that are equal in both memories
   seen : (block : Block) → names one block ≡ false → IsSeen (may_differ one.shared.table e) block.base block.size
   seen block apart b low high =
       let parts = neither (meets block (region one.shared.table e)) _ apart in
@@ -250,7 +250,7 @@ module _ (e : ℕ) (one other : MonitoredMachine) (related : AreRelated e one ot
             rw (outside, running, beyond) refl
       ]
 
-  -- a read of a block without private bytes is equal in both memories
+  -- a read of a block that names no private bytes gives equal bytes in both memories
   reads_alike : (block : Block) → names one block ≡ false → read one.shared.memory block.base block.size ≡ read other.shared.memory block.base block.size
   reads_alike block apart =
       let memory = related.memory in
@@ -261,7 +261,7 @@ module _ (e : ℕ) (one other : MonitoredMachine) (related : AreRelated e one ot
             read-none one.shared.memory block.base block.size outside ∙ sym (read-none other.shared.memory block.base block.size (rw (← sizes) outside))
       ]
 
-  -- a text about the bytes of a block
+  -- a text about the bytes of a block has equal observations in both machines: none if the block names private bytes
   pub memory_texts : (block : Block) (text : Option (List ℕ) → List ℕ)
       → unless (names one block) (text (read one.shared.memory block.base block.size))
       ≡ unless (names other block) (text (read other.shared.memory block.base block.size))

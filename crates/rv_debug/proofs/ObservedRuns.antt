@@ -61,7 +61,7 @@ run_observed e hart breaks watches count machine =
 
 -- ---- a schedule
 
--- the summary of one hart after steps of these harts
+-- `own_steps` is the summary of one hart after a list of steps
 abbrev pub own_steps : ℕ → List ℕ → MonitoredMachine → HartRan → HartRan
 own_steps own [] machine ran = ran
 own_steps own (hart ∷ harts) machine ran =
@@ -78,7 +78,7 @@ schedule_did (hart ∷ harts) machine did =
     schedule_did harts (record { hart = hart; state = (step_of hart machine.state).state })
     (with_scheduled_step hart before (target_stepped (with_selected hart before.state))).did
 
--- its number of steps is that of the schedule
+-- one more step counts as an own step of a hart or not, whatever trap the step has
 same_number : (own hart : ℕ) (trap trap_too : Option Trap) (a b : HartRan) → a.steps ≡ b.steps
     → (with_own own hart trap a).steps ≡ (with_own own hart trap_too b).steps
 same_number own hart trap trap_too a b same = elim (cases_Bool (own == hart)) [
@@ -94,7 +94,7 @@ same_numbers own (hart ∷ harts) one other a b same =
     same_numbers own harts (step_of hart one).state (step_of hart other).state _ _
     (same_number own hart (step_of hart one).outcome.step.trap (step_of hart other).outcome.step.trap a b same)
 
--- its last trap is observed
+-- the last trap of a hart stays equal to its observed trap after one more step
 same_trap : (e own hart : ℕ) (machine : MonitoredMachine) (a b : HartRan) → a.trap ≡ b.trap
     → (with_own own hart (step_of hart machine).outcome.step.trap a).trap ≡ (with_observed_step e own hart machine b).trap
 same_trap e own hart machine a b same = elim (cases_Bool (own == hart)) [

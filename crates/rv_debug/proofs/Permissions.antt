@@ -1,4 +1,4 @@
--- The bytes that S may store, from the law of access control.
+-- This file derives the bytes that S may store from the law of access control.
 use Rattle.std.proofs.Common.{◌≡◌, ◌<◌, ◌≤◌, ℕ, ◌+◌, Bool, true, false, List, [], ◌∷◌, length, Option, Some, None, refl, sym, ◌∙◌, ap, ap₂, arith}
 use Rattle.std.specs.List.{list_any, range_with_len}
 use Rattle.std.specs.Prelude.{not, ◌&&◌, ◌||◌, nat_le, nat_lt}
@@ -27,13 +27,13 @@ module _ (hart byte : ℕ) (machine : MonitoredMachine) (kept : Invariant machin
       ≡ is_accessible machine.shared.memory machine.shared.table (hart_state_of hart machine).world Write (byte ∷ [])
   accessible = access_control_law (hart_view hart machine) S Write byte Byte (hart_view_invariant hart machine kept exists) (λ same. cc) inside
 
-  -- the table
+  -- `slots` is the enclave table
   abbrev slots : Slots
   slots = machine.shared.table
 
   -- ---- the host
 
-  -- tests that are equal everywhere hold of the same list
+  -- two tests that are equal for each number hold of the same lists
   any_same : (p q : ℕ → Bool) → ((k : ℕ) → p k ≡ q k) → (ks : List ℕ) → list_any p ks ≡ list_any q ks
   any_same p q same [] = refl
   any_same p q same (k ∷ ks) = ap₂ (λ (a b : Bool). a || b) (same k) (any_same p q same ks)
@@ -61,7 +61,7 @@ module _ (hart byte : ℕ) (machine : MonitoredMachine) (kept : Invariant machin
 
   -- ---- an enclave
 
-  -- what an enclave may store, by its record, is the same in both definitions
+  -- both definitions let an enclave with this record (o) store the same bytes
   of_record : (o : Option SlotInfo) → ((has (region_of o) byte && true) || ((has (window_of o) byte && true) || false))
       ≡ option_case o false (λ info. is_within info.region byte || is_within info.window byte)
   of_record None = grind (arith, nat_tests)

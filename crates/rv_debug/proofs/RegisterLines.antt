@@ -1,4 +1,4 @@
--- The lines that show registers: one more line, and their length.
+-- This file is about the lines that show registers: one more line, and their length.
 use Rattle.std.proofs.Common.{◌≡◌, ℕ, zero, suc, ◌+◌, ◌-◌, ◌*◌, ◌<◌, ◌≤◌, List, [], ◌∷◌, ◌++◌, length, ap, sym}
 use Rattle.std.proofs.Common.{◌∙◌, arith, add-one, length-append}
 use Rattle.std.specs.Prelude.{decimal}
@@ -6,12 +6,12 @@ use Rattle.std.proofs.lemmas.Fmt.{length-decimal-le}
 use Rattle.rv_text.proofs.HexDigits.{length-hex_digits}
 use Rattle.rv_debug.proofs.Prelude.{flat_map, flat_map_more, range_with_len, register_text}
 
--- the last number of a range
+-- a range with one more number ends with this number (last)
 range_with_len-suc : (a n last : ℕ) → a + n ≡ last → range_with_len a (suc n) ≡ range_with_len a n ++ last ∷ []
 range_with_len-suc a zero last is = ap (λ k. k ∷ []) (omega arith)
 range_with_len-suc a (suc n) last is = ap (λ t. a ∷ t) (range_with_len-suc (a + 1) n last (omega arith))
 
--- the text of one more number
+-- the texts of the numbers from 0 to n are those of the numbers below n, followed by the text of n
 pub flat_map-range_more : (f : ℕ → List ℕ) (old : List ℕ) (n : ℕ)
     → (old ++ flat_map f (range_with_len 0 n)) ++ f n ≡ old ++ flat_map f (range_with_len 0 (n + 1))
 flat_map-range_more f old n =

@@ -74,7 +74,7 @@ module _ (e own hart : ℕ) (one other : MonitoredMachine) (a b : HartRan) (rela
 
 -- ---- all moves
 
--- after moves of steps only, the machines are related, and what is observed of hart `own` is the same
+-- after moves that are steps, the machines are related, and hart `own` has equal observations in both
 pub record Moved (e own : ℕ) (harts others : List ℕ) (one other : MonitoredMachine) (a b : HartRan) : Type 0 where
   pub state : AreRelated e (sched harts one).state (sched others other).state
   pub ran : Same e own (sched harts one).state (observed_steps e own harts one a) (observed_steps e own others other b)
@@ -105,7 +105,7 @@ moved e own (Both (StepOf hart) ∷ more) one other a b here there related only 
     (invariant_law hart one here) (invariant_law hart other there) alike.state only moves.1 (go moves.0) in
     record { state = rest.state; ran = rest.ran }
 
--- the steps of two commands that are those of moves leave the same observed
+-- steps of two commands that are moves leave related machines and equal observations
 pub moved_by : (e own : ℕ) (harts others : List ℕ) (one other : MonitoredMachine) → Invariant one → Invariant other → AreRelated e one other
     → StepsAreMoves e one other harts others → Moved e own harts others one other nothing_ran nothing_ran
 moved_by e own harts others one other here there related steps =

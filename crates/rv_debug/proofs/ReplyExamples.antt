@@ -1,4 +1,4 @@
--- Examples of replies.
+-- This file has examples of replies.
 use Rattle.std.proofs.Common.{◌≡◌, ℕ, ◌+◌, ◌/◌, ◌%◌, List, ◌∷◌, [], ◌++◌, Some, None, true, refl, ◌<◌, ◌≤◌, arith}
 use Rattle.std.specs.Prelude.{codes, decimal, replicate, nat_lt, if◌then◌else◌}
 use Rattle.std.specs.Fmt.{digits}
@@ -21,7 +21,7 @@ use Rattle.rv_debug.proofs.Prelude.{access_reply, csr_reply, csr_text, denied_ou
 use Rattle.rv_debug.proofs.Prelude.{memory_text, nat_tests, no_csr_text, ok_text, outside_text, pc_text, pmp_text, ran_text, register_text}
 use Rattle.rv_debug.proofs.Prelude.{registers_text, stop_text, trap_text, verdict_text}
 
--- a number of one or two digits, in a form that computes
+-- `shown` is a number of one or two digits, in a form that computes
 abbrev shown : ℕ → List ℕ
 shown n = if nat_lt n 10 then (48 + n) ∷ [] else (if nat_lt n 100 then (48 + n / 10) ∷ (48 + n % 10) ∷ [] else decimal n)
 
@@ -33,6 +33,7 @@ decimal-shown n =
     λ low high. rw (decimal_step n low (omega arith), decimal_digit (n / 10) (omega arith)) in
     grind (arith, nat_tests, one, two)
 
+-- the replies of `step` and `run` show the number of steps, the pc, the mode, the reason for the end, and the last trap
 pub ran_text-examples :
     ran_text 0x80000010 M (codes "bare") (record { steps = 4; trap = None; stop = Done; entered = 0 })
     ++ ran_text 0 M (codes "bare")
@@ -44,12 +45,12 @@ pub ran_text-examples :
 unfolding ran_text stop_text trap_text hex_digits
 ran_text-examples = simp decimal-shown
 
--- the reply to reg x30 with ffff00e2
+-- the reply to `reg` shows x30 with FFFF00E2
 pub register_text-example : register_text 30 0xffff00e2 ≡ codes "x30=ffff00e2\n"
 unfolding register_text hex_digits
 register_text-example = simp decimal-shown
 
--- the reply to regs: x0 to x31 and pc, a line each
+-- the reply to `regs` shows x0 to x31 and pc, a line each
 pub registers_text-example : registers_text (0 ∷ 0xffffffff ∷ 0 ∷ 0 ∷ 0 ∷ 0x1f ∷ (replicate 25 0 ++ 0xabcdef01 ∷ [])) 0x80000010 ≡
     codes "x0=00000000\nx1=ffffffff\nx2=00000000\nx3=00000000\nx4=00000000\nx5=0000001f\nx6=00000000\nx7=00000000\n"
     ++ codes "x8=00000000\nx9=00000000\nx10=00000000\nx11=00000000\nx12=00000000\nx13=00000000\nx14=00000000\nx15=00000000\n"
@@ -59,17 +60,17 @@ pub registers_text-example : registers_text (0 ∷ 0xffffffff ∷ 0 ∷ 0 ∷ 0 
 unfolding registers_text register_text pc_text hex_digits
 registers_text-example = simp decimal-shown
 
--- the reply to csr 034 with 80000abc
+-- the reply to `csr` shows the register 034 with 80000ABC
 pub csr_text-example : csr_text 0x34 0x80000AbC ≡ codes "csr 034=80000abc\n"
 unfolding csr_text hex_digits
 csr_text-example = refl
 
--- the reply to csr for a number that is not the number of a CSR
+-- the reply to `csr` is an error for a number that is not the number of a CSR
 pub no_csr_text-example : no_csr_text ≡ codes "error csr\n"
 unfolding no_csr_text
 no_csr_text-example = refl
 
--- the reply to mem for the four bytes at 8000000e
+-- the reply to `mem` shows the four bytes at 8000000E
 pub memory_text-example : memory_text 0x8000000e (0xe2 ∷ 0 ∷ 0xff ∷ 0xff ∷ []) ≡ codes "8000000e: e2 00 ff ff\n"
 unfolding memory_text hex_digits
 memory_text-example = refl
@@ -89,7 +90,7 @@ pub dis_reply-examples :
 unfolding read dis_text outside_text spelling instr_text line_text word_text decoded digits hex_digits by_bits
 dis_reply-examples = refl
 
--- the reply to pmp: the cfg byte and the address of each of the 16 entries
+-- the reply to `pmp` shows the cfg byte and the address of each of the 16 entries
 pub pmp_text-example : pmp_text (record { cfgs = 0x17 ∷ (replicate 14 0 ++ 0x9f ∷ []); addrs = 0x20000040 ∷ (replicate 14 0 ++ 0xffffffff ∷ []) }) ≡
     codes "pmp 0 cfg=17 addr=20000040\npmp 1 cfg=00 addr=00000000\npmp 2 cfg=00 addr=00000000\npmp 3 cfg=00 addr=00000000\n"
     ++ codes "pmp 4 cfg=00 addr=00000000\npmp 5 cfg=00 addr=00000000\npmp 6 cfg=00 addr=00000000\npmp 7 cfg=00 addr=00000000\n"
@@ -98,6 +99,7 @@ pub pmp_text-example : pmp_text (record { cfgs = 0x17 ∷ (replicate 14 0 ++ 0x9
 unfolding pmp_text entry_text hex_digits
 pmp_text-example = simp decimal-shown
 
+-- the replies of `access` show the verdict and its entry
 pub verdict_text-examples :
     verdict_text (Allowed 0) ++ verdict_text AllowedFree ++ verdict_text (Denied 15)
     ++ verdict_text (DeniedPartial 9) ++ verdict_text DeniedFree ++ denied_outside_text ≡
@@ -110,7 +112,7 @@ pub ok_text-example : ok_text ++ full_text ≡ codes "ok\nerror full\n"
 unfolding ok_text full_text
 ok_text-example = refl
 
--- a bare machine with these CSRs
+-- `alone` is a bare machine with the given CSRs
 abbrev alone : CsrState → Target
 alone csrs = Bare (record { hart = record { regs = []; pc = 0; mode = M; csrs = csrs }; memory = [] })
 
@@ -126,7 +128,7 @@ csr_reply-examples = refl
 abbrev four_bytes : Entries
 four_bytes = record { cfgs = 0x15 ∷ replicate 15 0; addrs = 0x20000040 ∷ replicate 15 0 }
 
--- the same entry with the L bit set
+-- `four_locked` is the entry of `four_bytes` with the L bit set
 abbrev four_locked : Entries
 four_locked = record { cfgs = 0x95 ∷ replicate 15 0; addrs = 0x20000040 ∷ replicate 15 0 }
 

@@ -17,14 +17,14 @@ use Rattle.rv_debug.proofs.ScheduledSteps.{schedule_is_sched}
 
 -- ---- steps of the harts in order
 
--- the machine after two lists of steps, one after the other
+-- the machine after two lists of steps is the machine after the second, from the machine after the first
 sched_on : (before rest : List ℕ) (machine : MonitoredMachine) → (sched (before ++ rest) machine).state ≡ (sched rest (sched before machine).state).state
 sched_on [] rest machine = refl
 sched_on (named ∷ before) rest machine = sched_on before rest (step_of named machine).state
 
 -- ---- effects
 
--- the host's saved context on a hart of a target
+-- `host_in` is the host's saved context on a hart of a target
 abbrev host_in : ℕ → Target → Option Context
 host_in hart target = option_case (machine_in target) None (host_on hart)
 
@@ -39,7 +39,7 @@ poke_host : (hart : ℕ) (machine : Selected) (memory : Option (List ℕ)) → h
 poke_host hart machine None = refl
 poke_host hart machine (Some memory) = refl
 
--- the saved context after an effect is the one after its steps
+-- an effect leaves the same saved context of the host as its steps alone
 host_after : (hart : ℕ) (machine : Selected) (d : Effect)
     → host_in hart (done (Monitored machine) d) ≡ host_on hart (sched (harts_stepped d) machine.state).state
 host_after hart machine Nothing = refl
@@ -50,7 +50,7 @@ host_after hart machine (OneByte address byte) = poke_host hart machine (write m
 
 -- ---- the step with which the enclave exits
 
--- the host's saved context of a view
+-- `kept_at` is the host's saved context of a hart view
 abbrev kept_at : HartView → Option Context
 kept_at entry = Some (saved entry.hart_state.hart (past_ecall entry.hart_state.hart) S)
 
@@ -65,7 +65,7 @@ leaves_within hart harts machine entry exit kept host_on_is leaves =
     (comes_back hart entry here (sched_invariant leaves.before machine kept) (subst KeptStored (sym same) leaves.stored) (same ∙ host_on_is)
     (last_runs hart leaves.before machine leaves.runs) host)
 
--- the bench over a target, with these breakpoints and watchpoints
+-- `bench_of` is the bench over a target, with the given breakpoints and watchpoints
 abbrev bench_of : Target → List ℕ → List ℕ → BenchState
 bench_of target breaks watches = record { target = target; breaks = breaks; watches = watches }
 

@@ -66,7 +66,7 @@ is-scheduled_steps breaks watches hart =
     (λ before end. selected_of before.state ≡ hart → IsScheduled hart before.state before.entered before.steps end)
     (ends hart) (λ before end more own. goes hart before end own (more (same_hart before.state ∙ own)))
 
--- the target after a run, and the slots that it entered
+-- the effect of a run leaves the target of the run
 pub run_done : (target : Target) (breaks watches : List ℕ) (count : ℕ)
     → done target (run_effect target breaks watches count) ≡ (steps_of target breaks watches count).state
 run_done target breaks watches count =
@@ -76,7 +76,7 @@ run_done target breaks watches count =
     ap (λ (n : ℕ). with_selected (selected_of target) (scheduled_steps (replicate n (selected_of target)) (schedule_start target)).state) (sym all)
     ∙ ap (with_selected (selected_of target)) (scheduled.state _) ∙ step_scheduled_own (selected_of target) end.state scheduled.selected
 
--- the slots that a run enters are those that the effect of the run enters
+-- a run enters the same slots as its effect
 pub run_entered : (target : Target) (breaks watches : List ℕ) (count : ℕ)
     → entered_by target (run_effect target breaks watches count) ≡ (steps_of target breaks watches count).ran.entered
 run_entered target breaks watches count =

@@ -22,12 +22,12 @@ stays_entered e (hart ∷ harts) before has_entered =
 
 -- ---- all steps
 
--- both schedules entered slot e
+-- both schedules entered the enclave of slot e
 pub record BothIn (e : ℕ) (one other : AfterSchedule) : Type 0 where
   pub here : is_entered e one.did.entered ≡ true
   pub there : is_entered e other.did.entered ≡ true
 
--- both executed the same steps and are equivalent again; the enclave runs on no hart, if it did so at the start
+-- both schedules executed equal steps and left equivalent machines; the enclave runs on no hart afterwards, if it ran on none at the start
 pub record BothPast (e : ℕ) (start : Selected) (one other : AfterSchedule) : Type 0 where
   pub here : Selected
   pub there : Selected
@@ -37,16 +37,16 @@ pub record BothPast (e : ℕ) (start : Selected) (one other : AfterSchedule) : T
   pub state : SelectedEquivExcept e here there
   pub not_running : RunsOnNoHart e (Monitored start) → RunsOnNoHart e (Monitored here)
 
--- both schedules enter the enclave, or neither does and both are alike
+-- either both schedules enter the enclave, or neither enters it and both have equal results
 abbrev pub ScheduledStepsAlike : ℕ → Selected → AfterSchedule → AfterSchedule → Type 0
 ScheduledStepsAlike e start one other = BothIn e one other ⊎ BothPast e start one other
 
--- an enclave that runs on no hart runs on none of these
+-- an enclave that runs on no hart runs on none of the given harts
 pub on_none_of : (e : ℕ) (harts : List ℕ) (machine : MonitoredMachine) → ((hart : ℕ) → runs_on e hart machine ≡ false) → RunsOnNone e harts machine
 on_none_of e [] machine idle = tt
 on_none_of e (hart ∷ harts) machine idle = (idle hart, on_none_of e harts machine idle)
 
--- a later start, from which the enclave runs on no hart if it does so from the earlier one
+-- two schedules from a later state are alike also from the earlier state `start`, if no hart runs the enclave later unless one ran it earlier
 earlier : (e : ℕ) (start later : Selected) (one other : AfterSchedule) → (RunsOnNoHart e (Monitored start) → RunsOnNoHart e (Monitored later))
     → ScheduledStepsAlike e later one other → ScheduledStepsAlike e start one other
 earlier e start later one other still (inl both) = inl both
@@ -60,7 +60,7 @@ earlier e start later one other still (inr past) = inr (record {
   not_running = λ idle. past.not_running (still idle);
 })
 
--- after a step that does not enter the enclave, it runs on none of these harts, if it did so before
+-- an enclave that a step does not enter runs on none of the given harts after the step, if it ran on none before
 pub none_after : (e hart : ℕ) (harts : List ℕ) (machine : MonitoredMachine) → enters e (step_of hart machine).outcome.entered ≡ false
     → RunsOnNone e harts machine → RunsOnNone e harts (step_of hart machine).state
 none_after e hart [] machine passes none = tt

@@ -23,7 +23,7 @@ selected_harts hart (Monitored machine) = refl
 pub step_harts : (hart : ℕ) (target : Target) → harts_of (target_stepped (with_selected hart target)).state ≡ harts_of target
 step_harts hart target = stepped_harts (with_selected hart target) ∙ selected_harts hart target
 
--- the target after one step of a hart of the schedule
+-- `next` is the target after one step of a hart of the schedule
 abbrev next : ℕ → AfterSchedule → AfterSchedule
 next hart before = with_scheduled_step hart before (target_stepped (with_selected hart before.state))
 
@@ -49,11 +49,11 @@ schedule_enters_none (hart ∷ harts) before bare =
 
 -- ---- all scheduled steps
 
--- the harts of the digits from index n on
+-- `rest` has the harts of the digits from index n on
 abbrev pub rest : ℕ → List ℕ → List ℕ
 rest n digits = map hart_of_digit (drop n digits)
 
--- the harts from index n on are the hart of the digit at n and those after it
+-- the harts from index n on are the hart of the digit at n, and the harts of the digits after it
 next_digit : (digits : List ℕ) (n digit : ℕ) → n < length digits → digit ≡ get_or digits n 0
     → rest n digits ≡ hart_of_digit digit ∷ rest (n + 1) digits
 next_digit digits n digit inside digit_is =

@@ -3,7 +3,7 @@ use Rattle.std.proofs.Common.{◌≡◌, ℕ, List, [], ◌∷◌, refl}
 use Rattle.rv_debug.specs.Prelude.{Bare, Monitored, Scheduled, Machine, Target, sched, step_of}
 use Rattle.rv_debug.proofs.Prelude.{AfterSchedule, Selected, IsBare, selected_at, target_stepped, scheduled_steps, with_selected, with_scheduled_step}
 
--- a target with the summaries of the steps so far
+-- `after_schedule` is a target with the summaries of the steps so far
 abbrev pub after_schedule : Target → Scheduled → AfterSchedule
 after_schedule state did = record { state = state; did = did }
 
@@ -19,7 +19,7 @@ schedule_is_sched (hart ∷ harts) machine did selected =
 
 -- ---- a bare machine stays bare
 
--- a property of every bare machine holds of each target that is one
+-- a property of every bare machine holds of each bare target
 pub by_bare : (P : Target → Type 0) → ((machine : Machine) → P (Bare machine)) → (target : Target) → IsBare target → P target
 by_bare P alone (Bare machine) bare = alone machine
 by_bare P alone (Monitored machine) bare = absurd bare

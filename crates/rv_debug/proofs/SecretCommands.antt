@@ -52,7 +52,7 @@ module _ (one other : MonitoredMachine) (commands others : List Command) where
   abbrev Rest : MonitoredMachine → MonitoredMachine → Type 0
   Rest a b = AllCommandsAlike 0 (monitored a) (monitored b) commands others
 
-  -- steps that are those of moves
+  -- commands that begin with `step`, whose steps are these moves, are alike, if the rest of the commands is alike after the moves
   by_steps : (count : ℕ) (harts : List ℕ) (moves : List Move) → ((machine : MonitoredMachine) → effect (monitored machine) (Step count) ≡ Steps harts 0)
       → ((machine : MonitoredMachine) → stop_of (monitored machine) (Step count) ≡ Done) → are_steps moves ≡ true → first_steps moves ≡ harts
       → second_steps moves ≡ harts → AreMoves 0 moves one other → Rest (sched harts one).state (sched harts other).state
@@ -78,20 +78,20 @@ module _ (one other : MonitoredMachine) (commands others : List Command) where
             (subst (λ (s : BenchState). AllCommandsAlike 0 (monitored (sched harts one).state) s commands others) (after other) rest),
       )
 
-  -- the change of the timer line, and then commands that are alike
+  -- commands that begin with a change of the timer line are alike, if the rest of the commands is alike after the change
   by_timer : Rest (with_timer 0 one true) (with_timer 0 other true)
       → AllCommandsAlike 0 (monitored one) (monitored other) (Timer true ∷ commands) (Timer true ∷ others)
   unfolding execute
   by_timer rest =
       (inl (inl (record { same = refl; steps = record { moves = []; steps = refl; first = refl; second = refl; are = tt }; stop = refl })), rest)
 
-  -- regs, and then commands that are alike
+  -- commands that begin with `regs` are alike, if the rest of the commands is alike
   by_regs : Rest one other → AllCommandsAlike 0 (monitored one) (monitored other) (Regs ∷ commands) (Regs ∷ others)
   unfolding execute
   by_regs rest =
       (inl (inl (record { same = refl; steps = record { moves = []; steps = refl; first = refl; second = refl; are = tt }; stop = refl })), rest)
 
-  -- a poke of each secret, and then commands that are alike
+  -- commands that begin with a poke of each secret are alike, if the rest of the commands is alike after the pokes
   by_poke : (address a b : ℕ) (m n : List ℕ) → write one.shared.memory address (a ∷ []) ≡ Some m → write other.shared.memory address (b ∷ []) ≡ Some n
       → has (region one.shared.table 0) address ≡ true → has (region other.shared.table 0) address ≡ true
       → Rest (with_memory one m) (with_memory other n)

@@ -1,4 +1,4 @@
--- The closed instance of the law of declassification, by computing the steps.
+-- This file computes the steps of the closed instance of the law of declassification.
 use Rattle.std.proofs.Common.{◌≡◌, ◌≢◌, ℕ, zero, suc, ◌+◌, true, false, List, [], ◌∷◌, ◌++◌, length, replicate, Some, refl, sym, ◌∙◌, ap, inl, inr, arith}
 use Rattle.std.specs.Prelude.{not, slice_index}
 use Rattle.rv_memory.specs.Memory.{read}
@@ -40,7 +40,7 @@ pub record IsIdle (machine : MonitoredMachine) : Type 0 where
   pub low : runs_on 0 0 machine ≡ false
   pub idle : runs machine.shared.table 0 ≡ false
 
--- the facts of the example that are computed, for each secret
+-- these facts of the example are computed, for each secret
 record Computed (secret : ℕ) : Type 0 where
   size : length (secret_next secret_start).shared.memory ≡ length (secret_ram secret)
   live : is_live (secret_next secret_start).shared.table 0 ≡ true
@@ -60,7 +60,7 @@ record Computed (secret : ℕ) : Type 0 where
   again : runs_on 0 0 (secret_resumed secret) ≡ true
   last : runs_on 0 0 (secret_next (secret_resumed secret)) ≡ true
 
--- the facts of the example that are computed, for each secret
+-- the example has the facts of `Computed`, for each secret
 computed : (secret : ℕ) → Computed secret
 unfolding at_start step_of monitored_step handled call_handled called performed created create_refusals is_valid_block is_window overlaps is_entry
     free_slot call_requested first_context layout entry_at step request executed retired_or_trapped from_access from_decode from_fetch written_csr csr_changed

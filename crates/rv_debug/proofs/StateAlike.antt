@@ -34,11 +34,11 @@ past_equiv e hart breaks watches start one other past =
 
 module _ (e hart : ℕ) (one other : MonitoredMachine) (equiv : SelectedEquivExcept e (record { hart = hart; state = one }) (record { hart = hart; state = other }))
     (breaks watches : List ℕ) where
-  -- the machine with the selected hart
+  -- `on` is the given machine with the selected hart
   abbrev on : MonitoredMachine → Selected
   on machine = record { hart = hart; state = machine }
 
-  -- the execution of a schedule, by whether its harts exist
+  -- `executed` is the result of a schedule, where the test states whether its harts exist
   abbrev executed : MonitoredMachine → List ℕ → Bool → Executed
   executed machine harts has =
       let d : Effect = (if has then Steps harts hart else Nothing) in
@@ -102,7 +102,7 @@ module _ (e : ℕ) (first second : BenchState) (kept : TargetInvariant first.tar
 
 -- ---- every command
 
--- a command that is executed alike leaves equivalent benches
+-- a command that is blind and avoids the hart of the enclave (by) leaves equivalent benches, unless it enters the enclave
 by_noninterference : (e : ℕ) (first second : BenchState) (command : Command) → TargetInvariant first.target → TargetInvariant second.target
     → BenchesEquivExcept e first second → is_blind e first command ≡ true → AvoidsHart e first command
     → StateAlike e (execute first command) (execute second command)

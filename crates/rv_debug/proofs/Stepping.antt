@@ -1,4 +1,4 @@
--- The steps of a run, one by one.
+-- This file is about the steps of a run, one by one.
 use Rattle.std.proofs.Common.{◌≡◌, ℕ, zero, suc, ◌+◌, ◌-◌, ◌<◌, ◌≤◌, ◌==◌, true, false, cond, List, [], Option, Some, None, refl, ◌∙◌, ap}
 use Rattle.std.proofs.Common.{arith, inl, inr, Bool}
 use Rattle.rv_debug.specs.Prelude.{Break, Done, Stop, Trap, Watch, option_case}
@@ -22,7 +22,7 @@ next_cases P a b one other None true here ends more = ends Done
 next_cases P a b one other None false true ends more = ends Break
 next_cases P a b one other None false false ends more = more
 
--- induction over one run, from its end back to its beginning
+-- a property of a run holds if it holds at the end of the run, and before a step whenever it holds after the step
 pub run_induction : {A : Type 0} (step : A → Stepped A) (pc : A → ℕ) (breaks watches : List ℕ) (P : AfterSteps A → AfterRun A → Type 0)
     → ((after : AfterSteps A) (stop : Stop) → P after (ended after stop))
     → ((before : AfterSteps A) (end : AfterRun A) → P (with_step before (step before.state)) end → P before end)
@@ -39,7 +39,7 @@ run_induction {A} step pc breaks watches P ends goes (suc left) before =
 
 -- ---- one step of a run
 
--- this is the next step of a run, with the last trap and the entered slots after it
+-- `last` is the next step of a run, and `trap` and `entered` are the last trap and the entered slots after the step
 pub record IsNextStep {A : Type 0} (step : A → Stepped A) (before : AfterSteps A) (last : Stepped A) (trap : Option Trap) (entered : ℕ) : Type 0 where
   pub steps : step before.state ≡ last
   pub trap_is : trap ≡ option_or last.outcome.trap before.trap
@@ -70,7 +70,7 @@ module _ {A : Type 0} (step : A → Stepped A) (pc : A → ℕ) (breaks watches 
       → run step pc breaks watches count before ≡ ended (with_step before (step before.state)) (Watch address)
   run-watch count left before address count_is hit = run-next count left before count_is ∙ rw (← hit) refl
 
-  -- a breakpoint after a step that was not the last
+  -- a run ends at a breakpoint after a step that was not the last
   run-break : (count left : ℕ) (before : AfterSteps A) → count ≡ left + 1 → 0 < left
       → None ≡ lowest_accessed watches (step before.state).outcome.touched → true ≡ is_among (pc (step before.state).state) breaks
       → run step pc breaks watches count before ≡ ended (with_step before (step before.state)) Break
@@ -98,11 +98,11 @@ module _ {A : Type 0} (step : A → Stepped A) (pc : A → ℕ) (breaks watches 
         run-next count left before count_is ∙ rw (← none, no, elsewhere some) refl
   ]
 
-  -- steps and one more, with this last trap and these slots
+  -- `after_step` has the steps so far and one more, with the last trap and the entered slots after it
   abbrev after_step : AfterSteps A → Stepped A → Option Trap → ℕ → AfterSteps A
   after_step before last trap entered = record { state = last.state; steps = before.steps + 1; trap = trap; entered = entered }
 
-  -- the steps so far with the next one are those that the code counts
+  -- the counter of the code, `with_step`, gives `after_step` for the next step
   adds : (before : AfterSteps A) (last : Stepped A) (trap : Option Trap) (entered : ℕ) → IsNextStep step before last trap entered
       → with_step before (step before.state) ≡ after_step before last trap entered
   adds before last trap entered next =
@@ -146,7 +146,7 @@ module _ {A : Type 0} (step : A → Stepped A) (pc : A → ℕ) (breaks watches 
   goes-on-free count done before last trap entered no_breaks no_watches more next =
       goes-on count done before last trap entered more next (rw no_watches refl) (λ _. rw no_breaks refl)
 
-  -- the run ends when all steps are executed
+  -- the run ends with `Done` when at least `count` steps are executed (over)
   pub stops-done : (count done : ℕ) (so_far : AfterSteps A) → count ≤ done → run step pc breaks watches (count - done) so_far ≡ ended so_far Done
   unfolding run
   stops-done count done so_far over = let none : count - done ≡ 0 = omega arith in rw none refl

@@ -15,7 +15,7 @@ use Rattle.rv_debug.proofs.Stepping.{next_cases, run_induction, next_of}
 
 -- ---- entered slots
 
--- a slot that is among entered slots is so with more
+-- a slot among the entered slots stays among them if more slots are entered
 enters-or : (e one other : ℕ) → is_entered e one ≡ true → is_entered e (bit_or one other) ≡ true
 enters-or e one other entered =
     eq-eqb _ 1 (bit_at_or one other e ∙ (let low = eqb-true _ 1 entered in let small = bit_at-lt other e in omega (arith, low, small)))
@@ -34,35 +34,35 @@ enters-now e slots entered entered_is =
 
 -- ---- runs
 
--- both runs entered slot e
+-- both runs entered the enclave of slot e
 pub record BothIn (e : ℕ) (one other : AfterRun MonitoredMachine) : Type 0 where
   pub here : is_entered e one.ran.entered ≡ true
   pub there : is_entered e other.ran.entered ≡ true
 
--- both executed the same steps, are equivalent again, and the selected hart does not run the enclave
+-- both runs executed equal steps and left equivalent machines, and the selected hart does not run the enclave
 pub record BothPast (e hart : ℕ) (one other : AfterRun MonitoredMachine) : Type 0 where
   pub ran : one.ran ≡ other.ran
   pub state : EquivExcept e one.state other.state
   pub not_running : runs_on e hart one.state ≡ false
 
--- both runs enter the enclave, or neither does and both are alike
+-- either both runs enter the enclave, or neither enters it and both have equal results
 abbrev pub RunAlike : ℕ → ℕ → AfterRun MonitoredMachine → AfterRun MonitoredMachine → Type 0
 RunAlike e hart one other = BothIn e one other ⊎ BothPast e hart one other
 
--- the same steps so far, with another machine
+-- the number of steps and the outcomes so far are unchanged, with another machine
 abbrev with_state : AfterSteps MonitoredMachine → MonitoredMachine → AfterSteps MonitoredMachine
 with_state before state = record before { state = state }
 
 module _ (e hart : ℕ) (breaks watches : List ℕ) where
-  -- the run of a machine from the steps so far
+  -- `on` is the run of a machine from the steps so far
   abbrev on : ℕ → AfterSteps MonitoredMachine → AfterRun MonitoredMachine
   on left before = run (hart_stepped hart) (hart_pc hart) breaks watches left before
 
-  -- the steps and one more
+  -- `after_step` has the steps so far and one more step
   abbrev after_step : AfterSteps MonitoredMachine → Outcome → MonitoredMachine → AfterSteps MonitoredMachine
   after_step before outcome state = with_step before (record { state = state; outcome = outcome.step; entered = outcome.entered })
 
-  -- the run after one more step
+  -- `next_run` is the run after one more step
   abbrev next_run : ℕ → AfterSteps MonitoredMachine → Outcome → MonitoredMachine → AfterRun MonitoredMachine
   next_run left before outcome state =
       let after = after_step before outcome state in

@@ -5,18 +5,18 @@ use Rattle.rv_debug.proofs.Prelude.{AfterRun, AfterSteps, Selected, Stepped, sel
 use Rattle.rv_debug.proofs.Prelude.{lowest_accessed, machine_stepped, no_steps, pc_of, run, target_stepped, with_step, with_target}
 use Rattle.rv_debug.proofs.Stepping.{next_cases, run_induction, next_of}
 
--- the steps of a machine so far, as those of the target with it
+-- `in_target` has the steps of a machine so far, as steps of a target with this machine
 abbrev pub in_target : {A : Type 0} → (A → Target) → AfterSteps A → AfterSteps Target
 in_target target after = record { state = target after.state; steps = after.steps; trap = after.trap; entered = after.entered }
 
--- the result of a run of a machine, as that of the target with it
+-- `target_of` is the result of a run of a machine, as the result of a run of a target with this machine
 abbrev pub target_of : {A : Type 0} → (A → Target) → AfterRun A → AfterRun Target
 target_of target after = record { state = target after.state; ran = after.ran }
 
 module _ {A : Type 0} (target : A → Target) (step : A → Stepped A) (pc : A → ℕ)
     (steps : (machine : A) → target_stepped (target machine) ≡ with_target target (step machine))
     (pcs : (machine : A) → pc_of (target machine) ≡ pc machine) (breaks watches : List ℕ) where
-  -- the run of the target after one more step, by what ends it
+  -- `next_in` is the run of the target after one more step: ended, or continued
   abbrev next_in : ℕ → AfterSteps Target → Stepped Target → ℕ → AfterRun Target
   next_in left before last here =
       let after = with_step before last in
@@ -36,23 +36,23 @@ module _ {A : Type 0} (target : A → Target) (step : A → Stepped A) (pc : A �
       ∙ next_cases (λ (there : AfterRun Target) (here : AfterRun A). there ≡ target_of target here) (in_target target after) after _ _
       (lowest_accessed watches last.outcome.touched) (left == 0) (is_among (pc last.state) breaks) (λ stop. refl) (run-in left after))
 
-  -- a run of the machine, stated for the target
+  -- a run of the machine is a run of the target with this machine
   runs-in : (count : ℕ) (machine after : A) (ran : Ran)
       → run step pc breaks watches count (no_steps machine) ≡ record { state = after; ran = ran }
       → run target_stepped pc_of breaks watches count (no_steps (target machine)) ≡ record { state = target after; ran = ran }
   runs-in count machine after ran run_is = run-in count (no_steps machine) ∙ ap (target_of target) run_is
 
--- the pc of the bare machine
+-- `machine_pc` is the pc of a bare machine
 abbrev pub machine_pc : Machine → ℕ
 machine_pc machine = machine.hart.pc
 
--- a step of the hart of a monitored machine, with its outcome and the slot that it entered
+-- `hart_stepped` is a step of the hart of a monitored machine, with its outcome and the slot that it entered
 abbrev pub hart_stepped : ℕ → MonitoredMachine → Stepped MonitoredMachine
 hart_stepped hart machine =
     let after = step_of hart machine in
     record { state = after.state; outcome = after.outcome.step; entered = after.outcome.entered }
 
--- the pc of the hart
+-- `hart_pc` is the pc of a hart
 abbrev pub hart_pc : ℕ → MonitoredMachine → ℕ
 hart_pc hart machine = (hart_state_of hart machine).hart.pc
 
@@ -85,7 +85,7 @@ enters_none breaks watches count machine after ran run_is =
 
 -- ---- the selected hart
 
--- the pc of the selected hart
+-- `selected_pc` is the pc of the selected hart
 abbrev pub selected_pc : Selected → ℕ
 selected_pc selected = (selected_hart_state selected).hart.pc
 

@@ -23,15 +23,15 @@ pub record HasPlace (addresses : List ℕ) (address place : ℕ) : Type 0 where
 abbrev pub is_among : ℕ → List ℕ → Bool
 is_among address addresses = list_any (λ a. a == address) addresses
 
--- the set with the address inserted
+-- `with_address` is the set with the address inserted
 abbrev pub with_address : ℕ → List ℕ → List ℕ
 with_address address addresses = filter (λ a. nat_lt a address) addresses ++ address ∷ filter (λ a. nat_lt address a) addresses
 
--- the set without the address
+-- `without_address` is the set without the address
 abbrev pub without_address : ℕ → List ℕ → List ℕ
 without_address address addresses = filter (λ a. not (a == address)) addresses
 
--- the set with the address, if it has at most 32 then; an address that is already in the set needs no room
+-- `with_room_for` is the set with the address, if the set has at most 32 then. An address that is already in the set needs no room.
 unfoldable pub with_room_for : ℕ → List ℕ → Option (List ℕ)
 with_room_for address addresses =
     if is_among address addresses then Some addresses

@@ -2,16 +2,16 @@
 use Rattle.std.specs.Prelude.{ℕ, List, []}
 use Rattle.rv_debug.specs.Prelude.{Bare, MonitoredMachine, Monitored, Machine, Target}
 
--- the target, and the sorted addresses of the breakpoints and of the watched bytes
+-- a bench has a target, and the sorted addresses of the breakpoints and of the watched bytes
 pub record BenchState : Type 0 where
   pub target : Target
   pub breaks : List ℕ
   pub watches : List ℕ
 
--- a bench with the given machine, and no breakpoint or watchpoint
+-- `bare` is a bench with the given machine, and no breakpoint or watchpoint
 abbrev pub bare : Machine → BenchState
 bare machine = record { target = Bare machine; breaks = []; watches = [] }
 
--- a bench with a monitored machine, hart 0 selected, and no breakpoints or watchpoints
+-- `monitored` is a bench with a monitored machine, hart 0 selected, and no breakpoints or watchpoints
 abbrev pub monitored : MonitoredMachine → BenchState
 monitored machine = record { target = Monitored (record { hart = 0; state = machine }); breaks = []; watches = [] }

@@ -39,7 +39,7 @@ pub record BenchesEquivExcept (e : ℕ) (one other : BenchState) : Type 0 where
 
 -- ---- what a command shows, and what it enters
 
--- the region of slot e, empty if its enclave is not live
+-- `region_in` is the region of slot e, which is empty if its enclave is not live
 abbrev pub region_in : ℕ → Target → Block
 region_in e target = option_case (machine_in target) no_block (λ machine. region machine.shared.table e)
 
@@ -75,7 +75,7 @@ is_entered e slots = bit_at slots e == 1
 
 -- ---- one command for both
 
--- both benches after a command, their replies, and whether commands end here
+-- `BothExecuted` has both benches after a command, their replies, and whether commands end here
 pub record BothExecuted : Type 0 where
   pub first : BenchState
   pub second : BenchState
@@ -83,7 +83,7 @@ pub record BothExecuted : Type 0 where
   pub second_reply : List ℕ
   pub why : BothWhy
 
--- both execute the command; one that enters slot e in either bench is the last
+-- both benches execute the command; a command that enters slot e in either bench is the last
 abbrev pub both_do : ℕ → Executed → Executed → BothExecuted
 both_do e first second = record {
   first = first.state;
@@ -101,12 +101,12 @@ both_execute e first second command =
 
 -- ---- one line for both
 
--- a line without a command
+-- a blank line has no command
 abbrev pub has_no_command : Command → Bool
 has_no_command Blank = true
 has_no_command _ = false
 
--- both benches after a line, the replies, and the result of the line
+-- `BothLineExecuted` has both benches after a line, the replies, and the result of the line
 pub record BothLineExecuted : Type 0 where
   pub first : BenchState
   pub second : BenchState
@@ -114,7 +114,7 @@ pub record BothLineExecuted : Type 0 where
   pub second_reply : List ℕ
   pub line : BothLine
 
--- both execute its command; a line with an error has one reply, and changes neither bench
+-- both benches execute the command of the line; a line with an error has one reply, and changes neither bench
 abbrev pub both_line_executed : ℕ → BenchState → BenchState → Result Command CommandFault → BothLineExecuted
 both_line_executed e first second (Ok command) =
     let after = both_execute e first second command in
@@ -147,13 +147,13 @@ abbrev pub scrambled_in : ℕ → Target → Target
 scrambled_in e (Bare machine) = Bare machine
 scrambled_in e (Monitored selected) = selected_at selected.hart (scrambled_of selected.state e)
 
--- the bench with its target scrambled in slot e
+-- `scrambled` is the bench with its target scrambled in slot e
 abbrev pub scrambled : ℕ → BenchState → BenchState
 scrambled e bench = record bench { target = scrambled_in e bench.target }
 
 -- ---- a list of commands for both
 
--- both benches after commands, how many were executed, and why they ended
+-- `BothRan` has both benches after commands, how many commands were executed, and why the commands ended
 pub record BothRan : Type 0 where
   pub first : BenchState
   pub second : BenchState

@@ -10,7 +10,7 @@ use Rattle.rv_debug.specs.Execute.{execute}
 use Rattle.rv_debug.specs.Isolation.{after_commands}
 use Rattle.rv_debug.specs.Targets.{machine_in, selected_of}
 
--- an event, a write of a register of a hart, or a write of a byte, if its address is in RAM
+-- an action is an event, a write of a register of a hart, or a write of a byte, if its address is in RAM
 pub data Action : Type 0 where
   Occurs : Event → Action
   SetsRegister : (hart number value : ℕ) → Action
@@ -24,7 +24,7 @@ after_action (Occurs event) machine = (event_of event machine).state
 after_action (SetsRegister hart number value) machine = with_reg hart machine number value
 after_action (SetsByte address byte) machine = option_case (write machine.shared.memory address (byte ∷ [])) machine (with_memory machine)
 
--- the machine after each action in the list, in turn
+-- `after_actions` is the machine after each action in the list, in turn
 abbrev pub after_actions : List Action → MonitoredMachine → MonitoredMachine
 after_actions [] machine = machine
 after_actions (action ∷ more) machine = after_actions more (after_action action machine)
@@ -39,7 +39,7 @@ actions_by target (Register number value) = SetsRegister (selected_of target) nu
 actions_by target (TimerLine raised) = Occurs (LineOf (selected_of target) raised) ∷ []
 actions_by target (OneByte address byte) = SetsByte address byte ∷ []
 
--- the actions of the commands in the list, one after another
+-- `actions_of` has the actions of the commands in the list, one after another
 abbrev pub actions_of : BenchState → List Command → List Action
 actions_of bench [] = []
 actions_of bench (command ∷ commands) = actions_by bench.target (effect bench command) ++ actions_of (execute bench command).state commands
@@ -52,7 +52,7 @@ commands_for [] = []
 commands_for (StepOf hart ∷ more) = Hart hart ∷ Step 1 ∷ commands_for more
 commands_for (LineOf hart raised ∷ more) = Hart hart ∷ Timer raised ∷ commands_for more
 
--- the hart that steps, or whose timer line changes
+-- `hart_of_event` is the hart that steps, or whose timer line changes
 abbrev pub hart_of_event : Event → ℕ
 hart_of_event (StepOf hart) = hart
 hart_of_event (LineOf hart raised) = hart

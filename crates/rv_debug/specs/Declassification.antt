@@ -43,7 +43,7 @@ are_steps [] = true
 are_steps (Both (LineOf hart raised) ∷ moves) = false
 are_steps (_ ∷ moves) = are_steps moves
 
--- the harts that step in the first machine, and those that step in the second
+-- `first_steps` has the harts that step in the first machine
 abbrev pub first_steps : List Move → List ℕ
 first_steps [] = []
 first_steps (First hart ∷ moves) = hart ∷ first_steps moves
@@ -51,7 +51,7 @@ first_steps (Second hart ∷ moves) = first_steps moves
 first_steps (Both (StepOf hart) ∷ moves) = hart ∷ first_steps moves
 first_steps (Both (LineOf hart raised) ∷ moves) = first_steps moves
 
--- the harts that step in the second machine
+-- `second_steps` has the harts that step in the second machine
 abbrev pub second_steps : List Move → List ℕ
 second_steps [] = []
 second_steps (First hart ∷ moves) = second_steps moves
@@ -73,7 +73,7 @@ HandsOverAlike e first second command =
     IfSome (machine_in first.target) (λ one. IfSome (machine_in second.target) (λ other.
     StepsAreMoves e one other (harts_stepped (effect first command)) (harts_stepped (effect second command))))
 
--- what ends the steps of a command
+-- `stop_of` is what ends the steps of a command
 abbrev pub stop_of : BenchState → Command → Stop
 stop_of bench (Step count) = (steps_of bench.target [] [] count).ran.stop
 stop_of bench (Run count) = (steps_of bench.target bench.breaks bench.watches count).ran.stop
@@ -86,7 +86,7 @@ abbrev pub SetsOwnRegister : ℕ → BenchState → Command → Type 0
 SetsOwnRegister e bench (SetReg number value) = is_selected e bench.target ≡ true
 SetsOwnRegister e bench _ = ⊥
 
--- both execute the same command; its steps hand over the same, and end for the same reason
+-- both benches execute one command, whose steps hand over the same, and end for the same reason
 pub record IsSameCommand (e : ℕ) (first second : BenchState) (here there : Command) : Type 0 where
   pub same : here ≡ there
   pub steps : HandsOverAlike e first second here
@@ -98,7 +98,7 @@ WindowsAreEqual e first second =
     IfSome (machine_in first.target) (λ one. IfSome (machine_in second.target) (λ other.
     runs one.shared.table e ≡ true → SameWindow e one other))
 
--- both execute the same command, which in the first bench steps no hart on which the enclave runs, and does not enter it
+-- both benches execute one command, which in the first bench steps no hart on which the enclave runs, and does not enter the enclave
 pub record IsSameLowCommand (e : ℕ) (first second : BenchState) (here there : Command) : Type 0 where
   pub same : here ≡ there
   pub window : WindowsAreEqual e first second
@@ -124,7 +124,7 @@ CommandDeclassificationLaw =
 
 -- ---- a command that executes no step of the enclave
 
--- both execute the same steps, and the windows are equal again
+-- both benches execute equal steps of the command, and the windows are equal afterwards
 pub record IsLowCommand (e : ℕ) (first second : BenchState) (command : Command) : Type 0 where
   pub same : IsSameCommand e first second command command
   pub window : WindowsAreEqual e (execute first command).state (execute second command).state
@@ -138,14 +138,14 @@ LowCommandLaw =
 
 -- ---- lists of commands
 
--- a list of commands for each bench, command by command
+-- two lists of commands, one for each bench, are alike command by command
 abbrev pub AllCommandsAlike : ℕ → BenchState → BenchState → List Command → List Command → Type 0
 AllCommandsAlike e first second [] [] = Unit {0}
 AllCommandsAlike e first second (here ∷ commands) (there ∷ others) =
     CommandsAlike e first second here there × AllCommandsAlike e (execute first here).state (execute second there).state commands others
 AllCommandsAlike e first second _ _ = ⊥
 
--- the observations of commands, one after another
+-- `all_observed` has the observations of commands, one after another
 abbrev pub all_observed : ℕ → BenchState → List Command → List (List ℕ)
 all_observed e bench [] = []
 all_observed e bench (command ∷ commands) = observed e bench command ∷ all_observed e (execute bench command).state commands

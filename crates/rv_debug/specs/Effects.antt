@@ -29,12 +29,12 @@ done target (Register number value) = register_set target number value
 done target (TimerLine raised) = timer_set target raised
 done target (OneByte address byte) = option_case (poked target address byte) target (λ after. after)
 
--- the slots of the enclaves that the effect enters, as bits
+-- `entered_by` has the slots of the enclaves that the effect enters, as bits
 abbrev pub entered_by : Target → Effect → ℕ
 entered_by target (Steps harts selected) = (scheduled_steps harts (schedule_start target)).did.entered
 entered_by target _ = 0
 
--- the harts whose steps the effect executes, one for each step, in order
+-- `harts_stepped` has the harts whose steps the effect executes, one for each step, in order
 abbrev pub harts_stepped : Effect → List ℕ
 harts_stepped (Steps harts selected) = harts
 harts_stepped _ = []
@@ -45,7 +45,7 @@ harts_stepped _ = []
 abbrev pub steps_of : Target → List ℕ → List ℕ → ℕ → AfterRun Target
 steps_of target breaks watches count = run target_stepped pc_of breaks watches count (no_steps target)
 
--- the effect of a run: as many steps of the selected hart as the run executes
+-- `run_effect` is the effect of a run: as many steps of the selected hart as the run executes
 abbrev pub run_effect : Target → List ℕ → List ℕ → ℕ → Effect
 run_effect target breaks watches count =
     Steps (replicate (steps_of target breaks watches count).ran.steps (selected_of target)) (selected_of target)
@@ -58,7 +58,7 @@ hart_effect target hart = if nat_lt hart (harts_of target) then Steps [] hart el
 abbrev pub sched_effect : Target → List ℕ → Effect
 sched_effect target harts = if has_all (harts_of target) harts then Steps harts (selected_of target) else Nothing
 
--- the effect of a command on the target of the bench; a command that only shows something has none
+-- `effect` is the effect of a command on the target of the bench; a command that only shows something has no effect
 abbrev pub effect : BenchState → Command → Effect
 effect bench (Step count) = run_effect bench.target [] [] count
 effect bench (Run count) = run_effect bench.target bench.breaks bench.watches count

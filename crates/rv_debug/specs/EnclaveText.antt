@@ -14,7 +14,7 @@ state_text Running = codes "Running"
 state_text Stopped = codes "Stopped"
 state_text Exited = codes "Exited"
 
--- a first address and a size
+-- a block is shown by its first address and its size
 abbrev pub block_text : Block → List ℕ
 block_text block = codes " " ++ hex8 block.base ++ codes " " ++ hex8 block.size
 
@@ -30,6 +30,6 @@ abbrev pub slot_text : ℕ → Option SlotInfo → List ℕ
 slot_text slot None = []
 slot_text slot (Some info) = enclave_text slot info
 
--- the live slots, in ascending order
+-- the table is shown by its live slots, in ascending order
 unfoldable pub table_text : Slots → List ℕ
 table_text slots = flat_map (λ slot. slot_text slot (slot_at slots slot)) (range_with_len 0 slot_count)

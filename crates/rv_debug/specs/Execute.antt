@@ -17,7 +17,7 @@ use Rattle.rv_debug.specs.Targets.{selected_of, hart_of, harts_of, memory_of, wo
 
 -- ---- breakpoints and watchpoints
 
--- a set after an address was inserted, or unchanged if the set is full
+-- `set_after` is a set after an address was inserted, or unchanged if the set is full
 abbrev pub set_after : List ℕ → Option (List ℕ) → List ℕ
 set_after old set = option_case set old (λ new. new)
 
@@ -39,7 +39,7 @@ watches_after bench _ = bench.watches
 abbrev pub set_reply : Option (List ℕ) → List ℕ
 set_reply set = option_case set full_text (λ new. ok_text)
 
--- the summary of a run: its steps, and the pc, the mode and the world after them
+-- `ran_reply` is the summary of a run: its steps, and the pc, the mode and the world after them
 abbrev pub ran_reply : AfterRun Target → List ℕ
 ran_reply after = ran_text (pc_of after.state) (hart_of after.state).mode (world_text after.state) after.ran
 
@@ -57,17 +57,17 @@ csr_reply target number =
 abbrev pub hart_reply : Target → ℕ → List ℕ
 hart_reply target hart = if nat_lt hart (harts_of target) then ok_text else no_hart_text
 
--- the summary of the steps of a hart, and its pc, mode and world after them
+-- `hart_summary_text` is the summary of the steps of a hart, and its pc, mode and world after them
 abbrev pub hart_summary_text : Target → ℕ → HartRan → List ℕ
 hart_summary_text target hart ran =
     let seen = with_selected hart target in hart_text hart (pc_of seen) (hart_of seen).mode (world_text seen) ran
 
--- the summary of each hart
+-- `harts_summary_text` has the summary of each hart
 abbrev pub harts_summary_text : AfterSchedule → List ℕ
 harts_summary_text after =
     hart_summary_text after.state 0 after.did.first ++ (if nat_lt 1 (harts_of after.state) then hart_summary_text after.state 1 after.did.second else [])
 
--- the reply to sched: the summary of each hart, or an error if a hart of the schedule does not exist
+-- `sched_reply` is the reply to sched: the summary of each hart, or an error if a hart of the schedule does not exist
 abbrev pub sched_reply : Target → List ℕ → List ℕ
 sched_reply target harts =
     if has_all (harts_of target) harts then harts_summary_text (scheduled_steps harts (schedule_start target)) else no_hart_text
@@ -86,7 +86,7 @@ access_reply memory entries mode access address width =
     option_case (read memory address (bytes_in width)) denied_outside_text
     (λ _. verdict_text (verdict_on entries mode access address width))
 
--- the reply to each command
+-- `reply_to` is the reply to each command
 abbrev pub reply_to : BenchState → Command → List ℕ
 reply_to bench Blank = []
 reply_to bench (Step count) = ran_reply (steps_of bench.target [] [] count)
@@ -112,7 +112,7 @@ reply_to bench (Sched schedule) = sched_reply bench.target (harts_in schedule)
 
 -- ---- execution
 
--- whether a command only shows something
+-- `only_shows` states whether a command only shows something
 abbrev pub only_shows : Command → Bool
 only_shows (Reg number) = true
 only_shows Regs = true
@@ -147,6 +147,6 @@ abbrev pub execute_or_fault : BenchState → Result Command CommandFault → Exe
 execute_or_fault bench (Ok command) = execute bench command
 execute_or_fault bench (Err fault) = record { state = bench; reply = command_fault_text fault; entered = 0 }
 
--- the bench after one line, and the reply to the line
+-- `execute_line` is the bench after one line, and the reply to the line
 unfoldable pub execute_line : BenchState → List ℕ → Executed
 execute_line bench line = execute_or_fault bench (parse_of line)

@@ -1,6 +1,6 @@
--- The host's influence on an enclave, for commands. Two benches with unlike hosts, tables, memories and schedules have an enclave at the same point of
--- its life, and execute unlike commands. Its own steps are then the same in both, as long as the bytes of its window that they read are equal. (A law
--- about this project's own debugger and monitor.)
+-- The host's influence on an enclave, for commands. Two benches with unlike hosts, tables, memories and schedules have an enclave at the same point
+-- of its life, and execute unlike commands. Its own steps are then the same in both, as long as the bytes of its window that they read are equal. (A
+-- law about this project's own debugger and monitor.)
 use Rattle.std.specs.Prelude.{ℕ, ◌≡◌, false, List, [], ◌∷◌, IfSome, IsSomeAnd}
 use Rattle.rv_monitor.specs.Events.{StepOf}
 use Rattle.rv_monitor.specs.LegalMachine.{IsLegalMachine}
@@ -23,7 +23,7 @@ IsForeignAction k (SetsByte address byte) machine = has (region machine.shared.t
 
 -- ---- two lives
 
--- an action in the first machine, an action in the second, or a step of the enclave on a hart of each
+-- a move is an action in the first machine, an action in the second, or a step of the enclave on a hart of each
 pub data BenchMove : Type 0 where
   InFirst : Action → BenchMove
   InSecond : Action → BenchMove
@@ -35,13 +35,13 @@ IsBenchMove i j (InFirst action) one other = IsForeignAction i action one
 IsBenchMove i j (InSecond action) one other = IsForeignAction j action other
 IsBenchMove i j (InBoth h g) one other = IsOwnStep (at i h) (at j g) one other
 
--- the first machine after a move
+-- `moved_first` is the first machine after a move
 abbrev pub moved_first : BenchMove → MonitoredMachine → MonitoredMachine
 moved_first (InFirst action) machine = after_action action machine
 moved_first (InSecond action) machine = machine
 moved_first (InBoth h g) machine = (step_of h machine).state
 
--- the second machine after a move
+-- `moved_second` is the second machine after a move
 abbrev pub moved_second : BenchMove → MonitoredMachine → MonitoredMachine
 moved_second (InFirst action) machine = machine
 moved_second (InSecond action) machine = after_action action machine
@@ -53,14 +53,14 @@ AreBenchMoves i j [] one other = Unit {0}
 AreBenchMoves i j (move ∷ moves) one other =
     IsBenchMove i j move one other × AreBenchMoves i j moves (moved_first move one) (moved_second move other)
 
--- the actions in the first machine, and those in the second
+-- `first_actions` has the actions in the first machine
 abbrev pub first_actions : List BenchMove → List Action
 first_actions [] = []
 first_actions (InFirst action ∷ moves) = action ∷ first_actions moves
 first_actions (InSecond action ∷ moves) = first_actions moves
 first_actions (InBoth h g ∷ moves) = Occurs (StepOf h) ∷ first_actions moves
 
--- the actions of the moves in the second machine
+-- `second_actions` has the actions of the moves in the second machine
 abbrev pub second_actions : List BenchMove → List Action
 second_actions [] = []
 second_actions (InFirst action ∷ moves) = second_actions moves
@@ -85,7 +85,7 @@ pub record IsSameLife (i j : ℕ) (first second : BenchState) (commands others :
   pub there : second_actions moves ≡ actions_of second others
   pub are : AreBenchMoves i j moves one other
 
--- its steps are the same, and the two enclaves are at one point after the commands
+-- the enclaves of slots i and j make equal steps, and are at one point after the commands
 pub record HasSameLife (i j : ℕ) (moves : List BenchMove) (one other : MonitoredMachine) (after after_too : Target) : Type 0 where
   pub steps : EnclaveStepsAreSame i j moves one other
   pub point : IsSomeAnd (machine_in after) (λ a. IsSomeAnd (machine_in after_too) (AreAtOnePoint i j a))

@@ -8,19 +8,19 @@ use Rattle.rv_monitor.specs.MonitoredMachine.{MonitoredMachine, at_start, hart_s
 use Rattle.rv_monitor.specs.Step.{step_of}
 use Rattle.rv_debug.specs.SecretRun.{calling_host}
 
--- lw a0, 0(a2); sw a0, 8(a2)
+-- the code of the enclave is lw a0, 0(a2); sw a0, 8(a2)
 abbrev pub hosted_enclave : List ℕ
 hosted_enclave = 0x03 ∷ 0x25 ∷ 0x06 ∷ 0 ∷ 0x23 ∷ 0x24 ∷ 0xA6 ∷ 0 ∷ []
 
--- the host's code at 80010000, and the window at 80014000, whose first word is 7
+-- `before_byte` has the host's code at 80010000, and the window at 80014000, whose first word is 7
 abbrev pub before_byte : List ℕ
 before_byte = replicate 65536 0 ++ (calling_host ++ (replicate 16360 0 ++ (7 ∷ replicate 15 0)))
 
--- the region at 80018000
+-- `after_byte` has the bytes of RAM after the byte of the host, including the region at 80018000
 abbrev pub after_byte : List ℕ
 after_byte = replicate 16367 0 ++ (hosted_enclave ++ replicate 32760 0)
 
--- with a byte of the host's choice at 80014010, in the window
+-- `hosted_ram` is the RAM with a byte of the host's choice at 80014010, in the window
 abbrev pub hosted_ram : ℕ → List ℕ
 hosted_ram byte = before_byte ++ (byte ∷ after_byte)
 
@@ -29,17 +29,17 @@ abbrev pub hosted_asking : List ℕ
 hosted_asking =
     0 ∷ 0 ∷ 0 ∷ 0 ∷ 0 ∷ 0 ∷ 0 ∷ 0 ∷ 0 ∷ 0 ∷ 0x80018000 ∷ 0x1000 ∷ 0x80014000 ∷ 0x1000 ∷ 0x80018000 ∷ 0 ∷ 1 ∷ 0x0A454E43 ∷ replicate 14 0
 
--- the machine at reset, with 0 as the byte in the window
+-- `hosted_reset` is the machine at reset, with 0 as the byte in the window
 abbrev pub hosted_reset : ℕ → MonitoredMachine
 hosted_reset harts = at_start (hosted_ram 0) 0x80010000 harts
 
--- the hart that calls the monitor has the arguments of create
+-- `hosted_start` is the machine whose calling hart has the arguments of create
 abbrev pub hosted_start : ℕ → ℕ → MonitoredMachine
 hosted_start harts hart =
     let hart_state = hart_state_of hart (hosted_reset harts) in
     with_hart_state hart (record hart_state { hart = record hart_state.hart { regs = hosted_asking; csrs = record hart_state.hart.csrs { timer = false } } }) (hosted_reset harts)
 
--- the machine after one step of the hart
+-- `hosted_next` is the machine after one step of the hart
 abbrev pub hosted_next : ℕ → MonitoredMachine → MonitoredMachine
 hosted_next hart machine = (step_of hart machine).state
 

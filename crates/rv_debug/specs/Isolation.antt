@@ -66,7 +66,7 @@ RunningLaw =
 abbrev pub PreservesUndisturbed : BenchState → Command → BenchState → Type 0
 PreservesUndisturbed before command after = (k : ℕ) → UndisturbedBy k before command → IsPreservedIn k before.target after.target
 
--- a byte that an effect may change: one that a step changes, or one that is poked
+-- an effect may change a byte that one of its steps changes, or that it pokes
 abbrev pub MayChange : MonitoredMachine → Effect → ℕ → Type 0
 MayChange machine (Steps harts selected) byte = IsChangedInOrder harts machine byte
 MayChange machine (OneByte address value) byte = byte ≡ address
@@ -107,7 +107,7 @@ UndisturbedByAll k bench [] = IsSomeAnd (machine_in bench.target) (λ machine. i
 UndisturbedByAll k bench (command ∷ commands) =
     UndisturbedBy k bench command × UndisturbedByAll k (execute bench command).state commands
 
--- the bench after the commands
+-- `after_commands` is the bench after the commands
 abbrev pub after_commands : BenchState → List Command → BenchState
 after_commands bench [] = bench
 after_commands bench (command ∷ commands) = after_commands (execute bench command).state commands

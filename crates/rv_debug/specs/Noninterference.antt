@@ -34,7 +34,7 @@ NoninterferenceLaw =
     → BenchesEquivExcept e first second → is_blind e first command ≡ true → AvoidsHart e first command
     → ExecuteAlike e (execute first command) (execute second command)
 
--- the harts that a command may step
+-- `harts_named` has the harts that a command may step
 abbrev pub harts_named : Target → Command → List ℕ
 harts_named target (Step count) = selected_of target ∷ []
 harts_named target (Run count) = selected_of target ∷ []
@@ -95,7 +95,7 @@ pub record NeitherDid (e : ℕ) (first second : BenchState) (command : Command) 
   pub here : is_blind e first command ≡ false
   pub there : is_blind e second command ≡ false
 
--- what is equal in both benches, by the reason for which the list of commands goes on or ends
+-- both benches are alike in what the reason requires for which the list of commands goes on or ends
 abbrev pub AlikeBy : ℕ → BenchState → BenchState → Command → BothExecuted → BothWhy → Type 0
 AlikeBy e first second command after All = BothRepliesAlike e after
 AlikeBy e first second command after Entered = BothEntered e first second command

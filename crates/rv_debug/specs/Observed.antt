@@ -16,46 +16,47 @@ use Rattle.rv_debug.specs.ScheduledSteps.{AfterSchedule, nothing_ran, schedule_s
 use Rattle.rv_debug.specs.Steps.{AfterRun}
 use Rattle.rv_debug.specs.Targets.{hart_of, harts_of, machine_in, pc_of, selected_at, selected_of, with_selected, world_text}
 
--- whether the enclave of slot e runs on the selected hart
+-- `is_selected` states whether the enclave of slot e runs on the selected hart
 abbrev pub is_selected : ℕ → Target → Bool
 is_selected e (Bare machine) = false
 is_selected e (Monitored selected) = runs_on e selected.hart selected.state
 
--- a text, or nothing if it is hidden
+-- `unless` is a text, or nothing if it is hidden
 abbrev pub unless : Bool → List ℕ → List ℕ
 unless hidden text = if hidden then [] else text
 
 -- ---- steps
 
--- the steps of a hart and one more; a step of the enclave sets their number to 0
+-- `one_more_observed` has the steps of a hart and one more; a step of the enclave sets their number to 0
 abbrev pub one_more_observed : Bool → Option Trap → HartRan → HartRan
 one_more_observed is_own trap ran = record { steps = if is_own then 0 else ran.steps + 1; trap = option_or trap ran.trap }
 
--- the observed steps of hart `own` after a step of any hart
+-- `with_observed_step` has the observed steps of hart `own` after a step of any hart
 abbrev pub with_observed_step : ℕ → ℕ → ℕ → MonitoredMachine → HartRan → HartRan
 with_observed_step e own hart machine ran =
     if own == hart then one_more_observed (runs_on e hart machine) (step_of hart machine).outcome.step.trap ran else ran
 
--- the steps of hart `own` among one step of each of these harts, in order: their number after the last step of the enclave, and the last trap
+-- `observed_steps` has the steps of hart `own` among one step of each of these harts, in order: their number after the last step of the enclave, and
+-- the last trap
 abbrev pub observed_steps : ℕ → ℕ → List ℕ → MonitoredMachine → HartRan → HartRan
 observed_steps e own [] machine ran = ran
 observed_steps e own (hart ∷ harts) machine ran =
     observed_steps e own harts (step_of hart machine).state (with_observed_step e own hart machine ran)
 
--- the number of steps of the selected hart after the last step of the enclave, among `count` steps
+-- `observed_count` is the number of steps of the selected hart after the last step of the enclave, among `count` steps
 abbrev pub observed_count : ℕ → Target → ℕ → ℕ
 observed_count e target count =
     let hart = selected_of target in
     option_case (machine_in target) count (λ machine. (observed_steps e hart (replicate count hart) machine nothing_ran).steps)
 
--- the summary of a run, with this number of steps; nothing, if the enclave runs on the hart after it
+-- `observed_run` is the summary of a run, with this number of steps, or nothing if the enclave runs on the hart after it
 abbrev pub observed_run : ℕ → Target → AfterRun Target → List ℕ
 observed_run e before after =
     unless (is_selected e after.state)
     (ran_text (pc_of after.state) (hart_of after.state).mode (world_text after.state)
     (record { steps = observed_count e before after.ran.steps; trap = after.ran.trap; stop = after.ran.stop; entered = 0 }))
 
--- the summary of each hart on which the enclave does not run after a schedule
+-- `observed_hart` is the summary of a hart after a schedule, or nothing if the enclave runs on the hart
 abbrev pub observed_hart : ℕ → Target → ℕ → HartRan → List ℕ
 observed_hart e target hart ran = unless (is_selected e (with_selected hart target)) (hart_summary_text target hart ran)
 
@@ -72,7 +73,7 @@ observed_sched e target harts =
 
 -- ---- what a command shows
 
--- the guest view of a target: the registers that no world reads are 0
+-- `guest_target` is the guest view of a target: the registers that no world reads are 0
 abbrev pub guest_target : Target → Target
 guest_target (Bare machine) = Bare machine
 guest_target (Monitored selected) = selected_at selected.hart (guest_view selected.state)

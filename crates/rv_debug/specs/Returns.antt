@@ -20,8 +20,8 @@ pub record LeavesWithin (hart : ℕ) (harts : List ℕ) (machine : MonitoredMach
   pub at : exit ≡ hart_view hart (sched before machine).state
   pub host : is_host (monitored_step exit).state.hart_state.world ≡ true
 
--- These steps of a command are not yet executed. `after` is the bench at the end of the command, and further commands follow. The enclave exits
--- in the last of all these commands, and runs on the hart through the earlier ones.
+-- The list has the steps of a command that are not yet executed. `after` is the bench at the end of the command, and further commands follow. The
+-- enclave exits in the last of all these commands, and runs on the hart through the earlier ones.
 abbrev pub LeavesLater : ℕ → List ℕ → MonitoredMachine → BenchState → List Command → HartView → Type 0
 LeavesLater hart harts machine after [] exit = LeavesWithin hart harts machine exit
 LeavesLater hart harts machine after (command ∷ commands) exit =

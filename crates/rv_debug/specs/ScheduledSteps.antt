@@ -6,12 +6,12 @@ use Rattle.rv_debug.specs.Prelude.{HartRan, Scheduled, Target, Trap}
 use Rattle.rv_debug.specs.Steps.{Stepped, slots_with}
 use Rattle.rv_debug.specs.Targets.{target_stepped, with_selected}
 
--- a target after scheduled steps, and a summary of them
+-- `AfterSchedule` has a target after scheduled steps, and a summary of them
 pub record AfterSchedule : Type 0 where
   pub state : Target
   pub did : Scheduled
 
--- the summary of a hart before its first step
+-- `nothing_ran` is the summary of a hart before its first step
 abbrev pub nothing_ran : HartRan
 nothing_ran = record { steps = 0; trap = None }
 
@@ -19,15 +19,15 @@ nothing_ran = record { steps = 0; trap = None }
 abbrev pub schedule_start : Target → AfterSchedule
 schedule_start state = record { state = state; did = record { first = nothing_ran; second = nothing_ran; entered = 0 } }
 
--- the summary of a hart after one more step of it
+-- `with_own_step` is the summary of a hart after one more step of it
 abbrev pub with_own_step : Option Trap → HartRan → HartRan
 with_own_step trap ran = record { steps = ran.steps + 1; trap = option_or trap ran.trap }
 
--- the summary of hart `own` after one more step, which counts if it is a step of this hart
+-- `with_own` is the summary of hart `own` after one more step, which counts if it is a step of this hart
 abbrev pub with_own : ℕ → ℕ → Option Trap → HartRan → HartRan
 with_own own hart trap ran = if own == hart then with_own_step trap ran else ran
 
--- a summary and one more step: its hart, its trap, and the slot that it entered
+-- `with_hart_step` has a summary and one more step: its hart, its trap, and the slot that it entered
 abbrev pub with_hart_step : ℕ → Option Trap → Option ℕ → Scheduled → Scheduled
 with_hart_step hart trap entered did = record {
   first = with_own 0 hart trap did.first;

@@ -17,15 +17,15 @@ calling_host =
     0x73 ∷ 0 ∷ 0 ∷ 0 ∷ 0x13 ∷ 0x08 ∷ 0x30 ∷ 0 ∷ 0x73 ∷ 0 ∷ 0 ∷ 0
     ∷ 0x13 ∷ 0x05 ∷ 0 ∷ 0 ∷ 0x13 ∷ 0x08 ∷ 0x40 ∷ 0 ∷ 0x73 ∷ 0 ∷ 0 ∷ 0 ∷ []
 
--- lw a0, 256(a0); addi a0, zero, 0
+-- the code of the enclave is lw a0, 256(a0); addi a0, zero, 0
 abbrev pub secret_enclave : List ℕ
 secret_enclave = 0x03 ∷ 0x25 ∷ 0x05 ∷ 0x10 ∷ 0x13 ∷ 0x05 ∷ 0 ∷ 0 ∷ []
 
--- the bytes of RAM before the secret: the monitor's range, the host's code, and the enclave's code with zeros up to its data
+-- `before_secret` has the bytes of RAM before the secret: the monitor's range, the host's code, and the enclave's code with zeros up to its data
 abbrev pub before_secret : List ℕ
 before_secret = replicate 65536 0 ++ (calling_host ++ (replicate 32744 0 ++ (secret_enclave ++ replicate 248 0)))
 
--- RAM with the secret at 80018100, in the region
+-- `secret_ram` is the RAM with the secret at 80018100, in the region
 abbrev pub secret_ram : ℕ → List ℕ
 secret_ram secret = before_secret ++ (secret ∷ replicate 32511 0)
 
@@ -33,17 +33,17 @@ secret_ram secret = before_secret ++ (secret ∷ replicate 32511 0)
 abbrev pub secret_asking : List ℕ
 secret_asking = 0 ∷ 0 ∷ 0 ∷ 0 ∷ 0 ∷ 0 ∷ 0 ∷ 0 ∷ 0 ∷ 0 ∷ 0x80018000 ∷ 0x1000 ∷ 0 ∷ 0 ∷ 0x80018000 ∷ 0 ∷ 1 ∷ 0x0A454E43 ∷ replicate 14 0
 
--- the machine at reset, with 0 as the secret
+-- `secret_reset` is the machine at reset, with 0 as the secret
 abbrev pub secret_reset : MonitoredMachine
 secret_reset = at_start (secret_ram 0) 0x80010000 1
 
--- the machine whose host has the arguments of create in its registers, and whose timer line is clear
+-- `secret_start` is the machine whose host has the arguments of create in its registers, and whose timer line is clear
 abbrev pub secret_start : MonitoredMachine
 secret_start =
     let hart_state = hart_state_of 0 secret_reset in
     with_hart_state 0 (record hart_state { hart = record hart_state.hart { regs = secret_asking; csrs = record hart_state.hart.csrs { timer = false } } }) secret_reset
 
--- the machine after one step of hart 0
+-- `secret_next` is the machine after one step of hart 0
 abbrev pub secret_next : MonitoredMachine → MonitoredMachine
 secret_next machine = (step_of 0 machine).state
 
@@ -69,7 +69,7 @@ secret_resumed secret = secret_next (secret_next (secret_next (secret_interrupte
 
 -- ---- the instance
 
--- the moves of the example; before and after the interrupt the enclave takes one step in each machine
+-- `secret_moves` has the moves of the example; before and after the interrupt the enclave takes one step in each machine
 abbrev pub secret_moves : List Move
 secret_moves =
     Both (StepOf 0) ∷ Both (StepOf 0) ∷ First 0 ∷ Second 0 ∷ Both (LineOf 0 true) ∷ Both (StepOf 0) ∷ Both (StepOf 0) ∷ Both (StepOf 0) ∷ Both (StepOf 0)
@@ -82,7 +82,7 @@ pub record IsConcealed (a b : ℕ) : Type 0 where
 
 -- ---- the same by commands
 
--- the bench over the monitored machine of the example
+-- `secret_bench` is the bench over the monitored machine of the example
 abbrev pub secret_bench : BenchState
 secret_bench = monitored secret_start
 

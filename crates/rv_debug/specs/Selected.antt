@@ -2,7 +2,7 @@
 use Rattle.std.specs.Prelude.{ℕ}
 use Rattle.rv_monitor.specs.MonitoredMachine.{MonitoredMachine}
 
--- a monitored machine, and the number of the selected hart
+-- `Selected` has a monitored machine, and the number of its selected hart
 pub record Selected : Type 0 where
   pub hart : ℕ
   pub state : MonitoredMachine

@@ -28,12 +28,12 @@ pub record AfterRun (A : Type 0) : Type 0 where
 abbrev pub no_steps : {A : Type 0} → A → AfterSteps A
 no_steps state = record { state = state; steps = 0; trap = None; entered = 0 }
 
--- the entered slots as a bit mask, with the slot of one more entry, if there is one
+-- `slots_with` has the entered slots as a bit mask, with the slot of one more entry, if there is one
 abbrev pub slots_with : ℕ → Option ℕ → ℕ
 slots_with slots None = slots
 slots_with slots (Some slot) = bit_or slots (2 ^ slot)
 
--- the steps so far and one more, with its trap and the slot that it entered
+-- `with_step` has the steps so far and one more, with its trap and the slot that it entered
 abbrev pub with_step : {A : Type 0} → AfterSteps A → Stepped A → AfterSteps A
 with_step before last = record {
   state = last.state;
@@ -42,7 +42,7 @@ with_step before last = record {
   entered = slots_with before.entered last.entered;
 }
 
--- a run that ends after these steps, for this reason
+-- `ended` is a run that ends after these steps, for this reason
 abbrev pub ended : {A : Type 0} → AfterSteps A → Stop → AfterRun A
 ended after stop = record {
   state = after.state;

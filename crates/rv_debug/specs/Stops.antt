@@ -24,11 +24,11 @@ lower None second = second
 lower (Some first) None = Some first
 lower (Some first) (Some second) = Some (min first second)
 
--- the lowest of some addresses
+-- `lowest` is the lowest of some addresses, or none of an empty list
 abbrev pub lowest : List ℕ → Option ℕ
 lowest [] = None
 lowest (address ∷ addresses) = lower (Some address) (lowest addresses)
 
--- the lowest of some addresses that was accessed
+-- `lowest_accessed` is the lowest of some addresses that was accessed
 unfoldable pub lowest_accessed : List ℕ → Touched → Option ℕ
 lowest_accessed addresses touched = lowest (filter (is_accessed touched) addresses)

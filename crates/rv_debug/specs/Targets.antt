@@ -12,7 +12,7 @@ use Rattle.rv_debug.specs.Selected.{Selected}
 use Rattle.rv_debug.specs.EnclaveText.{table_text}
 use Rattle.rv_debug.specs.Steps.{Stepped}
 
--- the monitored machine of a target, if it is monitored
+-- `machine_in` is the monitored machine of a target, if it is monitored
 abbrev pub machine_in : Target → Option MonitoredMachine
 machine_in (Bare machine) = None
 machine_in (Monitored selected) = Some selected.state
@@ -21,22 +21,22 @@ machine_in (Monitored selected) = Some selected.state
 abbrev pub selected_hart_state : Selected → HartState
 selected_hart_state selected = hart_state_of selected.hart selected.state
 
--- the hart of a target: of a monitored machine, the selected one
+-- `hart_of` is the hart of a bare machine, or the selected hart of a monitored machine
 abbrev pub hart_of : Target → Hart
 hart_of (Bare machine) = machine.hart
 hart_of (Monitored selected) = (selected_hart_state selected).hart
 
--- the memory of a target
+-- `memory_of` is the memory of a target
 abbrev pub memory_of : Target → List ℕ
 memory_of (Bare machine) = machine.memory
 memory_of (Monitored selected) = selected.state.shared.memory
 
--- the name of a world: `host`, or `e` and the slot
+-- `world_name` is the name of a world: `host`, or `e` and the slot
 abbrev pub world_name : World → List ℕ
 world_name Host = codes "host"
 world_name (Enclave slot) = codes "e" ++ decimal slot
 
--- the name of the world of a target
+-- `world_text` is the name of the world of a target
 abbrev pub world_text : Target → List ℕ
 world_text (Bare machine) = codes "bare"
 world_text (Monitored selected) = world_name (selected_hart_state selected).world
@@ -45,33 +45,33 @@ world_text (Monitored selected) = world_name (selected_hart_state selected).worl
 abbrev pub enclaves_text : Target → List ℕ
 enclaves_text target = option_case (machine_in target) [] (λ machine. table_text machine.shared.table)
 
--- whether the enclave of slot e is live
+-- `is_live_in` states whether the enclave of slot e is live
 abbrev pub is_live_in : ℕ → Target → Bool
 is_live_in e target = option_case (machine_in target) false (λ machine. is_live machine.shared.table e)
 
--- the address of the next instruction
+-- `pc_of` is the address of the next instruction
 abbrev pub pc_of : Target → ℕ
 pc_of target = (hart_of target).pc
 
--- a bare machine after one step, which enters no enclave
+-- `machine_stepped` is a bare machine after one step, which enters no enclave
 abbrev pub machine_stepped : Machine → Stepped Machine
 machine_stepped machine = let after = step machine in record { state = after.state; outcome = after.outcome; entered = None }
 
--- a monitored machine after one step of the selected hart
+-- `selected_stepped` is a monitored machine after one step of the selected hart
 abbrev pub selected_stepped : Selected → Stepped Selected
 selected_stepped selected =
     let after = step_of selected.hart selected.state in
     record { state = record { hart = selected.hart; state = after.state }; outcome = after.outcome.step; entered = after.outcome.entered }
 
--- a step of a machine, with the target of the machine after it
+-- `with_target` is a step of a machine, with the target of the machine after it
 abbrev pub with_target : {A : Type 0} → (A → Target) → Stepped A → Stepped Target
 with_target target after = record { state = target after.state; outcome = after.outcome; entered = after.entered }
 
--- a monitored machine with a selected hart
+-- `selected_at` is a monitored machine with a selected hart
 abbrev pub selected_at : ℕ → MonitoredMachine → Target
 selected_at hart state = Monitored (record { hart = hart; state = state })
 
--- a target after one step of the selected hart
+-- `target_stepped` is a target after one step of the selected hart
 abbrev pub target_stepped : Target → Stepped Target
 target_stepped (Bare machine) = with_target Bare (machine_stepped machine)
 target_stepped (Monitored selected) = with_target Monitored (selected_stepped selected)
@@ -81,12 +81,12 @@ abbrev pub harts_of : Target → ℕ
 harts_of (Bare machine) = 1
 harts_of (Monitored selected) = count_of selected.state
 
--- the number of the selected hart
+-- `selected_of` is the number of the selected hart
 abbrev pub selected_of : Target → ℕ
 selected_of (Bare machine) = 0
 selected_of (Monitored selected) = selected.hart
 
--- the target with another of its harts selected
+-- `with_selected` is the target with another of its harts selected
 abbrev pub with_selected : ℕ → Target → Target
 with_selected hart (Bare machine) = Bare machine
 with_selected hart (Monitored selected) = selected_at hart selected.state
@@ -97,18 +97,18 @@ register_set (Bare machine) number value =
     Bare (record machine { hart = record machine.hart { regs = with_register machine.hart.regs number value } })
 register_set (Monitored selected) number value = selected_at selected.hart (with_reg selected.hart selected.state number value)
 
--- the timer line raised or lowered
+-- `timer_set` is the target with the timer line raised or lowered
 abbrev pub timer_set : Target → Bool → Target
 timer_set (Bare machine) raised =
     Bare (record machine { hart = record machine.hart { csrs = record machine.hart.csrs { timer = raised } } })
 timer_set (Monitored selected) raised = selected_at selected.hart (with_timer selected.hart selected.state raised)
 
--- the target with another memory
+-- `over_memory` is the target with another memory
 abbrev pub over_memory : Target → List ℕ → Target
 over_memory (Bare machine) memory = Bare (record machine { memory = memory })
 over_memory (Monitored selected) memory = selected_at selected.hart (with_memory selected.state memory)
 
--- a byte written to memory, if its address is in RAM
+-- `poked` is the target with a byte written to memory, if its address is in RAM
 abbrev pub poked : Target → ℕ → ℕ → Option Target
 poked target address byte = option_map (over_memory target) (write (memory_of target) address (byte ∷ []))
 

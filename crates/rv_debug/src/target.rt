@@ -139,7 +139,7 @@ impl Target {
         }
     }
 
-    /// Writes a word to a register.
+    /// Writes a word to a register of the selected hart.
     pub(crate) fn set_reg(&mut self, reg: Reg, value: u32)
         ensures { self.new ≡ register_set self.old reg value }
     {
@@ -149,7 +149,7 @@ impl Target {
         }
     }
 
-    /// Raises or lowers the timer line.
+    /// Raises or lowers the timer line of the selected hart.
     pub(crate) fn set_timer(&mut self, raised: bool)
         ensures { self.new ≡ timer_set self.old raised }
     {

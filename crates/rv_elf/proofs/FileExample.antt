@@ -1,4 +1,4 @@
--- Example: a file with one segment, addi x1, x0, -1 at address 80000000, followed by four zeros.
+-- This file has an example: a file with one segment, addi x1, x0, -1 at address 80000000, followed by four zeros.
 use Rattle.std.proofs.Common.{◌≡◌, ℕ, true, false, List, [], ◌∷◌, ◌++◌, take, Ok, Err, refl}
 use Rattle.rv_elf.specs.declared.elf_fault.ElfFault.TheVariants.{SegmentTruncated, SegmentOutside}
 use Rattle.rv_elf.specs.Faults.{header_faults, segment_faults, place_faults}
@@ -6,20 +6,20 @@ use Rattle.rv_elf.specs.Places.{meets_reserved}
 use Rattle.rv_elf.specs.Plans.{file_plan}
 use Rattle.rv_elf.specs.Segments.{segments_of, occupying}
 
--- e_ident, e_type and e_machine, e_version, e_entry, e_phoff, e_shoff and e_flags, and the six halves after them
+-- `elf_header` has e_ident, e_type and e_machine, e_version, e_entry, e_phoff, e_shoff and e_flags, and the six halves after them
 abbrev elf_header : List ℕ
 elf_header =
     0x7f ∷ 0x45 ∷ 0x4c ∷ 0x46 ∷ 1 ∷ 1 ∷ 1 ∷ 0 ∷ 0 ∷ 0 ∷ 0 ∷ 0 ∷ 0 ∷ 0 ∷ 0 ∷ 0
     ∷ 2 ∷ 0 ∷ 0xf3 ∷ 0 ∷ 1 ∷ 0 ∷ 0 ∷ 0 ∷ 0 ∷ 0 ∷ 0 ∷ 0x80 ∷ 52 ∷ 0 ∷ 0 ∷ 0 ∷ 0 ∷ 0 ∷ 0 ∷ 0 ∷ 0 ∷ 0 ∷ 0 ∷ 0
     ∷ 52 ∷ 0 ∷ 32 ∷ 0 ∷ 1 ∷ 0 ∷ 40 ∷ 0 ∷ 0 ∷ 0 ∷ 0 ∷ 0 ∷ []
 
--- p_type, p_offset, p_vaddr, p_paddr, p_filesz, p_memsz, p_flags, p_align
+-- `program_header` has p_type, p_offset, p_vaddr, p_paddr, p_filesz, p_memsz, p_flags and p_align
 abbrev program_header : List ℕ
 program_header =
     1 ∷ 0 ∷ 0 ∷ 0 ∷ 84 ∷ 0 ∷ 0 ∷ 0 ∷ 0 ∷ 0 ∷ 0 ∷ 0x80 ∷ 0 ∷ 0 ∷ 0 ∷ 0x80
     ∷ 4 ∷ 0 ∷ 0 ∷ 0 ∷ 8 ∷ 0 ∷ 0 ∷ 0 ∷ 5 ∷ 0 ∷ 0 ∷ 0 ∷ 4 ∷ 0 ∷ 0 ∷ 0 ∷ []
 
--- an ELF file with one segment: four bytes in the file, and eight in memory
+-- `file` is an ELF file with one segment: four bytes in the file, and eight in memory
 abbrev file : List ℕ
 file = elf_header ++ program_header ++ 0x93 ∷ 0 ∷ 0xf0 ∷ 0xff ∷ []
 
@@ -34,7 +34,7 @@ loads : file_plan file 1048576 false ≡ Ok (record {
 unfolding header_faults segment_faults place_faults segments_of occupying meets_reserved
 loads = refl
 
--- the errors if a byte of the file is missing, if the segment is larger than the RAM, and if it meets the range of a monitor
+-- a file whose last byte is missing has the error SegmentTruncated
 cut : file_plan (take 87 file) 1048576 false ≡ Err SegmentTruncated
 unfolding header_faults segment_faults place_faults segments_of occupying meets_reserved
 cut = refl

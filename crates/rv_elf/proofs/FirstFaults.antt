@@ -1,4 +1,4 @@
--- Lemmas about the first error of a table whose condition holds.
+-- This file proves lemmas about the first error of a table whose condition holds.
 use Rattle.std.proofs.Common.{◌≡◌, ℕ, suc, ◌≤◌, ◌&&◌, nat_lt, length, map, Bool, true, false, List, [], ◌∷◌}
 use Rattle.std.proofs.Common.{◌++◌, Option, Some, None, Result, Ok, Err, refl, arith}
 use Rattle.std.proofs.lemmas.Grind.{common_steps}

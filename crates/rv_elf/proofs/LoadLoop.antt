@@ -1,4 +1,4 @@
--- Lemmas about the segments of a plan, loaded one after the other.
+-- This file proves lemmas about the segments of a plan, loaded one after the other.
 use Rattle.std.proofs.Common.{◌≡◌, ◌∙◌, ℕ, ◌+◌, ◌<◌, ◌≤◌, Bool, true, false, not, ◌&&◌, arith, List, [], ◌∷◌, length, drop, slice_index_or, refl, sym}
 use Rattle.std.proofs.Math.ListN.{drop_of_length-le}
 use Rattle.std.proofs.lemmas.List.{drop_more}
@@ -12,7 +12,7 @@ use Rattle.rv_elf.specs.Places.{lies_inside, meets_reserved}
 use Rattle.rv_elf.specs.Segments.{has_overlap, share_a_byte, is_truncated, is_oversized}
 use Rattle.rv_elf.proofs.LoadedBytes.{length-loaded_memory, load_first, load_none}
 
--- the invariant of the loop, when the rest of the segments is not yet loaded into this memory
+-- the invariant of the loop holds when the rest of the segments is not yet loaded into the memory `now`
 unfoldable pub Loads : List ℕ → LoadPlan → List ℕ → List Segment → List ℕ → Type 0
 Loads image plan before rest now =
     (loaded_memory image rest now ≡ loaded_memory image plan.segments before)
@@ -54,7 +54,7 @@ others_load image plan before now segment others loads =
       apart.1,
     )
 
--- the invariant at a segment, after it, and at the end of the loop
+-- the memory keeps its size while segments are loaded
 pub loads_size : (image : List ℕ) (plan : LoadPlan) (before now : List ℕ) (rest : List Segment) → Loads image plan before rest now → length now ≡ length before
 unfolding Loads
 loads_size image plan before now rest loads = loads.1

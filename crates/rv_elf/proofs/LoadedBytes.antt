@@ -1,4 +1,4 @@
--- Lemmas about the memory after segments are loaded, byte by byte.
+-- This file proves lemmas about the memory after segments are loaded, byte by byte.
 use Rattle.std.proofs.Common.{◌≡◌, ◌∙◌, sym, ℕ, zero, suc, ◌+◌, ◌-◌, ◌<◌, ◌≤◌, Bool, true, false, not, ◌&&◌, List, [], ◌∷◌, length}
 use Rattle.std.proofs.Common.{map, slice_index, Option, Some, None, refl, ap, inl, inr, true≢false, arith}
 use Rattle.std.specs.List.{range_with_len, find, list_any, list_all, Contains}
@@ -28,7 +28,7 @@ pub length-loaded_memory : (image : List ℕ) (segments : List Segment) (memory 
 unfolding loaded_memory
 length-loaded_memory image segments memory = length-map-range_with_len (byte_after image segments memory) ram_base (length memory)
 
--- the byte at an address after loading
+-- the byte at an address after loading is the byte that `byte_after` gives
 pub loaded_at : (image : List ℕ) (segments : List Segment) (memory : List ℕ) (address : ℕ) → ram_base ≤ address → address < ram_base + length memory
     → slice_index (loaded_memory image segments memory) (address - ram_base) ≡ byte_after image segments memory address
 unfolding loaded_memory
@@ -63,7 +63,7 @@ pub found_alone : (segment : Segment) (others : List Segment) (address : ℕ) �
     → find (has_address address) others ≡ None
 found_alone segment others address none inside = find_none (has_address address) others (none_covers segment others address none inside)
 
--- the byte after a segment and then others are loaded
+-- if a segment shares no byte with the others, loading it before the others gives the same bytes as loading all together
 byte_first : (image : List ℕ) (segment : Segment) (others : List Segment) (memory : List ℕ) (address : ℕ) → ram_base ≤ address
     → address < ram_base + length memory
     → list_any (share_a_byte segment) others ≡ false
@@ -125,7 +125,7 @@ in_ram memory image_size address monitored segment fit inside = grind (arith, co
 in_ram_low : (memory : List ℕ) (address : ℕ) → is_inside memory address 1 ≡ true → (ram_base ≤ address) × (address < ram_base + length memory)
 in_ram_low memory address inside = (grind (arith, common_steps), grind (arith, common_steps))
 
--- the byte at an address after the segments are loaded
+-- a byte at an address in RAM after loading is the byte that `byte_after` gives
 byte_loaded : (image : List ℕ) (segments : List Segment) (memory : List ℕ) (address : ℕ) → is_inside memory address 1 ≡ true
     → byte_at (loaded_memory image segments memory) address ≡ Some (byte_after image segments memory address)
 byte_loaded image segments memory address inside =

@@ -44,7 +44,7 @@ entry_aligned entry placed good = grind (arith, common_steps)
 entry_placed : (aligned placed : Bool) → (not aligned || not placed) ≡ false → placed ≡ true
 entry_placed aligned placed good = grind (arith, common_steps)
 
--- if no segment has an error, no segment that occupies memory has one
+-- if no segment has an error, no segment that occupies memory has an error
 pub kept_have_none : (image_size : ℕ) (segments : List Segment) → first_fault (segment_faults image_size segments) ≡ None
     → first_fault (segment_faults image_size (occupying segments)) ≡ None
 unfolding segment_faults occupying
@@ -83,11 +83,11 @@ pub raw_has_none : (len : ℕ) (monitored : Bool) → first_fault (segment_fault
 unfolding segment_faults occupying
 raw_has_none len monitored = grind (arith, common_steps)
 
--- the rows after those of the header and of the segments
+-- `file_place_faults` has the errors after those of the header and of the segments
 abbrev file_place_faults : List ℕ → ℕ → Bool → List (Bool × ElfFault)
 file_place_faults file ram_size monitored = place_faults ram_size monitored (occupying (segments_of file)) (e_entry file)
 
--- the errors after those of the header
+-- `later_faults` has the errors after those of the header
 abbrev later_faults : List ℕ → ℕ → Bool → List (Bool × ElfFault)
 later_faults file ram_size monitored = segment_faults (length file) (segments_of file) ++ file_place_faults file ram_size monitored
 

@@ -1,4 +1,4 @@
--- Lemmas about the segments of a file, read one header after the other.
+-- This file proves lemmas about the segments of a file, read one header after the other.
 use Rattle.std.proofs.Common.{◌≡◌, ◌≢◌, ◌∙◌, ℕ, ◌+◌, ◌*◌, ◌<◌, not, take, length, slice_index_or, arith, List, [], ◌∷◌, ◌++◌, map, cond, refl}
 use Rattle.std.specs.List.{filter, range_with_len}
 use Rattle.std.proofs.lemmas.Bool.{eq-eqb, ne_eqb}
@@ -9,7 +9,7 @@ use Rattle.rv_elf.specs.declared.segment.Segment.{Segment}
 use Rattle.rv_elf.specs.Fields.{e_phoff, p_type}
 use Rattle.rv_elf.specs.Segments.{is_load, segment_at, has_no_bytes, occupying}
 
--- the offset of a header in the file
+-- `place_of` is the offset of a header in the file
 abbrev pub place_of : List ℕ → ℕ → ℕ
 place_of file k = e_phoff file + 32 * k
 
@@ -17,7 +17,7 @@ place_of file k = e_phoff file + 32 * k
 unfoldable pub first_segments : List ℕ → ℕ → List Segment
 first_segments file count = map (segment_at file) (filter (is_load file) (map (place_of file) (range_with_len 0 count)))
 
--- the segments with one more header
+-- one more header adds its segment to the segments
 more : (file : List ℕ) (count : ℕ) → first_segments file (count + 1)
     ≡ first_segments file count ++ map (segment_at file) (cond (is_load file (place_of file count)) (place_of file count ∷ []) [])
 unfolding first_segments
@@ -28,7 +28,7 @@ more file count =
           (cond (is_load file (place_of file count)) (place_of file count ∷ []) []),
     ) refl
 
--- the segments if this header is of a segment to load, and if it is not
+-- a program header of type PT_LOAD adds its segment
 pub with_load : (file : List ℕ) (count : ℕ) → p_type file (place_of file count) ≡ 1
     → first_segments file (count + 1) ≡ first_segments file count ++ segment_at file (place_of file count) ∷ []
 with_load file count p_type_is = more file count ∙ rw (eq-eqb (p_type file (place_of file count)) 1 p_type_is) refl
@@ -37,7 +37,7 @@ with_load file count p_type_is = more file count ∙ rw (eq-eqb (p_type file (pl
 pub without_load : (file : List ℕ) (count : ℕ) → p_type file (place_of file count) ≢ 1 → first_segments file (count + 1) ≡ first_segments file count
 without_load file count other = more file count ∙ rw (ne_eqb (p_type file (place_of file count)) 1 other) (append-nil (first_segments file count))
 
--- the segments that occupy memory with one more segment, which does or does not
+-- a segment with bytes in memory is added to the segments that occupy memory
 pub with_occupying : (segments : List Segment) (i : ℕ) (default : Segment) → i < length segments → (slice_index_or segments i default).memory_size ≢ 0
     → occupying (take (i + 1) segments) ≡ occupying (take i segments) ++ slice_index_or segments i default ∷ []
 unfolding occupying

@@ -9,7 +9,7 @@ use Rattle.rv_elf.specs.declared.segment.Segment.{Segment}
 use Rattle.rv_elf.specs.Loaded.{loaded_memory, byte_after}
 use Rattle.rv_elf.proofs.LoadedBytes.{length-loaded_memory, loaded_at}
 
--- the byte at an index after two writes from the same index on, the second not longer: inside the second, after it, and elsewhere
+-- after two writes from the same index on, a byte inside the second write, which is not longer, is the byte of the second write
 in_second : (memory part : List ℕ) (index size k : ℕ) → length part ≤ size → index + size ≤ length memory → index ≤ k → k < index + length part
     → slice_index (write_bytes (write_bytes memory index (replicate size 0)) index part) k ≡ slice_index part (k - index)
 in_second memory part index size k shorter within low high = grind (arith, common_steps)
@@ -29,7 +29,7 @@ above_both : (memory part : List ℕ) (index size k : ℕ) → length part ≤ s
     → slice_index (write_bytes (write_bytes memory index (replicate size 0)) index part) k ≡ slice_index memory k
 above_both memory part index size k shorter within high = grind (arith, common_steps)
 
--- the byte of the segment's part of the image
+-- a byte of the segment in its part of the image is the byte of the image
 part_byte : (image memory : List ℕ) (segment : Segment) (k : ℕ) → ram_base ≤ segment.address → segment.file_size ≤ segment.memory_size
     → segment.address ≤ ram_base + k → ram_base + k < segment.address + segment.file_size
     → byte_after image (segment ∷ []) memory (ram_base + k)
@@ -76,7 +76,7 @@ same_byte image memory part segment k part_is len sized low high =
       ]
     ]
 
--- the memory after both writes
+-- the two writes of a segment, zeros and then its part of the image, leave the bytes of the segment
 pub written : (image memory between after : List ℕ) (segment : Segment) (part : List ℕ) → part ≡ take segment.file_size (drop segment.offset image)
     → length part ≡ segment.file_size → segment.file_size ≤ segment.memory_size
     → write memory segment.address (replicate segment.memory_size 0) ≡ Some between → write between segment.address part ≡ Some after

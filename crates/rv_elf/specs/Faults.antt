@@ -11,7 +11,7 @@ use Rattle.rv_elf.specs.Fields.{magic, et_exec, em_riscv, class_data_version, ei
 use Rattle.rv_elf.specs.Places.{first_address, has_place}
 use Rattle.rv_elf.specs.Segments.{segments_of, occupying, raw_segments, is_truncated, is_oversized, is_outside, has_overlap}
 
--- a number for each kind of error, by which errors are compared
+-- `elf_fault_number` is a number for each kind of error, by which errors are compared
 abbrev pub elf_fault_number : ElfFault → ℕ
 elf_fault_number Truncated = 1
 elf_fault_number NotElf = 2
@@ -47,14 +47,14 @@ header_faults file =
     ∷ (has_bad_table file, BadHeader)
     ∷ []
 
--- the errors of the segments by themselves, in the order in which they are checked
+-- `segment_faults` has the errors of the segments by themselves, in the order in which they are checked
 unfoldable pub segment_faults : ℕ → List Segment → List (Bool × ElfFault)
 segment_faults len segments =
     (list_any (is_truncated len) segments, SegmentTruncated)
     ∷ (list_any is_oversized segments, SegmentSizes)
     ∷ []
 
--- the errors of the places of segments and entry in memory, in the order in which they are checked
+-- `place_faults` has the errors of the places of segments and entry in memory, in the order in which they are checked
 unfoldable pub place_faults : ℕ → Bool → List Segment → ℕ → List (Bool × ElfFault)
 place_faults ram_size monitored segments entry =
     (list_any (is_outside ram_size monitored) segments, SegmentOutside)
@@ -62,18 +62,18 @@ place_faults ram_size monitored segments entry =
     ∷ (is_bad_entry ram_size monitored entry, BadEntry)
     ∷ []
 
--- the whole table for an ELF file in a RAM of this size, with or without a monitor, in the order of the numbers
+-- `file_faults` is the whole table for an ELF file in a RAM of this size, with or without a monitor, in the order of the numbers
 abbrev pub file_faults : List ℕ → ℕ → Bool → List (Bool × ElfFault)
 file_faults file ram_size monitored =
     header_faults file
     ++ segment_faults (length file) (segments_of file)
     ++ place_faults ram_size monitored (occupying (segments_of file)) (e_entry file)
 
--- the table for a raw image of `len` bytes, whose first byte is also its entry
+-- `raw_faults` is the table for a raw image of `len` bytes, whose first byte is also its entry
 abbrev pub raw_faults : ℕ → ℕ → Bool → List (Bool × ElfFault)
 raw_faults len ram_size monitored = place_faults ram_size monitored (raw_segments len monitored) (first_address monitored)
 
--- the first error whose condition holds
+-- `first_fault` is the first error whose condition holds
 abbrev pub first_fault : List (Bool × ElfFault) → Option ElfFault
 first_fault [] = None
 first_fault ((true, fault) ∷ rows) = Some fault
@@ -85,10 +85,10 @@ IsLeast rows fault =
     (list_any (λ row. row.0 && elf_fault_number row.1 == elf_fault_number fault) rows ≡ true)
     × (list_any (λ row. row.0 && nat_lt (elf_fault_number row.1) (elf_fault_number fault)) rows ≡ false)
 
--- the error of an ELF file
+-- `file_fault` is the error of an ELF file
 abbrev pub file_fault : List ℕ → ℕ → Bool → Option ElfFault
 file_fault file ram_size monitored = first_fault (file_faults file ram_size monitored)
 
--- the error of a raw image of `len` bytes
+-- `raw_fault` is the error of a raw image of `len` bytes
 abbrev pub raw_fault : ℕ → ℕ → Bool → Option ElfFault
 raw_fault len ram_size monitored = first_fault (raw_faults len ram_size monitored)

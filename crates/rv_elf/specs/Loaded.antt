@@ -7,7 +7,7 @@ use Rattle.rv_elf.specs.declared.segment.Segment.{Segment}
 use Rattle.rv_elf.specs.Places.{is_reserved}
 use Rattle.rv_elf.specs.Segments.{has_address}
 
--- the byte of a segment at an address: from its part of the file, and 0 after that
+-- a byte of a segment at an address is from its part of the file, and 0 after that
 abbrev pub byte_in : List ℕ → ℕ → Segment → ℕ
 byte_in image address segment =
     let k = address - segment.address in
@@ -19,7 +19,7 @@ abbrev pub byte_after : List ℕ → List Segment → List ℕ → ℕ → ℕ
 byte_after image segments memory address =
     option_case (find (has_address address) segments) (slice_index memory (address - ram_base)) (byte_in image address)
 
--- the memory after the segments are loaded
+-- `loaded_memory` is the memory after the segments are loaded
 unfoldable pub loaded_memory : List ℕ → List Segment → List ℕ → List ℕ
 loaded_memory image segments memory = map (byte_after image segments memory) (range_with_len ram_base (length memory))
 

@@ -4,7 +4,7 @@ use Rattle.std.specs.Prelude.{ℕ, ◌+◌, Bool, not, ◌&&◌, nat_le, if◌th
 use Rattle.rv_memory.specs.Blocks.{has, meets, monitor_block}
 use Rattle.rv_memory.specs.Memory.{ram_base}
 
--- the reserved addresses: with a monitor, those that the monitor reserves for itself
+-- with a monitor, an address is reserved if the monitor reserves it for itself
 abbrev pub is_reserved : Bool → ℕ → Bool
 is_reserved monitored address = monitored && has monitor_block address
 
@@ -12,7 +12,7 @@ is_reserved monitored address = monitored && has monitor_block address
 unfoldable pub meets_reserved : Bool → ℕ → ℕ → Bool
 meets_reserved monitored address count = monitored && meets monitor_block (record { base = address; size = count })
 
--- the first address that an image may use
+-- `first_address` is the first address that an image may use
 abbrev pub first_address : Bool → ℕ
 first_address monitored = if monitored then monitor_block.base + monitor_block.size else ram_base
 

@@ -18,7 +18,7 @@ pub record LoadPlan : Type 0 where
   pub ram_size : ℕ
   pub monitored : Bool
 
--- the segment's part of the image is complete, and the image may use the memory of the segment
+-- A segment fits if its part of the image is complete, and the image may use the memory of the segment.
 abbrev pub fits : ℕ → ℕ → Bool → Segment → Bool
 fits image_size ram_size monitored segment =
     not (is_truncated image_size segment) && not (is_oversized segment) && not (is_outside ram_size monitored segment)
@@ -31,7 +31,7 @@ IsValidPlan plan =
     × (plan.entry % 4 ≡ 0)
     × (has_place plan.ram_size plan.monitored plan.entry 4 ≡ true)
 
--- the plan of an ELF file, or its error with the smallest number
+-- An ELF file has a plan, or the error with the smallest number of those that it has.
 abbrev pub file_plan : List ℕ → ℕ → Bool → Result LoadPlan ElfFault
 file_plan file ram_size monitored =
     option_case (file_fault file ram_size monitored)
@@ -44,7 +44,7 @@ file_plan file ram_size monitored =
     }))
     Err
 
--- the plan of a raw image of `len` bytes, or its error with the smallest number
+-- A raw image of `len` bytes has a plan, or the error with the smallest number of those that it has.
 abbrev pub raw_plan : ℕ → ℕ → Bool → Result LoadPlan ElfFault
 raw_plan len ram_size monitored =
     option_case (raw_fault len ram_size monitored)

@@ -5,7 +5,7 @@ use Rattle.rv_elf.specs.declared.segment.Segment.{Segment}
 use Rattle.rv_elf.specs.Fields.{header_places, pt_load, p_type, p_offset, p_paddr, p_filesz, p_memsz}
 use Rattle.rv_elf.specs.Places.{first_address, has_place}
 
--- the segment of the program header at an offset
+-- `segment_at` is the segment of the program header at an offset
 abbrev pub segment_at : List ℕ → ℕ → Segment
 segment_at file place = record {
   offset = p_offset file place;
@@ -14,11 +14,11 @@ segment_at file place = record {
   memory_size = p_memsz file place;
 }
 
--- whether a header is of type PT_LOAD, so that its segment is loaded
+-- `is_load` states whether a header is of type PT_LOAD, so that its segment is loaded
 abbrev pub is_load : List ℕ → ℕ → Bool
 is_load file place = p_type file place == pt_load
 
--- the segments to load, in the order of their headers
+-- `segments_of` has the segments to load, in the order of their headers
 unfoldable pub segments_of : List ℕ → List Segment
 segments_of file = map (segment_at file) (filter (is_load file) (header_places file))
 
@@ -30,7 +30,7 @@ has_no_bytes segment = segment.memory_size == 0
 unfoldable pub occupying : List Segment → List Segment
 occupying segments = filter (λ segment. not (has_no_bytes segment)) segments
 
--- the segments of a raw image of `len` bytes: one at the first address that an image may use, or none if it is empty
+-- `raw_segments` has the segments of a raw image of `len` bytes: one at the first address that an image may use, or none if it is empty
 abbrev pub raw_segments : ℕ → Bool → List Segment
 raw_segments len monitored = occupying (record { offset = 0; address = first_address monitored; file_size = len; memory_size = len } ∷ [])
 

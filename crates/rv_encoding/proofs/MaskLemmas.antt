@@ -14,7 +14,7 @@ use Rattle.rv_encoding.specs.declared.instr.Instr.TheVariants.{Csr, CsrImm, Ecal
 
 -- ---- a word under each mask
 
--- the bits of opcode and funct3 of a word
+-- the mask 0000707F selects the bits of opcode and funct3 of a word
 mask_i : (word : ℕ) → bit_and word 0x0000707F ≡ word % 2 ^ 7 + word / 2 ^ 12 % 2 ^ 3 * 2 ^ 12
 mask_i word =
     ap (λ n. bit_and n 0x0000707F) (sym (div-add-mod' word (2 ^ 12)))
@@ -23,7 +23,7 @@ mask_i word =
     ∙ ap (λ n. word / 2 ^ 12 % 2 ^ 3 * 2 ^ 12 + n) (and_mask (word % 2 ^ 12) 7)
     ∙ omega arith
 
--- a mask with all bits from 31 to 25
+-- a mask with all bits from 31 to 25 selects these bits of a word, and its lower bits select the others
 mask_top : (word low : ℕ) → word < 2 ^ 32 → low < 2 ^ 25 → bit_and word (0b1111111 * 2 ^ 25 + low) ≡ word / 2 ^ 25 * 2 ^ 25 + bit_and (word % 2 ^ 25) low
 mask_top word low fits below =
     ap (λ n. bit_and n (0b1111111 * 2 ^ 25 + low)) (sym (div-add-mod' word (2 ^ 25)))
@@ -31,21 +31,21 @@ mask_top word low fits below =
     ∙ ap (λ n. n * 2 ^ 25 + bit_and (word % 2 ^ 25) low) (and_mask (word / 2 ^ 25) 7)
     ∙ omega arith
 
--- the bits of opcode, funct3 and funct7 of a word
+-- the mask FE00707F selects the bits of opcode, funct3 and funct7 of a word
 mask_r : (word : ℕ) → word < 2 ^ 32 → bit_and word 0xFE00707F ≡ word / 2 ^ 25 * 2 ^ 25 + (word % 2 ^ 7 + word / 2 ^ 12 % 2 ^ 3 * 2 ^ 12)
 mask_r word fits =
     mask_top word 0x0000707F fits (omega arith)
     ∙ ap (λ n. word / 2 ^ 25 * 2 ^ 25 + n) (mask_i (word % 2 ^ 25))
     ∙ omega arith
 
--- the bits that sfence.vma fixes
+-- the mask FE007FFF selects the bits that sfence.vma fixes
 mask_sfence_vma : (word : ℕ) → word < 2 ^ 32 → bit_and word 0xFE007FFF ≡ word / 2 ^ 25 * 2 ^ 25 + word % 2 ^ 15
 mask_sfence_vma word fits =
     mask_top word 0x00007FFF fits (omega arith)
     ∙ ap (λ n. word / 2 ^ 25 * 2 ^ 25 + n) (and_mask (word % 2 ^ 25) 15)
     ∙ omega arith
 
--- the mask of all bits
+-- the mask of all bits selects the whole word
 mask_word : (word : ℕ) → word < 2 ^ 32 → bit_and word 0xFFFFFFFF ≡ word
 mask_word word fits = and_mask word 32 ∙ omega arith
 
@@ -172,6 +172,6 @@ pub spelled_by_mask : (i : Instr) (word : ℕ) → word < 2 ^ 32 → and_by_bits
     → Encodes word (with_fields_of word i)
 spelled_by_mask i word fits masked = spelled_by_and i word fits (and_mask_is i word fits ∙ masked)
 
--- the word of an instruction has 32 bits, and its fixed bits are those of its row
+-- the word of an instruction has 32 bits, and the fixed bits of the row of the instruction
 pub masked_word_of : (i : Instr) → IsInstr i → word_of i < 2 ^ 32 → and_by_bits (word_of i) (row_of_instr i).mask ≡ (row_of_instr i).match
 masked_word_of i valid fits = sym (and_mask_is i (word_of i) fits) ∙ word_of_and i valid fits

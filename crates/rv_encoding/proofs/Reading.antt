@@ -12,39 +12,39 @@ use Rattle.rv_encoding.specs.declared.instr.Instr.TheVariants.{Csr, CsrImm, Ecal
 
 -- ---- the words of each opcode
 
--- the jalr of a word, if funct3 is 0
+-- `read_jalr` is the jalr of a word, if its funct3 is 0
 abbrev pub read_jalr : ℕ → Option Instr
 read_jalr word = if bits word 14 12 == 0 then Some (Jalr (taken rd_at word) (taken rs1_at word) (taken i_immediate_at word)) else None
 
--- the branch of a word, if funct3 has one
+-- `read_branch` is the branch of a word, if a branch has its funct3
 abbrev pub read_branch : ℕ → Option Instr
 read_branch word = option_map (λ kind. Branch kind (taken rs1_at word) (taken rs2_at word) (taken b_immediate_at word)) (branch_kind (bits word 14 12))
 
--- the load of a word, if funct3 has one
+-- `read_load` is the load of a word, if a load has its funct3
 abbrev pub read_load : ℕ → Option Instr
 read_load word = option_map (λ kind. Load kind (taken rd_at word) (taken rs1_at word) (taken i_immediate_at word)) (load_kind (bits word 14 12))
 
--- the store of a word, if funct3 has one
+-- `read_store` is the store of a word, if a store has its funct3
 abbrev pub read_store : ℕ → Option Instr
 read_store word = option_map (λ kind. Store kind (taken rs1_at word) (taken rs2_at word) (taken s_immediate_at word)) (store_kind (bits word 14 12))
 
--- the shift of a word, or else the instruction with a register and an immediate
+-- `read_op_imm` is the shift of a word, or else the instruction with a register and an immediate
 abbrev pub read_op_imm : ℕ → Option Instr
 read_op_imm word =
     option_or
     (option_map (λ kind. ShiftImm kind (taken rd_at word) (taken rs1_at word) (taken shamt_at word)) (shift_kind (bits word 14 12) (bits word 31 25)))
     (option_map (λ kind. OpImm kind (taken rd_at word) (taken rs1_at word) (taken i_immediate_at word)) (op_imm_kind (bits word 14 12)))
 
--- the instruction with two registers of a word, if funct3 and funct7 have one
+-- `read_op` is the instruction with two registers of a word, if an instruction has its funct3 and funct7
 abbrev pub read_op : ℕ → Option Instr
 read_op word = option_map (λ kind. Op kind (taken rd_at word) (taken rs1_at word) (taken rs2_at word)) (op_kind (bits word 14 12) (bits word 31 25))
 
--- the fence of a word, if funct3 is 0
+-- `read_fence` is the fence of a word, if its funct3 is 0
 abbrev pub read_fence : ℕ → Option Instr
 read_fence word =
     if bits word 14 12 == 0 then Some (Fence (taken fm_at word) (taken pred_at word) (taken succ_at word) (taken rd_at word) (taken rs1_at word)) else None
 
--- the words that are rows by themselves, and sfence.vma
+-- `read_whole` is the instruction of a word that is a row by itself, or sfence.vma
 abbrev pub read_whole : ℕ → Option Instr
 read_whole word =
     if word == 0x00000073 then Some Ecall
@@ -55,7 +55,7 @@ read_whole word =
     else if bits word 31 25 == 0b0001001 && bits word 14 7 == 0 then Some (SfenceVma (taken rs1_at word) (taken rs2_at word))
     else None
 
--- the instruction of a word with the opcode SYSTEM
+-- `read_system` is the instruction of a word with the opcode SYSTEM
 abbrev pub read_system : ℕ → Option Instr
 read_system word =
     option_or
@@ -66,7 +66,7 @@ read_system word =
 
 -- ---- every word
 
--- the instruction of a word, by its opcode
+-- `read` is the instruction of a word, which its opcode selects
 abbrev pub read : ℕ → Option Instr
 read word =
     let opcode = bits word 6 0 in

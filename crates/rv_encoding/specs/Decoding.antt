@@ -10,7 +10,7 @@ use Rattle.rv_encoding.specs.declared.instr.Instr.{Instr}
 use Rattle.rv_encoding.specs.declared.instr.Instr.TheVariants.{Lui, Auipc, Jal, Jalr, Branch, Load, Store, OpImm, ShiftImm, Op, Fence}
 use Rattle.rv_encoding.specs.declared.instr.Instr.TheVariants.{Csr, CsrImm, Ecall, Ebreak, Sret, Mret, Wfi, SfenceVma}
 
--- an instruction of each row with all fields 0, in the order of the listing
+-- `samples` has an instruction of each row with all fields 0, in the order of the listing
 abbrev pub samples : List Instr
 samples =
     Lui 0 0 ∷ Auipc 0 0 ∷ Jal 0 0 ∷ Jalr 0 0 0
@@ -26,7 +26,7 @@ samples =
     ++ map (λ kind. Op kind 0 0 0) rv32m_op_kinds
     ++ Sret ∷ Mret ∷ Wfi ∷ SfenceVma 0 0 ∷ []
 
--- the instruction of the same row with the fields of a word
+-- `with_fields_of` is the instruction of the same row with the fields of a word
 abbrev pub with_fields_of : ℕ → Instr → Instr
 with_fields_of word (Lui rd imm) = Lui (taken rd_at word) (taken u_immediate_at word)
 with_fields_of word (Auipc rd imm) = Auipc (taken rd_at word) (taken u_immediate_at word)
@@ -48,6 +48,7 @@ with_fields_of word Mret = Mret
 with_fields_of word Wfi = Wfi
 with_fields_of word (SfenceVma rs1 rs2) = SfenceVma (taken rs1_at word) (taken rs2_at word)
 
--- the instruction of the first row whose match equals the word under the row's mask, with the fields of the word; no word matches two rows
+-- `decoded` is the instruction of the first row whose match equals the word under the row's mask, with the fields of the word; no word matches two
+-- rows
 unfoldable pub decoded : ℕ → Option Instr
 decoded word = option_map (with_fields_of word) (find (λ sample. and_by_bits word (row_of_instr sample).mask == (row_of_instr sample).match) samples)

@@ -8,17 +8,17 @@ use Rattle.rv_encoding.specs.declared.instr.Instr.{Instr}
 use Rattle.rv_encoding.specs.declared.instr.Instr.TheVariants.{Lui, Auipc, Jal, Jalr, Branch, Load, Store, OpImm, ShiftImm, Op, Fence}
 use Rattle.rv_encoding.specs.declared.instr.Instr.TheVariants.{Csr, CsrImm, Ecall, Ebreak, Sret, Mret, Wfi, SfenceVma}
 
--- a row of the listing: the mnemonic, the mask of the fixed bits, and the value of these bits
+-- a row of the listing has the mnemonic, the mask of the fixed bits, and the value of these bits
 pub record Listed : Type 0 where
   pub name : List ℕ
   pub mask : ℕ
   pub match : ℕ
 
--- the row with this mnemonic, mask and value
+-- `listed` is the row with this mnemonic, mask and value
 abbrev pub listed : List ℕ → ℕ → ℕ → Listed
 listed name mask match = record { name = name; mask = mask; match = match }
 
--- the listing of RV32IM with Zicsr and the privileged instructions, row by row
+-- `listing` is the listing of RV32IM with Zicsr and the privileged instructions, row by row
 unfoldable pub listing : List Listed
 listing =
     -- RV32I
@@ -85,7 +85,7 @@ listing =
     ∷ listed (codes "sfence.vma") 0xFE007FFF 0x12000073
     ∷ []
 
--- the name of an instruction
+-- `name_of` is the name of an instruction
 abbrev pub name_of : Instr → List ℕ
 name_of (Lui rd imm) = codes "lui"
 name_of (Auipc rd imm) = codes "auipc"
@@ -107,7 +107,7 @@ name_of Mret = codes "mret"
 name_of Wfi = codes "wfi"
 name_of (SfenceVma rs1 rs2) = codes "sfence.vma"
 
--- the line of the listing for an instruction
+-- `listed_of` is the line of the listing for an instruction
 abbrev pub listed_of : Instr → Listed
 listed_of instr = listed (name_of instr) (row_of_instr instr).mask (row_of_instr instr).match
 

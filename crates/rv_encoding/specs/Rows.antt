@@ -19,17 +19,17 @@ pub record InstrRow : Type 0 where
   pub match : ℕ
   pub fields : List (Places × ℕ)
 
--- the fields, each at its positions
+-- `fields_at` has the fields, each at its positions
 abbrev pub fields_at : List (Places × ℕ) → ℕ
 fields_at fields = sum_by (λ (field : Places × ℕ). placed field.0 field.1) fields
 
 -- ---- formats: opcode in bits 6:0, funct3 in bits 14:12, funct7 in bits 31:25, funct12 in bits 31:20
 
--- a row whose opcode alone is fixed
+-- `opcode_row` is a row whose opcode alone is fixed
 abbrev pub opcode_row : ℕ → List (Places × ℕ) → InstrRow
 opcode_row opcode fields = record { mask = 0x0000007F; match = opcode; fields = fields }
 
--- a row whose opcode and funct3 are fixed
+-- `funct3_row` is a row whose opcode and funct3 are fixed
 abbrev pub funct3_row : ℕ → ℕ → List (Places × ℕ) → InstrRow
 funct3_row opcode funct3 fields = record { mask = 0x0000707F; match = opcode + funct3 * 2 ^ 12; fields = fields }
 
@@ -48,7 +48,7 @@ funct12_row opcode funct12 = record { mask = 0xFFFFFFFF; match = opcode + funct1
 
 -- ---- the rows, by groups with the same fields
 
--- the row of each instruction: its fixed bits, and its fields with their places
+-- `row_of_instr` is the row of each instruction: its fixed bits, and its fields with their places
 abbrev pub row_of_instr : Instr → InstrRow
 row_of_instr (Lui rd imm) = opcode_row lui_opcode ((rd_at, rd) ∷ (u_immediate_at, imm) ∷ [])
 row_of_instr (Auipc rd imm) = opcode_row auipc_opcode ((rd_at, rd) ∷ (u_immediate_at, imm) ∷ [])
@@ -82,7 +82,7 @@ row_of_instr (SfenceVma rs1 rs2) = funct7_row_without_rd system_opcode (functs 0
 
 -- ---- encoding
 
--- the word of an instruction: the match of its row, with each field at its positions
+-- `word_of` is the word of an instruction: the match of its row, with each field at its positions
 unfoldable pub word_of : Instr → ℕ
 word_of instr = (row_of_instr instr).match + fields_at (row_of_instr instr).fields
 

@@ -39,7 +39,7 @@ use Rattle.rv_state.proofs.BelowMLemmas.{read_same, visible_csrs, write_same}
 
 -- ---- an instruction
 
--- the result of an instruction without the registers of mode M
+-- `seen` is the result of an instruction without the registers of mode M
 abbrev seen : Result Hart Trap → Result Hart Trap
 seen (Ok hart) = Ok (below_m_hart hart)
 seen (Err trap) = Err trap
@@ -50,7 +50,7 @@ pick true x y t same = ap (λ (h : Hart). let r : Result Hart Trap = Ok h in r) 
 pick false x y t same = refl
 
 module _ (hart : Hart) (below : is_machine hart.mode ≡ false) where
-  -- the hart without the registers of mode M
+  -- `g` is the hart without the registers of mode M
   abbrev g : Hart
   g = below_m_hart hart
 
@@ -88,7 +88,7 @@ module _ (hart : Hart) (below : is_machine hart.mode ≡ false) where
     new_if true written = write_same hart.csrs csr written hart.mode
     new_if false written = refl
 
-    -- the hart after a CSR instruction is the same below M, by the result of the write
+    -- the hart after a CSR instruction is equal below mode M, where m and n are the results of the write in the two machines
     by_new : (old : ℕ) (m n : Result CsrState CsrFault) → visible_csrs m ≡ visible_csrs n
         → seen (unless_illegal word (unless_fault m (λ csrs. Ok (with_result (record g { csrs = csrs }) rd old))))
         ≡ seen (unless_illegal word (unless_fault n (λ csrs. Ok (with_result (record hart { csrs = csrs }) rd old))))
@@ -99,7 +99,7 @@ module _ (hart : Hart) (below : is_machine hart.mode ≡ false) where
     by_new old (Ok a) (Err h) same = cc
     by_new old (Err f) (Ok b) same = cc
 
-    -- the hart after a CSR instruction is the same below M, by the result of the read
+    -- the hart after a CSR instruction is equal below mode M, where `o` is the result of the read
     by_old : (o : Result ℕ CsrFault)
         → seen (unless_illegal word (unless_fault o (λ old. unless_fault (new_csrs g kind source (changed_word kind old operand) csr)
         (λ csrs. Ok (with_result (record g { csrs = csrs }) rd old)))))
@@ -147,7 +147,7 @@ module _ (hart : Hart) (below : is_machine hart.mode ≡ false) where
 
 -- ---- the step
 
--- the registers c with the parts of mode M from d
+-- `mparts` has the registers c with the parts of mode M from d
 abbrev mparts : CsrState → CsrState → CsrState
 mparts c d = record c {
   mstatus = record c.mstatus { mpie = d.mstatus.mpie; mpp = d.mstatus.mpp };
@@ -164,7 +164,7 @@ mparts c d = record c {
   minstret = d.minstret;
 }
 
--- the hart with the parts of mode M from d
+-- `with_mparts` is the hart with the parts of mode M from d
 abbrev with_mparts : Hart → CsrState → Hart
 with_mparts hart d = record hart { csrs = mparts hart.csrs d }
 
@@ -191,7 +191,7 @@ by_end h1 h2 memory touched written (Ok a) (Err t) same = cc
 by_end h1 h2 memory touched written (Err s) (Ok b) same = cc
 
 module _ (state : Machine) (d : CsrState) (below : is_machine state.hart.mode ≡ false) (clear : state.hart.csrs.mstatus.mprv ≡ false) where
-  -- the machine with other registers of mode M
+  -- `there` is the machine with other registers of mode M
   abbrev there : Machine
   there = record state { hart = with_mparts state.hart d }
 
@@ -228,14 +228,14 @@ module _ (state : Machine) (d : CsrState) (below : is_machine state.hart.mode �
     abbrev Trapped : Touched → Trap → Type 0
     Trapped touched trap = SameBelowM (over state.memory (trap_end state.hart touched trap)) (step there)
 
-    -- a fetch that fails does so in both machines
+    -- a fetch that fails in one machine traps also in the machine `there`
     no_fetch : (r : Result ℕ AccessFault) → fetched there.memory there.hart.csrs.pmp there.hart.mode there.hart.pc ≡ r → None ≡ given r
         → pending there.hart.csrs there.hart.mode ≡ None → Trapped nothing (access_fault InstructionAccessFault state.hart.pc)
     unfolding step from_fetch
     no_fetch (Ok word) fetch_is none waits = cc
     no_fetch (Err fault) fetch_is none waits = rw (waits, fetch_is) (record { outcome = refl; memory = refl; hart = λ none. cc })
 
-    -- a load that fails does so in both machines
+    -- a load that fails in one machine traps also in the machine `there`
     no_load : (word : ℕ) (instr : Instr) (address : ℕ) (width : Width) (r : Result ℕ AccessFault)
         → loaded there.memory there.hart.csrs.pmp (data_mode there.hart) address width ≡ r → None ≡ given r
         → step there ≡ from_access there.hart there.memory word instr (requests.Load address width)
@@ -245,7 +245,7 @@ module _ (state : Machine) (d : CsrState) (below : is_machine state.hart.mode �
     no_load word instr address width (Err fault) load_is none other =
         let ended = rw load_is at other in rw ended (record { outcome = refl; memory = refl; hart = λ none. cc })
 
-    -- a store that fails does so in both machines
+    -- a store that fails in one machine traps also in the machine `there`
     no_store : (word : ℕ) (instr : Instr) (address : ℕ) (width : Width) (value : ℕ) (r : Result (List ℕ) AccessFault)
         → stored there.memory there.hart.csrs.pmp (data_mode there.hart) address width value ≡ r → None ≡ given r
         → step there ≡ from_access there.hart there.memory word instr (requests.Store address width value)
@@ -288,7 +288,7 @@ module _ (state : Machine) (d : CsrState) (below : is_machine state.hart.mode �
           (requested_step there word instr (requests.Store address width value) (requests_too word instr (requests.Store address width value) here));
     })
 
--- two harts that are equal below mode M differ only in these parts
+-- below mode M, a step depends on no register of mode M, and on the PMP entries only by what they permit
 pub depends_below_m : (machine : Machine) → DependsBelowM machine (step machine)
 depends_below_m one other below clear same memory access =
     let put : Hart → Machine = λ hart. record { hart = hart; memory = one.memory } in
@@ -306,7 +306,7 @@ pub record SameToGuests (one other : Stepped) : Type 0 where
   pub memory : one.state.memory ≡ other.state.memory
   pub hart : guest_hart one.state.hart ≡ guest_hart other.state.hart
 
--- the machine whose hart is in the guest view
+-- `guest_machine` is the machine with its hart in the guest view
 abbrev pub guest_machine : Machine → Machine
 guest_machine machine = record machine { hart = guest_hart machine.hart }
 

@@ -19,7 +19,7 @@ use Rattle.rv_hart.specs.declared.request.Request.TheVariants.{Nothing, Load, St
 use Rattle.rv_hart.specs.declared.trap.Trap.{Trap}
 use Rattle.rv_hart.proofs.StepCases.{Fetches, Decodes, Requests, Loads, Stores, requested_step, step_ways}
 
--- the machine with the same hart over another memory
+-- `with_memory` is the machine with an equal hart over another memory
 abbrev with_memory : Machine → List ℕ → Machine
 with_memory state memory = record state { memory = memory }
 
@@ -63,7 +63,7 @@ none-stored : (hart : Hart) (touched : Touched) (written : Option ℕ) (finish :
     → (retired_or_trapped hart touched written finish).outcome.touched.stored ≡ None
 none-stored hart touched written finish none = ap (λ (t : Touched). t.stored) (touched-ended hart touched written finish) ∙ none
 
--- both memories are changed by a store
+-- a store changes both memories alike
 stored-alike : (state : Machine) (n : List ℕ) (word : ℕ) (instr : Instr) (address : ℕ) (width : Width) (value : ℕ) (memory : List ℕ)
     → length state.memory ≡ length n → Stores state address width value (Ok memory)
     → step (with_memory state n)

@@ -1,5 +1,5 @@
--- Case analysis over the instructions that end in no exception: a property that holds of each way to change the hart holds after every such
--- instruction.
+-- This file is the case analysis over the instructions that end in no exception: a property that holds of each way to change the hart holds after
+-- every such instruction.
 use Rattle.std.proofs.Common.{◌≡◌, ℕ, Bool, true, false, List, Result, Ok, Err, refl, subst}
 use Rattle.std.specs.Prelude.{IfOk, ◌==◌, ◌%◌, if◌then◌else◌}
 use Rattle.rv_word.specs.BitFields.{sign_extended}
@@ -23,7 +23,7 @@ use Rattle.rv_hart.specs.Instructions.{returned_from_supervisor, address_of, mad
 use Rattle.rv_hart.specs.declared.request.Request.TheVariants as requests
 use Rattle.rv_hart.specs.declared.trap.Trap.{Trap}
 
--- the ways in which an instruction changes the hart
+-- the claim P holds after each way in which an instruction changes the hart
 pub record Changes (hart : Hart) (P : Hart → Type 0) : Type 0 where
   -- the instruction computes or jumps
   pub computes : (regs : List ℕ) (pc : ℕ) → P (record hart { regs = regs; pc = pc })
@@ -34,33 +34,33 @@ pub record Changes (hart : Hart) (P : Hart → Type 0) : Type 0 where
   pub mret : is_machine hart.mode ≡ true → P (returned_from_machine hart)
   pub sret : P (returned_from_supervisor hart)
 
--- the claim after a jump
+-- the claim P holds of the hart after a jump
 jumped-by : (hart : Hart) (P : Hart → Type 0) → Changes hart P → (rd target : ℕ) → IfOk (jumped hart rd target) P
 jumped-by hart P changes rd target =
     elim (target % 4 == 0) as
     (λ b. IfOk (if b then Ok (record hart { regs = with_register hart.regs rd (sum_of hart.pc 4); pc = target }) else Err (misaligned target)) P)
     [ true ↦ changes.computes _ _ | false ↦ tt ]
 
--- the claim after a branch, taken or not
+-- the claim P holds of the hart after a branch, taken or not
 branched-by : (hart : Hart) (P : Hart → Type 0) → Changes hart P → (taken : Bool) (target : ℕ) → IfOk (branched hart taken target) P
 branched-by hart P changes false target = changes.computes _ _
 branched-by hart P changes true target =
     elim (target % 4 == 0) as (λ b. IfOk (if b then Ok (record hart { pc = target }) else Err (misaligned target)) P)
     [ true ↦ changes.computes _ _ | false ↦ tt ]
 
--- the claim after an instruction that needs a permission
+-- the claim P holds after an instruction that needs a permission, if it holds when the permission is given
 allowed-by : (P : Hart → Type 0) (allowed : Bool) (word : ℕ) (after : Hart) → (allowed ≡ true → P after) → IfOk (where_allowed allowed word after) P
 allowed-by P true word after holds = holds refl
 allowed-by P false word after holds = tt
 
--- the claim after a write of a CSR that succeeds
+-- the claim P holds after a write of a CSR that succeeds
 written-by : (hart : Hart) (P : Hart → Type 0) → Changes hart P → (rd old word csr new : ℕ) (r : Result CsrState CsrFault)
     → write_result hart.csrs csr new hart.mode ≡ r
     → IfOk (unless_illegal word (unless_fault r (λ csrs. Ok (with_result (record hart { csrs = csrs }) rd old)))) P
 written-by hart P changes rd old word csr new (Ok csrs) write_is = changes.writes csr new csrs _ _ write_is
 written-by hart P changes rd old word csr new (Err fault) write_is = tt
 
--- the claim after a CSR instruction
+-- the claim P holds of the hart after a CSR instruction
 changed-by : (hart : Hart) (P : Hart → Type 0) → Changes hart P → (kind : CsrKind) (rd source operand csr word : ℕ)
     → IfOk (unless_illegal word (csr_changed hart kind rd source operand csr)) P
 unfolding csr_changed
@@ -78,7 +78,7 @@ changed-by hart P changes kind rd source operand csr word =
       | Err fault ↦ tt
     ]
 
--- the claim after each instruction
+-- the claim P holds of the hart after each instruction that does not trap
 executed-by : (hart : Hart) (P : Hart → Type 0) → Changes hart P → (instr : Instr) (word loaded : ℕ) → IfOk (executed hart word loaded instr) P
 unfolding executed
 executed-by hart P changes (Lui rd imm) word loaded = changes.computes _ _

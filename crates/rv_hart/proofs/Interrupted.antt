@@ -24,17 +24,17 @@ use Rattle.rv_hart.specs.StepLaws.{TakesPending}
 use Rattle.rv_hart.specs.declared.trap.Trap.{Trap}
 use Rattle.rv_hart.proofs.StepCases.{step_ways}
 
--- whether a cause is an exception
+-- a cause is an exception, and not an interrupt
 abbrev is_exception : Cause → Bool
 is_exception (causes.Exception exception) = true
 is_exception (causes.Interrupt interrupt) = false
 
--- it ends in no trap, or in an exception
+-- the result of an instruction is a hart, or a trap by an exception
 abbrev is_plain : Result Hart Trap → Bool
 is_plain (Ok hart) = true
 is_plain (Err trap) = is_exception trap.cause
 
--- a result by a test is no interrupt, if its trap is none
+-- a result that a test selects is no interrupt if its trap is an exception
 pick : (b : Bool) (x : Hart) (t : Trap) → is_exception t.cause ≡ true → is_plain (if b then Ok x else Err t) ≡ true
 pick true x t exception = refl
 pick false x t exception = exception
@@ -89,7 +89,7 @@ unfolding retired_or_trapped
 ended state memory touched written (Ok after) plain trap interrupt same by = cc
 ended state memory touched written (Err here) plain trap interrupt same by = not_by _ here trap interrupt plain same by
 
--- the interrupt of the trap is the pending one
+-- the interrupt of the trap is the pending one, where `by` states that the trap has this interrupt as its cause
 waited : (P : Option Interrupt) (i interrupt : Interrupt) (trap : Trap) (here : Trap) → here.cause ≡ causes.Interrupt i → Some here ≡ Some trap
     → trap.cause ≡ causes.Interrupt interrupt → P ≡ Some i → P ≡ Some interrupt
 waited P i interrupt trap here cause_is same by waits =

@@ -1,4 +1,4 @@
--- Case analysis over a step: a property that holds of each way in which a step can go holds of every step.
+-- This file is the case analysis over a step: a property that holds of each way in which a step can go holds of every step.
 use Rattle.std.proofs.Common.{◌≡◌, ℕ, List, Option, Some, None, Result, Ok, Err, refl, ◌∙◌, sym}
 use Rattle.rv_word.specs.Cases.{option_case, result_case}
 use Rattle.rv_word.specs.declared.width.Width.{Width}
@@ -50,7 +50,7 @@ Loads state address width given = loaded state.memory state.hart.csrs.pmp (data_
 abbrev pub Stores : Machine → ℕ → Width → ℕ → Result (List ℕ) AccessFault → Type 0
 Stores state address width value given = stored state.memory state.hart.csrs.pmp (data_mode state.hart) address width value ≡ given
 
--- the ways of a step
+-- the claim P holds after each way in which a step can go
 pub record StepWays (state : Machine) (P : Stepped → Type 0) : Type 0 where
   pub interrupt : (interrupt : Interrupt) → pending state.hart.csrs state.hart.mode ≡ Some interrupt
       → P (over state.memory (trap_end state.hart nothing (interrupted interrupt)))
@@ -69,7 +69,7 @@ pub record StepWays (state : Machine) (P : Stepped → Type 0) : Type 0 where
       → Requests state word instr (Store address width value)
       → Stores state address width value (Err fault) → P (over state.memory (trap_end state.hart (fetch_of state.hart) (access_fault StoreAccessFault address)))
 
--- the claim by the result of a load
+-- the claim P holds after a load, whatever its result is
 by-load : (state : Machine) (P : Stepped → Type 0) → StepWays state P → (word : ℕ) (instr : Instr) (address : ℕ) (width : Width)
     → Requests state word instr (Load address width) → (r : Result ℕ AccessFault) → Loads state address width r
     → P (result_case r (λ number. over state.memory (from_execute state.hart (load_of state.hart address width) word instr number))
@@ -77,7 +77,7 @@ by-load : (state : Machine) (P : Stepped → Type 0) → StepWays state P → (w
 by-load state P ways word instr address width here (Ok number) loads = ways.load word instr address width number here loads
 by-load state P ways word instr address width here (Err fault) loads = ways.load_refused word instr address width fault here loads
 
--- the claim by the result of a store
+-- the claim P holds after a store, whatever its result is
 by-store : (state : Machine) (P : Stepped → Type 0) → StepWays state P → (word : ℕ) (instr : Instr) (address : ℕ) (width : Width) (value : ℕ)
     → Requests state word instr (Store address width value) → (r : Result (List ℕ) AccessFault) → Stores state address width value r
     → P (result_case r (λ after. over after (from_execute state.hart (store_of state.hart address width) word instr 0))
@@ -85,7 +85,7 @@ by-store : (state : Machine) (P : Stepped → Type 0) → StepWays state P → (
 by-store state P ways word instr address width value here (Ok memory) stores = ways.store word instr address width value memory here stores
 by-store state P ways word instr address width value here (Err fault) stores = ways.store_refused word instr address width value fault here stores
 
--- the claim by the requested access
+-- the claim P holds after an instruction, whatever access it requests
 by-request : (state : Machine) (P : Stepped → Type 0) → StepWays state P → (word : ℕ) (instr : Instr) (access : Request) → Requests state word instr access
     → P (from_access state.hart state.memory word instr access)
 unfolding from_access
@@ -93,7 +93,7 @@ by-request state P ways word instr Nothing here = ways.no_access word instr here
 by-request state P ways word instr (Load address width) here = by-load state P ways word instr address width here _ refl
 by-request state P ways word instr (Store address width value) here = by-store state P ways word instr address width value here _ refl
 
--- the claim by the decoded instruction
+-- the claim P holds of the step after a fetched word, whatever instruction (o) it encodes, if any
 by-decode : (state : Machine) (P : Stepped → Type 0) → StepWays state P → (word : ℕ) → Fetches state (Ok word) → (o : Option Instr) → decoded word ≡ o
     → P (option_case o (over state.memory (trap_end state.hart (fetch_of state.hart) (illegal word)))
     (λ instr. from_access state.hart state.memory word instr (request instr state.hart)))
@@ -101,7 +101,7 @@ by-decode state P ways word here None decoded_is = ways.illegal word (record { f
 by-decode state P ways word here (Some instr) decoded_is =
     by-request state P ways word instr _ (record { decode = record { fetch = here; decoded = decoded_is }; request = refl })
 
--- the claim by the result of the fetch
+-- the claim P holds after a fetch, whatever its result is
 by-fetch : (state : Machine) (P : Stepped → Type 0) → StepWays state P → (r : Result ℕ AccessFault) → Fetches state r
     → P (result_case r (from_decode state.hart state.memory)
     (λ _. over state.memory (trap_end state.hart nothing (access_fault InstructionAccessFault state.hart.pc))))
@@ -122,7 +122,7 @@ pub step_ways : (state : Machine) (P : Stepped → Type 0) → StepWays state P 
 unfolding step
 step_ways state P ways = by-interrupt state P ways _ refl
 
--- the step of an instruction that requests an access
+-- the step of an instruction that requests an access is the step of this access
 pub requested_step : (state : Machine) (word : ℕ) (instr : Instr) (access : Request) → Requests state word instr access
     → step state ≡ from_access state.hart state.memory word instr access
 unfolding step from_fetch from_decode

@@ -1,4 +1,4 @@
--- Examples: single steps with their results.
+-- This file has examples: single steps with their results.
 use Rattle.std.proofs.Common.{◌≡◌, ℕ, List, [], ◌∷◌, Some, None, refl}
 use Rattle.std.specs.Prelude.{replicate}
 use Rattle.rv_encoding.specs.Decoding.{decoded}
@@ -18,11 +18,11 @@ use Rattle.rv_state.specs.Mstatus.{mstatus_at_reset}
 use Rattle.rv_pmp.specs.declared.mode.Mode.TheVariants.{M}
 use Rattle.rv_hart.specs.Exceptions.{misaligned, illegal}
 
--- a machine with these bytes as its memory
+-- `over_bytes` is a machine with these bytes as its memory
 abbrev over_bytes : List ℕ → Hart → Machine
 over_bytes memory hart = record { hart = hart; memory = memory }
 
--- the hart at reset in mode M, at the base of RAM
+-- `reset` is the hart at reset in mode M, at the base of RAM
 abbrev reset : Hart
 reset = at_reset ram_base M
 
@@ -35,7 +35,7 @@ trapped_once cause tval = record {
   mode = M;
 }
 
--- addi x1, x0, -1
+-- a step executes addi x1, x0, -1
 step-addi : step (over_bytes (0x93 ∷ 0x00 ∷ 0xf0 ∷ 0xff ∷ []) reset) ≡ record {
   state = over_bytes (0x93 ∷ 0x00 ∷ 0xf0 ∷ 0xff ∷ []) (record {
     regs = 0 ∷ 0xffffffff ∷ replicate 30 0;
@@ -48,7 +48,7 @@ step-addi : step (over_bytes (0x93 ∷ 0x00 ∷ 0xf0 ∷ 0xff ∷ []) reset) ≡
 unfolding step from_fetch from_decode from_access request executed retired_or_trapped written_csr decoded by_bits read verdict matching_entry covers
 step-addi = refl
 
--- csrrw x0, mepc, x0, which does not read mepc
+-- a step executes csrrw x0, mepc, x0, which does not read mepc
 step-csrrw : step (over_bytes (0x73 ∷ 0x10 ∷ 0x10 ∷ 0x34 ∷ []) reset) ≡ record {
   state = over_bytes (0x73 ∷ 0x10 ∷ 0x10 ∷ 0x34 ∷ []) (record reset { csrs = record csrs_at_reset { mcycle = 1; minstret = 1 }; pc = 0x80000004 });
   outcome = record { trap = None; touched = fetch_of reset };

@@ -1,4 +1,4 @@
--- The theorems about a step, each proved by the cases of a step.
+-- This file proves the theorems about a step, each proved by the cases of a step.
 use Rattle.std.proofs.Common.{◌≡◌, Bool, true, false, refl, sym, subst, ◌∙◌}
 use Rattle.std.specs.Prelude.{◌&&◌}
 use Rattle.std.proofs.lemmas.Bool.{false≢true}

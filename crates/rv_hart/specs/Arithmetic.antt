@@ -22,19 +22,19 @@ use Rattle.rv_encoding.specs.declared.kind.ShiftKind.TheVariants.{Slli, Srli, Sr
 use Rattle.rv_encoding.specs.declared.kind.StoreKind.{StoreKind}
 use Rattle.rv_encoding.specs.declared.kind.StoreKind.TheVariants.{Sb, Sh, Sw}
 
--- the sum of two words, modulo 2 ^ 32
+-- `sum_of` is the sum of two words, modulo 2 ^ 32
 abbrev pub sum_of : ℕ → ℕ → ℕ
 sum_of left right = (left + right) % 2 ^ 32
 
--- the difference of two words, modulo 2 ^ 32
+-- `difference_of` is the difference of two words, modulo 2 ^ 32
 abbrev pub difference_of : ℕ → ℕ → ℕ
 difference_of left right = low_word (pos left -ℤ pos right)
 
--- whether the left word is less than the right one, both as signed numbers
+-- `is_less` states whether the left word is less than the right one, both as signed numbers
 abbrev pub is_less : ℕ → ℕ → Bool
 is_less left right = int_lt (signed left) (signed right)
 
--- whether the left word is less than the right one, both as unsigned numbers
+-- `is_less_unsigned` states whether the left word is less than the right one, both as unsigned numbers
 abbrev pub is_less_unsigned : ℕ → ℕ → Bool
 is_less_unsigned left right = nat_lt left right
 
@@ -68,13 +68,13 @@ op_imm_value Xori rs1 imm = xor_by_bits rs1 imm
 op_imm_value Ori rs1 imm = or_by_bits rs1 imm
 op_imm_value Andi rs1 imm = and_by_bits rs1 imm
 
--- the result of a shift of a register by 0 to 31 bits
+-- `shift_value` is the result of a shift of a register by 0 to 31 bits
 abbrev pub shift_value : ShiftKind → ℕ → ℕ → ℕ
 shift_value Slli rs1 shamt = shifted_left rs1 shamt
 shift_value Srli rs1 shamt = shifted_right rs1 shamt
 shift_value Srai rs1 shamt = shifted_right_signed rs1 shamt
 
--- the condition of a branch on two registers
+-- a branch on two registers is taken if its condition holds
 abbrev pub is_taken : BranchKind → ℕ → ℕ → Bool
 is_taken Beq rs1 rs2 = rs1 == rs2
 is_taken Bne rs1 rs2 = not (rs1 == rs2)
@@ -83,7 +83,7 @@ is_taken Bge rs1 rs2 = not (is_less rs1 rs2)
 is_taken Bltu rs1 rs2 = is_less_unsigned rs1 rs2
 is_taken Bgeu rs1 rs2 = not (is_less_unsigned rs1 rs2)
 
--- the width of a load, and its result from the number that it reads
+-- `load_width` is the width of a load
 abbrev pub load_width : LoadKind → Width
 load_width Lb = Byte
 load_width Lh = Half
@@ -91,7 +91,7 @@ load_width Lw = Word
 load_width Lbu = Byte
 load_width Lhu = Half
 
--- the word that a load puts into rd: the loaded number, with its sign extended or not
+-- `load_value` is the word that a load puts into rd: the loaded number, with its sign extended or not
 abbrev pub load_value : LoadKind → ℕ → ℕ
 load_value Lb number = sign_extended number 8
 load_value Lh number = sign_extended number 16
@@ -99,7 +99,7 @@ load_value Lw number = number
 load_value Lbu number = number
 load_value Lhu number = number
 
--- the width of a store
+-- `store_width` is the width of a store
 abbrev pub store_width : StoreKind → Width
 store_width Sb = Byte
 store_width Sh = Half

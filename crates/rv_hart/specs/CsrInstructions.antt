@@ -13,7 +13,7 @@ use Rattle.rv_state.specs.declared.csr_fault.CsrFault.{CsrFault}
 use Rattle.rv_hart.specs.Hart.{with_result}
 use Rattle.rv_hart.specs.HartRecord.{Hart}
 
--- whether the register is read: csrrw and csrrwi do not read it if rd is x0
+-- `is_read` states whether the register is read: csrrw and csrrwi do not read it if rd is x0
 abbrev pub is_read : CsrKind → ℕ → Bool
 is_read kinds.Write rd = not (rd == 0)
 is_read kinds.Set rd = true
@@ -26,17 +26,17 @@ is_written kinds.Write source = true
 is_written kinds.Set source = not (source == 0)
 is_written kinds.Clear source = not (source == 0)
 
--- the written word, from the old word and the operand
+-- `changed_word` is the written word, from the old word and the operand
 abbrev pub changed_word : CsrKind → ℕ → ℕ → ℕ
 changed_word kinds.Write old operand = operand
 changed_word kinds.Set old operand = or_by_bits old operand
 changed_word kinds.Clear old operand = and_not_by_bits old operand
 
--- the word that rd gets, which is 0 if nothing is read (rd is then x0), and the registers after the write
+-- `old_word` is the word that rd gets, which is 0 if nothing is read (rd is then x0)
 abbrev pub old_word : Hart → CsrKind → ℕ → ℕ → Result ℕ CsrFault
 old_word hart kind rd csr = if is_read kind rd then read_result hart.csrs csr hart.mode else Ok 0
 
--- the registers after the instruction: unchanged if it does not write, or else after the write or with its fault
+-- `new_csrs` has the registers after the instruction: unchanged if it does not write, or else after the write or with its fault
 abbrev pub new_csrs : Hart → CsrKind → ℕ → ℕ → ℕ → Result CsrState CsrFault
 new_csrs hart kind source word csr = if is_written kind source then write_result hart.csrs csr word hart.mode else Ok hart.csrs
 
@@ -44,14 +44,14 @@ new_csrs hart kind source word csr = if is_written kind source then write_result
 abbrev pub unless_fault : {A B : Type 0} → Result A CsrFault → (A → Result B CsrFault) → Result B CsrFault
 unless_fault access go = result_case access go Err
 
--- the hart after the change, with the old word in rd
+-- `csr_changed` is the hart after the change, with the old word in rd
 unfoldable pub csr_changed : Hart → CsrKind → ℕ → ℕ → ℕ → ℕ → Result Hart CsrFault
 csr_changed hart kind rd source operand csr =
     unless_fault (old_word hart kind rd csr) (λ old.
     unless_fault (new_csrs hart kind source (changed_word kind old operand) csr) (λ csrs.
     Ok (with_result (record hart { csrs = csrs }) rd old)))
 
--- the number of the control and status register that an instruction writes if it retires
+-- `written_csr` is the number of the control and status register that an instruction writes if it retires
 unfoldable pub written_csr : Instr → Option ℕ
 written_csr (Csr kind rd rs1 csr) = if is_written kind rs1 then Some csr else None
 written_csr (CsrImm kind rd uimm csr) = if is_written kind uimm then Some csr else None

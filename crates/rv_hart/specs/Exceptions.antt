@@ -10,11 +10,11 @@ use Rattle.rv_state.specs.declared.cause.Exception.TheVariants.{EnvironmentCallF
 use Rattle.rv_state.specs.declared.cause.Interrupt.{Interrupt}
 use Rattle.rv_hart.specs.declared.trap.Trap.{Trap}
 
--- the trap of an exception, with the value for mtval
+-- `exception` is the trap of an exception, with the value for mtval
 abbrev pub exception : Exception → ℕ → Trap
 exception cause tval = record { cause = by_exception cause; tval = tval }
 
--- the exception of a jump or taken branch to an address that is no multiple of 4
+-- `misaligned` is the exception of a jump or taken branch to an address that is no multiple of 4
 abbrev pub misaligned : ℕ → Trap
 misaligned target = exception InstructionAddressMisaligned target
 
@@ -22,7 +22,7 @@ misaligned target = exception InstructionAddressMisaligned target
 abbrev pub access_fault : Exception → ℕ → Trap
 access_fault cause address = exception cause address
 
--- the exception of a word that encodes no instruction of the machine, or one that is not allowed in the current state
+-- `illegal` is the exception of a word that encodes no instruction of the machine, or one that is not allowed in the current state
 abbrev pub illegal : ℕ → Trap
 illegal word = exception IllegalInstruction word
 
@@ -30,13 +30,13 @@ illegal word = exception IllegalInstruction word
 abbrev pub breakpoint : ℕ → Trap
 breakpoint pc = exception Breakpoint pc
 
--- the exception of ecall, by the mode that executes it; its value is 0
+-- an ecall has the exception of the mode that executes it
 abbrev pub call_cause : Mode → Exception
 call_cause U = EnvironmentCallFromU
 call_cause S = EnvironmentCallFromS
 call_cause M = EnvironmentCallFromM
 
--- the trap of an ecall in a mode, with 0 for mtval
+-- `environment_call` is the trap of an ecall in a mode, with 0 for mtval
 abbrev pub environment_call : Mode → Trap
 environment_call mode = exception (call_cause mode) 0
 

@@ -10,20 +10,20 @@ use Rattle.rv_hart.specs.HartRecord.{Hart}
 use Rattle.rv_hart.specs.Machine.{Machine, Stepped}
 use Rattle.rv_hart.specs.Step.{data_mode, step}
 
--- the hart with the counters, mepc, mcause, mtval, MPIE and MPP set to 0
+-- `guest_hart` is the hart with the counters, mepc, mcause, mtval, MPIE and MPP set to 0
 abbrev pub guest_hart : Hart → Hart
 guest_hart hart = record hart { csrs = guest_csrs hart.csrs }
 
--- the hart with every register of mode M and the PMP entries set to 0
+-- `below_m_hart` is the hart with every register of mode M and the PMP entries set to 0
 abbrev pub below_m_hart : Hart → Hart
 below_m_hart hart = record hart { csrs = below_m_csrs hart.csrs }
 
--- the value of an access that is permitted
+-- `given` is the value of an access that is permitted
 abbrev pub given : {A : Type 0} → Result A AccessFault → Option A
 given (Ok value) = Some value
 given (Err fault) = None
 
--- the same interrupt is pending, and the PMP entries permit the same accesses, with the same values
+-- in both machines, the same interrupt is pending, and the PMP entries permit the same accesses with the same values
 pub record SameAccess (one other : Machine) : Type 0 where
   pub pending : pending one.hart.csrs one.hart.mode ≡ pending other.hart.csrs other.hart.mode
   pub fetched : given (fetched one.memory one.hart.csrs.pmp one.hart.mode one.hart.pc)

@@ -17,11 +17,11 @@ use Rattle.rv_hart.specs.declared.trap.Trap.{Trap}
 abbrev pub at_reset : ℕ → Mode → Hart
 at_reset entry mode = record { regs = replicate 32 0; csrs = csrs_at_reset; pc = entry; mode = mode }
 
--- the hart with pc at the next instruction
+-- `advanced` is the hart with pc at the next instruction
 abbrev pub advanced : Hart → Hart
 advanced hart = record hart { pc = sum_of hart.pc 4 }
 
--- the hart with a register written and pc at the next instruction
+-- `with_result` is the hart with a register written and pc at the next instruction
 abbrev pub with_result : Hart → ℕ → ℕ → Hart
 with_result hart rd value = record hart { regs = with_register hart.regs rd value; pc = sum_of hart.pc 4 }
 
@@ -31,13 +31,13 @@ jumped hart rd target =
     if target % 4 == 0 then Ok (record hart { regs = with_register hart.regs rd (sum_of hart.pc 4); pc = target })
     else Err (misaligned target)
 
--- the hart after a branch; a misaligned target traps only if the branch is taken
+-- `branched` is the hart after a branch; a misaligned target traps only if the branch is taken
 abbrev pub branched : Hart → Bool → ℕ → Result Hart Trap
 branched hart taken target =
     if taken then (if target % 4 == 0 then Ok (record hart { pc = target }) else Err (misaligned target))
     else Ok (advanced hart)
 
--- the hart after a trap, which goes to mode M and writes no integer register
+-- `trapped` is the hart after a trap, which goes to mode M and writes no integer register
 abbrev pub trapped : Hart → Trap → Hart
 trapped hart trap = record hart {
   csrs = after_trap hart.csrs hart.mode hart.pc trap.cause trap.tval;
@@ -45,6 +45,6 @@ trapped hart trap = record hart {
   mode = M;
 }
 
--- the hart with a step counted, by the value of mcountinhibit before the step and the register that the step wrote
+-- `step_counted` is the hart with a step counted, by the value of mcountinhibit before the step and the register that the step wrote
 abbrev pub step_counted : Hart → Bool → ℕ → Option ℕ → Hart
 step_counted hart retired inhibit written = record hart { csrs = ticked hart.csrs retired inhibit written }

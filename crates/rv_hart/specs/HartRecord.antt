@@ -4,7 +4,7 @@ use Rattle.std.specs.Prelude.{ℕ, List}
 use Rattle.rv_pmp.specs.declared.mode.Mode.{Mode}
 use Rattle.rv_state.specs.CsrState.{CsrState}
 
--- a hart: the integer registers, the control and status registers, the pc, and the mode
+-- a hart has the integer registers, the control and status registers, the pc, and the mode
 pub record Hart : Type 0 where
   pub regs : List ℕ
   pub csrs : CsrState

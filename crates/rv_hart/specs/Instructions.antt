@@ -22,23 +22,23 @@ use Rattle.rv_hart.specs.declared.request.Request.{Request}
 use Rattle.rv_hart.specs.declared.request.Request.TheVariants as requests
 use Rattle.rv_hart.specs.declared.trap.Trap.{Trap}
 
--- the sum of a register and a sign-extended offset of 12 bits
+-- `address_of` is the sum of a register and a sign-extended offset of 12 bits
 abbrev pub address_of : Hart → ℕ → ℕ → ℕ
 address_of hart rs1 offset = sum_of (register hart.regs rs1) (sign_extended offset 12)
 
--- a number with bit 0 cleared
+-- `made_even` is a number with bit 0 cleared
 abbrev pub made_even : ℕ → ℕ
 made_even n = n / 2 * 2
 
 -- ---- permission to execute an instruction
 
--- whether a mode may execute an instruction: always in mode M, in mode S unless a bit of mstatus forbids it, never in mode U
+-- `unless_refused` states whether a mode may execute an instruction: always in mode M, in mode S unless a bit of mstatus forbids it, never in mode U
 abbrev pub unless_refused : Mode → Bool → Bool
 unless_refused M refused = true
 unless_refused S refused = not refused
 unless_refused U refused = false
 
--- the hart after an instruction if it is allowed, otherwise the illegal-instruction exception
+-- `where_allowed` is the hart after an instruction if it is allowed, otherwise the illegal-instruction exception
 abbrev pub where_allowed : Bool → ℕ → Hart → Result Hart Trap
 where_allowed allowed word after = if allowed then Ok after else Err (illegal word)
 
@@ -48,19 +48,19 @@ unless_illegal word change = result_case change Ok (λ _. Err (illegal word))
 
 -- ---- the returns from traps
 
--- the hart after mret: mstatus by the rule of mret, pc from mepc, and the mode from MPP
+-- `returned_from_machine` is the hart after mret: mstatus by the rule of mret, pc from mepc, and the mode from MPP
 abbrev pub returned_from_machine : Hart → Hart
 returned_from_machine hart =
     record hart { csrs = after_mret hart.csrs; pc = hart.csrs.mepc; mode = hart.csrs.mstatus.mpp }
 
--- the hart after sret: mstatus by the rule of sret, pc from sepc, and the mode from SPP
+-- `returned_from_supervisor` is the hart after sret: mstatus by the rule of sret, pc from sepc, and the mode from SPP
 abbrev pub returned_from_supervisor : Hart → Hart
 returned_from_supervisor hart =
     record hart { csrs = after_sret hart.csrs; pc = hart.csrs.sepc; mode = mode_of_spp hart.csrs.mstatus.spp }
 
 -- ---- the access of an instruction
 
--- the access that an instruction requests, at most one
+-- `request` is the access that an instruction requests, at most one
 unfoldable pub request : Instr → Hart → Request
 request (Load kind rd rs1 offset) hart = requests.Load (address_of hart rs1 offset) (load_width kind)
 request (Store kind rs1 rs2 offset) hart = requests.Store (address_of hart rs1 offset) (store_width kind) (register hart.regs rs2)
@@ -69,23 +69,23 @@ request _ hart = requests.Nothing
 -- ---- the listing, for the hart, the instruction word, and the number that the load of the instruction read
 
 module _ (hart : Hart) (word loaded : ℕ) where
-  -- the value of a register
+  -- `x` is the value of a register
   abbrev pub x : ℕ → ℕ
   x rs = register hart.regs rs
 
-  -- the sum of pc and a sign-extended offset of `width` bits
+  -- `relative` is the sum of pc and a sign-extended offset of `width` bits
   abbrev pub relative : ℕ → ℕ → ℕ
   relative offset width = sum_of hart.pc (sign_extended offset width)
 
-  -- the result of an instruction that only continues at the next instruction
+  -- `proceeds` is the result of an instruction that only continues at the next instruction
   abbrev pub proceeds : Result Hart Trap
   proceeds = Ok (advanced hart)
 
-  -- the result of an instruction that writes a register and continues at the next instruction
+  -- `gives` is the result of an instruction that writes a register and continues at the next instruction
   abbrev pub gives : ℕ → ℕ → Result Hart Trap
   gives rd value = Ok (with_result hart rd value)
 
-  -- the hart after an instruction, or its exception
+  -- `executed` is the hart after an instruction, or its exception
   unfoldable pub executed : Instr → Result Hart Trap
   executed (Lui rd imm) = gives rd imm
   executed (Auipc rd imm) = gives rd (sum_of hart.pc imm)

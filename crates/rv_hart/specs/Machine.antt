@@ -3,33 +3,33 @@ use Rattle.std.specs.Prelude.{ℕ, List}
 use Rattle.rv_hart.specs.HartRecord.{Hart}
 use Rattle.rv_hart.specs.declared.trap.StepOutcome.{StepOutcome}
 
--- a hart and its memory
+-- a machine has a hart and its memory
 pub record Machine : Type 0 where
   pub hart : Hart
   pub memory : List ℕ
 
--- the hart after a step, and the outcome of the step
+-- `Ended` has the hart after a step, and the outcome of the step
 pub record Ended : Type 0 where
   pub hart : Hart
   pub outcome : StepOutcome
 
--- the hart and the memory after a step, and the outcome of the step
+-- `Stepped` has the hart and the memory after a step, and the outcome of the step
 pub record Stepped : Type 0 where
   pub state : Machine
   pub outcome : StepOutcome
 
--- the machine of a hart and a memory
+-- `machine_of` is the machine of a hart and a memory
 abbrev pub machine_of : Hart → List ℕ → Machine
 machine_of hart memory = record { hart = hart; memory = memory }
 
--- the end of a step: the hart after it, and its outcome
+-- `ended_in` is the end of a step: the hart after it, and its outcome
 abbrev pub ended_in : Hart → StepOutcome → Ended
 ended_in hart outcome = record { hart = hart; outcome = outcome }
 
--- the end of a step with the memory after it
+-- `over` is the end of a step with the memory after it
 abbrev pub over : List ℕ → Ended → Stepped
 over memory ended = record { state = record { hart = ended.hart; memory = memory }; outcome = ended.outcome }
 
--- the result of a step: the hart, the memory and the outcome
+-- `stepped` is the result of a step: the hart, the memory and the outcome
 abbrev pub stepped : Hart → List ℕ → StepOutcome → Stepped
 stepped hart memory outcome = over memory (ended_in hart outcome)

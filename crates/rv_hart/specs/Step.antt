@@ -29,7 +29,7 @@ use Rattle.rv_hart.specs.declared.trap.Trap.{Trap}
 abbrev pub span : ℕ → Width → Option Span
 span address width = Some (record { addr = address; len = width })
 
--- a step without an access
+-- `nothing` is a step without an access
 abbrev pub nothing : Touched
 nothing = record { fetched = None; loaded = None; stored = None }
 
@@ -47,21 +47,21 @@ store_of hart address width = record { fetched = span hart.pc Word; loaded = Non
 
 -- ---- the end of a step, with its counters
 
--- the end of a step in a trap
+-- `trap_end` is the end of a step in a trap
 abbrev pub trap_end : Hart → Touched → Trap → Ended
 trap_end hart touched trap = record {
   hart = step_counted (trapped hart trap) false hart.csrs.mcountinhibit None;
   outcome = record { trap = Some trap; touched = touched };
 }
 
--- the end of a step whose instruction retires, with the control and status register that it wrote
+-- `retired_end` is the end of a step whose instruction retires, with the control and status register that it wrote
 abbrev pub retired_end : Hart → Touched → Option ℕ → Hart → Ended
 retired_end hart touched written after = record {
   hart = step_counted after true hart.csrs.mcountinhibit written;
   outcome = record { trap = None; touched = touched };
 }
 
--- the end of a step by the result of its instruction
+-- `retired_or_trapped` is the end of a step by the result of its instruction
 unfoldable pub retired_or_trapped : Hart → Touched → Option ℕ → Result Hart Trap → Ended
 retired_or_trapped hart touched written after = result_case after (retired_end hart touched written) (trap_end hart touched)
 
@@ -83,7 +83,7 @@ abbrev pub decode_then : Hart → List ℕ → ℕ → (Instr → Stepped) → S
 decode_then hart memory word follows =
     option_case (decoded word) (over memory (trap_end hart (fetch_of hart) (illegal word))) follows
 
--- the mode in which loads and stores are checked: MPP if MPRV is set, otherwise the mode of the hart (section 3.1.6.3)
+-- `data_mode` is the mode in which loads and stores are checked: MPP if MPRV is set, otherwise the mode of the hart (section 3.1.6.3)
 abbrev pub data_mode : Hart → Mode
 data_mode hart = if hart.csrs.mstatus.mprv then hart.csrs.mstatus.mpp else hart.mode
 
@@ -104,16 +104,16 @@ from_execute hart touched word instr loaded =
 
 -- ---- the rest of a step: from the access on, from the decoding on, and from the fetch on
 
--- the step from the access of a decoded instruction on
+-- `from_access` is the step from the access of a decoded instruction on
 unfoldable pub from_access : Hart → List ℕ → ℕ → Instr → Request → Stepped
 from_access hart memory word instr requested =
     access_then hart memory requested (λ after touched loaded. over after (from_execute hart touched word instr loaded))
 
--- the step from the decoding of the fetched word on
+-- `from_decode` is the step from the decoding of the fetched word on
 unfoldable pub from_decode : Hart → List ℕ → ℕ → Stepped
 from_decode hart memory word = decode_then hart memory word (λ instr. from_access hart memory word instr (request instr hart))
 
--- the step from the fetch on
+-- `from_fetch` is the step from the fetch on
 unfoldable pub from_fetch : Hart → List ℕ → Stepped
 from_fetch hart memory = fetch_then hart memory (from_decode hart memory)
 

@@ -19,7 +19,7 @@ use Rattle.rv_memory.proofs.MemoryLaws.{length-bytes_of}
 
 -- ---- an access that succeeds is in RAM and permitted
 
--- an access with its result from RAM, if there is one, and the verdict on it
+-- `judged` is the result of an access: its value in RAM, if there is one and the verdict permits it, or a fault
 abbrev judged : {A B : Type 0} → Option B → Verdict → (B → A) → Result A AccessFault
 judged given verdict made = option_case given (Err Outside) (λ b. where_permitted verdict (made b))
 
@@ -61,25 +61,25 @@ store_done m entries mode address width value after store_is =
 
 -- ---- an access that is in RAM and permitted succeeds
 
--- a judged access with a number and a permission is Ok with the number
+-- an access to bytes of RAM with this number that the verdict permits (may) has the number as its result
 number-judged : (bytes : Option (List ℕ)) (verdict : Verdict) (number : ℕ) → option_map number_of_bytes bytes ≡ Some number → permits verdict ≡ true
     → judged bytes verdict number_of_bytes ≡ Ok number
 number-judged None verdict number map_is may = cc
 number-judged (Some bytes) verdict number map_is may = let same : number_of_bytes bytes ≡ number = cc in rw (may, same) refl
 
--- a fetch that is in RAM and permitted returns the word there
+-- a fetch that is in RAM and permitted (may) returns the word there
 pub fetch_permitted : (m : List ℕ) (entries : Entries) (mode : Mode) (address word : ℕ) → number_at m address (bytes_in Word) ≡ Some word
     → permits (verdict_on entries mode Fetch address Word) ≡ true → fetched m entries mode address ≡ Ok word
 fetch_permitted m entries mode address word number_at_is may = number-judged (read m address (bytes_in Word)) (verdict_on entries mode Fetch address Word) word number_at_is may
 
--- a load that is in RAM and permitted returns the number there
+-- a load that is in RAM and permitted (may) returns the number there
 pub load_permitted : (m : List ℕ) (entries : Entries) (mode : Mode) (address : ℕ) (width : Width) (number : ℕ)
     → number_at m address (bytes_in width) ≡ Some number → permits (verdict_on entries mode Read address width) ≡ true
     → loaded m entries mode address width ≡ Ok number
 load_permitted m entries mode address width number number_at_is may =
     number-judged (read m address (bytes_in width)) (verdict_on entries mode Read address width) number number_at_is may
 
--- a store that is in RAM and permitted leaves the written memory
+-- a store that is in RAM and permitted (may) leaves the written memory
 pub store_permitted : (m : List ℕ) (entries : Entries) (mode : Mode) (address : ℕ) (width : Width) (value : ℕ) (after : List ℕ)
     → write m address (bytes_of (bytes_in width) value) ≡ Some after → permits (verdict_on entries mode Write address width) ≡ true
     → stored m entries mode address width value ≡ Ok after
@@ -121,7 +121,7 @@ store_refused_too m n entries mode address width value fault sizes store_is =
     judged-refused (is_inside n address (length (bytes_of (bytes_in width) value))) _ _ (verdict_on entries mode Write address width)
     (λ (x : List ℕ). x) fault (rw sizes at store_is)
 
--- a store that succeeds does so in each memory of the same size, with the same bytes written
+-- a store that succeeds in a memory also succeeds in each memory of the same size, and writes the same bytes
 pub store_done_too : (m n : List ℕ) (entries : Entries) (mode : Mode) (address : ℕ) (width : Width) (value : ℕ) (after : List ℕ) → length m ≡ length n
     → stored m entries mode address width value ≡ Ok after
     → stored n entries mode address width value ≡ Ok (write_bytes n (address - ram_base) (bytes_of (bytes_in width) value))

@@ -1,4 +1,4 @@
--- Lemmas about blocks that meet: two blocks that share a byte meet, and two that meet share the higher of their first bytes.
+-- This file proves lemmas about blocks that meet: two blocks that share a byte meet, and two that meet share the higher of their first bytes.
 use Rattle.std.proofs.Common.{◌≡◌, ◌+◌, ◌<◌, ◌≤◌, ℕ, true, false, refl, inl, inr, arith}
 use Rattle.std.specs.Prelude.{nat_le, nat_lt}
 use Rattle.std.proofs.lemmas.Bool.{and_parts, and_from, both_ways, cases_lt, false_from_ne_true, leb-true, le-leb, ltb-true, lt-ltb}

@@ -7,11 +7,11 @@ use Rattle.rv_memory.specs.Complement.{complement_of, complemented}
 use Rattle.rv_memory.specs.Memory.{ram_base, is_inside, read, write, write_bytes}
 use Rattle.rv_memory.proofs.MemoryLaws.{index-below, index-above}
 
--- the complements of the bytes at an index
+-- `complements` has the complements of the bytes from an index on
 abbrev pub complements : List ℕ → ℕ → ℕ → List ℕ
 complements memory index count = map complement_of (take count (drop index memory))
 
--- the memory with these complements
+-- `with_complements` is the memory with the complements of these bytes
 abbrev pub with_complements : List ℕ → ℕ → ℕ → List ℕ
 with_complements memory index count = write_bytes memory index (complements memory index count)
 
@@ -34,12 +34,12 @@ complements-at memory index count k inside low high =
     get_or-map complement_of part (k - index) 0 0 (omega (arith, long, short))
     ∙ ap complement_of (get_or-take count (drop index memory) (k - index) 0 short ∙ get_or-drop index memory (k - index) 0 ∙ ap (λ j. get_or memory j 0) place)
 
--- a byte inside a write is the written one, by its index
+-- a byte at an index inside a write is the written byte
 index-within : (memory : List ℕ) (index : ℕ) (bytes : List ℕ) (k : ℕ) → index + length bytes ≤ length memory → index ≤ k → k < index + length bytes
     → get_or (write_bytes memory index bytes) k 0 ≡ get_or bytes (k - index) 0
 index-within memory index bytes k within low high = grind (arith, common_steps)
 
--- a byte that was complemented, and a byte that was not
+-- a byte inside the complemented range is complemented
 within : (memory : List ℕ) (index count k : ℕ) → index + count ≤ length memory → index ≤ k → k < index + count
     → get_or (with_complements memory index count) k 0 ≡ complement_of (get_or memory k 0)
 within memory index count k inside low high =
@@ -80,7 +80,7 @@ complemented_twice memory index count inside bytes =
       ]
     ])
 
--- bytes that are in memory end at or below its size, by their index
+-- bytes that are in memory end, by their index, at or below the size of the memory
 pub inside-index : (memory : List ℕ) (address count : ℕ) → is_inside memory address count ≡ true → (address - ram_base) + count ≤ length memory
 inside-index memory address count inside = grind (arith, common_steps)
 

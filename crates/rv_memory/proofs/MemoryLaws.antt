@@ -31,12 +31,12 @@ pub read-write : (memory : List ℕ) (address : ℕ) (bytes after : List ℕ) �
 unfolding write read
 read-write memory address bytes after written = grind (arith, common_steps)
 
--- a byte outside a write is unchanged, by its index
+-- a byte at an index below a write is unchanged
 pub index-below : (memory : List ℕ) (index : ℕ) (bytes : List ℕ) (k : ℕ) → index + length bytes ≤ length memory → k < index
     → slice_index (write_bytes memory index bytes) k ≡ slice_index memory k
 index-below memory index bytes k within below = grind (arith, common_steps)
 
--- a byte above a write is unchanged, by its index
+-- a byte at an index above a write is unchanged
 pub index-above : (memory : List ℕ) (index : ℕ) (bytes : List ℕ) (k : ℕ) → index + length bytes ≤ length memory → index + length bytes ≤ k
     → slice_index (write_bytes memory index bytes) k ≡ slice_index memory k
 index-above memory index bytes k within above = grind (arith, common_steps)
@@ -62,7 +62,7 @@ index-apart memory address bytes other above within here (inl below) =
 index-apart memory address bytes other above within here (inr past) =
     index-above memory (address - ram_base) bytes (other - ram_base) (omega (arith, above, within)) (omega (arith, above, here, past))
 
--- a byte outside a write is unchanged, by its address
+-- a byte at an address outside a write is unchanged
 pub byte_at-write : (memory : List ℕ) (address : ℕ) (bytes after : List ℕ) (other : ℕ) → write memory address bytes ≡ Some after
     → other < address ⊎ address + length bytes ≤ other → byte_at after other ≡ byte_at memory other
 byte_at-write memory address bytes after other written apart =
@@ -74,7 +74,7 @@ byte_at-write memory address bytes after other written apart =
       | inr here ↦ rw (written_is.2, index-apart memory address bytes other written_is.0 written_is.1 here apart) refl
     ])
 
--- a write of bytes that are all in the memory
+-- a write of bytes that are all in the memory succeeds
 pub write_at : (memory : List ℕ) (address : ℕ) (bytes after : List ℕ) → is_inside memory address (length bytes) ≡ true
     → after ≡ write_bytes memory (address - ram_base) bytes → write memory address bytes ≡ Some after
 unfolding write
@@ -94,7 +94,7 @@ changes_only memory address count bytes after inside length_is after_is =
 pub changes_nothing : (memory : List ℕ) (address count : ℕ) → ChangesOnly memory memory address count
 changes_nothing memory address count = record { size = refl; elsewhere = λ other apart. refl }
 
--- as many bytes of a word as a width has
+-- a word has as many bytes for a width as the width has
 pub length-bytes_of : (width : Width) (value : ℕ) → length (bytes_of (bytes_in width) value) ≡ bytes_in width
 length-bytes_of Byte value = refl
 length-bytes_of Half value = refl

@@ -15,27 +15,27 @@ use Rattle.rv_memory.specs.Memory.{read, write, number_of_bytes, bytes_of}
 use Rattle.rv_memory.specs.declared.access_fault.AccessFault.{AccessFault}
 use Rattle.rv_memory.specs.declared.access_fault.AccessFault.TheVariants.{Outside, Refused}
 
--- the verdict on an access of this width
+-- `verdict_on` is the verdict on an access of this width
 abbrev pub verdict_on : Entries → Mode → Access → ℕ → Width → Verdict
 verdict_on entries mode access address width = verdict entries mode access (bytes_from address (bytes_in width))
 
--- the value of an access if the verdict permits it, otherwise the refusal
+-- `where_permitted` is the value of an access if the verdict permits it, otherwise the refusal
 abbrev pub where_permitted : {A : Type 0} → Verdict → A → Result A AccessFault
 where_permitted given value = if permits given then Ok value else Err (Refused given)
 
--- the number that a load reads, or the access fault
+-- `loaded` is the number that a load reads, or the access fault
 abbrev pub loaded : List ℕ → Entries → Mode → ℕ → Width → Result ℕ AccessFault
 loaded memory entries mode address width =
     option_case (read memory address (bytes_in width)) (Err Outside)
     (λ bytes. where_permitted (verdict_on entries mode Read address width) (number_of_bytes bytes))
 
--- the word that a fetch reads, or the access fault
+-- `fetched` is the word that a fetch reads, or the access fault
 abbrev pub fetched : List ℕ → Entries → Mode → ℕ → Result ℕ AccessFault
 fetched memory entries mode address =
     option_case (read memory address (bytes_in Word)) (Err Outside)
     (λ bytes. where_permitted (verdict_on entries mode Fetch address Word) (number_of_bytes bytes))
 
--- the memory after a store of the lowest bytes of a word, or the access fault
+-- `stored` is the memory after a store of the lowest bytes of a word, or the access fault
 abbrev pub stored : List ℕ → Entries → Mode → ℕ → Width → ℕ → Result (List ℕ) AccessFault
 stored memory entries mode address width value =
     option_case (write memory address (bytes_of (bytes_in width) value)) (Err Outside)

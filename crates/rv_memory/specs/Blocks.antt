@@ -3,19 +3,19 @@
 use Rattle.std.specs.Prelude.{ℕ, ◌+◌, Bool, ◌&&◌, nat_le, nat_lt}
 use Rattle.rv_memory.specs.declared.block.Block.{Block}
 
--- the block without bytes
+-- `no_block` is the block without bytes
 abbrev pub no_block : Block
 no_block = record { base = 0; size = 0 }
 
--- the range that the monitor reserves for itself
+-- `monitor_block` is the range that the monitor reserves for itself
 abbrev pub monitor_block : Block
 monitor_block = record { base = 0x80000000; size = 0x10000 }
 
--- whether a byte address is in a block
+-- `has` states whether a byte address is in a block
 abbrev pub has : Block → ℕ → Bool
 has block byte = nat_le block.base byte && nat_lt byte (block.base + block.size)
 
--- whether two blocks share a byte
+-- `meets` states whether two blocks share a byte
 abbrev pub meets : Block → Block → Bool
 meets a b =
     nat_lt 0 a.size && (nat_lt 0 b.size && (nat_lt a.base (b.base + b.size) && nat_lt b.base (a.base + a.size)))

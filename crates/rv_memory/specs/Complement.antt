@@ -3,11 +3,11 @@ use Rattle.std.specs.Prelude.{ℕ, ◌-◌, List, map, Option, None}
 use Rattle.rv_word.specs.Cases.{option_case}
 use Rattle.rv_memory.specs.Memory.{read, write}
 
--- a byte with each bit inverted
+-- `complement_of` is a byte with each bit inverted
 abbrev pub complement_of : ℕ → ℕ
 complement_of byte = 255 - byte
 
--- the memory with `count` bytes from an address on complemented, if all of them are in it
+-- `complemented` is the memory with `count` bytes from an address on complemented, if all of them are in it
 abbrev pub complemented : List ℕ → ℕ → ℕ → Option (List ℕ)
 complemented memory address count =
     option_case (read memory address count) None (λ bytes. write memory address (map complement_of bytes))

@@ -5,12 +5,12 @@ use Rattle.rv_memory.specs.declared.access_fault.AccessFault.TheVariants.{Outsid
 use Rattle.rv_memory.specs.declared.ram_fault.RamFault.{RamFault}
 use Rattle.rv_memory.specs.declared.ram_fault.RamFault.TheVariants.{BadSize, NoMemory}
 
--- a number for each kind of RAM error, by which errors are compared
+-- `ram_fault_number` is a number for each kind of RAM error, by which errors are compared
 abbrev pub ram_fault_number : RamFault → ℕ
 ram_fault_number BadSize = 1
 ram_fault_number (NoMemory refused) = 2
 
--- a number for each kind of access error, by which errors are compared
+-- `access_fault_number` is a number for each kind of access error, by which errors are compared
 abbrev pub access_fault_number : AccessFault → ℕ
 access_fault_number Outside = 1
 access_fault_number (Refused verdict) = 2

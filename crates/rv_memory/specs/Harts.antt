@@ -4,11 +4,11 @@ use Rattle.std.specs.Prelude.{ℕ, ◌==◌, Option, Some, None, if◌then◌els
 use Rattle.rv_memory.specs.declared.harts.Harts.{Harts}
 use Rattle.rv_memory.specs.declared.harts.Harts.TheVariants.{One, Two}
 
--- the number of harts of a machine: one or two
+-- `number_of_harts` is the number of harts of a machine: one or two
 abbrev pub number_of_harts : Harts → ℕ
 number_of_harts One = 1
 number_of_harts Two = 2
 
--- the value for `count` harts, if a machine may have as many
+-- `counted_harts` is the value for `count` harts, if a machine may have as many
 abbrev pub counted_harts : ℕ → Option Harts
 counted_harts count = if count == 1 then Some One else (if count == 2 then Some Two else None)

@@ -5,11 +5,11 @@ use Rattle.std.specs.Prelude.{take, drop, slice_index, Option, Some, None, if◌
 use Rattle.std.specs.Option.{option_map}
 use Rattle.rv_word.specs.ByteOrder.{byte_of}
 
--- the address of the first byte
+-- `ram_base` is the address of the first byte
 abbrev pub ram_base : ℕ
 ram_base = 0x80000000
 
--- the sizes in bytes that a RAM may have: a multiple of 65536, from 65536 to 16777216
+-- a RAM may have a size in bytes that is a multiple of 65536, from 65536 to 16777216
 abbrev pub is_ram_size : ℕ → Bool
 is_ram_size size = size % 65536 == 0 && nat_le 65536 size && nat_le size 16777216
 
@@ -26,24 +26,24 @@ read memory address count =
 abbrev pub write_bytes : List ℕ → ℕ → List ℕ → List ℕ
 write_bytes memory index bytes = take index memory ++ (bytes ++ drop (index + length bytes) memory)
 
--- the memory with these bytes from an address on, if all of them are in it
+-- `write` is the memory with these bytes from an address on, if all of them are in it
 unfoldable pub write : List ℕ → ℕ → List ℕ → Option (List ℕ)
 write memory address bytes =
     if is_inside memory address (length bytes) then Some (write_bytes memory (address - ram_base) bytes) else None
 
--- the byte at an address
+-- `byte_at` is the byte at an address
 abbrev pub byte_at : List ℕ → ℕ → Option ℕ
 byte_at memory address = option_map (λ bytes. slice_index bytes 0) (read memory address 1)
 
--- the little-endian number of these bytes
+-- `number_of_bytes` is the little-endian number of these bytes
 abbrev pub number_of_bytes : List ℕ → ℕ
 number_of_bytes [] = 0
 number_of_bytes (byte ∷ bytes) = byte + 2 ^ 8 * number_of_bytes bytes
 
--- the little-endian number in `count` bytes from an address on, if all of them are in the memory
+-- `number_at` is the little-endian number in `count` bytes from an address on, if all of them are in the memory
 abbrev pub number_at : List ℕ → ℕ → ℕ → Option ℕ
 number_at memory address count = option_map number_of_bytes (read memory address count)
 
--- the `count` lowest bytes of a word, little-endian
+-- `bytes_of` has the `count` lowest bytes of a word, little-endian
 abbrev pub bytes_of : ℕ → ℕ → List ℕ
 bytes_of count word = take count (byte_of word 0 ∷ byte_of word 1 ∷ byte_of word 2 ∷ byte_of word 3 ∷ [])

@@ -8,9 +8,9 @@ use rv_pmp::Verdict;
 /// Why a fetch, a load or a store is refused. Nothing changes then. (Unprivileged ISA, section 1.4; Privileged Architecture, section 3.7.1.)
 #[derive(Clone, Copy, Debug, PartialEq, Eq)]
 pub enum AccessFault {
-    /// 1: a byte of the access is outside RAM.
+    /// Fault 1: a byte of the access is outside RAM.
     Outside,
-    /// 2: all bytes of the access are in RAM, and the PMP entries do not permit it.
+    /// Fault 2: all bytes of the access are in RAM, and the PMP entries do not permit it.
     Refused(Verdict),
 }
 

@@ -1,4 +1,4 @@
--- The ends of ranges while they are written, one range after another.
+-- This file is about the bounds of ranges while they are written, one range after another.
 use Rattle.std.proofs.Common.{◌≡◌, ℕ, ◌+◌, ◌*◌, ◌<◌, ◌≤◌, ◌^◌, ◌&&◌, nat_le, nat_lt, List, length, take, ◌∙◌, inl, inr}
 use Rattle.std.proofs.Common.{arith, slice_index, slice_set, get_or-set_same, get_or-set_other, length-set}
 use Rattle.std.specs.List.{Contains}
@@ -14,7 +14,7 @@ use Rattle.rv_pmp.specs.Entries.{Entries}
 abbrev pub IsAmong : List ℕ → ℕ → ℕ → Type 0
 IsAmong xs n x = (m : ℕ) × (m < n) × (slice_index xs m ≡ x)
 
--- both ends of each of the first ranges that has a byte are among the first bounds
+-- the ends of each of the first `number` ranges that has a byte are among the first `count` bounds
 pub record AreWritten (ranges : EntryRanges) (bounds : List ℕ) (count number : ℕ) : Type 0 where
   pub long : length bounds ≡ 33
   pub some : 0 < count
@@ -25,11 +25,11 @@ pub record AreWritten (ranges : EntryRanges) (bounds : List ℕ) (count number :
 
 -- one more range: it has no byte, or both its ends are written
 module _ (ranges : EntryRanges) (bounds : List ℕ) (count number : ℕ) (done : AreWritten ranges bounds count number) where
-  -- the first byte of the entry
+  -- `from` is the first byte of the range
   abbrev from : ℕ
   from = slice_index ranges.from number
 
-  -- the end of the entry
+  -- `to` is the first byte after the range
   abbrev to : ℕ
   to = slice_index ranges.to number
 
@@ -44,7 +44,7 @@ module _ (ranges : EntryRanges) (bounds : List ℕ) (count number : ℕ) (done :
     to = λ i below some. elim (cases_eq i number) [ inl at ↦ absurd (omega (arith, none, rw at at some)) | inr before ↦ done.to i (omega arith) some ];
   }
 
-  -- the bounds with both ends of the entry
+  -- `longer` has the bounds and both ends of the range
   abbrev longer : List ℕ
   longer = slice_set (slice_set bounds count from) (count + 1) to
 
@@ -77,7 +77,7 @@ module _ (ranges : EntryRanges) (bounds : List ℕ) (count number : ℕ) (done :
         ];
       }
 
--- one of the first bounds is in the list of these bounds
+-- a number that is one of the first `count` bounds is in the list of these bounds
 among_first : (bounds : List ℕ) (count x : ℕ) → count ≤ length bounds → IsAmong bounds count x → Contains (take count bounds) x
 among_first bounds count x fits found = (
   found.0,

@@ -1,4 +1,4 @@
--- The matching entry of a byte.
+-- This file proves lemmas about the matching entry of a byte.
 use Rattle.std.proofs.Common.{◌≡◌, ℕ, zero, suc, ◌+◌, ◌<◌, ◌≤◌, ◌==◌, if◌then◌else◌, Bool, true, false, Option}
 use Rattle.std.proofs.Common.{Some, None, refl, sym, ◌∙◌, ap, ap₂, inl, inr, arith}
 use Rattle.std.specs.List.{range_with_len, find}
@@ -17,7 +17,7 @@ find_alike p q a (suc n) same =
     ap₂ (λ test rest. if test then Some a else rest) (same a (omega arith) (omega arith))
     (find_alike p q (a + 1) n (λ i low high. same i (omega arith) (omega arith)))
 
--- if each of the sixteen covers both bytes or neither, these have the same matching entry
+-- if each of the sixteen entries covers both bytes or neither, the two bytes have the same matching entry
 pub byte_match_alike : (p q : ℕ → ℕ → Bool) (b c : ℕ) → ((i : ℕ) → i < 16 → p i b ≡ q i c) → byte_match p b ≡ byte_match q c
 unfolding byte_match
 byte_match_alike p q b c same = find_alike (λ i. p i b) (λ i. q i c) 0 16 (λ i low high. same i high)
@@ -61,18 +61,18 @@ unmatched p b byte_match_is j below = elim (find_cases (λ i. p i b) 0 16) [
   | inr nothing ↦ nothing.1 j (omega arith) (omega arith)
 ]
 
--- the matching entry by the ranges of the entries
+-- the matching entry of a byte is the same by the ranges of the entries and by the definition
 pub byte_match_by_ranges : (e : Entries) (ranges : EntryRanges) (b : ℕ) → AreRanges e ranges → byte_match (is_within ranges) b ≡ byte_match (covers e) b
 byte_match_by_ranges e ranges b are = byte_match_alike (is_within ranges) (covers e) b b (λ i in_range. sym (are i b in_range))
 
--- two options that compare equal are the same
+-- two options that compare equal are equal
 pub option_same : (x y : Option ℕ) → option_eq (λ a b. a == b) x y ≡ true → x ≡ y
 option_same None None same = refl
 option_same None (Some b) same = absurd (both_ways false refl same)
 option_same (Some a) None same = absurd (both_ways false refl same)
 option_same (Some a) (Some b) same = ap Some (eqb-true a b same)
 
--- two tests that imply each other
+-- two tests that imply each other are equal
 pub bool_same : (p q : Bool) → (p ≡ true → q ≡ true) → (q ≡ true → p ≡ true) → p ≡ q
 bool_same true q forth back = sym (forth refl)
 bool_same false true forth back = back refl

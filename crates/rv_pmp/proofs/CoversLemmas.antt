@@ -1,4 +1,4 @@
--- The range of a NAPOT entry, as an interval.
+-- This file proves that the range of a NAPOT entry is an interval.
 use Rattle.std.proofs.Common.{◌∙◌, sym, zero, suc, ◌-◌, refl, ap, ap₂, inl, inr, ◌≡◌, ℕ, ◌+◌, ◌*◌, ◌/◌, ◌%◌, ◌^◌, ◌<◌, ◌≤◌, ◌↔◌, ◌==◌, IsTrue, arith, lit<}
 use Rattle.std.proofs.Math.Nat.{div-mul-le_self, lt-div-mul-add, div-eq_of_lt-le}
 use Rattle.std.proofs.lemmas.Nat.{shl_whole}
@@ -38,7 +38,7 @@ complement (suc bits) n fits =
           ap₂ under low rest ∙ sym (cond-false (n % 2 == 1) (1 + ones) 0 (ne_eqb _ _ even))
     ]
 
--- the trailing ones of a word, as the code counts them, are those of the definition
+-- the code counts as many trailing ones of a word as the definition
 pub trailing_ones_is : (addr : ℕ) → addr < 2 ^ 32 → trailing_ones w32 addr ≡ ones_at_end 32 addr
 trailing_ones_is addr fits = complement 32 addr fits
 

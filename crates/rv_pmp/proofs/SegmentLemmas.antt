@@ -15,7 +15,7 @@ use Rattle.rv_pmp.proofs.ByteMatchLemmas.{bool_same, byte_match_alike}
 
 -- ---- the last segment grows, or one is added
 
--- the start of a segment, from the list of ends
+-- `begin` is the start of a segment, from the list of ends
 abbrev begin : List ℕ → ℕ → ℕ
 begin ends k = if k == 0 then 0 else slice_index ends (k - 1)
 
@@ -34,7 +34,7 @@ begin_kept ends at end k before = elim (cases_eq k 0) [
       ∙ sym (begin_after ends k some)
 ]
 
--- segments in order up to an end, with their matching entries
+-- the segments are in order up to `end`, and each has the matching entry of its bytes
 pub record Reaches (covering : ℕ → ℕ → Bool) (s : Segments) (end : ℕ) : Type 0 where
   pub reach : reach_of s ≡ end
   pub order : AreInOrder s
@@ -43,15 +43,15 @@ pub record Reaches (covering : ℕ → ℕ → Bool) (s : Segments) (end : ℕ) 
 -- the segments extended to an end, if all bytes before it have the same matching entry: the last segment grows, or one is added
 module _ (covering : ℕ → ℕ → Bool) (old : Segments) (start end : ℕ) (matched_entry : Option ℕ) (order : AreInOrder old) (matched : AreMatched covering old)
     (is_reach : start ≡ reach_of old) (some : start < end) (alike : (byte : ℕ) → start ≤ byte → byte < end → byte_match covering byte ≡ matched_entry) where
-  -- the number of segments
+  -- `n` is the number of segments
   abbrev n : ℕ
   n = old.count
 
-  -- the segments with the last one grown
+  -- `longer` has the segments with the last one grown to `end`
   abbrev longer : Segments
   longer = record { ends = slice_set old.ends (n - 1) end; byte_matches = old.byte_matches; count = n }
 
-  -- the segments with one more
+  -- `more` has the segments with one more that ends at `end`
   abbrev more : Segments
   more = record { ends = slice_set old.ends n end; byte_matches = slice_set old.byte_matches n matched_entry; count = n + 1 }
 
@@ -196,7 +196,7 @@ module _ (s : Segments) (order : AreInOrder s) where
       let below : j < s.count = omega (arith, used, length-take-le s.count s.ends fits) in
       rw (get_or-take s.count s.ends i 0 (omega (arith, before, below)), get_or-take s.count s.ends j 0 below) (rise i j before below))
 
--- the segment of a byte
+-- the segment with this index has the byte
 pub record IsSegment (s : Segments) (byte segment : ℕ) : Type 0 where
   pub used : segment < s.count
   pub from : start_of s segment ≤ byte

@@ -1,4 +1,4 @@
--- Examples of verdicts and ranges, computed by the definitions alone.
+-- This file has examples of verdicts and ranges, computed by the definitions alone.
 use Rattle.std.proofs.Common.{◌≡◌, [], ◌∷◌, true, false, refl}
 use Rattle.rv_pmp.specs.declared.mode.Mode.TheVariants.{U, S, M}
 use Rattle.rv_pmp.specs.declared.access.Access.TheVariants.{Fetch, Read, Write}
@@ -7,7 +7,8 @@ use Rattle.rv_pmp.specs.Entries.{Entries}
 use Rattle.rv_pmp.specs.Covers.{covers, ones_at_end}
 use Rattle.rv_pmp.specs.Verdicts.{bytes_from, matching_entry, verdict}
 
--- NA4 at 80000100, with R and W; NAPOT from 80000000 to 80000FFF, with all permissions; a locked TOR from there to 80002000, with R
+-- The entries are NA4 at 80000100 with R and W, NAPOT from 80000000 to 80000FFF with all permissions, and a locked TOR from there to 80002000 with
+-- R.
 entries : Entries
 entries = record {
   cfgs = 0x13 ∷ 0x1f ∷ 0x00 ∷ 0x89 ∷ [];
@@ -39,7 +40,7 @@ past_napot : verdict entries U Fetch (bytes_from 0x80000ffd 4) ≡ DeniedPartial
 unfolding verdict matching_entry covers entries ones_at_end
 past_napot = refl
 
--- a locked entry without permission binds mode M
+-- a locked entry without permission denies an access in mode M
 locked_binds_m : verdict entries M Write (bytes_from 0x80001000 4) ≡ Denied 3
 unfolding verdict matching_entry covers entries ones_at_end
 locked_binds_m = refl
@@ -63,7 +64,7 @@ all_ones_covers : covers all_ones 0 0x7ffffffff ≡ true
 unfolding covers all_ones ones_at_end
 all_ones_covers = refl
 
--- it does not match the byte after that
+-- the entry `all_ones` does not match the byte after its range
 all_ones_ends : covers all_ones 0 0x800000000 ≡ false
 unfolding covers all_ones ones_at_end
 all_ones_ends = refl

@@ -1,4 +1,4 @@
--- Tests of the numbers in an interval, and the verdict from the entries that match an access.
+-- This file is about tests of the numbers in an interval, and about the verdict from the entries that match an access.
 use Rattle.std.proofs.Common.{◌≡◌, ℕ, zero, suc, ◌+◌, ◌<◌, ◌≤◌, ◌⊎◌, Bool, true, false, ◌||◌, ◌&&◌, List, Some, None, refl, sym, ◌∙◌, ap, inl, inr, arith}
 use Rattle.std.specs.List.{range_with_len, list_any, list_all, find}
 use Rattle.std.proofs.lemmas.Bool.{cases_eq, or_from, or_left, or_right, and_from, and_left, and_right, cases_Bool, cond-true}

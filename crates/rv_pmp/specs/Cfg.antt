@@ -8,7 +8,7 @@ use Rattle.rv_pmp.specs.declared.access.Access.TheVariants.{Fetch, Read, Write}
 use Rattle.rv_pmp.specs.declared.address_matching.AddressMatching.{AddressMatching}
 use Rattle.rv_pmp.specs.declared.address_matching.AddressMatching.TheVariants.{Off, Tor, Na4, Napot}
 
--- its fields: L, A of two bits, X, W and R
+-- the fields of a cfg byte are L, A of two bits, X, W and R
 pub record Cfg : Type 0 where
   pub l : Bool
   pub a : ℕ
@@ -16,7 +16,7 @@ pub record Cfg : Type 0 where
   pub w : Bool
   pub r : Bool
 
--- the fields of a cfg byte: L in bit 7, A in bits 4:3, and X, W and R in bits 2 to 0
+-- the fields of a cfg byte are L in bit 7, A in bits 4:3, and X, W and R in bits 2 to 0
 abbrev pub fields_of : ℕ → Cfg
 fields_of cfg = record { l = is_set cfg 7; a = bits cfg 4 3; x = is_set cfg 2; w = is_set cfg 1; r = is_set cfg 0 }
 

@@ -10,7 +10,7 @@ use Rattle.rv_pmp.specs.declared.address_matching.AddressMatching.TheVariants.{O
 abbrev pub granularity : ℕ
 granularity = 4
 
--- the number of trailing ones of a number with `bits` bits
+-- `ones_at_end` is the number of trailing ones of a number with `bits` bits
 unfoldable pub ones_at_end : ℕ → ℕ → ℕ
 ones_at_end zero number = 0
 ones_at_end (suc bits) number = if number % 2 == 1 then 1 + ones_at_end bits (number / 2) else 0

@@ -1,24 +1,24 @@
 -- The sixteen entries: RISC-V Privileged Architecture 20211203, section 3.7.1.
 use Rattle.std.specs.Prelude.{ℕ, ◌-◌, ◌==◌, ◌≡◌, if◌then◌else◌, List, length, slice_index, replicate}
 
--- the cfg bytes, and the pmpaddr values (bits 33 to 2 of an address), the lowest entry first
+-- `Entries` has the cfg bytes, and the pmpaddr values (bits 33 to 2 of an address), the lowest entry first
 pub record Entries : Type 0 where
   pub cfgs : List ℕ
   pub addrs : List ℕ
 
--- the cfg byte of entry i
+-- `cfg_of` is the cfg byte of entry i
 abbrev pub cfg_of : Entries → ℕ → ℕ
 cfg_of entries i = slice_index entries.cfgs i
 
--- the pmpaddr value of entry i
+-- `addr_of` is the pmpaddr value of entry i
 abbrev pub addr_of : Entries → ℕ → ℕ
 addr_of entries i = slice_index entries.addrs i
 
--- the pmpaddr value of the entry before entry i, and 0 for the first
+-- `addr_before` is the pmpaddr value of the entry before entry i, and 0 for the first
 abbrev pub addr_before : Entries → ℕ → ℕ
 addr_before entries i = if i == 0 then 0 else addr_of entries (i - 1)
 
--- the entries at reset: all off, with 0 as address
+-- `reset` has the entries at reset: all off, with 0 as address
 abbrev pub reset : Entries
 reset = record { cfgs = replicate 16 0; addrs = replicate 16 0 }
 

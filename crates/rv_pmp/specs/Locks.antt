@@ -33,16 +33,16 @@ with_addr entries i addr =
     if is_addr_locked entries i then entries
     else record { cfgs = entries.cfgs; addrs = slice_set entries.addrs i addr }
 
--- the entries with entry i as given, its cfg byte in its stored form
+-- `with_entry` has the entries with entry i as given, its cfg byte in its stored form
 abbrev pub with_entry : Entries → ℕ → ℕ → ℕ → Entries
 with_entry entries i cfg addr =
     record { cfgs = slice_set entries.cfgs i (stored_cfg cfg); addrs = slice_set entries.addrs i addr }
 
--- the entries with all sixteen as given, their cfg bytes in their stored forms
+-- `with_entries` has the entries with all sixteen as given, their cfg bytes in their stored forms
 abbrev pub with_entries : List ℕ → List ℕ → Entries
 with_entries cfgs addrs = record { cfgs = map stored_cfg cfgs; addrs = addrs }
 
--- the value of a pmpcfg register: the cfg bytes of four entries, the lowest first
+-- `cfg_word` is the value of a pmpcfg register: the cfg bytes of four entries, the lowest first
 abbrev pub cfg_word : Entries → ℕ → ℕ
 cfg_word entries register =
     word_of_bytes (cfg_of entries (4 * register) ∷ cfg_of entries (4 * register + 1) ∷ cfg_of entries (4 * register + 2)

@@ -3,7 +3,7 @@ use Rattle.std.specs.Prelude.{ℕ}
 use Rattle.rv_pmp.specs.declared.mode.Mode.{Mode}
 use Rattle.rv_pmp.specs.declared.mode.Mode.TheVariants.{U, S, M}
 
--- the number of a mode in MPP and in the number of a CSR
+-- `mode_number` is the number of a mode in MPP and in the number of a CSR
 abbrev pub mode_number : Mode → ℕ
 mode_number U = 0
 mode_number S = 1

@@ -1,4 +1,4 @@
--- Examples: lines with their commands or errors.
+-- This file has examples: lines with their commands or errors.
 use Rattle.std.proofs.Common.{◌≡◌, ℕ, true, false, List, [], ◌∷◌, Result, Ok, Err, map, refl}
 use Rattle.std.specs.Prelude.{codes}
 use Rattle.rv_text.specs.GoodLines.{is_text}
@@ -17,7 +17,7 @@ use Rattle.rv_script.specs.Command.{keyword_of, meaning_of, parse_of}
 
 -- ---- lines, and their commands
 
--- lines, and the command or the error of each
+-- `examples` has lines, and the command or the error of each
 abbrev examples : List (List ℕ × Result Command CommandFault)
 examples =
     (codes "", Ok Blank)
@@ -170,7 +170,7 @@ pub examples_hold : map (λ e. parse_of e.0) examples ≡ map (λ e. e.1) exampl
 unfolding parse_of meaning_of keyword_of words_of is_text number_of_digits decimal_of hexadecimal_of csr_number_of byte_of_text
 examples_hold = refl
 
--- the words of a line with a tab and several spaces
+-- a line with a tab and several spaces has the words between them
 pub words_of-example : words_of (codes " mem\t0  64 ") ≡ codes "mem" ∷ codes "0" ∷ codes "64" ∷ []
 unfolding words_of
 words_of-example = refl

@@ -1,4 +1,4 @@
--- The keyword of a word, as a search by its text.
+-- This file proves that the keyword of a word is found by a search for its text.
 use Rattle.std.proofs.Common.{◌≡◌, ◌∙◌, ℕ, Bool, true, false, cond, List, [], ◌∷◌, map, Option, Some, None, Bor, refl, sym, ap}
 use Rattle.std.specs.List.{find}
 use Rattle.std.specs.Option.{option_map}
@@ -19,11 +19,11 @@ found_in_map : {A B : Type 0} (f : A → B) (test : B → Bool) (xs : List A) �
 found_in_map f test [] = refl
 found_in_map f test (x ∷ xs) = mapped_if f (test (f x)) x (find (λ x. test (f x)) xs) (find test (map f xs)) (found_in_map f test xs)
 
--- a borrowed row, as the table has it
+-- `row_of` is a borrowed row, as the table has it
 abbrev row_of : Bor (List ℕ) × Keyword → List ℕ × Keyword
 row_of row = (row.0.now, row.1)
 
--- the value of the row that was found
+-- the value of the row that was found is the second part of the row
 values : (r : Option (Bor (Bor (List ℕ) × Keyword)))
     → option_map (λ x. x.now.1) r ≡ option_map (λ (x : List ℕ × Keyword). x.1) (option_map row_of (option_map (λ x. x.now) r))
 values None = refl
@@ -36,7 +36,7 @@ pub row-found : (word : List ℕ) (rows : List (Bor (List ℕ) × Keyword)) (r :
 row-found word rows r map_is = values r ∙ ap (λ o. option_map (λ x. x.1) (option_map row_of o)) map_is
     ∙ ap (option_map (λ x. x.1)) (found_in_map row_of (λ x. bytes_eq word x.0) rows)
 
--- the keyword in the row of a word
+-- the keyword in the row of a word is the keyword that was found
 second : (r : Option Keyword) → option_map (λ (row : List ℕ × Keyword). row.1) (option_map (λ k. (spelling_of k, k)) r) ≡ r
 second None = refl
 second (Some k) = refl

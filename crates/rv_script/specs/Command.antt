@@ -24,49 +24,49 @@ use Rattle.rv_script.specs.declared.command.Command.TheVariants as command
 use Rattle.rv_script.specs.declared.command.CommandFault.{CommandFault}
 use Rattle.rv_script.specs.declared.command.CommandFault.TheVariants.{BadLine, UnknownCommand, BadOperand}
 
--- a decimal number in a range
+-- `decimal_within` is a decimal number in a range
 abbrev pub decimal_within : ℕ → ℕ → List ℕ → Option ℕ
 decimal_within low high operand = option_and_then (within low high) (decimal_of operand)
 
--- the number of a register, x0 to x31
+-- `register_of` is the number of a register, x0 to x31
 abbrev pub register_of : List ℕ → Option ℕ
 register_of operand = decimal_within 0 31 operand
 
--- `on` or `off`
+-- a switch is `on` or `off`
 abbrev pub switch_of : List ℕ → Option Bool
 switch_of operand =
     if bytes_eq operand (codes "on") then Some true
     else (if bytes_eq operand (codes "off") then Some false else None)
 
--- the mode with a letter
+-- `mode_of` is the mode with a letter
 abbrev pub mode_of : List ℕ → Option Mode
 mode_of operand =
     if bytes_eq operand (codes "M") then Some M
     else (if bytes_eq operand (codes "S") then Some S
     else (if bytes_eq operand (codes "U") then Some U else None))
 
--- the kind of access with the letter of the permission that it needs
+-- `access_of` is the kind of access with the letter of the permission that it needs
 abbrev pub access_of : List ℕ → Option Access
 access_of operand =
     if bytes_eq operand (codes "r") then Some Read
     else (if bytes_eq operand (codes "w") then Some Write
     else (if bytes_eq operand (codes "x") then Some Fetch else None))
 
--- the width with a number of bytes, as one digit
+-- `width_of` is the width with a number of bytes, as one digit
 abbrev pub width_of : List ℕ → Option Width
 width_of operand =
     if bytes_eq operand (codes "1") then Some Byte
     else (if bytes_eq operand (codes "2") then Some Half
     else (if bytes_eq operand (codes "4") then Some Word else None))
 
--- the operands of a command, and the command that they give: none, one, two, or four
+-- a form has the operands of a command, and the command that they give: none, one, two, or four operands
 pub data Form : Type 0 where
   NoOperand : (command : Command) → Form
   OneOperand : (make : List ℕ → Option Command) → Form
   TwoOperands : (make : List ℕ → List ℕ → Option Command) → Form
   FourOperands : (make : List ℕ → List ℕ → List ℕ → List ℕ → Option Command) → Form
 
--- the command of a form and its operands; none if their number is wrong or one cannot be read
+-- `made` is the command of a form and its operands, or none if their number is wrong or one cannot be read
 abbrev pub made : Form → List (List ℕ) → Option Command
 made (NoOperand command) [] = Some command
 made (OneOperand make) (t ∷ []) = make t
@@ -78,23 +78,23 @@ made _ _ = None
 abbrev pub one : {A : Type 0} → (List ℕ → Option A) → (A → Command) → Form
 one read make = OneOperand (λ t. option_map make (read t))
 
--- the form of a command with two operands, each with its reader
+-- `two` is the form of a command with two operands, each with its reader
 abbrev pub two : {A B : Type 0} → (List ℕ → Option A) → (List ℕ → Option B) → (A → B → Command) → Form
 two first second make = TwoOperands (λ t u. option_and_then (λ a. option_map (make a) (second u)) (first t))
 
--- the form of a command with four operands, each with its reader
+-- `four` is the form of a command with four operands, each with its reader
 abbrev pub four : {A B C D : Type 0} → (List ℕ → Option A) → (List ℕ → Option B) → (List ℕ → Option C) → (List ℕ → Option D)
     → (A → B → C → D → Command) → Form
 four first second third fourth make =
     FourOperands (λ t u v w.
     option_and_then (λ a. option_and_then (λ b. option_and_then (λ c. option_map (make a b c) (fourth w)) (third v)) (second u)) (first t))
 
--- a row of the table of commands: the first word, and the operands
+-- a row of the table of commands has the first word and the operands
 pub record CommandRow : Type 0 where
   pub spelling : List ℕ
   pub form : Form
 
--- the keyword of each command, and the form of its operands
+-- each command has a keyword, and a form of its operands
 abbrev pub command_row : Keyword → CommandRow
 command_row keyword.Step = record { spelling = codes "step"; form = one (decimal_within 1 1000000) command.Step }
 command_row keyword.Run = record { spelling = codes "run"; form = one (decimal_within 1 1000000) command.Run }
@@ -116,26 +116,26 @@ command_row keyword.Timer = record { spelling = codes "timer"; form = one switch
 command_row keyword.Hart = record { spelling = codes "hart"; form = one hart_named command.Hart }
 command_row keyword.Sched = record { spelling = codes "sched"; form = one schedule_of command.Sched }
 
--- all keywords
+-- `keywords` has all keywords
 abbrev pub keywords : List Keyword
 keywords =
     keyword.Step ∷ keyword.Run ∷ keyword.Sched ∷ keyword.Break ∷ keyword.Clear ∷ keyword.Watch ∷ keyword.Unwatch ∷ keyword.Reg ∷ keyword.Regs
     ∷ keyword.SetReg ∷ keyword.Csr ∷ keyword.Mem ∷ keyword.Poke ∷ keyword.Dis ∷ keyword.Pmp ∷ keyword.Enclaves ∷ keyword.Access ∷ keyword.Timer
     ∷ keyword.Hart ∷ []
 
--- the text of a keyword
+-- `spelling_of` is the text of a keyword
 abbrev pub spelling_of : Keyword → List ℕ
 spelling_of k = (command_row k).spelling
 
--- the command of a keyword and its operands
+-- `operands_of` is the command of a keyword and its operands
 abbrev pub operands_of : Keyword → List (List ℕ) → Option Command
 operands_of k = made (command_row k).form
 
--- the keyword with a text
+-- `keyword_of` is the keyword with a text
 unfoldable pub keyword_of : List ℕ → Option Keyword
 keyword_of word = find (λ k. bytes_eq word (spelling_of k)) keywords
 
--- the command of a keyword, or the error of an unknown keyword or of bad operands
+-- `named` is the command of a keyword, or the error of an unknown keyword or of bad operands
 abbrev pub named : Option Keyword → List (List ℕ) → Result Command CommandFault
 named None operands = Err UnknownCommand
 named (Some k) operands = ok_or (operands_of k operands) BadOperand
@@ -145,17 +145,17 @@ unfoldable pub meaning_of : List (List ℕ) → Result Command CommandFault
 meaning_of [] = Ok command.Blank
 meaning_of (name ∷ operands) = if starts_with nat_eq name (codes "#") then Ok command.Blank else named (keyword_of name) operands
 
--- the command of a line, or the first of its errors
+-- `parse_of` is the command of a line, or the first of its errors
 unfoldable pub parse_of : List ℕ → Result Command CommandFault
 parse_of line = if is_good_line line then meaning_of (words_of line) else Err BadLine
 
--- the numbers of the errors, in the order in which they are checked
+-- `number_of_fault` is the number of an error, in the order in which the errors are checked
 abbrev pub number_of_fault : CommandFault → ℕ
 number_of_fault BadLine = 1
 number_of_fault UnknownCommand = 2
 number_of_fault BadOperand = 3
 
--- the bytes whose addresses are operands of a command
+-- `bytes_named` has the bytes whose addresses are operands of a command
 abbrev pub bytes_named : Command → Block
 bytes_named (command.Mem address count) = record { base = address; size = count }
 bytes_named (command.Dis address) = record { base = address; size = 4 }

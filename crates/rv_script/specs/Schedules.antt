@@ -5,28 +5,28 @@ use Rattle.std.specs.List.{list_all}
 use Rattle.std.specs.Str.{bytes_eq}
 use Rattle.rv_script.specs.declared.schedule.Schedule.{Schedule}
 
--- the hart with this number as its text
+-- `hart_named` is the hart with this number as its text
 abbrev pub hart_named : List ℕ → Option ℕ
 hart_named operand = if bytes_eq operand (codes "0") then Some 0 else (if bytes_eq operand (codes "1") then Some 1 else None)
 
--- the digit 0 or 1
+-- a digit of a schedule is 0 or 1
 unfoldable pub is_hart_digit : ℕ → Bool
 is_hart_digit byte = byte == 48 || byte == 49
 
--- the hart of a digit of the schedule: 1 for the digit 1 (code 49), and otherwise 0
+-- `hart_of_digit` is the hart of a digit of the schedule: 1 for the digit 1 (code 49), and otherwise 0
 unfoldable pub hart_of_digit : ℕ → ℕ
 hart_of_digit digit = if digit == 49 then 1 else 0
 
--- 1 to 64 digits 0 and 1
+-- a schedule has 1 to 64 digits 0 and 1
 abbrev pub is_schedule : List ℕ → Bool
 is_schedule word = nat_le 1 (length word) && nat_le (length word) 64 && list_all is_hart_digit word
 
--- the schedule of a word: its digits, followed by zeros up to 64
+-- `schedule_of` is the schedule of a word: its digits, followed by zeros up to 64
 unfoldable pub schedule_of : List ℕ → Option Schedule
 schedule_of word =
     if is_schedule word then Some (record { digits = word ++ replicate (64 - length word) 0; steps = length word }) else None
 
--- the harts of a schedule, in the order of their steps
+-- `harts_in` has the harts of a schedule, in the order of their steps
 abbrev pub harts_in : Schedule → List ℕ
 harts_in schedule = map hart_of_digit (take schedule.steps schedule.digits)
 

@@ -103,11 +103,11 @@ impl Command {
 /// The error of a line: the first of these that it has.
 #[derive(Clone, Copy, Debug, PartialEq, Eq)]
 pub enum CommandFault {
-    /// 1: the line has more than 120 bytes, or a byte that is neither a tab nor from 0x20 to 0x7E.
+    /// Error 1: the line has more than 120 bytes, or a byte that is neither a tab nor from 0x20 to 0x7E.
     BadLine,
-    /// 2: the first word is no command.
+    /// Error 2: the first word is no command.
     UnknownCommand,
-    /// 3: the command does not have this number, form or range of operands.
+    /// Error 3: the command does not have this number, form or range of operands.
     BadOperand,
 }
 

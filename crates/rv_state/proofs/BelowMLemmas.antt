@@ -21,7 +21,7 @@ use Rattle.rv_state.specs.declared.csr_name.CsrName.TheVariants.{Mie, Mtvec, Msc
 
 -- ---- the numbers of the hidden registers require mode M
 
--- the registers that S and U cannot read: those of mode M, the PMP entries and the counters
+-- a register is hidden if S and U cannot read it: the registers of mode M, the PMP entries and the counters
 abbrev is_hidden : CsrName → Bool
 is_hidden Mstatus = true
 is_hidden Mepc = true
@@ -44,11 +44,11 @@ is_hidden _ = false
 abbrev RequiresM : ℕ → CsrName → Type 0
 RequiresM number name = is_hidden name ≡ true → least_mode number ≡ 3
 
--- the claim for a row with one number
+-- if a row has one number and a hidden register, the number requires mode M
 at-number : (number own : ℕ) (name : CsrName) → (is_hidden name ≡ true → least_mode own ≡ 3) → number == own ≡ true → RequiresM number name
 at-number number own name law number_is part = let same : number ≡ own = grind (arith, nat_tests) in rw same (law part)
 
--- the claim for a row with a range of numbers and a register that is not hidden
+-- the claim holds for a row with a range of numbers, since its register is not hidden
 shown-range : (number : ℕ) (name : CsrName) (b : Bool) → is_hidden name ≡ false → b ≡ true → RequiresM number name
 shown-range number name b shown b_is part = let never : false ≡ true = sym shown ∙ part in cc
 
@@ -92,7 +92,7 @@ reading_same Mcountinhibit c shown = cc
 reading_same _ c shown = refl
 
 module _ (c : CsrState) (number : ℕ) (mode : Mode) where
-  -- the result of a read by the tests of mode and trap
+  -- `reads` is the result of a read, where the tests are those of the mode and of the trap
   abbrev reads : CsrState → CsrName → Bool → Bool → Result ℕ CsrFault
   reads d name low trapped = if low then Err faults.Privilege else (if trapped then Err faults.Trapped else Ok (reading name d))
 
@@ -109,11 +109,11 @@ module _ (c : CsrState) (number : ℕ) (mode : Mode) where
         ∙ ap (λ (w : ℕ). if is_trapped name mode c then Err faults.Trapped else Ok w) word
   ]
 
-  -- a read of a register by its tests, from the registers `d`
+  -- `read_from` is the result of a read from the registers `d`
   abbrev read_from : CsrState → CsrName → Result ℕ CsrFault
   read_from d name = reads d name (nat_lt (mode_number mode) (least_mode number)) (is_trapped name mode d)
 
-  -- a read by the register of the number, if it has one
+  -- a read below mode M does not depend on the hidden registers, where `o` is the register of the number, if there is one
   read_by : (o : Option CsrName) → csr_numbered number ≡ o → is_machine mode ≡ false
       → on_register o (read_from (below_m_csrs c)) ≡ on_register o (read_from c)
   read_by None csr_numbered_is below = refl
@@ -127,7 +127,7 @@ module _ (c : CsrState) (number : ℕ) (mode : Mode) where
 
 -- ---- writes
 
--- the result of a write without the hidden registers
+-- `visible_csrs` is the result of a write without the hidden registers
 abbrev pub visible_csrs : Result CsrState CsrFault → Result CsrState CsrFault
 visible_csrs (Ok c) = Ok (below_m_csrs c)
 visible_csrs (Err fault) = Err fault
@@ -139,14 +139,14 @@ written_same Satp word c = refl
 written_same _ word c = refl
 
 module _ (c : CsrState) (number word : ℕ) (mode : Mode) where
-  -- the result of a write by the tests of mode, number and trap
+  -- `writes` is the result of a write, where the tests are those of the mode, the number and the trap
   abbrev writes : CsrState → CsrName → Bool → Bool → Bool → Result CsrState CsrFault
   writes d name low only trapped =
       if low then Err faults.Privilege
       else (if only then Err faults.ReadOnly
       else (if trapped then Err faults.Trapped else Ok (written name word d)))
 
-  -- a write to a register leaves the same visible registers, by the tests
+  -- a write to a register leaves the same visible registers whatever the hidden ones are, where the arguments are the results of its tests
   write_at : (name : CsrName) (low only trapped other : Bool) → other ≡ trapped
       → visible_csrs (writes (below_m_csrs c) name low only other) ≡ visible_csrs (writes c name low only trapped)
   write_at name true only trapped other same = refl
@@ -154,11 +154,11 @@ module _ (c : CsrState) (number word : ℕ) (mode : Mode) where
   write_at name false false true other same = rw same refl
   write_at name false false false other same = rw same (ap (λ (d : CsrState). let r : Result CsrState CsrFault = Ok d in r) (written_same name word c))
 
-  -- a write to a register by its tests, over the registers `d`
+  -- `write_over` is the result of a write over the registers `d`
   abbrev write_over : CsrState → CsrName → Result CsrState CsrFault
   write_over d name = writes d name (nat_lt (mode_number mode) (least_mode number)) (is_read_only number) (is_trapped name mode d)
 
-  -- a write by the register of the number, if it has one
+  -- a write leaves the same visible registers whatever the hidden ones are, where `o` is the register of the number, if there is one
   write_by : (o : Option CsrName) → visible_csrs (on_register o (write_over (below_m_csrs c))) ≡ visible_csrs (on_register o (write_over c))
   write_by None = refl
   write_by (Some name) =

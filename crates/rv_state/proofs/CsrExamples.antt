@@ -1,4 +1,4 @@
--- Examples: names of registers in the listing, by their rows.
+-- This file has examples: names of registers in the listing, by their rows.
 use Rattle.std.proofs.Common.{◌≡◌, Some, None, refl}
 use Rattle.std.specs.Prelude.{codes}
 use Rattle.rv_state.specs.CsrTable.{csr_listing, csr_numbered, name_of_number}

@@ -1,4 +1,4 @@
--- Lemmas about words under a mask, bit by bit.
+-- This file proves lemmas about words under a mask, bit by bit.
 use Rattle.std.proofs.Common.{◌≡◌, ℕ, zero, suc, ◌+◌, ◌*◌, ◌/◌, ◌%◌, ◌^◌, ◌<◌, ◌≤◌, Bool, true, false, List, [], ◌∷◌, refl, sym, ap, ◌∙◌, arith}
 use Rattle.std.specs.Prelude.{◌&&◌, ◌==◌}
 use Rattle.std.proofs.Math.Nat.{pow-suc, div-div-eq-div-mul, div-one}
@@ -12,12 +12,12 @@ use Rattle.rv_state.specs.Interrupts.{software_pending_of}
 abbrev shared : ℕ → ℕ → ℕ → ℕ
 shared count left right = word_of_bits (bitwise (λ x y. x && y) (bit_list count left) (bit_list count right))
 
--- the lowest bit and the rest of a number that is made of them
+-- a number that is made of a lowest bit and a rest has this lowest bit
 pub lowest : (bit : Bool) (rest : ℕ) → ((digit bit + 2 * rest) % 2 == 1) ≡ bit
 lowest true rest = let e : (1 + 2 * rest) % 2 ≡ 1 = omega arith in rw e refl
 lowest false rest = let e : (0 + 2 * rest) % 2 ≡ 0 = omega arith in rw e refl
 
--- the rest of a number that is made of a lowest bit and a rest
+-- a number that is made of a lowest bit and a rest has this rest
 pub above : (bit : Bool) (rest : ℕ) → (digit bit + 2 * rest) / 2 ≡ rest
 above true rest = omega arith
 above false rest = omega arith
@@ -28,7 +28,7 @@ and-again true true = refl
 and-again true false = refl
 and-again false y = refl
 
--- the common bits with the same mask again are the same
+-- the common bits of a word with a mask do not change if they are taken again
 shared-again : (count word mask : ℕ) → shared count (shared count word mask) mask ≡ shared count word mask
 shared-again zero word mask = refl
 shared-again (suc count) word mask =
@@ -42,19 +42,19 @@ pub masked_again : (word mask : ℕ) → and_by_bits (and_by_bits word mask) mas
 unfolding by_bits
 masked_again word mask = shared-again 32 word mask
 
--- the bit of a remainder
+-- the bit of a number below 2 is the number itself
 digit-below : (n : ℕ) → n < 2 → digit (n == 1) ≡ n
 digit-below zero below = refl
 digit-below (suc zero) below = refl
 digit-below (suc (suc n)) below = absurd (omega arith)
 
--- the lowest bit of a number as 0 or 1
+-- the lowest bit of a number, as 0 or 1, is its remainder by 2
 pub digit-rem : (n : ℕ) → digit (n % 2 == 1) ≡ n % 2
 digit-rem n = digit-below (n % 2) (omega arith)
 
 -- ---- a word under a mask, as the sum of the bits in the mask
 
--- the bits of a list that are in a mask
+-- `masked` has the bits of a list that are in a mask
 abbrev pub masked : List Bool → List Bool → List Bool
 masked [] bits = []
 masked (m ∷ ms) [] = []
@@ -74,7 +74,7 @@ bitwise-masked [] (m ∷ ms) = refl
 bitwise-masked (bit ∷ bits) [] = refl
 bitwise-masked (bit ∷ bits) (m ∷ ms) = rw (and-comm bit m, bitwise-masked bits ms) refl
 
--- `count` bits of a word, from bit k up
+-- `bits_from` has `count` bits of a word, from bit k up
 abbrev pub bits_from : ℕ → ℕ → ℕ → List Bool
 bits_from zero k word = []
 bits_from (suc count) k word = is_set word k ∷ bits_from count (suc k) word
@@ -108,16 +108,16 @@ pub enabled_is : (word : ℕ) → and_by_bits word 0xAAA ≡ enabled_of word
 unfolding kept_bits
 enabled_is word = omega (arith, by_places word 0xAAA)
 
--- a value of mie written again is the same
+-- a value of mie does not change if it is written again
 pub enabled_again : (word : ℕ) → enabled_of (enabled_of word) ≡ enabled_of word
 enabled_again word = kept_again enabled_of 0xAAA enabled_is word
 
--- the software bits of mip are those of 0x222
+-- the software bits of mip are the bits of the mask 0x222
 pub software_is : (word : ℕ) → and_by_bits word 0x222 ≡ software_pending_of word
 unfolding kept_bits
 software_is word = omega (arith, by_places word 0x222)
 
--- the software bits of mip taken again are the same
+-- the software bits of mip do not change if they are taken again
 pub software_again : (word : ℕ) → software_pending_of (software_pending_of word) ≡ software_pending_of word
 software_again word = kept_again software_pending_of 0x222 software_is word
 
@@ -135,6 +135,6 @@ pub inhibited_is : (word : ℕ) → and_by_bits word 0x5 ≡ inhibited_of word
 unfolding kept_bits
 inhibited_is word = omega (arith, by_places word 0x5)
 
--- a value of mcountinhibit written again is the same
+-- a value of mcountinhibit does not change if it is written again
 pub inhibited_again : (word : ℕ) → inhibited_of (inhibited_of word) ≡ inhibited_of word
 inhibited_again word = kept_again inhibited_of 0x5 inhibited_is word

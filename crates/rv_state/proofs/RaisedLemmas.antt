@@ -1,11 +1,11 @@
--- Lemmas about the parts of the word of pending interrupts.
+-- This file proves lemmas about the parts of the word of pending interrupts.
 use Rattle.std.proofs.Common.{◌≡◌, ℕ, ◌+◌, ◌/◌, ◌%◌, ◌^◌, Bool, true, false, refl, arith}
 use Rattle.rv_word.specs.BitFields.{is_set, flag}
 use Rattle.rv_state.specs.Interrupts.{software_pending_of}
 use Rattle.rv_state.specs.Cache.Kept.{mip_of, raised_in}
 use Rattle.rv_state.proofs.MaskLemmas.{software_of, software_again}
 
--- the bits of one word that software writes, with the timer line
+-- `joined` has the bits of a word that software writes, and the timer line
 abbrev joined : ℕ → Bool → ℕ
 joined word timer = software_pending_of word + flag 7 timer
 

@@ -32,7 +32,7 @@ word_of_bit_list (suc count) word below =
     let rest = word_of_bit_list count (word / 2) (omega (arith, pow-suc 2 count)) in
     omega (arith, rest, digit-rem word)
 
--- the bits of a word from bit 2 up are those of the word shifted right by 2
+-- the bits of a word from bit 2 up are the bits of the word shifted right by 2
 above : (word : ℕ) → word < 2 ^ 32 → word_of_bits (bits_from 30 2 word) ≡ word / 4
 above word below = ap word_of_bits (sym (bit_list-from 30 2 word)) ∙ word_of_bit_list 30 (word / 4) (omega arith)
 
@@ -50,7 +50,7 @@ vector-is word below = omega (arith, above word below, by_places word 0xFFFFFFFD
 pub sstatus-kept : (status : Mstatus) (word : ℕ) → sstatus_word (with_sstatus status word) ≡ and_by_bits word 0x00080122
 sstatus-kept status word = omega (arith, by_places word 0x00080122)
 
--- the number of the mode that a write to the two bits of MPP stores
+-- a write to the two bits of MPP stores the mode with this number, and U for the number 2
 mpp-number : (two_bits : ℕ) → two_bits < 4 → mode_number (mode_of_mpp two_bits) ≡ (if two_bits == 2 then 0 else two_bits)
 mpp-number zero below = refl
 mpp-number (suc zero) below = refl
@@ -146,7 +146,7 @@ trapped-after Minstreth word mode c free = refl
 trapped-after Mcountinhibit word mode c free = refl
 trapped-after Zero word mode c free = refl
 
--- the result of a write to a register that exists, by its checks in their order
+-- `stored` is the result of a write to a register that exists, after its checks in their order
 abbrev stored : Bool → Bool → Bool → CsrState → Result CsrState CsrFault
 stored low read_only refused left =
     if low then Err Privilege else (if read_only then Err ReadOnly else (if refused then Err Trapped else Ok left))
@@ -159,7 +159,7 @@ ok-by-tests false true refused left after store_is = cc
 ok-by-tests false false true left after store_is = cc
 ok-by-tests false false false left after store_is = (refl, refl, cc)
 
--- a write that is Ok is read back, by the register of the number
+-- a write that succeeds is read back, where `found` is the register of the number, if there is one
 reads-back : (found : Option CsrName) (low read_only : Bool) (before after : CsrState) (word : ℕ) (mode : Mode) → word < 2 ^ 32
     → on_register found (λ name. stored low read_only (is_trapped name mode before) (written name word before)) ≡ Ok after
     → on_register found (λ name. if low then Err Privilege else (if is_trapped name mode after then Err Trapped else Ok (reading name after)))

@@ -24,26 +24,26 @@ masked-number bits mask count =
     in
     ap word_of_bits (ap (λ list. bitwise (λ x y. x && y) list (bit_list 32 mask)) own ∙ bitwise-masked bits (bit_list 32 mask))
 
--- the two bits of a mode's number
+-- the lower of the two bits of a mode's number is set
 is_odd : Mode → Bool
 is_odd U = false
 is_odd S = true
 is_odd M = true
 
--- the upper bit of a mode's number
+-- the upper of the two bits of a mode's number is set
 is_over_1 : Mode → Bool
 is_over_1 U = false
 is_over_1 S = false
 is_over_1 M = true
 
--- a mode's number has these two bits
+-- a mode's number is the sum of its lower bit and twice its upper bit
 mode-digits : (mode : Mode) → mode_number mode ≡ digit (is_odd mode) + 2 * digit (is_over_1 mode)
 unfolding is_odd is_over_1
 mode-digits U = refl
 mode-digits S = refl
 mode-digits M = refl
 
--- the bits of mstatus, the lowest first
+-- `bits_of` has the bits of mstatus, the lowest first
 abbrev bits_of : Mstatus → List Bool
 bits_of s =
     false ∷ s.sie ∷ false ∷ s.mie ∷ false ∷ s.spie ∷ false ∷ s.mpie

@@ -13,7 +13,7 @@ use Rattle.rv_state.specs.declared.csr_name.CsrName.{CsrName}
 use Rattle.rv_state.specs.declared.csr_name.CsrName.TheVariants.{Sepc, Stvec}
 use Rattle.rv_state.specs.declared.s_context.SContext.{SContext}
 
--- a value of stvec written again is the same
+-- a value of stvec does not change if it is written again
 vector_twice : (word : ℕ) → vector_of (vector_of word) ≡ vector_of word
 vector_twice word = omega arith
 
@@ -37,14 +37,14 @@ passed : (b : Bool) (fault : CsrFault) (r : Result CsrState CsrFault) (after : C
 passed true fault r after result_is = cc
 passed false fault r after result_is = result_is
 
--- the result of a write by the tests of mode, number and trap
+-- `stores` is the result of a write after the tests of the mode, the number and the trap
 abbrev stores : CsrState → ℕ → ℕ → Mode → CsrName → Result CsrState CsrFault
 stores c number word mode name =
     if nat_lt (mode_number mode) (least_mode number) then Err faults.Privilege
     else (if is_read_only number then Err faults.ReadOnly
     else (if is_trapped name mode c then Err faults.Trapped else Ok (written name word c)))
 
--- a write by the register of the number, if it has one, leaves legal values
+-- a write leaves legal values, where `o` is the register of the number, if there is one
 named_stored : (o : Option CsrName) (c : CsrState) (number word : ℕ) (mode : Mode) (after : CsrState) → on_register o (stores c number word mode) ≡ Ok after
     → HasLegalVectors c → HasLegalVectors after
 named_stored None c number word mode after on_register_is stored = cc

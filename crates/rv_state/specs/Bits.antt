@@ -3,7 +3,7 @@
 use Rattle.std.specs.Prelude.{ℕ, ◌*◌, ◌/◌, List, sum_by}
 use Rattle.rv_word.specs.BitFields.{is_set, flag}
 
--- the bits of a word at these positions, with every other bit 0
+-- `kept_bits` has the bits of a word at these positions, with every other bit 0
 unfoldable pub kept_bits : List ℕ → ℕ → ℕ
 kept_bits places word = sum_by (λ k. flag k (is_set word k)) places
 

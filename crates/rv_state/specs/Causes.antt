@@ -19,7 +19,7 @@ interrupt_number MachineTimer = 7
 interrupt_number SupervisorExternal = 9
 interrupt_number MachineExternal = 11
 
--- the codes of exceptions
+-- `exception_number` is the code of an exception
 abbrev pub exception_number : Exception → ℕ
 exception_number InstructionAddressMisaligned = 0
 exception_number InstructionAccessFault = 1

@@ -8,7 +8,7 @@ use Rattle.rv_state.specs.CsrState.{CsrState}
 abbrev pub with_low_half : ℕ → ℕ → ℕ
 with_low_half counter word = bits counter 63 32 * 2 ^ 32 + word
 
--- the counter with a new high half (bits 63 to 32)
+-- `with_high_half` is the counter with a new high half (bits 63 to 32)
 abbrev pub with_high_half : ℕ → ℕ → ℕ
 with_high_half counter word = word * 2 ^ 32 + bits counter 31 0
 

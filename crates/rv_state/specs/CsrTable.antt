@@ -180,14 +180,14 @@ abbrev pub on_register : {A : Type 0} → Option CsrName → (CsrName → Result
 on_register None access = Err faults.Missing
 on_register (Some name) access = access name
 
--- the result of reading a register, by its number and the mode
+-- `read_result` is the result of a read of the register with this number in this mode
 unfoldable pub read_result : CsrState → ℕ → Mode → Result ℕ CsrFault
 read_result c number mode =
     on_register (csr_numbered number) (λ name.
     if nat_lt (mode_number mode) (least_mode number) then Err faults.Privilege
     else (if is_trapped name mode c then Err faults.Trapped else Ok (reading name c)))
 
--- the result of writing a register, by its number and the mode: the new state
+-- `write_result` is the result of a write to the register with this number in this mode: the new registers, or a fault
 unfoldable pub write_result : CsrState → ℕ → ℕ → Mode → Result CsrState CsrFault
 write_result c number word mode =
     on_register (csr_numbered number) (λ name.

@@ -9,8 +9,8 @@ use Rattle.rv_state.specs.CsrState.{CsrState}
 abbrev pub guest_csrs : CsrState → CsrState
 guest_csrs c = record c { mstatus = record c.mstatus { mpie = false; mpp = U }; mepc = 0; mcause = 0; mtval = 0; mcycle = 0; minstret = 0 }
 
--- The same with every other register of mode M and the PMP entries set to 0. The timer line and the remaining fields of mstatus stay, since they
--- decide whether an interrupt or an instruction traps.
+-- The registers of mode M other than those above, and the PMP entries, are also set to 0. The timer line and the remaining fields of mstatus stay,
+-- since they decide whether an interrupt or an instruction traps.
 abbrev pub below_m_csrs : CsrState → CsrState
 below_m_csrs c = record (guest_csrs c) {
   mie = 0;

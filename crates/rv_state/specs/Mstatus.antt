@@ -81,7 +81,7 @@ mstatus_of word = record {
   tsr = is_set word tsr_bit;
 }
 
--- all fields 0
+-- all fields of mstatus are 0 at reset
 abbrev pub mstatus_at_reset : Mstatus
 mstatus_at_reset = record {
   sie = false;

@@ -1,4 +1,4 @@
--- Lemmas about bytes that were read ahead.
+-- This file proves lemmas about bytes that were read ahead.
 use Rattle.std.proofs.Common.{◌≡◌, ◌<◌, ◌≤◌, ◌==◌, ◌||◌, ℕ, ◌+◌, ◌-◌, nat_lt, suc, min, Bool, true, false, not, cond, List, [], ◌∷◌, ◌++◌, take, drop, length}
 use Rattle.std.proofs.Common.{arith, refl, ◌∙◌, ap, sym, append_assoc}
 use Rattle.std.proofs.lemmas.Bool.Decides.{nat_tests}
@@ -33,7 +33,7 @@ line_given buffer rest given line start end count room prefix count_is copied =
     let same : take count line ≡ take count ahead = ap (take count) prefix ∙ take-take count (length line) ahead (omega (arith, count_is)) in
     ahead_given buffer rest given start end count count (omega (arith, count_is, few)) (copied ∙ same)
 
--- the bytes up to the first line feed
+-- if a text has no line feed before its end, its bytes without the last have no line feed
 pub feedless-whole : (text : List ℕ) (end : ℕ) → end ≡ position_or_len (λ b. b == 10) text → end ≡ length text
     → has_feed (take (length text - 1) text) ≡ false
 feedless-whole text end end_is all = has_feed-take (length text - 1) text (all_taken text (sym end_is ∙ all))
@@ -45,7 +45,7 @@ feedless-cut text end end_is within =
     let len : length (take (end + 1) text) - 1 ≡ end = omega (arith, length-take (end + 1) text) in
     rw len (ap has_feed (take-take end (end + 1) text (omega arith)) ∙ (ap (λ n. has_feed (take n text)) end_is ∙ no_feed text))
 
--- a text with one more byte
+-- a text with one more byte in front has a line feed if this byte is one (test), or if the rest has one (more)
 feed_found-step : (test : Bool) (n len : ℕ) (more : Bool) → nat_lt n len ≡ more → nat_lt (cond (not test) (1 + n) 0) (suc len) ≡ test || more
 feed_found-step true n len more h = grind (arith, nat_tests)
 feed_found-step false n len more h = grind (arith, nat_tests, h)
@@ -53,6 +53,7 @@ feed_found-step false n len more h = grind (arith, nat_tests, h)
 -- a text has a line feed if the position of the first one is in it
 pub feed_found : (text : List ℕ) (at : ℕ) → at ≡ position_or_len (λ b. b == 10) text → nat_lt at (length text) ≡ has_feed text
 feed_found text at at_is = ap (λ n. nat_lt n (length text)) at_is ∙ found text where
+  -- a text has a line feed if and only if the position of the first one is less than the length
   found : (text : List ℕ) → nat_lt (position_or_len (λ b. b == 10) text) (length text) ≡ has_feed text
   found [] = refl
   found (b ∷ bs) = feed_found-step (b == 10) _ (length bs) (has_feed bs) (found bs)

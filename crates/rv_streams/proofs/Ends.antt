@@ -1,4 +1,4 @@
--- Lemmas about the end of the lines.
+-- This file proves lemmas about the end of the lines.
 use Rattle.std.proofs.Common.{◌≡◌, ℕ, ◌+◌, Bool, true, false, ◌||◌, inl, inr, Result, Ok, Err, refl, sym, ap, ◌∙◌, arith, IsTrue}
 use Rattle.std.proofs.lemmas.Bool.{false≢true}
 use Rattle.std.proofs.Math.Bool.{or-true}
@@ -44,7 +44,7 @@ pub SinkFailed-after : {W : Type 0} (h : SinkGhosts W) {old mid new : W} → Sin
 SinkFailed-after h worked (inl risen) = let same = worked.worked.0 in inl (omega (arith, risen, same))
 SinkFailed-after h worked (inr risen) = let same = worked.worked.1 in inr (omega (arith, risen, same))
 
--- a sink that worked in two calls, one after the other
+-- a sink that worked in two calls, one after the other, worked in both together
 pub SinkWorked-more : {W : Type 0} (h : SinkGhosts W) {old mid new : W} → SinkWorked h old mid → SinkWorked h mid new → SinkWorked h old new
 SinkWorked-more h first next = record {
   worked = (next.worked.0 ∙ first.worked.0, next.worked.1 ∙ first.worked.1);
@@ -65,7 +65,7 @@ pub flushed_once : {W A E : Type 0} (h : SinkGhosts W) {old new : W} (r : Result
 flushed_once h (Ok a) result_is worked flushed = record { worked = worked; flushed = flushed.0; once = flushed.1 }
 flushed_once h (Err e) result_is worked flushed = let never : Err e ≡ Ok _ = result_is in cc
 
--- a flush that succeeded is one more flush, without a failure
+-- a flush that succeeded counts as one flush, without a failure
 pub SinkFlushed-flush : {W A E : Type 0} (h : SinkGhosts W) {old new : W} (r : Result A E) {a : A} → r ≡ Ok a
     → h.failures new ≡ counted_if (is_err r) (h.failures old) → h.refusals new ≡ h.refusals old → h.is_flushed new ≡ (h.is_flushed old || is_ok r)
     → h.flushes new ≡ counted_if (is_ok r) (h.flushes old) → SinkFlushed h old new
@@ -87,7 +87,7 @@ EndsWithSource-more {S} {g} old mid new first next = record {
   go_on true was e = let is = (next.stays was).0 in cc
   go_on false was e = next.going e ∙ first.going was
 
-  -- a new end is one that the source reported
+  -- if the lines are at their end in `new`, the source reported its end, where `b` states whether they were at their end in `mid` already
   go_to : (b : Bool) → mid.is_at_end ≡ b → new.is_at_end ≡ true → HasEnded old new
   go_to true was e = elim (first.ended was) [
     | inl at_end ↦ inl at_end

@@ -1,4 +1,4 @@
--- Lemmas about bytes that a sink holds.
+-- This file proves lemmas about bytes that a sink holds.
 use Rattle.std.proofs.Common.{◌≡◌, ◌<◌, ◌≤◌, ◌≢◌, ◌==◌, ◌&&◌, ℕ, ◌+◌, Bool, false, true, List, ◌++◌, take, drop, length}
 use Rattle.std.proofs.Common.{arith, refl, ◌∙◌, ap, sym, append_assoc, append-nil}
 use Rattle.std.proofs.lemmas.Bool.Decides.{nat_tests}
@@ -6,7 +6,7 @@ use Rattle.std.proofs.Math.Bool.{and-false}
 use Rattle.std.proofs.lemmas.Bool.{false≢true}
 use Rattle.std.proofs.lemmas.List.{drop-append-le, drop-drop, drop_all, length-take, take-append-drop, take-take}
 
--- some more bytes are passed on
+-- if the bytes so far and the bytes from index `at` on are all bytes, this holds after `count` more bytes, at most `room` (few), are passed on
 pub passed_more : (mid after all bytes : List ℕ) (at count room : ℕ) → count ≤ room
     → after ≡ mid ++ take count (take room (drop at bytes)) → mid ++ drop at bytes ≡ all → after ++ drop (at + count) bytes ≡ all
 passed_more mid after all bytes at count room few wrote so_far =

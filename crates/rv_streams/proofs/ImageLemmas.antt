@@ -1,4 +1,4 @@
--- Lemmas about the image of lines that are read one by one.
+-- This file proves lemmas about the image of lines that are read one by one.
 use Rattle.std.proofs.Common.{◌≡◌, ℕ, ◌+◌, ◌<◌, ◌≤◌, ltb, Bool, true, false, not, List, [], ◌∷◌, ◌++◌, length, Ok, Err, Option}
 use Rattle.std.proofs.Common.{Some, None, refl, sym, ◌∙◌, ap, subst, arith, append-nil}
 use Rattle.std.proofs.lemmas.Grind.{flat_map-append}
@@ -44,25 +44,25 @@ not_separator : {unread left rest : List ℕ} {ends : Bool} {image shown : List 
     → is_separator at.takes.line ≡ false
 not_separator at = ends_script-shown Separator _ _ _ _ at.takes ∙ at.other
 
--- lines without an error give the image of their bytes, if there are not too many
+-- lines without an error give the image of their bytes, if there are at most 32 MiB (33554432 bytes, few)
 image_of-sound : (lines : List (List ℕ)) → list_all is_image_line lines ≡ true → length (bytes_of_lines lines) ≤ 33554432
     → image_of lines ≡ Ok (bytes_of_lines lines)
 image_of-sound lines sound few =
     let below : ltb 33554432 (length (bytes_of_lines lines)) ≡ false = grind (arith, nat_tests) in
     rw (take_while-all is_image_line lines sound, below, sound) refl
 
--- the image has the error of the first line with an error
+-- the image has the error of the first line with an error, if the lines before it have at most 32 MiB (few)
 image_of-faulty : (lines others : List (List ℕ)) (line : List ℕ) → list_all is_image_line lines ≡ true → length (bytes_of_lines lines) ≤ 33554432
     → is_image_line line ≡ false → image_of (lines ++ line ∷ others) ≡ Err Hex
 image_of-faulty lines others line sound few faulty =
     let below : ltb 33554432 (length (bytes_of_lines lines)) ≡ false = grind (arith, nat_tests) in
     rw (take_while-stop is_image_line lines line others sound faulty, below, list_all-stop is_image_line lines line others sound faulty) refl
 
--- the bytes of two lists of lines are those of the first and then of the second
+-- the bytes of two lists of lines are the bytes of the first, followed by the bytes of the second
 bytes_of_lines-append : (xs ys : List (List ℕ)) → bytes_of_lines (xs ++ ys) ≡ bytes_of_lines xs ++ bytes_of_lines ys
 bytes_of_lines-append xs ys = flat_map-append (λ line. unwrap_or (line_bytes line) []) xs ys
 
--- the bytes with one more line
+-- one more line adds its bytes to the bytes of the lines
 bytes_of_lines-push : (lines : List (List ℕ)) (line bytes : List ℕ) → line_bytes line ≡ Some bytes
     → bytes_of_lines (lines ++ line ∷ []) ≡ bytes_of_lines lines ++ bytes
 bytes_of_lines-push lines line bytes encodes =
@@ -93,13 +93,13 @@ pub TakesLine-word : (left rest : List ℕ) (ends : Bool) (shown : List ℕ) (wo
     → word ≡ line_word shown → line_word takes.line ≡ word
 TakesLine-word left rest ends shown word takes word_is = sym (line_word-take takes.line) ∙ (ap line_word (sym takes.prefix) ∙ sym word_is)
 
--- the lines of the text are those so far, the next one and the rest
+-- the text has the lines so far, the next line, and the lines of the rest
 lines_with : (unread left rest : List ℕ) (ends : Bool) (image shown : List ℕ) → (so_far : EncodesImage unread left false image)
     → (takes : TakesLine left rest ends shown)
     → lines_of unread ≡ so_far.lines ++ takes.line ∷ lines_of rest
 lines_with unread left rest ends image shown so_far takes = so_far.reads.all ∙ ap (λ t. so_far.lines ++ t) takes.lines
 
--- the lines before the separator are those so far, the next one and the rest
+-- before the separator there are the lines so far, the next line, and the lines of the rest
 before_separator_with : (unread left rest : List ℕ) (ends : Bool) (image shown : List ℕ) → (so_far : EncodesImage unread left false image)
     → (takes : TakesLine left rest ends shown) → is_separator takes.line ≡ false
     → before_separator (lines_of unread) ≡ so_far.lines ++ takes.line ∷ before_separator (lines_of rest)
@@ -107,7 +107,7 @@ before_separator_with unread left rest ends image shown so_far takes other =
     ap before_separator (lines_with unread left rest ends image shown so_far takes)
     ∙ before_separator-other so_far.lines (lines_of rest) takes.line so_far.unmarked other
 
--- an option that has an element with a property
+-- an option that has an element with a property is `Some` of this element
 some_and : (found : Option (List ℕ)) (P : List ℕ → Type 0) → IsSomeAnd found P → (bytes : List ℕ) × (found ≡ Some bytes) × P bytes
 some_and None P h = absurd h
 some_and (Some bytes) P h = (bytes, refl, h)

@@ -1,4 +1,4 @@
--- The results of reading an image, by the line that ends it.
+-- This file proves the results of reading an image, which depend on the line that ends it.
 use Rattle.std.proofs.Common.{◌≡◌, ◌≤◌, ℕ, false, arith, codes, List, [], Some, None, Ok, Err, Vec, vec_len, ap, sym, ◌∙◌}
 use Rattle.std.specs.Str.{bytes_eq}
 use Rattle.rv_streams.specs.declared.device.Source.{Ghosts}
@@ -25,7 +25,7 @@ pub other_word : (line word : List ℕ) → Some word ≡ line_word line → byt
 other_word line word word_is other = ap is_dashes (sym word_is) ∙ other
 
 module _ {S : Type 0} {g : Ghosts S} (Z : Type 0) (old new : Lines S g) (source : SourceWorked g old.source new.source) (emptied : held new ≡ []) where
-  -- the result at a line whose bytes are not appended
+  -- the result at a line whose bytes are not appended is the fault of this line
   pub refused : (left image added shown word : List ℕ) (fault : BenchFault)
       → (g.follows_input new.source → TakesInImage (unread old) left (unread new) new.is_at_end image shown)
       → Some word ≡ line_word shown → AddsBytes word image added (Err fault)
@@ -46,7 +46,7 @@ module _ {S : Type 0} {g : Ghosts S} (Z : Type 0) (old new : Lines S g) (source 
       record { source = source; emptied = emptied; reads = λ follows. EncodesImage-refused (at follows) word_is adds.0 }
   refused left image added shown word _ at word_is adds = absurd adds
 
-  -- the result if no line of the image is left
+  -- if no line of the image is left, the result is the image, which has at most 32 MiB (33554432 bytes, few)
   pub image_read : (mid : Lines S g) (image : Vec ℕ Z) → FindsEnd Separator mid new → vec_len image ≤ 33554432
       → (g.follows_input new.source → EncodesImage (unread old) (unread mid) mid.is_at_end image.items) → ReadsImage old new (Ok image)
   image_read mid image found few encodes = (

@@ -1,4 +1,4 @@
--- Lemmas about a line whose bytes are read part by part.
+-- This file proves lemmas about a line whose bytes are read part by part.
 use Rattle.std.proofs.Common.{◌≡◌, ◌≢◌, ℕ, inl, inr, ◌+◌, ◌-◌, ◌<◌, ◌≤◌, Bool, true, false, ◌||◌, List, [], ◌∷◌, ◌++◌, length, take, drop, min, refl}
 use Rattle.std.proofs.Common.{sym, ◌∙◌, ap, arith, append_assoc, append-nil, add-one}
 use Rattle.std.proofs.Math.Seq.{take-append-add}
@@ -22,6 +22,7 @@ has_feed-push text byte no_feed ne = rw (has_feed-append text (byte ∷ []), no_
 -- a prefix of a text without a line feed has none
 pub has_feed-take : (n : ℕ) (text : List ℕ) → has_feed text ≡ false → has_feed (take n text) ≡ false
 has_feed-take n text h = go _ _ (sym (has_feed-append (take n text) (drop n text)) ∙ (ap has_feed (take-append-drop n text) ∙ h)) where
+  -- if neither of two conditions is true, the first is false
   go : (a b : Bool) → a || b ≡ false → a ≡ false
   go true b h = h
   go false b h = refl
@@ -45,14 +46,14 @@ pub feed_next : (old left part text : List ℕ) (last : ℕ) → old ≡ part ++
 feed_next old left part text last all cut feed =
     all ∙ (ap (λ t. t ++ left) cut ∙ (append_assoc text (last ∷ []) left ∙ ap (λ n. text ++ n ∷ left) feed))
 
--- the first n bytes, or all if there are fewer
+-- the first min(length, n) bytes of a text are its first n bytes
 take-min : (n : ℕ) (text : List ℕ) → take (min (length text) n) text ≡ take n text
 take-min n text = elim (cases_lt n (length text)) [
   | inl less ↦ ap (λ k. take k text) (omega arith)
   | inr all ↦ take_all _ text (omega arith) ∙ sym (take_all n text all)
 ]
 
--- as much of the text as there is room for
+-- a line, and as many bytes of a text as there is room for, are the first `most` bytes of the line and the text
 pub take-room : (most count : ℕ) (line text : List ℕ) → length line ≤ most → count ≡ min (length text) (most - length line)
     → line ++ take count text ≡ take most (line ++ text)
 take-room most count line text short count_is =
@@ -98,7 +99,7 @@ TakesLine-feed unread left kept shown is_at_end reads prefix =
       prefix = prefix ∙ (ap (λ t. take significant_bytes (without_return t)) reads.prefix ∙ cut-kept text);
     }
 
--- a text without a line feed that is not empty is one line
+-- a non-empty text without a line feed is one line
 last_line : (text : List ℕ) → has_feed text ≡ false → 0 < length text → lines_of text ≡ text ∷ []
 last_line [] no_feed some = absurd (omega arith)
 last_line (x ∷ xs) no_feed some = lines_of-last x xs no_feed

@@ -1,4 +1,4 @@
--- Lemmas about the lines of a script that are read one by one, up to its end.
+-- This file proves lemmas about the lines of a script that are read one by one, up to its end.
 use Rattle.std.proofs.Common.{◌≡◌, ℕ, ◌+◌, ◌≤◌, Bool, true, false, not, ◌||◌, List, [], ◌∷◌, ◌++◌, length, take, inl, inr}
 use Rattle.std.proofs.Common.{IsTrue, None, refl, sym, ◌∙◌, ap, subst, lit≤, append-nil, add-one}
 use Rattle.std.proofs.lemmas.List.{length-append}
@@ -39,7 +39,7 @@ all_within : (lines : List (List ℕ)) → list_all (is_script_line Input) lines
 all_within [] = refl
 all_within (line ∷ lines) = all_within lines
 
--- the lines of the script are those before its end
+-- the lines of the script are the lines before its end
 script_lines-is : (end : ScriptEnd) (lines : List (List ℕ)) → script_lines end lines ≡ take_while (is_script_line end) lines
 script_lines-is Input lines = sym (take_while-all (is_script_line Input) lines (all_within lines))
 script_lines-is Separator lines = refl
@@ -48,7 +48,7 @@ script_lines-is Separator lines = refl
 pub script_lines-all : (end : ScriptEnd) (lines : List (List ℕ)) → list_all (is_script_line end) lines ≡ true → script_lines end lines ≡ lines
 script_lines-all end lines inside = script_lines-is end lines ∙ take_while-all (is_script_line end) lines inside
 
--- the lines of the script before the line that ends it
+-- the lines of the script are the lines before the line that ends it
 script_lines-stop : (end : ScriptEnd) (lines others : List (List ℕ)) (line : List ℕ) → list_all (is_script_line end) lines ≡ true
     → ends_script end line ≡ true → script_lines end (lines ++ line ∷ others) ≡ lines
 script_lines-stop end lines others line inside ends_script_is = script_lines-is end (lines ++ line ∷ others)
@@ -65,7 +65,7 @@ or_true : (b : Bool) → (b || true) ≡ true
 or_true true = refl
 or_true false = refl
 
--- the input has a separator if one of its lines is one
+-- the input has a separator if one of its lines is a separator
 has_separator-there : (lines others : List (List ℕ)) (line unread : List ℕ) → lines_of unread ≡ lines ++ line ∷ others → is_separator line ≡ true
     → IsTrue (has_separator unread)
 has_separator-there lines others line unread all separator = subst IsTrue (sym (ap (list_any is_separator) all
@@ -74,7 +74,7 @@ has_separator-there lines others line unread all separator = subst IsTrue (sym (
 
 -- ---- a script that was read completely
 
--- These are all lines of the script. At most the line that ends it was read in addition.
+-- The lines `lines` are all lines of the script. At most the line that ends the script was read in addition.
 pub record ReadsScript (end : ScriptEnd) (unread left : List ℕ) (lines : List (List ℕ)) : Type 0 where
   pub closing : List (List ℕ)
   pub is_at_end : Bool
@@ -102,7 +102,7 @@ ReadsScript-ended end unread left rest is_at_end lines so_far none none_too =
       rest = none_too ∙ sym behind;
     }
 
--- the lines of the text are those that were read, the next one and the rest
+-- the text has the lines that were read, the next line, and the lines of the rest
 lines_with : (unread left rest : List ℕ) (is_at_end ends : Bool) (shown : List ℕ) (lines : List (List ℕ)) → ReadsLines unread left is_at_end lines
     → (takes : TakesLine left rest ends shown)
     → lines_of unread ≡ lines ++ takes.line ∷ lines_of rest

@@ -1,13 +1,14 @@
--- Lemmas about the lines before the first that fails a test.
+-- This file proves lemmas about the lines before the first that fails a test.
 use Rattle.std.proofs.Common.{◌≡◌, ℕ, Bool, true, false, cond, ◌&&◌, List, [], ◌∷◌, ◌++◌, refl, sym, ◌∙◌, ap, append-nil}
 use Rattle.std.proofs.lemmas.List.Folds.{list_all-append}
 use Rattle.std.proofs.lemmas.List.Sums.{take_while-cons}
 use Rattle.std.specs.List.{list_all, take_while}
 
--- lines that all pass the test, and others
+-- if all lines xs pass the test, the passing lines of xs and ys are xs and the passing lines of ys
 take_while-append : (p : List ℕ → Bool) (xs ys : List (List ℕ)) → list_all p xs ≡ true → take_while p (xs ++ ys) ≡ xs ++ take_while p ys
 take_while-append p [] ys all_pass = refl
 take_while-append p (x ∷ xs) ys all_pass = take_while-cons p x (xs ++ ys) ∙ go (p x) all_pass (λ all. take_while-append p xs ys all) where
+  -- the passing lines of a list with first line x, where `b` states whether x passes the test
   go : (b : Bool) → b && list_all p xs ≡ true → (list_all p xs ≡ true → take_while p (xs ++ ys) ≡ xs ++ take_while p ys)
       → cond b (x ∷ take_while p (xs ++ ys)) [] ≡ x ∷ (xs ++ take_while p ys)
   go true all more = ap (λ t. x ∷ t) (more all)
@@ -30,12 +31,12 @@ pub take_while-stop : (p : List ℕ → Bool) (xs : List (List ℕ)) (x : List �
     → take_while p (xs ++ x ∷ ys) ≡ xs
 take_while-stop p xs x ys all e = take_while-append p xs (x ∷ ys) all ∙ (ap (λ t. xs ++ t) (take_while-cons_no p x ys e) ∙ append-nil xs)
 
--- after elements that pass the test, one more is taken, and then those of the rest
+-- after elements that pass the test, one more that passes is taken, and then the passing elements of the rest
 pub take_while-pass : (p : List ℕ → Bool) (xs : List (List ℕ)) (x : List ℕ) (ys : List (List ℕ)) → list_all p xs ≡ true → p x ≡ true
     → take_while p (xs ++ x ∷ ys) ≡ xs ++ x ∷ take_while p ys
 take_while-pass p xs x ys all e = take_while-append p xs (x ∷ ys) all ∙ ap (λ t. xs ++ t) (take_while-cons_yes p x ys e)
 
--- all elements pass the test, with one more that passes
+-- all elements of a list pass the test also with one more element that passes
 pub list_all-push : (p : List ℕ → Bool) (xs : List (List ℕ)) (x : List ℕ) → list_all p xs ≡ true → p x ≡ true
     → list_all p (xs ++ x ∷ []) ≡ true
 list_all-push p xs x all e = list_all-append p xs (x ∷ []) ∙ (rw (all, e) refl)
@@ -53,6 +54,7 @@ take_while-prefix p (x ∷ xs) ys =
     let (others, more) = take_while-prefix p xs ys in
     let (rest, is) = go (p x) others more in
     (rest, take_while-cons p x (xs ++ ys) ∙ (is ∙ ap (λ t. t ++ rest) (sym (take_while-cons p x xs)))) where
+      -- the passing lines of the prefix are a prefix of those of the whole list, where `b` states whether the first line x passes the test
       go : (b : Bool) (others : List (List ℕ)) → take_while p (xs ++ ys) ≡ take_while p xs ++ others
           → (rest : List (List ℕ)) × (cond b (x ∷ take_while p (xs ++ ys)) [] ≡ cond b (x ∷ take_while p xs) [] ++ rest)
       go true others more = (others, ap (λ t. x ∷ t) more)

@@ -29,6 +29,7 @@ within_split : (p : ℕ → Bool) (xs : List ℕ) → AllWithin (length xs) (sli
 unfolding AllWithin
 within_split p [] = (omega arith, tt)
 within_split p (x ∷ xs) = go (p x) (within_split p xs) where
+  -- the parts of a text with first byte x are at most as long as the text, where `b` states whether x separates parts
   go : (b : Bool) → AllWithin (length xs) (slice_split p xs)
       → AllWithin (length (x ∷ xs)) (cond b ([] ∷ slice_split p xs) (onto_first x (slice_split p xs)))
   go true more = (omega arith, within_more (length xs) (length (x ∷ xs)) (slice_split p xs) (omega arith) more)
@@ -40,6 +41,7 @@ within_filter : (q : List ℕ → Bool) (n : ℕ) (parts : List (List ℕ)) → 
 unfolding AllWithin
 within_filter q n [] all = tt
 within_filter q n (part ∷ parts) all = go (q part) (within_filter q n parts all.1) where
+  -- the filtered parts with first part `part` have at most n bytes each, where `b` states whether `part` passes the filter
   go : (b : Bool) → AllWithin n (filter q parts) → AllWithin n (cond b (part ∷ filter q parts) (filter q parts))
   go true more = (all.0, more)
   go false more = more
@@ -54,6 +56,7 @@ only_within n (one ∷ other ∷ words) word all only_word_is = cc
 -- a good line has at most `max_line` bytes
 good_is_short : (line : List ℕ) → is_good_line line ≡ true → length line ≤ max_line
 good_is_short line good = go (leb (length line) max_line) refl good where
+  -- a line that satisfies both conditions of a good line is short, where `b` states whether its length is within the limit
   go : (b : Bool) → leb (length line) max_line ≡ b → b && list_all is_text line ≡ true → length line ≤ max_line
   go true e h = grind (arith, nat_tests)
   go false e h = cc
@@ -62,6 +65,7 @@ good_is_short line good = go (leb (length line) max_line) refl good where
 pub length-line_word : (line word : List ℕ) → line_word line ≡ Some word → length word ≤ max_line
 unfolding line_word words_of
 length-line_word line word line_word_is = go (is_good_line line) refl line_word_is where
+  -- the word of a line is at most as long as a line may be, where `b` states whether the line is good
   go : (b : Bool) → is_good_line line ≡ b → cond b (only_word (words_of line)) None ≡ Some word → length word ≤ max_line
   go true good h =
       let one = only_within (length line) (words_of line) word

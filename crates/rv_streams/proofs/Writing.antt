@@ -1,4 +1,4 @@
--- Lemmas about a text that is written part by part.
+-- This file proves lemmas about a text that is written part by part.
 use Rattle.std.proofs.Common.{◌≡◌, ℕ, List, ◌++◌, take, drop, append_assoc, sym, ◌∙◌, ap, subst, arith}
 use Rattle.std.proofs.lemmas.Grind.{common_steps}
 use Rattle.rv_streams.specs.Transfer.{WritesUpTo, WritesPrefix}

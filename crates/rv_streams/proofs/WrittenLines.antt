@@ -1,4 +1,4 @@
--- Lemmas about lines that are gathered and written, one for each item of a list.
+-- This file proves lemmas about lines that are gathered and written, one for each item of a list.
 use Rattle.std.proofs.Common.{◌≡◌, ℕ, ◌+◌, ◌<◌, ◌≤◌, List, [], ◌∷◌, ◌++◌, length, take, drop, get_or, append-nil, sym}
 use Rattle.std.proofs.Common.{◌∙◌, ap}
 use Rattle.std.specs.List.{flat_map}
@@ -18,14 +18,14 @@ module _ {X : Type 0} (line : X → List ℕ) (items : List X) where
       ∙ (flat_map-append line (take k items) (get_or items k d ∷ [])
       ∙ ap (λ t. flat_map line (take k items) ++ t) (append-nil (line (get_or items k d))))) gathered_is
 
-  -- the sink stops within the lines so far
+  -- a sink that fails in the bytes of the lines so far has taken a prefix of all lines
   pub lines-stopped : (k : ℕ) (old mid new before : List ℕ) → WritesUpTo old mid (flat_map line (take k items)) before → WritesPrefix mid new before
       → WritesPrefix old new (flat_map line items)
   lines-stopped k old mid new before so_far stops =
       WritesUpTo-stopped old mid new _ before (flat_map line (drop k items)) _ so_far stops
       (ap (flat_map line) (sym (take-append-drop k items)) ∙ flat_map-append line (take k items) (drop k items))
 
-  -- all lines are written
+  -- all lines are written after k lines, if there are at most k (over)
   pub lines-all : (k : ℕ) (old mid new before : List ℕ) → length items ≤ k → WritesUpTo old mid (flat_map line (take k items)) before
       → new ≡ mid ++ before → new ≡ old ++ flat_map line items
   lines-all k old mid new before over so_far wrote =

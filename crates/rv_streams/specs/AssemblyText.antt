@@ -7,11 +7,11 @@ use Rattle.rv_text.specs.Digits.{hex2}
 use Rattle.rv_streams.specs.declared.fault.BenchFault.{BenchFault}
 use Rattle.rv_streams.specs.declared.fault.BenchFault.TheVariants.{TooLong, Asm}
 
--- the four bytes of a word, little-endian, in two hexadecimal digits each
+-- `word_line` has the four bytes of a word, little-endian, in two hexadecimal digits each
 unfoldable pub word_line : ℕ → List ℕ
 word_line word = hex2 (byte_of word 0) ++ hex2 (byte_of word 1) ++ hex2 (byte_of word 2) ++ hex2 (byte_of word 3) ++ codes "\n"
 
--- a line for each word
+-- `asm_text` has a line for each word
 abbrev pub asm_text : List ℕ → List ℕ
 asm_text words = flat_map word_line words
 

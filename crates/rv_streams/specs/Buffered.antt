@@ -4,11 +4,11 @@ use Rattle.rv_streams.specs.declared.device.Source.{Ghosts}
 use Rattle.rv_streams.specs.declared.buffered.BufferedSource.{BufferedSource}
 
 module _ {S : Type 0} (g : Ghosts S) where
-  -- the bytes that were read ahead and not yet returned
+  -- `ahead_of` has the bytes that were read ahead and not yet returned
   abbrev pub ahead_of : BufferedSource S g → List ℕ
   ahead_of source = take (source.end - source.start) (drop source.start source.buffer)
 
-  -- the bytes that are not yet returned: those read ahead, and the remaining bytes of the other source
+  -- `rest_of` has the bytes that are not yet returned: those read ahead, and the remaining bytes of the other source
   abbrev pub rest_of : BufferedSource S g → List ℕ
   rest_of source = ahead_of source ++ g.remaining source.source
 

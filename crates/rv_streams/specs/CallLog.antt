@@ -2,7 +2,7 @@
 use Rattle.std.specs.Prelude.{◌≡◌, ◌<◌, ℕ, ◌+◌, true, ◌&&◌, ◌==◌, List, [], ◌++◌, length, drop}
 use Rattle.rv_streams.specs.declared.log.CallLog.{CallLog}
 
--- the log before the first call, with the input that is assumed
+-- `no_call` is the log before the first call, with the input that is assumed
 abbrev pub no_call : List ℕ → CallLog
 no_call input = record { marker = record {}; bytes = []; empty_calls = 0; failures = 0; flushes = 0; is_flushed = true; input = input }
 
@@ -10,15 +10,15 @@ no_call input = record { marker = record {}; bytes = []; empty_calls = 0; failur
 abbrev pub after_move : CallLog → List ℕ → CallLog
 after_move log bytes = record log { bytes = log.bytes ++ bytes; is_flushed = log.is_flushed && (length bytes == 0) }
 
--- the log after a call that moved no byte
+-- `after_empty_call` is the log after a call that moved no byte
 abbrev pub after_empty_call : CallLog → CallLog
 after_empty_call log = record log { empty_calls = log.empty_calls + 1 }
 
--- the log after a call that failed
+-- `after_failure` is the log after a call that failed
 abbrev pub after_failure : CallLog → CallLog
 after_failure log = record log { failures = log.failures + 1 }
 
--- the log after a flush
+-- `after_flush` is the log after a flush
 abbrev pub after_flush : CallLog → CallLog
 after_flush log = record log { flushes = log.flushes + 1; is_flushed = true }
 
@@ -29,6 +29,6 @@ pub record FollowsInput (log : CallLog) : Type 0 where
   pub split : log.input ≡ log.bytes ++ rest
   pub ended : 0 < log.empty_calls → rest ≡ []
 
--- the bytes of the assumed input that the source has not given yet
+-- `still_to_come` has the bytes of the assumed input that the source has not given yet
 abbrev pub still_to_come : CallLog → List ℕ
 still_to_come log = drop (length log.bytes) log.input

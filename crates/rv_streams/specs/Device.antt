@@ -2,17 +2,17 @@
 -- not take. (This project's own streams; not defined by a standard.)
 use Rattle.std.specs.Prelude.{ℕ, ◌+◌, ◌<◌, ◌==◌, nat_lt, Bool, false, ◌&&◌, Result, Ok, Err, if◌then◌else◌}
 
--- the number of bytes that a call gave or took; 0 if it failed
+-- `moved_count` is the number of bytes that a call gave or took, or 0 if it failed
 abbrev pub moved_count : {E : Type 0} → Result ℕ E → ℕ
 moved_count (Ok n) = n
 moved_count (Err e) = 0
 
--- whether a call that could have moved a byte succeeded without moving one
+-- `moves_none` states whether a call that could have moved a byte succeeded without moving one
 abbrev pub moves_none : {E : Type 0} → Result ℕ E → ℕ → Bool
 moves_none (Ok n) room = (n == 0) && nat_lt 0 room
 moves_none (Err e) room = false
 
--- the count after a call, which is or is not of the kind
+-- `counted_if` is the count after a call, which is or is not of the kind
 abbrev pub counted_if : Bool → ℕ → ℕ
 counted_if of_kind count = if of_kind then count + 1 else count
 

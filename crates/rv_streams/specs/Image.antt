@@ -10,13 +10,13 @@ use Rattle.rv_text.specs.Lines.{lines_of, after_lines}
 use Rattle.rv_streams.specs.LineText.{ReadsLineText, ReadsLines}
 use Rattle.rv_streams.specs.Separator.{line_word, before_separator}
 
--- the bytes of pairs of hexadecimal digits, the high digit first
+-- `pair_values` has the bytes of pairs of hexadecimal digits, the high digit first
 abbrev pub pair_values : List ℕ → List ℕ
 pair_values [] = []
 pair_values (digit ∷ []) = []
 pair_values (high ∷ low ∷ digits) = (16 * digit_value high + digit_value low) ∷ pair_values digits
 
--- the bytes of a text of hexadecimal digits of either case; None if their number is odd or there is any other byte
+-- `bytes_of_digits` has the bytes of a text of hexadecimal digits of either case, or `None` if their number is odd or there is any other character
 unfoldable pub bytes_of_digits : List ℕ → Option (List ℕ)
 bytes_of_digits text = if (length text % 2 == 0) && list_all (λ c. is_digit c 16) text then Some (pair_values text) else None
 
@@ -24,11 +24,11 @@ bytes_of_digits text = if (length text % 2 == 0) && list_all (λ c. is_digit c 1
 abbrev pub line_bytes : List ℕ → Option (List ℕ)
 line_bytes line = option_and_then bytes_of_digits (line_word line)
 
--- whether a line of the image is hexadecimal, so that it has bytes
+-- `is_image_line` states whether a line of the image is hexadecimal, so that it has bytes
 abbrev pub is_image_line : List ℕ → Bool
 is_image_line line = is_some (line_bytes line)
 
--- the bytes of lines, one after another
+-- `bytes_of_lines` has the bytes of lines, one after another
 abbrev pub bytes_of_lines : List (List ℕ) → List ℕ
 bytes_of_lines lines = flat_map (λ line. unwrap_or (line_bytes line) []) lines
 
@@ -39,7 +39,7 @@ image_of lines =
     if nat_lt 33554432 (length (bytes_of_lines (take_while is_image_line lines))) then Err TooLong
     else (if list_all is_image_line lines then Ok (bytes_of_lines lines) else Err Hex)
 
--- the image at the start of an input
+-- `image_in` is the image at the start of an input
 abbrev pub image_in : List ℕ → Result (List ℕ) BenchFault
 image_in input = image_of (before_separator (lines_of input))
 
@@ -52,7 +52,7 @@ pub record ReadsInImage (unread left kept : List ℕ) : Type 0 where
   pub image : image_of lines ≡ Ok (bytes_of_lines lines)
   pub begun : ReadsLineText others left kept
 
--- These lines were read, up to the remaining bytes, and none is `--`.
+-- The lines were read, up to the remaining bytes, and none is `--`.
 pub record ReadsUnmarked (unread left : List ℕ) (lines : List (List ℕ)) : Type 0 where
   pub all : lines_of unread ≡ lines ++ lines_of left
   pub rest : left ≡ after_lines (length lines) unread
@@ -73,7 +73,7 @@ pub record StopsAtFault (unread left : List ℕ) (fault : BenchFault) : Type 0 w
   pub image : image_of sound ≡ Ok (bytes_of_lines sound)
   pub fails : image_of (sound ++ line ∷ []) ≡ Err fault
 
--- the meaning of each result of appending the bytes of a word to an image
+-- each result of appending the bytes of a word to an image has a meaning
 abbrev pub AddsBytes : List ℕ → List ℕ → List ℕ → Result (Unit {0}) BenchFault → Type 0
 AddsBytes word old new (Ok _) = IsSomeAnd (bytes_of_digits word) (λ bytes. new ≡ old ++ bytes)
 AddsBytes word old new (Err Hex) = (bytes_of_digits word ≡ None) × (new ≡ old)

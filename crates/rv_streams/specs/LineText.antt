@@ -25,7 +25,7 @@ pub record TakesLine (unread left : List ℕ) (is_at_end : Bool) (shown : List �
   pub rest : left ≡ after_line unread
   pub prefix : shown ≡ take significant_bytes line
 
--- These lines were taken one by one, up to the remaining bytes.
+-- The lines were taken one by one, up to the remaining bytes.
 pub record ReadsLines (unread left : List ℕ) (is_at_end : Bool) (lines : List (List ℕ)) : Type 0 where
   pub text : List ℕ
   pub split : unread ≡ text ++ left
@@ -34,13 +34,13 @@ pub record ReadsLines (unread left : List ℕ) (is_at_end : Bool) (lines : List 
   pub all : lines_of unread ≡ lines ++ lines_of left
   pub rest : left ≡ after_lines (length lines) unread
 
--- the bytes from the end of a text on, including the line feed that was read
+-- `left_from` has the bytes from the end of a text on, including the line feed that was read
 abbrev pub left_from : {E : Type 0} → Result Stop E → List ℕ → List ℕ
 left_from (Ok LineFeed) remaining = line_feed ∷ remaining
 left_from (Ok End) remaining = remaining
 left_from (Err e) remaining = remaining
 
--- whether the text was ended by the end of the source
+-- `stops_at_end` states whether the text was ended by the end of the source
 abbrev pub stops_at_end : {E : Type 0} → Result Stop E → Bool
 stops_at_end (Ok LineFeed) = false
 stops_at_end (Ok End) = true

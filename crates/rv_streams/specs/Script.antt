@@ -10,21 +10,21 @@ use Rattle.rv_streams.specs.LineText.{ReadsLines, TakesLine}
 use Rattle.rv_streams.specs.Separator.{is_separator, before_separator, has_separator, after_separator}
 use Rattle.rv_streams.specs.Unread.{held, unread}
 
--- whether a line ends the script; such a line does not belong to the script
+-- `ends_script` states whether a line ends the script; such a line does not belong to the script
 abbrev pub ends_script : ScriptEnd → List ℕ → Bool
 ends_script Input line = false
 ends_script Separator line = is_separator line
 
--- the lines of the script: all, or those before the separator
+-- `script_lines` has the lines of the script: all, or those before the separator
 abbrev pub script_lines : ScriptEnd → List (List ℕ) → List (List ℕ)
 script_lines Input lines = lines
 script_lines Separator lines = before_separator lines
 
--- a line of the script
+-- a line is one of the script
 abbrev pub is_script_line : ScriptEnd → List ℕ → Bool
 is_script_line end line = not (ends_script end line)
 
--- These lines of the script were taken, and no others.
+-- The lines of the script were taken, and no others.
 pub record TakesScript (end : ScriptEnd) (unread left : List ℕ) (is_at_end : Bool) (lines : List (List ℕ)) : Type 0 where
   pub reads : ReadsLines unread left is_at_end lines
   pub inside : list_all (is_script_line end) lines ≡ true

@@ -6,26 +6,26 @@ use Rattle.rv_text.specs.GoodLines.{is_good_line}
 use Rattle.rv_text.specs.Lines.{lines_of, after_lines}
 use Rattle.rv_text.specs.Words.{words_of}
 
--- the only word, or an empty word if there is none
+-- `only_word` is the only word, or an empty word if there is none
 abbrev pub only_word : List (List ℕ) → Option (List ℕ)
 only_word [] = Some []
 only_word (word ∷ []) = Some word
 only_word (first ∷ second ∷ words) = None
 
--- the only word of a well-formed line; None if the line is malformed or has more words
+-- `line_word` is the only word of a well-formed line, or `None` if the line is malformed or has more words
 unfoldable pub line_word : List ℕ → Option (List ℕ)
 line_word line = if is_good_line line then only_word (words_of line) else None
 
--- whether the first word of a line is `--`
+-- `is_dashes` states whether the first word of a line is `--`
 abbrev pub is_dashes : Option (List ℕ) → Bool
 is_dashes None = false
 is_dashes (Some word) = bytes_eq word (codes "--")
 
--- a line whose only word is `--`
+-- a separator is a line whose only word is `--`
 abbrev pub is_separator : List ℕ → Bool
 is_separator line = is_dashes (line_word line)
 
--- the lines before the first separator, or all
+-- `before_separator` has the lines before the first separator, or all
 abbrev pub before_separator : List (List ℕ) → List (List ℕ)
 before_separator lines = take_while (λ line. not (is_separator line)) lines
 
@@ -33,6 +33,6 @@ before_separator lines = take_while (λ line. not (is_separator line)) lines
 abbrev pub has_separator : List ℕ → Bool
 has_separator input = list_any is_separator (lines_of input)
 
--- the input after the first separator
+-- `after_separator` is the input after the first separator
 abbrev pub after_separator : List ℕ → List ℕ
 after_separator input = after_lines (length (before_separator (lines_of input)) + 1) input

@@ -6,15 +6,15 @@ use Rattle.rv_streams.specs.Device.{HasRisen, counted_if}
 use Rattle.rv_streams.specs.LineText.{ReadsLineText, TakesLine}
 
 module _ {S : Type 0} {g : Ghosts S} where
-  -- the prefix of an unfinished line
+  -- `held` is the prefix of an unfinished line
   abbrev pub held : Lines S g → List ℕ
   held lines = lines.line.items
 
-  -- the prefix of an unfinished line, and the remaining bytes of the source
+  -- `unread` has the prefix of an unfinished line, and the remaining bytes of the source
   abbrev pub unread : Lines S g → List ℕ
   unread lines = held lines ++ g.remaining lines.source
 
-  -- an upper bound on the number of lines that are left
+  -- `calls_left` is an upper bound on the number of lines that are left
   abbrev pub calls_left : Lines S g → ℕ
   calls_left lines = g.calls_left lines.source + length (held lines)
 

@@ -158,6 +158,7 @@ impl<S: Source> Source for BufferedSource<S> {
 
     ghost calls_left = { calls_left_of S.Source };
 
+    /// See `Source::read_some`.
     fn read_some(&mut self, buffer: &mut [u8]) -> Result<usize, DeviceFault> {
         if buffer.is_empty() {
             return Ok(0);
@@ -168,6 +169,7 @@ impl<S: Source> Source for BufferedSource<S> {
         Ok(count)
     }
 
+    /// See `Source::read_in_line`.
     #[inline(always)]
     fn read_in_line(&mut self, buffer: &mut [u8]) -> Result<usize, DeviceFault> {
         self.read_ahead()?;
@@ -177,6 +179,7 @@ impl<S: Source> Source for BufferedSource<S> {
         Ok(count)
     }
 
+    /// See `Source::has_line_ahead`.
     #[inline(always)]
     fn has_line_ahead(&self) -> bool {
         has_feed(&self.buffer[self.start..self.end])

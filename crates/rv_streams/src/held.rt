@@ -138,6 +138,7 @@ impl<W: Sink> Sink for BufferedSink<W> {
 
     ghost failures = { failures_of W.Sink };
 
+    /// See `Sink::write_some`.
     fn write_some(&mut self, part: &[u8]) -> Result<usize, DeviceFault> {
         self.make_room(part.len())?;
         let count = hold(&mut self.buffer, self.end, part);
@@ -145,10 +146,12 @@ impl<W: Sink> Sink for BufferedSink<W> {
         Ok(count)
     }
 
+    /// See `Sink::pass_on`.
     fn pass_on(&mut self) -> Result<(), DeviceFault> {
         self.empty()
     }
 
+    /// See `Sink::flush`.
     fn flush(&mut self) -> Result<(), DeviceFault> {
         self.empty()?;
         self.sink.flush()

@@ -49,6 +49,7 @@ impl<'a> Source for MemorySource<'a> {
 
     ghost calls_left = { λ source. length (rest_in_memory source) };
 
+    /// See `Source::read_some`.
     fn read_some(&mut self, buffer: &mut [u8]) -> Result<usize, DeviceFault> {
         let count = self.rest.len().min(buffer.len());
         let (given, rest) = self.rest.split_at(count);
@@ -126,6 +127,7 @@ impl<'a> Sink for MemorySink<'a> {
 
     ghost failures = { λ _. 0 };
 
+    /// See `Sink::write_some`.
     fn write_some(&mut self, part: &[u8]) -> Result<usize, DeviceFault>
         ensures count { result ≡ Ok (min (length part.now) (room_of self.old)) }
         ensures bound { moved_count result ≤ length part.now }
@@ -138,6 +140,7 @@ impl<'a> Sink for MemorySink<'a> {
         Ok(self.fill(part))
     }
 
+    /// See `Sink::flush`.
     fn flush(&mut self) -> Result<(), DeviceFault> {
         self.log.flushed();
         Ok(())
@@ -199,6 +202,7 @@ impl Sink for VecSink {
 
     ghost failures = { λ sink. sink.log.failures };
 
+    /// See `Sink::write_some`.
     fn write_some(&mut self, part: &[u8]) -> Result<usize, DeviceFault>
         ensures bound { moved_count result ≤ length part.now }
         ensures bytes { self.new.bytes.items ≡ self.old.bytes.items ++ take (moved_count result) part.now }
@@ -222,6 +226,7 @@ impl Sink for VecSink {
         }
     }
 
+    /// See `Sink::flush`.
     fn flush(&mut self) -> Result<(), DeviceFault>
         ensures works { is_ok result ≡ true }
         ensures bytes { self.new.bytes.items ≡ self.old.bytes.items }

@@ -70,6 +70,7 @@ impl<R: Read> Source for ReaderSource<R> {
 
     ghost calls_left = { λ source. source.calls_left };
 
+    /// See `Source::read_some`.
     fn read_some(&mut self, buffer: &mut [u8]) -> Result<usize, DeviceFault>
         ensures room { moved_count result ≤ length buffer.new }
         ensures bytes { FollowsInput self.new.log → still_to_come self.old.log ≡ take (moved_count result) buffer.new ++ still_to_come self.new.log }
@@ -154,6 +155,7 @@ impl<W: Write> Sink for WriterSink<W> {
 
     ghost failures = { λ sink. sink.log.failures };
 
+    /// See `Sink::write_some`.
     fn write_some(&mut self, part: &[u8]) -> Result<usize, DeviceFault>
         ensures bound { moved_count result ≤ length part.now }
         ensures bytes { self.new.log.bytes ≡ self.old.log.bytes ++ take (moved_count result) part.now }
@@ -180,6 +182,7 @@ impl<W: Write> Sink for WriterSink<W> {
         }
     }
 
+    /// See `Sink::flush`.
     fn flush(&mut self) -> Result<(), DeviceFault>
         ensures bytes { self.new.log.bytes ≡ self.old.log.bytes }
         ensures flushed { self.new.log.is_flushed ≡ (self.old.log.is_flushed || is_ok result) }

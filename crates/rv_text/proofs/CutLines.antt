@@ -8,7 +8,7 @@ use Rattle.rv_text.specs.GoodLines.{max_line, significant_bytes, is_good_line}
 long_is_bad : (line : List ℕ) → max_line < length line → is_good_line line ≡ false
 long_is_bad line long = let leb_is : leb (length line) max_line ≡ false = grind arith in rw leb_is refl
 
--- a function that is used only for well-formed lines
+-- a function that is used only for well-formed lines depends only on the significant bytes
 pub if_good-take : {A : Type 0} (f : List ℕ → A) (bad : A) (line : List ℕ)
     → cond (is_good_line (take significant_bytes line)) (f (take significant_bytes line)) bad ≡ cond (is_good_line line) (f line) bad
 if_good-take f bad line = elim (cases_lt max_line (length line)) [

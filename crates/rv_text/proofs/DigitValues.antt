@@ -1,4 +1,4 @@
--- Lemmas about a test of each digit against `AllDigits`, and about the largest number with a given count of digits.
+-- This file proves lemmas about a test of each digit against `AllDigits`, and about the largest number with a given count of digits.
 use Rattle.std.proofs.Common.{◌≡◌, ℕ, suc, ◌+◌, ◌*◌, ◌^◌, ◌<◌, ◌≤◌, true, List, [], ◌∷◌, length, take, get_or, length-take-le, subst, arith}
 use Rattle.std.specs.List.{list_all}
 use Rattle.std.specs.Char.{is_digit, digit_value}

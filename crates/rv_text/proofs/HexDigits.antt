@@ -1,4 +1,4 @@
--- Lemmas about hexadecimal digits that are written from the first.
+-- This file proves lemmas about hexadecimal digits that are written from the first.
 use Rattle.std.proofs.Common.{◌≡◌, ℕ, zero, suc, ◌+◌, ◌-◌, ◌*◌, ◌/◌, ◌%◌, ◌^◌, ◌<◌, [], ◌∷◌, ◌++◌, length, bit_and, refl}
 use Rattle.std.proofs.Common.{ap, sym, ◌∙◌, arith, add-one, length-append, Option, Some, None}
 use Rattle.std.specs.Option.{SomeIff}
@@ -34,7 +34,7 @@ shifted_more value places written more =
     div-div-eq-div-mul value (2 ^ (4 * (places - (written + 1)))) 16
     ∙ ap (λ k. value / k) (sym (pow-add 2 (4 * (places - (written + 1))) 4) ∙ ap (λ k. 2 ^ k) exponent)
 
--- one more digit at the end
+-- the digits of a number without its last digit, followed by this digit, are the digits of the number
 digit_more : (written before shown : ℕ) → before ≡ shown / 16 → hex_digits written before ++ digit_char (bit_and shown 15) ∷ [] ≡ hex_digits (written + 1) shown
 unfolding hex_digits
 digit_more written before shown before_is =
@@ -53,7 +53,7 @@ hex_digits-all value places =
     let none : places - places ≡ 0 = omega arith in
     rw none (ap (hex_digits places) (omega arith))
 
--- an element of an option that has one under a condition is that one, and the condition holds
+-- if an option has an element v exactly under a condition, an element x of the option is v, and the condition holds
 pub SomeIff-at_some : {T : Type 0} (o : Option T) (P : Type 0) (v x : T) → SomeIff o P v → o ≡ Some x → P × (x ≡ v)
 SomeIff-at_some None P v x h e = absurd (none-some x e)
 SomeIff-at_some (Some y) P v x h e =

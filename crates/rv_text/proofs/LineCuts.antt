@@ -1,4 +1,4 @@
--- Lemmas about the first line of a text.
+-- This file proves lemmas about the first line of a text.
 use Rattle.std.proofs.Common.{◌≡◌, ◌≢◌, ◌==◌, ◌||◌, ℕ, ◌+◌, ◌<◌, Bool, true, false, not, cond, sym, List, [], ◌∷◌}
 use Rattle.std.proofs.Common.{◌++◌, length, take, get_or, refl, ap, ◌∙◌, arith, append_assoc, suc}
 use Rattle.std.proofs.lemmas.List.{take_all}
@@ -8,15 +8,15 @@ use Rattle.std.proofs.lemmas.List.Sums.{split_at_first, passes_at_first}
 use Rattle.rv_text.specs.Lines.{has_feed, lines_of, through_last_feed, without_return}
 use Rattle.rv_text.proofs.LineLemmas.{lines_of-append, lines_of-line, lines_of-last, without_return-other, through_last_feed-append_feed}
 
--- whether a byte is a line feed
+-- a byte is a line feed (10)
 abbrev is_feed : ℕ → Bool
 is_feed b = b == 10
 
--- one more element of a list
+-- one more element in front of a list is taken first
 take-one_more : (n x : ℕ) (xs : List ℕ) → take (1 + n) (x ∷ xs) ≡ x ∷ take n xs
 take-one_more n x xs = let one_more : 1 + n ≡ suc n = omega arith in rw one_more refl
 
--- the bytes before a line feed with one more byte that is none
+-- the bytes before the first line feed have no line feed also with one more byte in front, where `b` states whether this byte is a line feed
 no_feed-step : (b : Bool) (n x : ℕ) (xs : List ℕ) → is_feed x ≡ b → has_feed (take n xs) ≡ false → has_feed (take (cond (not b) (1 + n) 0) (x ∷ xs)) ≡ false
 no_feed-step true n x xs test_is more = refl
 no_feed-step false n x xs test_is more =

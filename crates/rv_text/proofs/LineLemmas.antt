@@ -1,4 +1,4 @@
--- Lemmas about the lines of a text that is read byte by byte.
+-- This file proves lemmas about the lines of a text that is read byte by byte.
 use Rattle.std.proofs.Common.{◌≡◌, ◌≢◌, ℕ, suc, zero, inl, inr, ◌<◌, ◌≤◌, nat_eq, Bool, true, false, ◌&&◌, ◌||◌, cond, List}
 use Rattle.std.proofs.Common.{[], ◌∷◌, ◌++◌, length, take, drop, min, refl, sym, ◌∙◌, ap, arith, append-nil}
 use Rattle.std.proofs.lemmas.List.{take-append-le, take_all, take-take, length-take, length-append}
@@ -34,13 +34,13 @@ or_true : (a b : Bool) → b ≡ true → a || b ≡ true
 or_true true b h = refl
 or_true false b h = h
 
--- appending a text without a line feed finishes no line
+-- an appended text without a line feed finishes no line
 pub through_last_feed-append_open : (xs ys : List ℕ) → has_feed ys ≡ false → through_last_feed (xs ++ ys) ≡ through_last_feed xs
 through_last_feed-append_open [] ys no_feed = through_last_feed-open ys no_feed
 through_last_feed-append_open (x ∷ xs) ys no_feed =
     rw (has_feed-append xs ys, or_false (has_feed xs) (has_feed ys) no_feed, through_last_feed-append_open xs ys no_feed) refl
 
--- appending a text with a line feed finishes all lines before it
+-- an appended text with a line feed finishes all lines before it
 pub through_last_feed-append_feed : (xs ys : List ℕ) → has_feed ys ≡ true → through_last_feed (xs ++ ys) ≡ xs ++ through_last_feed ys
 through_last_feed-append_feed [] ys feed = refl
 through_last_feed-append_feed (x ∷ xs) ys feed =
@@ -49,6 +49,7 @@ through_last_feed-append_feed (x ∷ xs) ys feed =
 -- the rest of a text of whole lines consists of whole lines
 through_last_feed-cons : (x : ℕ) (xs : List ℕ) → through_last_feed (x ∷ xs) ≡ x ∷ xs → (nat_eq x 10 || has_feed xs ≡ true) × (through_last_feed xs ≡ xs)
 through_last_feed-cons x xs = go (nat_eq x 10 || has_feed xs) where
+  -- a text of whole lines has a line feed in x or after it, where `b` states whether it has one, and its rest consists of whole lines
   go : (b : Bool) → cond b (x ∷ through_last_feed xs) [] ≡ x ∷ xs → (b ≡ true) × (through_last_feed xs ≡ xs)
   go true e = (refl, cc)
   go false e = cc
@@ -64,13 +65,14 @@ onto_first-some x (l ∷ ls) onto_first_is = cc
 pub lines_of-some : (xs : List ℕ) → has_feed xs ≡ true → lines_of xs ≡ [] → ⊥
 lines_of-some [] feed lines_are = cc
 lines_of-some (x ∷ xs) h e = go (nat_eq x 10) (nat_eq x 13 && starts_with_feed xs) (lines_of-some xs) h e where
+  -- a text with first byte x has a line, where `b` states whether x is a line feed, and `c` whether x is a carriage return before one
   go : (b c : Bool) → (has_feed xs ≡ true → lines_of xs ≡ [] → ⊥) → b || has_feed xs ≡ true
       → cond b ([] ∷ lines_of xs) (cond c (lines_of xs) (onto_first x (lines_of xs))) ≡ [] → ⊥
   go true c more h e = cc
   go false true more h e = more h e
   go false false more h e = onto_first-some x (lines_of xs) e
 
--- the lines of two texts, by the first byte
+-- the lines of a text before another, with one more byte x in front, are the lines of the first and those of the other text
 branch : (b c : Bool) (x : ℕ) (ms ls zs : List (List ℕ)) → ms ≡ ls ++ zs → (b ≡ false → ls ≡ [] → ⊥)
     → cond b ([] ∷ ms) (cond c ms (onto_first x ms)) ≡ cond b ([] ∷ ls) (cond c ls (onto_first x ls)) ++ zs
 branch true c x ms ls zs e some = ap (λ (t : List (List ℕ)). [] ∷ t) e
@@ -78,17 +80,18 @@ branch false true x ms ls zs e some = e
 branch false false x ms [] zs e some = absurd (some refl refl)
 branch false false x ms (l ∷ ls) zs e some = ap (onto_first x) e
 
--- whether a text starts with a line feed depends on its first part, if that has one
+-- a text starts with a line feed if its first part does, provided the first part has a line feed
 starts_with_feed-append : (xs ys : List ℕ) → has_feed xs ≡ true → starts_with_feed (xs ++ ys) ≡ starts_with_feed xs
 starts_with_feed-append [] ys feed = cc
 starts_with_feed-append (x ∷ xs) ys feed = refl
 
--- the lines of a text of finished lines, followed by the lines of the text after it
+-- the lines of a text that begins with finished lines are these lines, followed by the lines of the text after them
 pub lines_of-append : (xs ys : List ℕ) → through_last_feed xs ≡ xs → lines_of (xs ++ ys) ≡ lines_of xs ++ lines_of ys
 lines_of-append [] ys through_last_feed_is = refl
 lines_of-append (x ∷ xs) ys through_last_feed_is =
     let parts = through_last_feed-cons x xs through_last_feed_is in
     go (nat_eq x 10) (lines_of-append xs ys parts.1) parts.0 where
+      -- the lines of a text of finished lines come first, where `b` states whether its first byte x is a line feed
       go : (b : Bool) → lines_of (xs ++ ys) ≡ lines_of xs ++ lines_of ys → b || has_feed xs ≡ true
           → cond b ([] ∷ lines_of (xs ++ ys))
           (cond (nat_eq x 13 && starts_with_feed (xs ++ ys)) (lines_of (xs ++ ys)) (onto_first x (lines_of (xs ++ ys))))
@@ -117,7 +120,7 @@ through_last_feed-append xs (y ∷ ys) through_last_feed_is e = through_last_fee
 without_return-cons : (x y : ℕ) (ys : List ℕ) → without_return (x ∷ y ∷ ys) ≡ x ∷ without_return (y ∷ ys)
 without_return-cons x y ys = rw (and_false (nat_eq x 13)) refl
 
--- one more byte in front of the only line
+-- one more byte in front of the only line makes it the first byte of this line
 one_more : (b c d : Bool) (x : ℕ) (line : List ℕ) (ms : List (List ℕ)) → ms ≡ line ∷ [] → b ≡ false → d ≡ false
     → cond b ([] ∷ ms) (cond (c && d) ms (onto_first x ms)) ≡ (x ∷ line) ∷ []
 one_more true c d x line ms e h k = cc
@@ -128,6 +131,7 @@ one_more false c false x line ms e h k = rw (and_false c) (ap (onto_first x) e)
 pub lines_of-line : (xs : List ℕ) → has_feed xs ≡ false → lines_of (xs ++ 10 ∷ []) ≡ without_return xs ∷ []
 lines_of-line [] no_feed = refl
 lines_of-line (x ∷ []) no_feed = rw ((or_none (nat_eq x 10) false no_feed).0) (go (nat_eq x 13)) where
+  -- a single byte followed by a line feed is one line, which is empty if the byte is a carriage return (b)
   go : (b : Bool) → cond (b && true) ([] ∷ []) ((x ∷ []) ∷ []) ≡ cond (b && true) [] (x ∷ []) ∷ []
   go true = refl
   go false = refl
@@ -183,7 +187,7 @@ cut-kept xs = elim (cases_lt kept_bytes (length xs)) [
   | inr all ↦ rw (take_all kept_bytes xs all) refl
 ]
 
--- the first n bytes, or all if there are fewer
+-- the first min(length, n) bytes of a text are its first n bytes
 take-min : (n : ℕ) (xs : List ℕ) → take (min (length xs) n) xs ≡ take n xs
 take-min n xs = elim (cases_lt n (length xs)) [
   | inl more ↦ let e : min (length xs) n ≡ n = omega arith in rw e refl
@@ -216,7 +220,7 @@ shown-empty (x ∷ xs) length_is = absurd (omega arith)
 
 -- ---- the text after a line
 
--- the text after the first line feed
+-- the text after the first line is the text after the first line feed
 pub after_line-feed : (xs ys : List ℕ) → has_feed xs ≡ false → after_line (xs ++ 10 ∷ ys) ≡ ys
 after_line-feed [] ys no_feed = refl
 after_line-feed (x ∷ xs) ys no_feed =
@@ -230,7 +234,7 @@ after_line-open (x ∷ xs) no_feed =
     let parts = or_none (nat_eq x 10) (has_feed xs) no_feed in
     rw parts.0 (after_line-open xs parts.1)
 
--- the text after n lines and one more
+-- the text after n lines and one more is the text after the first line of the text after n lines
 pub after_lines-more : (n : ℕ) (text : List ℕ) → after_lines (suc n) text ≡ after_line (after_lines n text)
 after_lines-more zero text = refl
 after_lines-more (suc n) text = after_lines-more n (after_line text)
@@ -239,10 +243,12 @@ after_lines-more (suc n) text = after_lines-more n (after_line text)
 lines_of-after_line : (text : List ℕ) → lines_of (after_line text) ≡ drop 1 (lines_of text)
 lines_of-after_line [] = refl
 lines_of-after_line (x ∷ xs) = go (nat_eq x 10) (nat_eq x 13 && starts_with_feed xs) (lines_of xs) (lines_of-after_line xs) where
+  -- a byte put before the first line does not change the lines after the first
   first : (ls : List (List ℕ)) → drop 1 ls ≡ drop 1 (onto_first x ls)
   first [] = refl
   first (l ∷ ls) = refl
 
+  -- the lines of the text after the first line are the other lines, where `b` states whether x is a line feed, `c` whether x is dropped
   go : (b c : Bool) (ls : List (List ℕ)) → lines_of (after_line xs) ≡ drop 1 ls
       → lines_of (cond b xs (after_line xs)) ≡ drop 1 (cond b ([] ∷ lines_of xs) (cond c ls (onto_first x ls)))
   go true c ls more = refl

@@ -1,4 +1,4 @@
--- The words of a text up to its first blank, and those after it.
+-- This file is about the words of a text up to its first blank, and the words after the blank.
 use Rattle.std.proofs.Common.{◌≡◌, ◌<◌, ◌==◌, ◌++◌, ℕ, Bool, true, false, cond, List, [], ◌∷◌, length, take, filter, refl, ap, sym, ◌∙◌, arith}
 use Rattle.std.proofs.lemmas.Bool.Decides.{nat_tests}
 use Rattle.std.proofs.lemmas.List.{take-append-le, take_all}
@@ -8,7 +8,7 @@ use Rattle.std.proofs.lemmas.List.Splits.{slice_split_none, slice_split_first}
 use Rattle.rv_text.specs.GoodLines.{is_blank}
 use Rattle.rv_text.specs.Words.{is_filled, words_of}
 
--- a word put before the others, or none
+-- a list with a word before the others, or without it (b), is the list of this word or of none, followed by the others
 first_or_none : (b : Bool) (word : List ℕ) (words : List (List ℕ)) → cond b (word ∷ words) words ≡ cond b (word ∷ []) [] ++ words
 first_or_none true word words = refl
 first_or_none false word words = refl
@@ -36,6 +36,6 @@ pub words-none : (text rest : List ℕ) (is : Bool) → words_of text ≡ words_
 unfolding words_of
 words-none text rest is every test h = every ∙ ap words_of (no_text rest is test h)
 
--- the first n words of a list are those before the others
+-- the first n words of a list are the words before the others
 pub words-full : (n : ℕ) (words more all : List (List ℕ)) → all ≡ words ++ more → length words ≡ n → words ≡ take n all
 words-full n words more all every len = rw every (sym (take-append-le n words more (omega (arith, len)) ∙ take_all n words (omega (arith, len))))

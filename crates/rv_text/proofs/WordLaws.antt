@@ -6,12 +6,12 @@ use Rattle.std.specs.List.{slice_split, onto_first, list_all}
 use Rattle.rv_text.specs.GoodLines.{is_blank}
 use Rattle.rv_text.specs.Words.{is_filled, words_of}
 
--- the words, one after another
+-- `joined` has the words, one after another
 abbrev joined : List (List ℕ) → List ℕ
 joined [] = []
 joined (word ∷ words) = word ++ joined words
 
--- whether no byte of a word is blank
+-- no byte of a word is blank
 abbrev has_no_blank : List ℕ → Bool
 has_no_blank word = list_all (λ byte. not (is_blank byte)) word
 
@@ -24,6 +24,7 @@ joined-onto_first x (word ∷ words) = refl
 joined-slice_split : (line : List ℕ) → joined (slice_split is_blank line) ≡ filter (λ byte. not (is_blank byte)) line
 joined-slice_split [] = refl
 joined-slice_split (x ∷ xs) = go (is_blank x) (joined-slice_split xs) where
+  -- the parts of a line with first byte x, one after another, are the bytes that are not blank, where `b` states whether x is blank
   go : (b : Bool) → joined (slice_split is_blank xs) ≡ filter (λ byte. not (is_blank byte)) xs
       → joined (cond b ([] ∷ slice_split is_blank xs) (onto_first x (slice_split is_blank xs)))
       ≡ cond (not b) (x ∷ filter (λ byte. not (is_blank byte)) xs) (filter (λ byte. not (is_blank byte)) xs)
@@ -66,6 +67,7 @@ no_blank-onto_first x (word ∷ words) not_blank all = rw not_blank all
 no_blank-slice_split : (line : List ℕ) → list_all has_no_blank (slice_split is_blank line) ≡ true
 no_blank-slice_split [] = refl
 no_blank-slice_split (x ∷ xs) = go (is_blank x) refl (no_blank-slice_split xs) where
+  -- the parts of a line with first byte x have no blank, where `b` states whether x is blank
   go : (b : Bool) → is_blank x ≡ b → list_all has_no_blank (slice_split is_blank xs) ≡ true
       → list_all has_no_blank (cond b ([] ∷ slice_split is_blank xs) (onto_first x (slice_split is_blank xs))) ≡ true
   go true is more = more
@@ -76,6 +78,7 @@ no_blank-filter : (words : List (List ℕ)) → list_all has_no_blank words ≡ 
 no_blank-filter [] all = refl
 no_blank-filter ([] ∷ words) all = no_blank-filter words all
 no_blank-filter ((x ∷ xs) ∷ words) all = rw (filled x xs) (go (has_no_blank (x ∷ xs)) all (no_blank-filter words)) where
+  -- the filtered words with first word x ∷ xs have no blank, where `b` states whether the first word has none
   go : (b : Bool) → b && list_all has_no_blank words ≡ true
       → (list_all has_no_blank words ≡ true → list_all has_no_blank (filter is_filled words) ≡ true)
       → b && list_all has_no_blank (filter is_filled words) ≡ true

@@ -1,46 +1,46 @@
 -- The characters that separate lines, words and comments, by their codes in ASCII (ISO/IEC 646).
 use Rattle.std.specs.Prelude.{ℕ}
 
--- the code of the horizontal tab
+-- `tab` is the code of the horizontal tab
 abbrev pub tab : ℕ
 tab = 9
 
--- the code of LF, which ends a line
+-- `line_feed` is the code of LF, which ends a line
 abbrev pub line_feed : ℕ
 line_feed = 10
 
--- the code of CR, which may come before LF
+-- `carriage_return` is the code of CR, which may come before LF
 abbrev pub carriage_return : ℕ
 carriage_return = 13
 
--- the code of the space
+-- `space` is the code of the space
 abbrev pub space : ℕ
 space = 32
 
--- the code of `#`
+-- `number_sign` is the code of `#`
 abbrev pub number_sign : ℕ
 number_sign = 35
 
--- the code of `(`
+-- `left_parenthesis` is the code of `(`
 abbrev pub left_parenthesis : ℕ
 left_parenthesis = 40
 
--- the code of `,`
+-- `comma` is the code of `,`
 abbrev pub comma : ℕ
 comma = 44
 
--- the code of `.`
+-- `full_stop` is the code of `.`
 abbrev pub full_stop : ℕ
 full_stop = 46
 
--- the code of `:`
+-- `colon` is the code of `:`
 abbrev pub colon : ℕ
 colon = 58
 
--- the code of `_`
+-- `low_line` is the code of `_`
 abbrev pub low_line : ℕ
 low_line = 95
 
--- the code of `~`, the last printable character of ASCII
+-- `tilde` is the code of `~`, the last printable character of ASCII
 abbrev pub tilde : ℕ
 tilde = 126

@@ -7,14 +7,14 @@ unfoldable pub hex_digits : ℕ → ℕ → List ℕ
 hex_digits zero n = []
 hex_digits (suc places) n = hex_digits places (n / 16) ++ digit_char (n % 16) ∷ []
 
--- the digits of a word, of the number of a control and status register, and of a byte
+-- `hex8` is a number as eight hexadecimal digits
 abbrev pub hex8 : ℕ → List ℕ
 hex8 n = hex_digits 8 n
 
--- a number as three hexadecimal digits
+-- `hex3` is a number as three hexadecimal digits
 abbrev pub hex3 : ℕ → List ℕ
 hex3 n = hex_digits 3 n
 
--- a number as two hexadecimal digits
+-- `hex2` is a number as two hexadecimal digits
 abbrev pub hex2 : ℕ → List ℕ
 hex2 n = hex_digits 2 n

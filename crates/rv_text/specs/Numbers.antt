@@ -4,10 +4,10 @@ use Rattle.std.specs.List.{list_all}
 use Rattle.std.specs.Char.{is_digit}
 use Rattle.std.specs.Str.Parse.{digits_value}
 
--- a text of 1 to `most` digits of the base
+-- a number is a text of 1 to `most` digits of the base
 abbrev pub is_number : ℕ → ℕ → List ℕ → Bool
 is_number base most text = nat_lt 0 (length text) && nat_le (length text) most && list_all (λ c. is_digit c base) text
 
--- the number of 1 to `most` digits of the base
+-- `number_of_digits` is the number of 1 to `most` digits of the base
 unfoldable pub number_of_digits : ℕ → ℕ → List ℕ → Option ℕ
 number_of_digits base most text = if is_number base most text then Some (digits_value base text) else None

@@ -1,4 +1,4 @@
--- Lemmas about fields by shifts and masks, and about sign extension by a left shift and a signed right shift.
+-- This file proves lemmas about fields by shifts and masks, and about sign extension by a left shift and a signed right shift.
 use Rattle.std.proofs.Common.{◌≡◌, ℕ, suc, ◌+◌, ◌-◌, ◌*◌, ◌/◌, ◌%◌, ◌^◌, ◌<◌, ◌≤◌, negsuc, bit_and, sym, ap, subst, inl, inr, ◌∙◌, arith, add-zero}
 use Rattle.std.specs.Int.{w32, cast_signed, cast_unsigned}
 use Rattle.std.specs.Int.Signed.{shr_z}
@@ -12,7 +12,7 @@ use Rattle.rv_word.specs.BitFields.{bits, sign_extended, signed_field}
 
 -- ---- fields
 
--- the mask of hi - lo + 1 bits, as a shift of all ones
+-- the mask of hi - lo + 1 bits is a shift of all ones
 mask_is : (hi lo : ℕ) → lo ≤ hi → hi ≤ 31 → (2 ^ 32 - 1) / 2 ^ (31 - (hi - lo)) ≡ 2 ^ (hi + 1 - lo) - 1
 mask_is hi lo ordered within =
     let width : 32 - (31 - (hi - lo)) ≡ hi + 1 - lo = omega arith
@@ -45,7 +45,7 @@ shl_low number width k sum =
     (shl_below (number % 2 ^ width) width k (mod_below number (2 ^ width) (pow_pos width))) in
     ap (λ n. n % 2 ^ 32) split ∙ mod-mul-add (number / 2 ^ width) (2 ^ 32) (number % 2 ^ width * 2 ^ k) below
 
--- those bits shifted back with their sign, for a value below one half and for one from there on
+-- a nonnegative field shifted left and right again is unchanged
 shl_shr_positive : (low half factor : ℕ) → 0 < factor → half * factor ≡ 2 ^ 31 → low < half
     → cast_unsigned w32 (shr_z (cast_signed w32 (low * factor)) factor) ≡ low
 shl_shr_positive low half factor some whole small =

@@ -1,13 +1,13 @@
--- Examples: rows of table 7.1 (RISC-V Unprivileged ISA 20191213, section 7.2). They cover division by zero, and -2^31 by -1, the only signed
--- division whose quotient fits in no word.
+-- This file has examples: rows of table 7.1 (RISC-V Unprivileged ISA 20191213, section 7.2). They cover division by zero, and -2^31 by -1, the only
+-- signed division whose quotient fits in no word.
 use Rattle.std.proofs.Common.{◌≡◌, ℕ, refl}
 use Rattle.rv_word.specs.Division.{quotient, remainder, unsigned_quotient, unsigned_remainder}
 
--- the dividend -2^31 and the divisor -1, as words
+-- `least` is the word of the dividend -2^31
 abbrev least : ℕ
 least = 0x80000000
 
--- the word of -1
+-- `minus_one` is the word of the divisor -1
 abbrev minus_one : ℕ
 minus_one = 0xFFFFFFFF
 
@@ -19,7 +19,7 @@ div-overflow = refl
 rem-overflow : remainder least minus_one ≡ 0
 rem-overflow = refl
 
--- the same words as unsigned numbers are 2^31 and 2^32 - 1
+-- the words of -2^31 and -1 are the unsigned numbers 2^31 and 2^32 - 1, so the unsigned quotient is 0
 divu-of_these : unsigned_quotient least minus_one ≡ 0
 divu-of_these = refl
 

@@ -29,7 +29,7 @@ number_of-bitwise f g goes (suc k) a b p q =
 
 -- ---- the four operations on the lowest bits r and s
 
--- `&` of two single bits
+-- `&` of two single bits is 1 if both are 1
 last_and : (r s : ℕ) → r < 2 → s < 2 → bit_and r s ≡ digit (r == 1 && s == 1)
 last_and zero zero p q = refl
 last_and zero (suc zero) p q = refl
@@ -38,7 +38,7 @@ last_and (suc zero) (suc zero) p q = refl
 last_and (suc (suc r)) s p q = absurd (omega arith)
 last_and r (suc (suc s)) p q = absurd (omega arith)
 
--- `|` of two single bits
+-- `|` of two single bits is 1 if one of them is 1
 last_or : (r s : ℕ) → r < 2 → s < 2 → bit_or r s ≡ digit (r == 1 || s == 1)
 last_or zero zero p q = refl
 last_or zero (suc zero) p q = refl
@@ -47,7 +47,7 @@ last_or (suc zero) (suc zero) p q = refl
 last_or (suc (suc r)) s p q = absurd (omega arith)
 last_or r (suc (suc s)) p q = absurd (omega arith)
 
--- `^` of two single bits
+-- `^` of two single bits is 1 if exactly one of them is 1
 last_xor : (r s : ℕ) → r < 2 → s < 2 → bit_xor r s ≡ digit (exclusive_or (r == 1) (s == 1))
 last_xor zero zero p q = refl
 last_xor zero (suc zero) p q = refl
@@ -56,7 +56,7 @@ last_xor (suc zero) (suc zero) p q = refl
 last_xor (suc (suc r)) s p q = absurd (omega arith)
 last_xor r (suc (suc s)) p q = absurd (omega arith)
 
--- and-not of two single bits
+-- a bit is the sum of its and-not and its `&` with another bit
 last_and_not : (r s : ℕ) → r < 2 → s < 2 → digit (r == 1 && not (s == 1)) + bit_and s r ≡ r
 last_and_not zero zero p q = refl
 last_and_not zero (suc zero) p q = refl
@@ -71,7 +71,7 @@ last_and_not r (suc (suc s)) p q = absurd (omega arith)
 halved : (n : ℕ) → n ≡ n / 2 * 2 ^ 1 + n % 2
 halved n = sym (div-add-mod' n 2)
 
--- both operands of an operation are split into their lowest bit and the rest
+-- an operation on two words is unchanged if both are written as their lowest bit and the rest
 split : (g : ℕ → ℕ → ℕ) (a b : ℕ) → g a b ≡ g (a / 2 * 2 ^ 1 + a % 2) (b / 2 * 2 ^ 1 + b % 2)
 split g a b = ap (λ n. g n b) (halved a) ∙ ap (g (a / 2 * 2 ^ 1 + a % 2)) (halved b)
 

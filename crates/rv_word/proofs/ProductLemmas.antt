@@ -14,13 +14,13 @@ pub high_word_is : (product : ℤ) (number : ℕ) → FitsSigned w64 product →
 high_word_is (pos n) number fits number_is = grind (arith, ints)
 high_word_is (negsuc n) number fits number_is = grind (arith, ints)
 
--- this word solves the equation
+-- the high word of the 64-bit number of a product solves the equation of the signed high word
 pub IsSignedHighWord-high : (product : ℤ) (number : ℕ) → FitsSigned w64 product → number ≡ cast_unsigned w64 product
     → IsSignedHighWord product (number / 2 ^ 32)
 IsSignedHighWord-high (pos n) number fits number_is = (number % 2 ^ 32, mod_below number (2 ^ 32) (omega arith), grind (arith, ints, signed-low))
 IsSignedHighWord-high (negsuc n) number fits number_is = (number % 2 ^ 32, mod_below number (2 ^ 32) (omega arith), grind (arith, ints, signed-is))
 
--- no other word solves it
+-- no other word than the high word solves the equation of the signed high word
 pub high_word-unique : (product : ℤ) (high : ℕ) → high < 2 ^ 32 → IsSignedHighWord product high → high ≡ high_word product
 high_word-unique (pos n) high fits is = grind (arith, ints)
 high_word-unique (negsuc n) high fits is = grind (arith, ints)

@@ -1,4 +1,4 @@
--- The signed value of a word by cases, and by the cast of std.
+-- This file states the signed value of a word by cases, and by the cast of std.
 use Rattle.std.proofs.Common.{◌≡◌, ℕ, ◌^◌, ◌<◌, pos, arith}
 use Rattle.std.specs.Int.{w32, cast_signed}
 use Rattle.std.proofs.lemmas.Int.{ints}

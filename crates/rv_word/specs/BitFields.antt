@@ -2,19 +2,19 @@
 use Rattle.std.specs.Prelude.{ℕ, ◌+◌, ◌-◌, ◌*◌, ◌/◌, ◌%◌, ◌^◌, ◌==◌, Bool, ℤ, pos, ◌-ℤ◌, nat_lt, if◌then◌else◌}
 use Rattle.rv_word.specs.Logic.{digit}
 
--- whether bit k of a word is 1
+-- `is_set` states whether bit k of a word is 1
 abbrev pub is_set : ℕ → ℕ → Bool
 is_set word k = word / 2 ^ k % 2 == 1
 
--- the word with only bit k set, or 0
+-- `flag` is the word with only bit k set, or 0
 abbrev pub flag : ℕ → Bool → ℕ
 flag k set = digit set * 2 ^ k
 
--- bits hi down to lo of a word, as a number
+-- `bits` has bits hi down to lo of a word, as a number
 abbrev pub bits : ℕ → ℕ → ℕ → ℕ
 bits word hi lo = word / 2 ^ lo % 2 ^ (hi + 1 - lo)
 
--- the signed value of the low `width` bits of a number, in two's complement
+-- `signed_field` is the signed value of the low `width` bits of a number, in two's complement
 abbrev pub signed_field : ℕ → ℕ → ℤ
 signed_field number width =
     let low = number % 2 ^ width

@@ -5,6 +5,6 @@ use Rattle.std.specs.Prelude.{ℕ, ◌+◌, ◌*◌, ◌/◌, ◌%◌, ◌^◌, 
 abbrev pub word_of_bytes : List ℕ → ℕ
 word_of_bytes bytes = slice_index bytes 0 + slice_index bytes 1 * 2 ^ 8 + slice_index bytes 2 * 2 ^ 16 + slice_index bytes 3 * 2 ^ 24
 
--- byte k of a word
+-- `byte_of` is byte k of a word
 abbrev pub byte_of : ℕ → ℕ → ℕ
 byte_of word k = word / 2 ^ (8 * k) % 2 ^ 8

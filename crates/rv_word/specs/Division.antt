@@ -31,7 +31,7 @@ quotient dividend divisor =
     else (if overflows dividend divisor then dividend
     else low_word (int_div (signed dividend) (signed divisor)))
 
--- the signed remainder of rem: the dividend for a divisor of 0, and 0 on overflow
+-- `remainder` is the signed remainder of rem: the dividend for a divisor of 0, and 0 on overflow
 abbrev pub remainder : ℕ → ℕ → ℕ
 remainder dividend divisor =
     if divisor == 0 then dividend
@@ -47,10 +47,10 @@ IsUnsignedQuotient dividend divisor word = (r : ℕ) × (r < divisor) × (word *
 abbrev pub IsUnsignedRemainder : ℕ → ℕ → ℕ → Type 0
 IsUnsignedRemainder dividend divisor word = (q : ℕ) × (word < divisor) × (q * divisor + word ≡ dividend)
 
--- the unsigned quotient of divu: 2 ^ 32 - 1 for a divisor of 0
+-- `unsigned_quotient` is the unsigned quotient of divu: 2 ^ 32 - 1 for a divisor of 0
 abbrev pub unsigned_quotient : ℕ → ℕ → ℕ
 unsigned_quotient dividend divisor = if divisor == 0 then 2 ^ 32 - 1 else dividend / divisor
 
--- the unsigned remainder of remu: the dividend for a divisor of 0
+-- `unsigned_remainder` is the unsigned remainder of remu: the dividend for a divisor of 0
 abbrev pub unsigned_remainder : ℕ → ℕ → ℕ
 unsigned_remainder dividend divisor = if divisor == 0 then dividend else dividend % divisor

@@ -2,7 +2,7 @@
 use Rattle.std.specs.Prelude.{◌≡◌, ℕ, ◌^◌, ◌<◌, ℤ, pos, ◌+ℤ◌, ◌*ℤ◌}
 use Rattle.rv_word.specs.Word.{signed, low_word, rounded_down}
 
--- the integer shifted right by 32 bits, modulo 2 ^ 32: the word above its low word
+-- `high_word` is the integer shifted right by 32 bits, modulo 2 ^ 32: the word above its low word
 abbrev pub high_word : ℤ → ℕ
 high_word whole = low_word (rounded_down whole (2 ^ 32))
 

@@ -2,11 +2,11 @@
 use Rattle.std.specs.Prelude.{ℕ, ◌*◌, ◌/◌, ◌%◌, ◌^◌}
 use Rattle.rv_word.specs.Word.{signed, low_word, rounded_down}
 
--- the word shifted left, modulo 2 ^ 32
+-- `shifted_left` is the word shifted left, modulo 2 ^ 32
 abbrev pub shifted_left : ℕ → ℕ → ℕ
 shifted_left word amount = word * 2 ^ amount % 2 ^ 32
 
--- the word shifted right, with zeros from the left
+-- `shifted_right` is the word shifted right, with zeros from the left
 abbrev pub shifted_right : ℕ → ℕ → ℕ
 shifted_right word amount = word / 2 ^ amount
 

@@ -1,7 +1,7 @@
 -- Words, and the integers that they represent (RISC-V Unprivileged ISA 20191213, sections 1.3 and 2.1). A word is a natural number below 2 ^ 32.
 use Rattle.std.specs.Prelude.{ℕ, ◌-◌, ◌/◌, ◌%◌, ◌^◌, ℤ, pos, negsuc, ◌-ℤ◌, nat_lt, if◌then◌else◌}
 
--- the signed value of a word: the word itself below 2 ^ 31, otherwise the word minus 2 ^ 32
+-- `signed` is the signed value of a word: the word itself below 2 ^ 31, otherwise the word minus 2 ^ 32
 abbrev pub signed : ℕ → ℤ
 signed word = if nat_lt word (2 ^ 31) then pos word else (pos word -ℤ pos (2 ^ 32))
 

@@ -14,19 +14,19 @@ IsCacheOf entries cache =
     × (cache.is_stale ≡ false → AreSegments entries cache.segments)
     × AreOpen entries cache.ranges
 
--- the cache with another range for a kind of access
+-- `with_fetch` is the cache with another open range for fetches
 abbrev pub with_fetch : Cache → OpenRange → Cache
 with_fetch cache range = record cache { ranges = record cache.ranges { fetch = range } }
 
--- the cache with another open range for loads
+-- `with_read` is the cache with another open range for loads
 abbrev pub with_read : Cache → OpenRange → Cache
 with_read cache range = record cache { ranges = record cache.ranges { read = range } }
 
--- the cache with another open range for stores
+-- `with_write` is the cache with another open range for stores
 abbrev pub with_write : Cache → OpenRange → Cache
 with_write cache range = record cache { ranges = record cache.ranges { write = range } }
 
--- the cache of the current entries, and that of the previous ones
+-- `cache_now` is the cache of the current entries
 unfoldable pub cache_now : Caches → Cache
 cache_now caches = if caches.is_second then caches.second else caches.first
 

@@ -12,11 +12,11 @@ use Rattle.rv_pmp.specs.declared.access.Access.{Access}
 use Rattle.rv_pmp.specs.declared.verdict.Verdict.{Verdict}
 use Rattle.rv_pmp.specs.declared.verdict.Verdict.TheVariants.{DeniedPartial}
 
--- the matching entry of a byte: the lowest of the sixteen that covers it, or none
+-- `byte_match` is the matching entry of a byte: the lowest of the sixteen that covers it, or none
 unfoldable pub byte_match : (ℕ → ℕ → Bool) → ℕ → Option ℕ
 byte_match covering byte = find (λ i. covering i byte) (range_with_len 0 16)
 
--- whether range i has a byte
+-- `is_within` states whether range i has a byte
 abbrev pub is_within : EntryRanges → ℕ → ℕ → Bool
 is_within ranges i byte = nat_le (slice_index ranges.from i) byte && nat_lt byte (slice_index ranges.to i)
 
@@ -31,11 +31,11 @@ pub record AreBounds (ranges : EntryRanges) (bounds : List ℕ) : Type 0 where
   pub to : (i : ℕ) → i < 16 → slice_index ranges.from i < slice_index ranges.to i → Contains bounds (slice_index ranges.to i)
   pub last : Contains bounds (2 ^ 35)
 
--- the start of segment k: the end of the one before it, or 0
+-- `start_of` is the start of segment k: the end of the one before it, or 0
 abbrev pub start_of : Segments → ℕ → ℕ
 start_of segments k = if k == 0 then 0 else slice_index segments.ends (k - 1)
 
--- the end of the last segment
+-- `reach_of` is the end of the last segment
 abbrev pub reach_of : Segments → ℕ
 reach_of segments = start_of segments segments.count
 
@@ -55,12 +55,12 @@ unfoldable pub AreSegments : Entries → Segments → Type 0
 AreSegments entries segments =
     AreInOrder segments × (2 ^ 35 ≤ reach_of segments) × AreMatched (covers entries) segments
 
--- the verdict on an access all of whose bytes have the same matching entry
+-- `verdict_of_one` is the verdict on an access all of whose bytes have the same matching entry
 abbrev pub verdict_of_one : Entries → Mode → Access → Option ℕ → Verdict
 verdict_of_one entries mode access None = no_match_verdict mode
 verdict_of_one entries mode access (Some i) = match_verdict entries mode access i true
 
--- the verdict on an access of at most four bytes, by the matching entries of its first and its last byte
+-- `verdict_of_two` is the verdict on an access of at most four bytes whose first and last bytes have these matching entries
 abbrev pub verdict_of_two : Entries → Mode → Access → Option ℕ → Option ℕ → Verdict
 verdict_of_two entries mode access None None = no_match_verdict mode
 verdict_of_two entries mode access (Some i) None = DeniedPartial i

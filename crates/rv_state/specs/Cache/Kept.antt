@@ -5,22 +5,22 @@ use Rattle.rv_word.specs.BitFields.{is_set, flag}
 use Rattle.rv_state.specs.Counters.{incremented}
 use Rattle.rv_state.specs.Interrupts.{software_pending_of}
 
--- both counters, and mcountinhibit
+-- `CountersState` has both counters, and mcountinhibit
 pub record CountersState : Type 0 where
   pub mcycle : ℕ
   pub minstret : ℕ
   pub inhibit : ℕ
 
--- the value of a counter: the stored value if the counter is inhibited, otherwise the sum of the stored value and the count
+-- `running` is the value of a counter: the stored value if the counter is inhibited, otherwise the sum of the stored value and the count
 abbrev pub running : Bool → ℕ → ℕ → ℕ
 running is_held kept count = if is_held then kept else (kept + count) % 2 ^ 64
 
--- a counter, inhibited or not, after `steps` steps
+-- `later` is a counter, inhibited or not, after `steps` steps
 abbrev pub later : Bool → ℕ → ℕ → ℕ
 later is_held counter zero = counter
 later is_held counter (suc steps) = incremented (later is_held counter steps) is_held
 
--- both counters after `steps` steps that each retired and wrote no counter
+-- `counted_on` has both counters after `steps` steps that each retired and wrote no counter
 abbrev pub counted_on : ℕ → CountersState → CountersState
 counted_on steps c = record c {
   mcycle = later (is_set c.inhibit 0) c.mcycle steps;
@@ -32,10 +32,10 @@ pub record RaisedState : Type 0 where
   pub software : ℕ
   pub timer : Bool
 
--- both, from one word
+-- `raised_in` has the pending software interrupts and the timer line of one word
 abbrev pub raised_in : ℕ → RaisedState
 raised_in word = record { software = software_pending_of word; timer = is_set word 7 }
 
--- the word that mip reads
+-- `mip_of` is the word that mip reads
 abbrev pub mip_of : RaisedState → ℕ
 mip_of raised = software_pending_of raised.software + flag 7 raised.timer

@@ -1,3 +1,4 @@
+-- This file proves obligations of `assemble`, which assembles a text, and returns its words.
 use Rattle.std.proofs.lemmas.Result.{IfOk-weaker}
 use Rattle.rv_asm.specs.Passes.{HasRead}
 use Rattle.rv_asm.specs.Program.{readings}

@@ -1,3 +1,4 @@
+-- This file states the loop invariants of `after_blanks`, which returns the text without leading blanks.
 use Rattle.std.proofs.Common.{◌≡◌, length}
 use Rattle.rv_asm.specs.Cuts.{after_blanks}
 use Rattle.rv_asm.proofs.cuts.after_blanks.Given as goal

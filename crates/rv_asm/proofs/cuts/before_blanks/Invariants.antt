@@ -1,3 +1,4 @@
+-- This file states the loop invariants of `before_blanks`, which returns the text without trailing blanks.
 use Rattle.std.proofs.Common.{◌≡◌, length}
 use Rattle.rv_asm.specs.Cuts.{before_blanks}
 use Rattle.rv_asm.proofs.cuts.before_blanks.Given as goal

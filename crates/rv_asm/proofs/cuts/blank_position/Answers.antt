@@ -1,3 +1,4 @@
+-- This file proves obligations of `blank_position`, which returns the position of the first blank, or the length of the text if there is none.
 use Rattle.std.proofs.Common.{◌∙◌, length, rules}
 use Rattle.std.specs.List.{position_or_len}
 use Rattle.std.proofs.lemmas.Iterator.{YieldsList-from_slice}

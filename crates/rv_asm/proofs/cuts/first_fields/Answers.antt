@@ -1,3 +1,5 @@
+-- This file proves obligations of `first_fields`, which returns the first `MOST_OPERANDS` fields between commas, or all if there are fewer, without
+-- leading and trailing blanks.
 use Rattle.std.proofs.Common.{◌≡◌, ◌==◌, ◌≤◌, length, arith, ap, rules}
 use Rattle.std.proofs.lemmas.Iterator.{YieldsList-from_map_by}
 use Rattle.std.proofs.lemmas.Iterator.Splits.{YieldsList-from_slice_split}
@@ -21,7 +23,7 @@ returns-in-None c =
     let few : length c.loop-field.yielded ≤ 4 = omega (arith, ap length c.loop-field.invariant.kept, c.loop-field.invariant.few) in
     rw c.loop-field.invariant.kept (grind (arith, common_steps, end.0, end.1, few))
 
--- `first_fields` meets its contract where the test `is_full` holds
+-- `first_fields` meets its contract if `is_full` is true
 pub returns-then-is_full : goal.returns-then-is_full
 unfolding comma_fields
 returns-then-is_full c =

@@ -1,3 +1,5 @@
+-- This file states the loop invariants of `first_fields`, which returns the first `MOST_OPERANDS` fields between commas, or all if there are fewer,
+-- without leading and trailing blanks.
 use Rattle.std.proofs.Common.{◌≡◌, ◌≤◌, length}
 use Rattle.rv_asm.proofs.cuts.first_fields.Given as goal
 

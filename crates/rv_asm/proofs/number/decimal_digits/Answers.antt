@@ -1,3 +1,4 @@
+-- This file proves obligations of `decimal_digits`, which returns the value of a text of one or more decimal digits.
 use Rattle.std.proofs.Common.{arith, ◌≡◌, get_or}
 use Rattle.std.proofs.lemmas.Grind.{common_steps}
 use Rattle.std.proofs.lemmas.Int.Digits.{digits_value_more}

@@ -1,3 +1,4 @@
+-- This file states the loop invariants of `decimal_digits`, which returns the value of a text of one or more decimal digits.
 use Rattle.std.proofs.Common.{◌≡◌, ◌-◌, ◌^◌, min, true, take}
 use Rattle.std.specs.List.{list_all}
 use Rattle.std.specs.Char.{is_digit}

@@ -1,3 +1,4 @@
+-- This file proves obligations of `read_statement`, which reads a statement from a text without leading blanks.
 use Rattle.std.proofs.Common.{◌∙◌, sym}
 use Rattle.rv_asm.specs.Statements.{statement_at}
 use Rattle.rv_asm.proofs.ManyOperands.{statement_of-take}

@@ -1,3 +1,4 @@
+-- This file proves obligations of `register_named`, which returns the register of a name, if there is one.
 use Rattle.std.proofs.Common.{◌∙◌, sym}
 use Rattle.rv_asm.specs.RegisterNames.{registers}
 use Rattle.rv_asm.proofs.Numbered.{registers_in_range}

@@ -1,3 +1,4 @@
+-- This file proves obligations of `words_of`, which returns the words of all lines of a text.
 use Rattle.std.proofs.Common.{arith}
 use Rattle.rv_asm.proofs.WordLemmas.{fails_or_out_of_memory, writes_on}
 use Rattle.rv_asm.proofs.second_pass.words_of.Goals as goal

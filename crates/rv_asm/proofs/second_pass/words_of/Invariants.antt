@@ -1,3 +1,4 @@
+-- This file states the loop invariants of `words_of`, which returns the words of all lines of a text.
 use Rattle.std.proofs.Common.{◌+◌, ◌≤◌, length}
 use Rattle.rv_asm.specs.LabelMap.{places_of}
 use Rattle.rv_asm.proofs.WordLemmas.{HasWrittenUpTo}

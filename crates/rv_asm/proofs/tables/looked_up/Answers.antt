@@ -1,3 +1,4 @@
+-- This file proves obligations of `looked_up`, which returns the value in the row of a name, if there is one.
 use Rattle.std.proofs.Common.{rules, tests, ◌∙◌}
 use Rattle.std.specs.Str.{bytes_eq}
 use Rattle.std.proofs.lemmas.Iterator.{YieldsList-from_slice}

@@ -1,3 +1,4 @@
+-- This file proves obligations of `run_program`, which runs the program for these arguments and this input.
 use Rattle.std.proofs.Common.{◌≡◌, ◌<◌, ℕ, nat_lt, Bool, false, inl, inr, refl, arith}
 use Rattle.std.proofs.lemmas.Bool.Decides.{nat_tests}
 use Rattle.rv_bench.proofs.MemoryResults.{runs_in_memory}
@@ -7,6 +8,7 @@ use Rattle.rv_bench.proofs.in_memory.run_program.Goals as goal
 none_counted : (old new : ℕ) (some : Bool) → some ≡ nat_lt 0 new → some ≡ false → old < new → ⊥
 none_counted old new some some_is not risen = grind (arith, nat_tests)
 
+-- a count that is 0 has not risen
 none_risen : (old new : ℕ) → new ≡ 0 → old < new → ⊥
 none_risen old new none_new risen = omega (arith, none_new, risen)
 

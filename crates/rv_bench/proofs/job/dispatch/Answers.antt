@@ -1,3 +1,4 @@
+-- This file proves obligations of `dispatch`, which calls the function of a job, as `run_job` does.
 use Rattle.std.proofs.Common.{rules}
 use Rattle.rv_bench.proofs.job.dispatch.Goals as goal
 

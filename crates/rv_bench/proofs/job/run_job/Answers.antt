@@ -1,3 +1,4 @@
+-- This file proves obligations of `run_job`, which performs a job from a source to a sink, and returns the source with the outcome of the call.
 use Rattle.rv_bench.proofs.JobResults.{does_meets}
 use Rattle.rv_bench.proofs.job.run_job.Goals as goal
 

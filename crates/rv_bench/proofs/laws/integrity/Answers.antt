@@ -1,3 +1,4 @@
+-- This file proves the theorem `integrity`, which states that every part of a script preserves each enclave that the part leaves undisturbed.
 use Rattle.rv_bench.proofs.IntegrityLemmas.{started_integrity}
 use Rattle.rv_bench.proofs.laws.integrity.Goals as goal
 

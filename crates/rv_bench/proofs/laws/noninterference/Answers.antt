@@ -1,3 +1,5 @@
+-- This file proves the theorem `noninterference`. Two benches that are equivalent except for an enclave reply the same to a part of a script that
+-- avoids the enclave.
 use Rattle.rv_bench.proofs.NoninterferenceLemmas.{secret_noninterference, started_noninterference}
 use Rattle.rv_bench.proofs.laws.noninterference.Goals as goal
 

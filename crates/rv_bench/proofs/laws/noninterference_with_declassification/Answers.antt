@@ -1,3 +1,4 @@
+-- This file proves the theorem `noninterference_with_declassification`, which states noninterference with declassification.
 use Rattle.rv_bench.proofs.Declassified.{secret_declassification, started_declassification}
 use Rattle.rv_bench.proofs.laws.noninterference_with_declassification.Goals as goal
 

@@ -1,3 +1,4 @@
+-- This file proves obligations of `push_marked`, which appends a text with a mark of three bytes before each of its lines.
 use Rattle.std.proofs.Common.{rules, ◌≡◌, ◌++◌, ◌∙◌, [], cond}
 use Rattle.rv_bench.proofs.PairLemmas.{marked_step}
 use Rattle.rv_bench.proofs.pair.push_marked.Goals as goal

@@ -1,3 +1,4 @@
+-- This file proves obligations of `perform`, which performs the job that the arguments request, from a source to a sink.
 use Rattle.rv_bench.proofs.ProgramResults.{runs_program}
 use Rattle.rv_bench.proofs.program.perform.Goals as goal
 

@@ -1,3 +1,4 @@
+-- This file proves obligations of `perform_arguments`, which performs the job that the arguments of a process request, as `perform` does.
 use Rattle.std.proofs.Common.{refl, inr, Ok}
 use Rattle.rv_command_line.specs.declared.words_fault.WordsFault.TheVariants.{NoMemory}
 use Rattle.rv_bench.specs.ProgramOutput.{MeansGiven, given_by}

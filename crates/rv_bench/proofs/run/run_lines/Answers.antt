@@ -1,3 +1,4 @@
+-- This file proves obligations of `run_lines`, which responds to the lines of a script, and writes each response.
 use Rattle.std.proofs.Common.{rules, ◌≡◌, ◌++◌, ◌∙◌, refl, sym, ap, subst, Ok, Err}
 use Rattle.std.proofs.lemmas.Result.{IfOk-at_ok, IfErr-at_err}
 use Rattle.rv_streams.specs.declared.fault.BenchFault.TheVariants.{Read, Write}
@@ -43,7 +44,7 @@ worked g c = record {
   unflushed = c.write_reply.ensures.flushes;
 }
 
--- whether the responder is over then
+-- the result of `is_over` after a response is the value of the definition `is_over` in the new state
 over : (g : given.Over) (c : After-is_over g)
     → (g.T.Responder.responding c.args.responding.now).is_over (g.T.Responder.state c.respond_to_line.new.self) ≡ c.is_over.result
 over g c = ap (λ (by : Responding g.row.T-State.Denot). by.is_over (g.T.Responder.state c.respond_to_line.new.self))
@@ -82,7 +83,7 @@ returns-in_err-map_err-clause-outcome g c =
     rw fault_is (Turn-stops (turn g (goal.at.returns-in_err-map_err-clause-outcome g c).After-respond_to_line) c.write_reply.new.sink (search rules)
     (prefix c.write_reply.ensures.prefix))
 
--- `run_lines` meets clause `outcome` of its contract (`RespondsToScript`) where the test `is_over` holds
+-- `run_lines` meets clause `outcome` of its contract (`RespondsToScript`) if `is_over` is true
 pub returns-then-is_over-clause-outcome : goal.returns-then-is_over-clause-outcome
 returns-then-is_over-clause-outcome g c =
     let at = goal.at.returns-then-is_over-clause-outcome g c in

@@ -1,3 +1,4 @@
+-- This file states the loop invariants of `run_lines`, which responds to the lines of a script, and writes each response.
 use Rattle.std.proofs.Common.{◌≡◌}
 use Rattle.rv_streams.specs.Unread.{calls_left}
 use Rattle.rv_bench.proofs.LoopTurns.{SoFar}

@@ -1,3 +1,5 @@
+-- This file proves obligations of `run_script`, which writes the reply of a bench to each line until the source reports its end, and then flushes
+-- the sink.
 use Rattle.std.proofs.Common.{rules}
 use Rattle.rv_streams.specs.declared.fault.BenchFault.TheVariants.{Write}
 use Rattle.rv_streams.specs.declared.separator.ScriptEnd.TheVariants.{Input}

@@ -1,3 +1,4 @@
+-- This file proves obligations of `run_stream`, which reads an image, and then runs the lines after it as `run_bench` does.
 use Rattle.std.proofs.Common.{◌∙◌, ap, sym, Ok}
 use Rattle.rv_bench.proofs.Streams.{streamed}
 use Rattle.rv_bench.proofs.run.run_stream.Goals as goal

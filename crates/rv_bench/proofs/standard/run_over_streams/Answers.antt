@@ -1,3 +1,4 @@
+-- This file proves obligations of `run_over_streams`, which runs the program from a reader to a writer.
 use Rattle.std.proofs.Common.{rules}
 use Rattle.rv_bench.proofs.StandardResults.{held_logs, runs_over}
 use Rattle.rv_bench.proofs.standard.run_over_streams.Goals as goal

@@ -1,3 +1,4 @@
+-- This file proves obligations of `loaded`, which loads the image into a RAM that is all zeros, and returns the bench at reset.
 use Rattle.std.proofs.Common.{sym}
 use Rattle.rv_bench.proofs.Starts.{bench_of-ok}
 use Rattle.rv_bench.proofs.start.loaded.Goals as goal

@@ -1,3 +1,4 @@
+-- This file proves obligations of `start`, which returns the bench at reset, with the image in its RAM.
 use Rattle.std.proofs.Common.{rules}
 use Rattle.rv_bench.proofs.Starts.{started_ok, started_err}
 use Rattle.rv_bench.proofs.start.start.Goals as goal

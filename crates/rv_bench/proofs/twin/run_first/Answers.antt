@@ -1,3 +1,4 @@
+-- This file proves obligations of `run_first`, which runs the first script on both benches, and writes the replies of the first.
 use Rattle.std.proofs.Common.{rules, refl}
 use Rattle.rv_streams.specs.declared.fault.BenchFault.TheVariants.{Write}
 use Rattle.rv_streams.specs.declared.separator.ScriptEnd.TheVariants.{Separator}

@@ -1,3 +1,4 @@
+-- This file proves obligations of `run_second`, which scrambles the slot with a number in the second bench, and runs the second script.
 use Rattle.std.proofs.Common.{rules, ◌++◌, ◌∙◌, refl, sym, ap, subst, inl, inr, ℕ, Option, None, Some}
 use Rattle.std.proofs.lemmas.Result.{IfOk-at_ok}
 use Rattle.rv_streams.specs.declared.fault.BenchFault.TheVariants.{Write}

@@ -1,3 +1,4 @@
+-- This file proves obligations of `run_twin`, which performs a twin run.
 use Rattle.std.proofs.Common.{◌∙◌, refl, sym, ap, Ok}
 use Rattle.rv_streams.proofs.Ends.{EndsWithSource-more}
 use Rattle.rv_streams.proofs.Mapped.{passed_on}

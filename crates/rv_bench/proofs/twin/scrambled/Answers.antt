@@ -1,9 +1,10 @@
+-- This file proves obligations of `scrambled`, which scrambles the slot in the second bench, if possible.
 use Rattle.std.proofs.Common.{◌≡◌, ◌∙◌, sym, ap, true, false}
 use Rattle.rv_debug.specs.BothBenches.{can_scramble, scrambled}
 use Rattle.rv_bench.proofs.Twins.{not_pair, are_pair}
 use Rattle.rv_bench.proofs.twin.scrambled.Goals as goal
 
--- `scrambled` meets clause `pair` of its contract where the test `not scramble` holds
+-- `scrambled` meets clause `pair` of its contract if `not scramble` is true
 pub returns-then-not-scramble-clause-pair : goal.returns-then-not-scramble-clause-pair
 returns-then-not-scramble-clause-pair c =
     let none : can_scramble c.args.slot c.args.benches.second ≡ false = sym c.scramble.ensures.asked ∙ c.if-not-scramble.true in

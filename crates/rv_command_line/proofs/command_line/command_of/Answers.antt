@@ -1,3 +1,4 @@
+-- This file proves obligations of `command_of`, which makes the command of a row, with its options.
 use Rattle.std.proofs.Common.{◌∙◌, ◌+◌, ap, drop, fold, map, refl}
 use Rattle.std.proofs.lemmas.List.{drop_more}
 use Rattle.clap.specs.Words.{app_of, with_rule}

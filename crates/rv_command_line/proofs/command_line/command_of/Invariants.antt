@@ -1,3 +1,4 @@
+-- This file states the loop invariants of `command_of`, which makes the command of a row, with its options.
 use Rattle.std.proofs.Common.{◌≡◌, drop, false, fold, map}
 use Rattle.clap.specs.Words.{app_of, with_rule}
 use Rattle.clap.specs.declared.builder.command.Command.TheViews.{out-Command as fields_of}

@@ -1,3 +1,4 @@
+-- This file proves obligations of `commands_of`, which makes the commands of these rows.
 use Rattle.std.proofs.Common.{◌+◌, ◌∷◌, [], ap, drop, map}
 use Rattle.std.proofs.lemmas.List.{append_assoc, drop_more, map-append}
 use Rattle.std.proofs.lemmas.List.Elements.{All-append, All-cons, All-nil}

@@ -1,3 +1,4 @@
+-- This file proves obligations of `rvbench_command`, which makes the command line of the program.
 use Rattle.std.proofs.Common.{◌≡◌, ◌∙◌, ap, Err, IfOk, List, Ok, refl, Result, true}
 use Rattle.clap.specs.Words.{app_of, fault_of, is_simple, is_simple_and_free, subcommand_of, Text}
 use Rattle.clap.specs.Walk.{texts}
@@ -7,6 +8,7 @@ use Rattle.rv_command_line.proofs.InTurn.{told_in_turn}
 use Rattle.rv_command_line.proofs.Options.{program_alike}
 use Rattle.rv_command_line.proofs.command_line.rvbench_command.Goals as goal
 
+-- the clauses of the contract hold of the result r, if a command that was made is that of the program
 told : {E : Type 0} (names : Names) → texts names.now ≡ kind_names → (r : Result Command E) → IfOk r (λ command. app_of command ≡ program names)
     → record {
       simple : IfOk r (λ command. is_simple (app_of command) ≡ true);

@@ -1,3 +1,4 @@
+-- This file proves obligations of `fault`, which converts an error of `clap`.
 use Rattle.std.proofs.Common.{◌≡◌, ◌∙◌, ◌∷◌, [], Bool, inl, inr, not, refl, sym, true}
 use Rattle.std.proofs.Math.Bool.{or-true}
 use Rattle.std.specs.List.{list_any}
@@ -7,6 +8,7 @@ use Rattle.clap.specs.declared.error.kind.ErrorKind.TheVariants as kind
 use Rattle.rv_command_line.specs.Faults.{is_help}
 use Rattle.rv_command_line.proofs.reading.fault.Goals as goal
 
+-- some fault passes the test if the kind k passes it and is among the faults
 among : (test : ErrorKind → Bool) (k : ErrorKind) (faults : Kinds) → test k ≡ true → IsAmong k faults → list_any test faults ≡ true
 among test k [] holds h = absurd h
 among test k (x ∷ xs) holds (inl e) = rw (sym e, holds) refl

@@ -1,3 +1,4 @@
+-- This file proves obligations of `matched_byte`, which returns the number of 8 bits that an option has, if it is given.
 use Rattle.std.specs.Str.Parse.{ExplainsUnsignedError, HasUnsignedDigitsIfOk, ParsesUnsigned}
 use Rattle.clap.specs.Words.{found_of}
 use Rattle.rv_command_line.proofs.Numbers.{got, reads_number}

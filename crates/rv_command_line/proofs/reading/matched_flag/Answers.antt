@@ -1,3 +1,4 @@
+-- This file proves obligations of `matched_flag`, which returns whether a flag is set, if the command line has it.
 use Rattle.std.proofs.Common.{◌≡◌, Bool, codes, false, List, None, ℕ, Option, refl, Some, true}
 use Rattle.std.proofs.lemmas.Bool.{false_from_ne_true}
 use Rattle.std.proofs.lemmas.Slice.Eq.{bytes_eq-Decides}
@@ -14,6 +15,7 @@ reads_truth E text (Some true) read = rw read refl
 reads_truth E text (Some false) read = rw read refl
 reads_truth E text None read = rw (other (codes "true") read.1.0, other (codes "false") read.1.1) refl
   where
+    -- two different texts fail the test of equal bytes
     other : (t : List ℕ) → (text ≡ t → ⊥) → bytes_eq text t ≡ false
     other t differs = false_from_ne_true (bytes_eq text t) (λ e. differs ((bytes_eq-Decides text t).0 e))
 

@@ -1,3 +1,4 @@
+-- This file proves obligations of `matched_kind`, which returns the image format in the options, if it is given.
 use Rattle.std.proofs.Common.{codes, rules, sym}
 use Rattle.clap.proofs.WalkLemmas.{first_value-rows}
 use Rattle.clap.specs.Words.{found_of}

@@ -1,3 +1,4 @@
+-- This file proves obligations of `matched_number`, which returns the number that an option has, if it is given.
 use Rattle.std.specs.Str.Parse.{ExplainsUnsignedError, HasUnsignedDigitsIfOk, ParsesUnsigned}
 use Rattle.clap.specs.Words.{found_of}
 use Rattle.rv_command_line.proofs.Numbers.{got, reads_number}

@@ -1,3 +1,4 @@
+-- This file proves obligations of `read_words`, which reads the job from the arguments of a command line.
 use Rattle.std.proofs.Common.{◌∙◌, ◌∷◌, [], ap, inl, inr, refl, subst, sym}
 use Rattle.clap.specs.Kinds.{HasKind, Kinds, or_else}
 use Rattle.clap.specs.declared.error.Error.{Error}

@@ -1,3 +1,4 @@
+-- This file proves obligations of `place_of`, which returns the index of an address in a sorted slice, or the index at which it would be inserted.
 use Rattle.rv_debug.proofs.AddressLemmas.{searched-place}
 use Rattle.rv_debug.proofs.addresses.place_of.Goals as goal
 

@@ -1,3 +1,5 @@
+-- This file proves obligations of `both_command`, which executes one command on two benches, and replaces the contents of the buffers by their
+-- replies.
 use Rattle.std.proofs.Common.{subst}
 use Rattle.rv_debug.proofs.Prelude.{BothExecuted, StayAlike}
 use Rattle.rv_debug.proofs.BothAlike.{both_alike}

@@ -1,3 +1,5 @@
+-- This file proves obligations of `both_line`, which executes a line, given without its line ending, on two benches as `both_command` executes its
+-- command.
 use Rattle.rv_debug.proofs.Execution.{both_line-prefix}
 use Rattle.rv_debug.proofs.both.both_line.Goals as goal
 

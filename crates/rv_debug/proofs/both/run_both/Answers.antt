@@ -1,3 +1,4 @@
+-- This file proves obligations of `run_both`, which executes a list of commands on two benches.
 use Rattle.std.proofs.Common.{subst}
 use Rattle.rv_debug.proofs.NotRunning.{rest_all}
 use Rattle.rv_debug.proofs.BothAlike.{Folded, EndAlike, folded, run_alike}

@@ -1,3 +1,4 @@
+-- This file proves obligations of `run_commands`, which executes the commands one after another.
 use Rattle.std.proofs.Common.{◌≡◌, length, refl, arith}
 use Rattle.rv_debug.proofs.BothAlike.{at_entered, at_blind, at_more, at_last}
 use Rattle.rv_debug.proofs.both.run_commands.Goals as goal

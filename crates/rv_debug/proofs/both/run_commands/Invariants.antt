@@ -1,3 +1,4 @@
+-- This file states the loop invariants of `run_commands`, which executes the commands one after another.
 use Rattle.std.proofs.Common.{◌≡◌, drop}
 use Rattle.rv_debug.proofs.Prelude.{both_run}
 use Rattle.rv_debug.proofs.BothAlike.{later}

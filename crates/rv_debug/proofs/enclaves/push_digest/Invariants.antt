@@ -1,3 +1,4 @@
+-- This file states the loop invariants of `push_digest`, which writes two digits for each byte.
 use Rattle.std.proofs.Common.{◌≡◌, ◌+◌, ◌*◌, ◌++◌, length, take}
 use Rattle.rv_debug.specs.Prelude.{hex2}
 use Rattle.rv_debug.proofs.Prelude.{flat_map}

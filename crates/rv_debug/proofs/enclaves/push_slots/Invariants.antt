@@ -1,3 +1,4 @@
+-- This file states the loop invariants of `push_slots`, which writes the records of the live enclaves of the given slots.
 use Rattle.std.proofs.Common.{◌≡◌, ◌+◌, ◌*◌, ◌≤◌, ◌++◌, length, take}
 use Rattle.rv_debug.specs.Prelude.{slot_at}
 use Rattle.rv_debug.specs.EnclaveText.{slot_text}

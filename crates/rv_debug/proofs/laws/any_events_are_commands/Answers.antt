@@ -1,3 +1,5 @@
+-- This file proves the theorem `any_events_are_commands`, which states that commands are lists of actions: events, and writes of a register or a
+-- byte.
 use Rattle.rv_debug.proofs.CommandEvents.{command_events}
 use Rattle.rv_debug.proofs.laws.any_events_are_commands.Goals as goal
 

@@ -1,3 +1,4 @@
+-- This file proves the theorem `closed_runs`, which states two closed instances of laws about steps.
 use Rattle.rv_debug.proofs.HostRun.{host_run}
 use Rattle.rv_debug.proofs.SecretCommands.{secret_run}
 use Rattle.rv_debug.proofs.laws.closed_runs.Goals as goal

@@ -1,3 +1,5 @@
+-- This file proves the theorem `equivalent_benches_are_related`, which states that a bench is related to itself, and when benches that are
+-- equivalent except for an enclave are related.
 use Rattle.rv_debug.proofs.Declassification.{relation_law}
 use Rattle.rv_debug.proofs.laws.equivalent_benches_are_related.Goals as goal
 

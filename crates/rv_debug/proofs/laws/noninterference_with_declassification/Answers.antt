@@ -1,3 +1,5 @@
+-- This file proves the theorem `noninterference_with_declassification`, which states noninterference with declassification, for one command and for
+-- lists of commands.
 use Rattle.rv_debug.proofs.Declassification.{declassification, list_declassification}
 use Rattle.rv_debug.proofs.laws.noninterference_with_declassification.Goals as goal
 

@@ -1,3 +1,4 @@
+-- This file proves the theorem `running_is_undisturbed`, which states when a command leaves an enclave that runs on a hart undisturbed.
 use Rattle.rv_debug.proofs.Isolation.{running}
 use Rattle.rv_debug.proofs.laws.running_is_undisturbed.Goals as goal
 

@@ -1,3 +1,4 @@
+-- This file proves the theorem `stays_not_running`, which states that every command avoids the hart of an enclave that runs on no hart.
 use Rattle.rv_debug.proofs.NotRunning.{rest_law}
 use Rattle.rv_debug.proofs.laws.stays_not_running.Goals as goal
 

@@ -1,3 +1,4 @@
+-- This file states the loop invariants of `push_memory`, which writes bytes of memory, from the byte at the address on.
 use Rattle.std.proofs.Common.{◌≡◌, ◌+◌, ◌*◌, ◌++◌, length, take}
 use Rattle.std.specs.Prelude.{codes}
 use Rattle.rv_debug.specs.Prelude.{hex_digits}

@@ -1,3 +1,4 @@
+-- This file proves obligations of `push_pmp`, which writes the PMP entries, from entry 0 on.
 use Rattle.std.proofs.Common.{arith}
 use Rattle.std.proofs.lemmas.Grind.{common_steps}
 use Rattle.rv_debug.proofs.Prelude.{pmp_text}

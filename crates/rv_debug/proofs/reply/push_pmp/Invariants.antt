@@ -1,3 +1,4 @@
+-- This file states the loop invariants of `push_pmp`, which writes the PMP entries, from entry 0 on.
 use Rattle.std.proofs.Common.{◌≡◌, ◌+◌, ◌*◌, ◌≤◌, ◌++◌, length}
 use Rattle.rv_debug.specs.Prelude.{addr_of, cfg_of}
 use Rattle.rv_debug.proofs.Prelude.{entry_text, flat_map, range_with_len}

@@ -1,3 +1,4 @@
+-- This file proves obligations of `push_registers`, which writes the value of each register, from x0 on, and then pc.
 use Rattle.std.proofs.Common.{arith, length-append}
 use Rattle.std.proofs.lemmas.Grind.{common_steps}
 use Rattle.rv_debug.proofs.Prelude.{registers_text}

@@ -1,3 +1,4 @@
+-- This file states the loop invariants of `push_registers`, which writes the value of each register, from x0 on, and then pc.
 use Rattle.std.proofs.Common.{◌≡◌, ◌+◌, ◌-◌, ◌*◌, ◌≤◌, ◌++◌, length}
 use Rattle.rv_debug.specs.Prelude.{register}
 use Rattle.rv_debug.proofs.Prelude.{flat_map, range_with_len, register_text}

@@ -1,3 +1,4 @@
+-- This file proves obligations of `run_digits`, which executes one step of the hart of each digit, in their order.
 use Rattle.std.proofs.Common.{◌<◌, ◌+◌, ◌∙◌, ℕ, sym, ap, subst, refl, arith}
 use Rattle.rv_debug.specs.Prelude.{Target, has_all}
 use Rattle.rv_debug.specs.Steps.{Stepped}

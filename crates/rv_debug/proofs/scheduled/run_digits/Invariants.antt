@@ -1,3 +1,4 @@
+-- This file states the loop invariants of `run_digits`, which executes one step of the hart of each digit, in their order.
 use Rattle.std.proofs.Common.{◌≡◌, ◌≤◌, true}
 use Rattle.rv_debug.specs.Prelude.{has_all}
 use Rattle.rv_debug.proofs.Prelude.{harts_of, schedule_start, scheduled_steps}

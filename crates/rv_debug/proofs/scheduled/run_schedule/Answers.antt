@@ -1,3 +1,4 @@
+-- This file proves obligations of `run_schedule`, which executes one step of each hart of a schedule, in its order.
 use Rattle.std.proofs.Common.{◌∙◌, sym, ap}
 use Rattle.rv_debug.specs.Prelude.{Bare, Monitored}
 use Rattle.rv_debug.proofs.Prelude.{AfterSchedule, harts_of, schedule_start}

@@ -1,3 +1,4 @@
+-- This file proves obligations of `run_bare`, which executes the steps of a bare machine.
 use Rattle.rv_debug.proofs.TargetRuns.{runs_bare, enters_none}
 use Rattle.rv_debug.proofs.target.run_bare.Goals as goal
 

@@ -1,3 +1,4 @@
+-- This file proves obligations of `run_monitored`, which executes the steps of the selected hart of a monitored machine.
 use Rattle.rv_debug.proofs.TargetRuns.{runs_selected}
 use Rattle.rv_debug.proofs.target.run_monitored.Goals as goal
 

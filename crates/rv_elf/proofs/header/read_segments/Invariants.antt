@@ -1,3 +1,4 @@
+-- This file states the loop invariants of `read_segments`, which returns the segments to load, in the order of their headers.
 use Rattle.std.proofs.Common.{◌≡◌, ◌≤◌, length}
 use Rattle.rv_elf.proofs.SegmentLemmas.{first_segments}
 use Rattle.rv_elf.proofs.header.read_segments.Given as goal

@@ -1,3 +1,4 @@
+-- This file states the loop invariants of `load`, which loads the segments of a plan into RAM.
 use Rattle.std.proofs.Common.{drop}
 use Rattle.rv_elf.proofs.LoadLoop.{Loads}
 use Rattle.rv_elf.proofs.loading.load.Given as goal

@@ -1,3 +1,4 @@
+-- This file states the loop invariants of `has_overlap`, which returns whether two of the segments share a byte.
 use Rattle.std.proofs.Common.{◌≡◌, length}
 use Rattle.rv_elf.specs.Segments.{has_overlap}
 use Rattle.rv_elf.proofs.planning.has_overlap.Given as goal

@@ -1,3 +1,4 @@
+-- This file states the loop invariants of `occupying`, which returns the segments that occupy memory.
 use Rattle.std.proofs.Common.{◌≡◌, ◌≤◌, length, take}
 use Rattle.rv_elf.specs.Segments.{occupying}
 use Rattle.rv_elf.proofs.planning.occupying.Given as goal

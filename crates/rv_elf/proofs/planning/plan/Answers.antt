@@ -1,3 +1,5 @@
+-- This file proves obligations of `plan`, which plans an ELF file in a RAM of `ram_size` bytes: its segments of type PT_LOAD that occupy memory, and
+-- its entry.
 use Rattle.std.proofs.Common.{◌≡◌, rules, length, None, Some, arith}
 use Rattle.rv_elf.specs.Faults.{first_fault, header_faults, segment_faults}
 use Rattle.rv_elf.specs.Segments.{segments_of}

@@ -1,3 +1,4 @@
+-- This file proves obligations of `plan_raw`, which plans a raw image of `len` bytes in a RAM of `ram_size` bytes, as one segment.
 use Rattle.std.proofs.Common.{rules, Err, refl}
 use Rattle.rv_elf.proofs.FirstFaults.{raw_plan_least}
 use Rattle.rv_elf.proofs.PlanLemmas.{is_valid, raw_has_none, raw_outside}
@@ -16,7 +17,7 @@ invariant_of-result c =
     })
     (rw (c.occupying-segments.ensures, c.first_address-address.ensures) (raw_has_none c.args.len c.args.monitored)) (search rules)
 
--- `plan_raw` meets clause `least` of its contract where the test `len-ram_size` holds
+-- `plan_raw` meets clause `least` of its contract if `len-ram_size` is true
 pub returns-then-len-ram_size-clause-least : goal.returns-then-len-ram_size-clause-least
 returns-then-len-ram_size-clause-least c =
     raw_plan_least c.args.len c.args.ram_size c.args.monitored (Err SegmentOutside)

@@ -1,3 +1,4 @@
+-- This file proves obligations of `branch`, which decodes a word with the opcode 1100011.
 use Rattle.std.proofs.Common.{◌≡◌, Some, arith}
 use Rattle.rv_encoding.proofs.Reading.{read_branch}
 use Rattle.rv_encoding.proofs.ReadingLemmas.{only_branch}

@@ -1,3 +1,4 @@
+-- This file proves obligations of `fence`, which decodes a word with the opcode 0001111.
 use Rattle.std.proofs.Common.{◌≡◌, Some, arith}
 use Rattle.rv_encoding.proofs.Reading.{read_fence}
 use Rattle.rv_encoding.proofs.ReadingLemmas.{only_fence}

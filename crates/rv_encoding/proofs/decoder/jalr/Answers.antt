@@ -1,3 +1,4 @@
+-- This file proves obligations of `jalr`, which decodes a word with the opcode 1100111.
 use Rattle.std.proofs.Common.{◌≡◌, Some, arith}
 use Rattle.rv_encoding.proofs.Reading.{read_jalr}
 use Rattle.rv_encoding.proofs.ReadingLemmas.{only_jalr}

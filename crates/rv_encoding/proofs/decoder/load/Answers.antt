@@ -1,3 +1,4 @@
+-- This file proves obligations of `load`, which decodes a word with the opcode 0000011.
 use Rattle.std.proofs.Common.{◌≡◌, Some, arith}
 use Rattle.rv_encoding.proofs.Reading.{read_load}
 use Rattle.rv_encoding.proofs.ReadingLemmas.{only_load}

@@ -1,3 +1,4 @@
+-- This file proves obligations of `op`, which decodes a word with the opcode 0110011.
 use Rattle.std.proofs.Common.{◌≡◌, Some, arith}
 use Rattle.rv_encoding.proofs.Reading.{read_op}
 use Rattle.rv_encoding.proofs.ReadingLemmas.{only_op}

@@ -1,3 +1,4 @@
+-- This file proves obligations of `op_imm`, which decodes a word with the opcode 0010011: a shift, which funct7 selects, or another operation.
 use Rattle.std.proofs.Common.{◌≡◌, Some, arith}
 use Rattle.rv_encoding.proofs.Reading.{read_op_imm}
 use Rattle.rv_encoding.proofs.ReadingLemmas.{only_op_imm}

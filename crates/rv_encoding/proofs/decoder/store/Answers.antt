@@ -1,3 +1,4 @@
+-- This file proves obligations of `store`, which decodes a word with the opcode 0100011.
 use Rattle.std.proofs.Common.{◌≡◌, Some, arith}
 use Rattle.rv_encoding.proofs.Reading.{read_store}
 use Rattle.rv_encoding.proofs.ReadingLemmas.{only_store}

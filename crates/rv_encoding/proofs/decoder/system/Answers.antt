@@ -1,3 +1,4 @@
+-- This file proves obligations of `system`, which decodes a word with the opcode 1110011.
 use Rattle.std.proofs.Common.{◌≡◌, Some, arith}
 use Rattle.rv_encoding.proofs.Reading.{read_system}
 use Rattle.rv_encoding.proofs.ReadingLemmas.{only_system}

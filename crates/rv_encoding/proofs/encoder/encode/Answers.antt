@@ -1,3 +1,4 @@
+-- This file proves obligations of `encode`, which encodes an instruction to its word.
 use Rattle.std.proofs.Common.{◌+◌, rules}
 use Rattle.rv_encoding.proofs.DecodingLemmas.{word_of_parts, only_spelled, decoded_spelled}
 use Rattle.rv_encoding.proofs.encoder.encode.Goals as goal

@@ -1,3 +1,4 @@
+-- This file proves the theorem `blocks_meet`, which states that two blocks meet if and only if both have a common byte.
 use Rattle.rv_memory.proofs.BlockLaws.{meets_law}
 use Rattle.rv_memory.proofs.laws.blocks_meet.Goals as goal
 

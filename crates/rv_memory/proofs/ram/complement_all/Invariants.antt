@@ -1,3 +1,4 @@
+-- This file states the loop invariants of `complement_all`, which complements each byte.
 use Rattle.std.proofs.Common.{◌≡◌, ◌++◌, map, take, drop}
 use Rattle.rv_memory.specs.Complement.{complement_of}
 use Rattle.rv_memory.proofs.ram.complement_all.Given as goal

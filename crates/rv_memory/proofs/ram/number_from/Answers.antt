@@ -1,3 +1,4 @@
+-- This file proves obligations of `number_from`, which returns the little-endian number in `count` bytes from an index on.
 use Rattle.std.proofs.Common.{◌≡◌, ℕ, ◌+◌, ◌-◌, List, [], ◌∷◌, length, ◌∙◌, ap, arith}
 use Rattle.std.proofs.lemmas.List.{length-take-le}
 use Rattle.rv_memory.specs.Memory.{number_of_bytes}

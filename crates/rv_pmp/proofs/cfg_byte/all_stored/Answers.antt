@@ -1,3 +1,4 @@
+-- This file proves obligations of `all_stored`, which returns the stored forms of written bytes.
 use Rattle.std.proofs.Common.{arith, sym, ◌∙◌, ◌≡◌, length, map}
 use Rattle.std.proofs.lemmas.List.{length-map, ext_get_or, get_or-map}
 use Rattle.rv_pmp.specs.Cfg.{stored_cfg}

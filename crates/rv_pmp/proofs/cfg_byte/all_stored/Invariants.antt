@@ -1,3 +1,4 @@
+-- This file states the loop invariants of `all_stored`, which returns the stored forms of written bytes.
 use Rattle.std.proofs.Common.{◌≡◌, ◌<◌, ℕ, length, slice_index}
 use Rattle.rv_pmp.specs.Cfg.{stored_cfg}
 use Rattle.rv_pmp.proofs.cfg_byte.all_stored.Given as goal

@@ -1,3 +1,5 @@
+-- This file proves obligations of `matched_range`, which returns the first byte that matches and the first one after the range, or `None` if no byte
+-- matches.
 use Rattle.std.proofs.Common.{◌*◌, ◌/◌, ◌^◌, ◌<◌, ℕ, ◌∙◌, arith}
 use Rattle.std.proofs.lemmas.Nat.{pow_pos}
 use Rattle.rv_pmp.specs.Covers.{ones_at_end}

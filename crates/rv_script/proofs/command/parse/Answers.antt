@@ -1,3 +1,4 @@
+-- This file proves obligations of `parse`, which parses a line without its ending.
 use Rattle.std.proofs.Common.{◌≡◌, arith}
 use Rattle.std.proofs.lemmas.Bool.Decides.{nat_tests}
 use Rattle.rv_text.specs.Words.{words_of}

@@ -1,3 +1,4 @@
+-- This file states the loop invariants of `are_hart_digits`, which returns whether each byte is the digit of a hart.
 use Rattle.std.proofs.Common.{◌≡◌, take}
 use Rattle.std.specs.List.{list_all}
 use Rattle.rv_script.specs.Schedules.{is_hart_digit}

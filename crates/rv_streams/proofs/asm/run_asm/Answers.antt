@@ -1,3 +1,4 @@
+-- This file proves obligations of `run_asm`, which reads an assembler text to the end of the source, and writes a line for each of its words.
 use Rattle.std.proofs.Common.{rules, ◌≡◌, inl, inr, ◌≤◌, ◌∙◌, ◌++◌, Global, List, ℕ, length, Ok, Err, refl, ap, sym, subst}
 use Rattle.std.proofs.Common.{arith}
 use Rattle.std.proofs.lemmas.List.{length-append}
@@ -19,7 +20,7 @@ use Rattle.rv_streams.proofs.asm.run_asm.Given as given
 use Rattle.rv_streams.proofs.asm.run_asm.Goals as goal
 use Rattle.rv_streams.proofs.asm.run_asm.Goals.{In-Ok}
 
--- the result for a text that is not read to its end
+-- a text that is not read to its end ends the job with the error of the read
 unread : {S W : Type 0} (Z : Type 0) (g : SourceGhosts S) (h : SinkGhosts W) (old new : S) (sink : W) (fault : BenchFault)
     → ReadsText g {Z = Z} old new (Err fault) → RunsAsm g h old new sink sink (Err fault)
 unread Z g h old new sink Read reads = (reads, refl)
@@ -39,7 +40,7 @@ returns-in_err-text g c =
     c.from_residual.result _ c.from_residual.ensures.1
     (unread Global g.S.Source g.W.Sink _ _ _ _ c.in_err-text.ensures)
 
--- a text that is not too long
+-- a text that is read and not too long has at most 4 MiB (4194304 bytes)
 few : (text read : List ℕ) → read ≡ text → length text ≤ 4194304 → length read ≤ 4194304
 few text read read_is short = subst (λ t. length t ≤ 4194304) (sym read_is) short
 
@@ -70,11 +71,12 @@ returns-in-Ok g c =
           c.write_words.ensures.prefix),
     ))
 
--- the result for a text that has an error
+-- a text that has an error fails with this error, or for lack of memory
 fails : (text : List ℕ) (fault : AsmFault) → length text ≤ 4194304 → FailsFor text fault → FailsAsm text fault
 fails text fault short (inl told) = inl (asm_output-fault text fault short told)
 fails text fault short (inr out_of_memory) = inr out_of_memory
 
+-- a text that is read whole and has an error ends the job with the error, and writes nothing
 faulty : {S W : Type 0} (g : SourceGhosts S) (h : SinkGhosts W) (old new : S) (sink : W) (text : List ℕ) (fault : AsmFault)
     → ReadsWholeText g old new → (g.follows_input new → text ≡ g.remaining old) → length text ≤ 4194304
     → (1 ≤ fault.line) × (fault.line ≤ length (lines_of text)) → FailsFor text fault

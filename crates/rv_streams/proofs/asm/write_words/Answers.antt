@@ -1,3 +1,4 @@
+-- This file proves obligations of `write_words`, which writes a line for each word, and flushes the sink.
 use Rattle.std.proofs.Common.{rules, arith}
 use Rattle.rv_streams.specs.AssemblyText.{word_line}
 use Rattle.rv_streams.proofs.WrittenLines.{lines-more, lines-stopped}

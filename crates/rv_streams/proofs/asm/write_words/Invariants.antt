@@ -1,3 +1,4 @@
+-- This file states the loop invariants of `write_words`, which writes a line for each word, and flushes the sink.
 use Rattle.std.proofs.Common.{◌≡◌, take}
 use Rattle.rv_streams.specs.AssemblyText.{asm_text}
 use Rattle.rv_streams.specs.Transfer.{WritesUpTo}

@@ -1,8 +1,9 @@
+-- This file proves obligations of `has_feed`, which returns whether the bytes have a line feed.
 use Rattle.std.proofs.Common.{sym}
 use Rattle.rv_streams.proofs.BufferedLemmas.{feed_found, feed_in_part, feed_within}
 use Rattle.rv_streams.proofs.buffered.has_feed.Goals as goal
 
--- `has_feed` meets its contract where the test `position_in_short-head` holds
+-- `has_feed` meets its contract if `position_in_short-head` is true
 pub returns-then-position_in_short-head : goal.returns-then-position_in_short-head
 returns-then-position_in_short-head c =
     sym (feed_in_part c.min.result c.args.bytes.now (feed_within _ _ c.position_in_short.ensures.value c.if-position_in_short-head.true))

@@ -1,12 +1,14 @@
+-- This file proves obligations of `through_feed`, which returns the bytes through the first line feed, or all if there is none, but at most the
+-- first `most` bytes.
 use Rattle.std.proofs.Common.{arith}
 use Rattle.rv_streams.proofs.BufferedLemmas.{feedless-whole, feedless-cut}
 use Rattle.rv_streams.proofs.buffered.through_feed.Goals as goal
 
--- `through_feed` meets clause `line` of its contract where the test `end-head` holds
+-- `through_feed` meets clause `line` of its contract if `end-head` is true
 pub returns-then-end-head-clause-line : goal.returns-then-end-head-clause-line
 returns-then-end-head-clause-line c = feedless-cut _ _ c.position_in_short-end.ensures.value c.if-end-head.true
 
--- `through_feed` meets clause `line` of its contract where the test `end-prefix` holds
+-- `through_feed` meets clause `line` of its contract if `end-prefix` is true
 pub returns-then-end-prefix-clause-line : goal.returns-then-end-prefix-clause-line
 returns-then-end-prefix-clause-line c = feedless-whole _ _ c.position_of-end.ensures.value c.if-end-prefix.true
 

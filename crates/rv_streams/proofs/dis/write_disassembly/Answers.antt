@@ -1,3 +1,4 @@
+-- This file proves obligations of `write_disassembly`, which writes a line for each word, which is given by its bytes, and flushes the sink.
 use Rattle.std.proofs.Common.{rules, ◌∙◌, ◌++◌, [], ap, sym, subst, arith}
 use Rattle.std.proofs.lemmas.Result.{on_ok_weaker}
 use Rattle.std.proofs.lemmas.List.Folds.{flat_map-map}

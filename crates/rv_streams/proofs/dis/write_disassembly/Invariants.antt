@@ -1,3 +1,4 @@
+-- This file states the loop invariants of `write_disassembly`, which writes a line for each word, which is given by its bytes, and flushes the sink.
 use Rattle.std.proofs.Common.{◌≡◌, take}
 use Rattle.std.specs.List.{flat_map}
 use Rattle.rv_word.specs.ByteOrder.{word_of_bytes}

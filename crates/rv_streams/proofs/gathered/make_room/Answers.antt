@@ -1,6 +1,7 @@
+-- This file proves obligations of `make_room`, which writes the gathered bytes and empties the buffer, if it has no room for `room` more bytes.
 use Rattle.std.proofs.Common.{[], refl, sym, append-nil}
 use Rattle.rv_streams.proofs.gathered.make_room.Goals as goal
 
--- the case in which nothing is written
+-- `make_room` meets clause `prefix` of its contract if nothing is written
 pub returns-else-remaining_capacity-room-clause-prefix : goal.returns-else-remaining_capacity-room-clause-prefix
 returns-else-remaining_capacity-room-clause-prefix g c = (c.args.gathered.now.items, ([], sym (append-nil _), refl))

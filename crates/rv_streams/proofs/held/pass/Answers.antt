@@ -1,3 +1,4 @@
+-- This file proves obligations of `pass`, which passes on the bytes from an index on.
 use Rattle.std.proofs.Common.{rules}
 use Rattle.rv_streams.proofs.HeldLemmas.{passed_more, unflushed}
 use Rattle.rv_streams.proofs.held.pass.Goals as goal

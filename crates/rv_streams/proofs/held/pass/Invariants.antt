@@ -1,3 +1,4 @@
+-- This file states the loop invariants of `pass`, which passes on the bytes from an index on.
 use Rattle.std.proofs.Common.{◌≡◌, ◌-◌, ◌≤◌, ◌++◌, ◌==◌, ◌&&◌, drop, length}
 use Rattle.rv_streams.proofs.held.pass.Given as goal
 

@@ -14,17 +14,18 @@ use Rattle.rv_streams.specs.Faults.{Outcome}
 use Rattle.rv_streams.specs.Image.{AddsBytes, pair_values, bytes_of_digits}
 use Rattle.rv_streams.proofs.image.add_bytes.Goals as goal
 
--- both definitions of the value of a digit agree
+-- the two definitions of the value of a digit agree
 hex_digit_value-is : (c : ℕ) → hex_digit_value c ≡ cond (is_digit c 16) (Some (digit_value c)) None
 hex_digit_value-is c = grind (arith, nat_tests)
 
--- the bytes of two digits followed by others
+-- `byte_before` is the byte of two digits, followed by other bytes, if all of them exist
 byte_before : Option ℕ → Option ℕ → Option (List ℕ) → Option (List ℕ)
 byte_before (Some high) (Some low) (Some bytes) = Some ((high * 16 + low) ∷ bytes)
 byte_before (Some high) (Some low) None = None
 byte_before (Some high) None bytes = None
 byte_before None low bytes = None
 
+-- the decoder reads two digits as a byte before the rest, and fails if one of them is no digit
 read_pair : (a b i : ℕ) (high low : Option ℕ) (rest : Result (List ℕ) FromHexError)
     → result_ok
     ((digit_or_error a i high >>= (λ h. digit_or_error b (i + 1) low >>= (λ l. Ok (h * 16 + l)))) >>= (λ byte. rest >>= (λ bytes. Ok (byte ∷ bytes))))
@@ -35,6 +36,7 @@ read_pair a b i (Some high) (Some low) (Err e) = refl
 read_pair a b i (Some high) None rest = refl
 read_pair a b i None low rest = refl
 
+-- two digits (p, q) before other bytes (all) give the byte of both digits and the other bytes, if all tests are true
 byte_before-tests : (p q all : Bool) (high low : ℕ) (bytes : List ℕ)
     → byte_before (cond p (Some high) None) (cond q (Some low) None) (cond all (Some bytes) None) ≡ cond (p && (q && all))
     (Some ((16 * high + low) ∷ bytes)) None
@@ -44,6 +46,7 @@ byte_before-tests true true false high low bytes = refl
 byte_before-tests true false all high low bytes = refl
 byte_before-tests false q all high low bytes = refl
 
+-- the decoder of pairs gives the bytes of a word of even length if all its bytes are hexadecimal digits
 decode_pairs-is : (i : ℕ) (word : List ℕ) → length word % 2 ≡ 0
     → result_ok (decode_pairs i word) ≡ cond (list_all (λ c. is_digit c 16) word) (Some (pair_values word)) None
 unfolding decode_pairs
@@ -58,7 +61,7 @@ decode_pairs-is i (a ∷ b ∷ rest) even =
     ∙ (ap (λ o. byte_before (cond (is_digit a 16) (Some (digit_value a)) None) (cond (is_digit b 16) (Some (digit_value b)) None) o) more
     ∙ byte_before-tests (is_digit a 16) (is_digit b 16) all (digit_value a) (digit_value b) (pair_values rest))))
 
--- the bytes of a word are those that the crate hex decodes
+-- the crate hex decodes a word to the bytes of its digits
 pub bytes_of_digits-decoded : (word : List ℕ) → bytes_of_digits word ≡ result_ok (decode_of word)
 unfolding bytes_of_digits
 bytes_of_digits-decoded word =
@@ -69,17 +72,18 @@ bytes_of_digits-decoded word =
           rw (even) (sym (decode_pairs-is 0 word even))
     ]
 
--- `add_bytes` meets clause `outcome` of its contract (`AddsBytes`) where the test `is_err` holds
+-- `add_bytes` meets clause `outcome` of its contract (`AddsBytes`) if `is_err` is true
 pub returns-then-is_err-clause-outcome : goal.returns-then-is_err-clause-outcome
 returns-then-is_err-clause-outcome c = (rw (bytes_of_digits-decoded c.args.word.now) (search rules), refl)
 
--- `add_bytes` meets clause `outcome` of its contract (`AddsBytes`) where the test `len-count > IMAGE_MAX` holds
+-- `add_bytes` meets clause `outcome` of its contract (`AddsBytes`) if `len-count > IMAGE_MAX` is true
 pub returns-then-len-count-gt-IMAGE_MAX-clause-outcome : goal.returns-then-len-count-gt-IMAGE_MAX-clause-outcome
 returns-then-len-count-gt-IMAGE_MAX-clause-outcome c = (rw (bytes_of_digits-decoded c.args.word.now) (search rules), refl)
 
 -- `add_bytes` meets clause `outcome` of its contract (`AddsBytes`)
 pub returns-clause-outcome : goal.returns-clause-outcome
 returns-clause-outcome c = by_result c.add_behind.result refl where
+  -- the contract holds for each result of `add_behind`: success, or an error
   by_result : (r : Outcome) → c.add_behind.result ≡ r → AddsBytes c.args.word.now c.args.image.now.items c.add_behind.new.bytes.items r
   by_result (Ok done) result_is =
       let items = rw result_is at c.add_behind.ensures.items in rw (bytes_of_digits-decoded c.args.word.now) (grind (arith, common_steps))

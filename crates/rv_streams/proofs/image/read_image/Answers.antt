@@ -1,3 +1,4 @@
+-- This file proves obligations of `read_image`, which reads the image: the lines before the first line whose only word is `--`, or all lines.
 use Rattle.std.proofs.Common.{rules, ◌≡◌, ◌∙◌, false, Global, Ok, Err, sym, ap, subst, arith, inl, inr}
 use Rattle.std.proofs.lemmas.Result.{IfOk-at_ok, IfErr-at_err}
 use Rattle.rv_streams.specs.declared.fault.BenchFault.TheVariants.{Read, Hex}
@@ -14,7 +15,7 @@ use Rattle.rv_streams.proofs.image.read_image.Given as given
 use Rattle.rv_streams.proofs.image.read_image.Goals as goal
 use Rattle.rv_streams.proofs.image.read_image.Goals.{After-as_slice}
 
--- the lines so far, and the line that was taken
+-- after a line that is no separator, the lines so far and this line are taken as lines of the image
 taken : (g : given.Over) (c : After-as_slice g) → is_separator c.as_slice.result.now ≡ false → g.S.Source.follows_input c.next_line.new.self.source
     → TakesInImage (unread c.args.lines.now) (unread c.loop-image.lines)
     (unread c.next_line.new.self) c.next_line.new.self.is_at_end c.loop-image.image.items c.as_slice.result.now
@@ -76,7 +77,7 @@ returns-in_err-add_bytes-clause-outcome g c =
     (other_word _ _ c.in-Some-only_word.ensures (sym c.is_dashes.ensures ∙ c.if-is_dashes.false)))
     c.in-Some-only_word.ensures c.in_err-add_bytes.ensures.outcome)
 
--- `read_image` meets clause `outcome` of its contract (`ReadsImage`) where the test `is_dashes` holds
+-- `read_image` meets clause `outcome` of its contract (`ReadsImage`) if `is_dashes` is true
 pub returns-then-is_dashes-clause-outcome : goal.returns-then-is_dashes-clause-outcome
 returns-then-is_dashes-clause-outcome g c =
     let found = ok_mapped _ c.next_line.result c.map_err.result _ c.map_err.ensures.cases c.in_ok-line.was ∙ ap Ok c.in-Some.is in

@@ -1,3 +1,5 @@
+-- This file states the loop invariants of `read_image`, which reads the image: the lines before the first line whose only word is `--`, or all
+-- lines.
 use Rattle.std.proofs.Common.{◌≡◌, ◌≤◌, vec_len}
 use Rattle.rv_streams.specs.Unread.{unread, calls_left, EndsWithSource}
 use Rattle.rv_streams.proofs.ImageLemmas.{EncodesImage}

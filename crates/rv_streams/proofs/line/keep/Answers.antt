@@ -1,3 +1,4 @@
+-- This file proves obligations of `keep`, which appends a text to a line, as far as there is room.
 use Rattle.std.proofs.Common.{rules, ◌≡◌, ◌++◌, ◌∙◌, take, arith}
 use Rattle.rv_text.specs.GoodLines.{kept_bytes}
 use Rattle.rv_streams.proofs.LineTextLemmas.{take-room}

@@ -1,3 +1,4 @@
+-- This file proves obligations of `read_text`, which reads bytes after those that `line` holds, up to a line feed or the end of the source.
 use Rattle.std.proofs.Common.{rules, ◌≡◌, ◌++◌, false, take, length, arith, ap}
 use Rattle.std.proofs.lemmas.List.{length-take, length-append}
 use Rattle.rv_text.specs.GoodLines.{kept_bytes}
@@ -18,7 +19,7 @@ loop-count-init g c = record {
   falls = search rules;
 }
 
--- `read_text` meets clause `bytes` of its contract where the test `last = LINE_FEED` holds
+-- `read_text` meets clause `bytes` of its contract if `last = LINE_FEED` is true
 pub returns-then-last-eq-LINE_FEED-clause-bytes : goal.returns-then-last-eq-LINE_FEED-clause-bytes
 returns-then-last-eq-LINE_FEED-clause-bytes g c = λ follows.
     let cut = c.in-Some.ensures.cases in
@@ -27,19 +28,19 @@ returns-then-last-eq-LINE_FEED-clause-bytes g c = λ follows.
     (feed_next _ _ _ _ _ (read.bytes follows) cut.0 c.if-last-eq-LINE_FEED.true)
     (has_feed-before_last _ _ _ _ read.room cut.0 cut.1 read.line))
 
--- `read_text` meets clause `short` of its contract where the test `last = LINE_FEED` holds
+-- `read_text` meets clause `short` of its contract if `last = LINE_FEED` is true
 pub returns-then-last-eq-LINE_FEED-clause-short : goal.returns-then-last-eq-LINE_FEED-clause-short
 returns-then-last-eq-LINE_FEED-clause-short g c =
     omega (arith, ap length c.keep.ensures, length-take kept_bytes (c.loop-count.line.items ++ c.in-Some.text.now))
 
--- `read_text` meets clause `unfinished` of its contract where the test `last = LINE_FEED` holds
+-- `read_text` meets clause `unfinished` of its contract if `last = LINE_FEED` is true
 pub returns-then-last-eq-LINE_FEED-clause-unfinished : goal.returns-then-last-eq-LINE_FEED-clause-unfinished
 returns-then-last-eq-LINE_FEED-clause-unfinished g c =
     let cut = c.in-Some.ensures.cases in
     rw c.keep.ensures (has_feed-kept kept_bytes c.loop-count.line.items c.in-Some.text.now c.loop-count.invariant.unfinished
     (has_feed-before_last _ _ _ _ c.in_ok-count.ensures.room cut.0 cut.1 c.in_ok-count.ensures.line))
 
--- `read_text` meets clause `falls` of its contract where the test `last = LINE_FEED` holds
+-- `read_text` meets clause `falls` of its contract if `last = LINE_FEED` is true
 pub returns-then-last-eq-LINE_FEED-clause-falls : goal.returns-then-last-eq-LINE_FEED-clause-falls
 returns-then-last-eq-LINE_FEED-clause-falls g c =
     omega (
@@ -53,7 +54,7 @@ returns-then-last-eq-LINE_FEED-clause-falls g c =
       c.in_ok-count.ensures.falls,
     )
 
--- `read_text` meets clause `feed_falls` of its contract where the test `last = LINE_FEED` holds
+-- `read_text` meets clause `feed_falls` of its contract if `last = LINE_FEED` is true
 pub returns-then-last-eq-LINE_FEED-clause-feed_falls : goal.returns-then-last-eq-LINE_FEED-clause-feed_falls
 returns-then-last-eq-LINE_FEED-clause-feed_falls g c = λ _.
     omega (

@@ -1,3 +1,4 @@
+-- This file states the loop invariants of `read_text`, which reads bytes after those that `line` holds, up to a line feed or the end of the source.
 use Rattle.std.proofs.Common.{◌≡◌, ◌+◌, ◌≤◌, ◌++◌, false, length}
 use Rattle.rv_text.specs.GoodLines.{kept_bytes}
 use Rattle.rv_text.specs.Lines.{has_feed}

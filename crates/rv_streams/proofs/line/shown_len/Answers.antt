@@ -1,3 +1,4 @@
+-- This file proves obligations of `shown_len`, which returns the number of bytes that are shown of a text before a line feed.
 use Rattle.rv_text.proofs.LineLemmas.{shown-return, shown-other, shown-empty}
 use Rattle.std.proofs.Common.{◌++◌, ◌∷◌, [], ◌∙◌, ap}
 use Rattle.rv_streams.proofs.line.shown_len.Goals as goal

@@ -1,3 +1,4 @@
+-- This file proves obligations of `write_all`, which writes the whole text, part by part.
 use Rattle.std.proofs.Common.{rules, arith}
 use Rattle.std.proofs.lemmas.Grind.{common_steps}
 use Rattle.rv_streams.proofs.Writing.{WritesUpTo-more}

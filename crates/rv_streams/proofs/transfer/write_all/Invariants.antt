@@ -1,3 +1,4 @@
+-- This file states the loop invariants of `write_all`, which writes the whole text, part by part.
 use Rattle.std.proofs.Common.{◌≡◌, length}
 use Rattle.rv_streams.specs.Transfer.{WritesUpTo}
 use Rattle.rv_streams.proofs.transfer.write_all.Given as goal

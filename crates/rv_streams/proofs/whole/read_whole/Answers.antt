@@ -1,3 +1,4 @@
+-- This file proves obligations of `read_whole`, which reads all bytes of a source, to its end.
 use Rattle.std.proofs.Common.{rules, ◌≡◌, ◌++◌, ℕ, Global, List, length, take, Err, arith, sym, ap, append_assoc, ◌∙◌}
 use Rattle.std.proofs.lemmas.List.{length-append}
 use Rattle.rv_streams.specs.declared.device.Source.{Ghosts}
@@ -8,7 +9,7 @@ use Rattle.rv_streams.specs.Calls.{SourceWorked}
 use Rattle.rv_streams.proofs.Mapped.{ok_mapped, passed_on}
 use Rattle.rv_streams.proofs.whole.read_whole.Goals as goal
 
--- the result for a part that is not appended
+-- a part that is not appended ends the read with its fault
 refused : {S : Type 0} (Z : Type 0) (g : Ghosts S) (old new : S) (text part added : List ℕ) (fault : BenchFault)
     → g.input new ≡ g.input old → SourceWorked g old new → g.ends new ≡ g.ends old → (g.follows_input new → g.remaining old ≡ (text ++ part) ++ g.remaining new)
     → AddsPart part text added (Err fault) → ReadsText g {Z = Z} old new (Err fault)

@@ -1,3 +1,4 @@
+-- This file states the loop invariants of `read_whole`, which reads all bytes of a source, to its end.
 use Rattle.std.proofs.Common.{◌≡◌, ◌≤◌, ◌++◌, length}
 use Rattle.rv_streams.proofs.whole.read_whole.Given as goal
 

@@ -1,3 +1,4 @@
+-- This file states the loop invariants of `are_text`, which returns whether a line may have each of these bytes.
 use Rattle.std.proofs.Common.{◌≡◌, take}
 use Rattle.std.specs.List.{list_all}
 use Rattle.rv_text.specs.GoodLines.{is_text}

@@ -1,3 +1,4 @@
+-- This file proves obligations of `hex`, which returns the `places` last hexadecimal digits of a number, in lower case.
 use Rattle.std.proofs.Common.{arith, ◌≡◌, ◌<◌, ◌∙◌, encode_utf8, length, ap}
 use Rattle.std.proofs.lemmas.Str.Ascii.{encode_ascii}
 use Rattle.rv_text.proofs.HexDigits.{SomeIff-at_some, digit_char-lt, length-hex_digits, hex_digits-start, hex_digits_more, hex_digits-all}

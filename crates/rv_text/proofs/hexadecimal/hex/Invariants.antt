@@ -1,3 +1,4 @@
+-- This file states the loop invariants of `hex`, which returns the `places` last hexadecimal digits of a number, in lower case.
 use Rattle.std.proofs.Common.{◌≡◌, ◌-◌, ◌*◌, ◌/◌, ◌^◌}
 use Rattle.rv_text.specs.Digits.{hex_digits}
 use Rattle.rv_text.proofs.hexadecimal.hex.Given as goal

@@ -1,3 +1,4 @@
+-- This file proves obligations of `split_line`, which returns the first line of a text and the text after it, or `None` if there is no line.
 use Rattle.std.proofs.Common.{◌≡◌, ◌<◌, ◌+◌, ◌-◌, ◌==◌, ◌∙◌, length, take, drop, arith, sym}
 use Rattle.std.specs.List.{position_or_len}
 use Rattle.std.proofs.lemmas.Grind.{common_steps}
@@ -5,7 +6,7 @@ use Rattle.std.proofs.lemmas.Bool.Decides.{nat_tests}
 use Rattle.rv_text.proofs.LineCuts.{lines-cut, lines-whole}
 use Rattle.rv_text.proofs.lines.split_line.Goals as goal
 
--- `split_line` meets clause `lines` of its contract where the test `end-text` holds
+-- `split_line` meets clause `lines` of its contract if `end-text` is true
 pub returns-then-end-text-clause-lines : goal.returns-then-end-text-clause-lines
 returns-then-end-text-clause-lines c =
     let some : 0 < length c.args.text.now = grind (arith, nat_tests) in

@@ -1,3 +1,4 @@
+-- This file proves obligations of `without_return`, which returns the text before a line feed, without a carriage return at its end.
 use Rattle.std.proofs.Common.{◌++◌, ◌∷◌, [], ◌∙◌, ap, sym}
 use Rattle.rv_text.specs.Lines.{without_return}
 use Rattle.rv_text.proofs.LineLemmas.{without_return-return}

@@ -1,3 +1,5 @@
+-- This file proves obligations of `digits`, which returns the number that a text of 1 to `most` digits in the base has, or `None` for any other
+-- text.
 use Rattle.std.proofs.Common.{arith, ◌≡◌, get_or}
 use Rattle.std.proofs.lemmas.Grind.{common_steps}
 use Rattle.std.proofs.lemmas.Int.Digits.{digits_value_more}

@@ -1,3 +1,5 @@
+-- This file states the loop invariants of `digits`, which returns the number that a text of 1 to `most` digits in the base has, or `None` for any
+-- other text.
 use Rattle.std.proofs.Common.{◌≡◌, true, take}
 use Rattle.std.specs.List.{list_all}
 use Rattle.std.specs.Char.{is_digit}

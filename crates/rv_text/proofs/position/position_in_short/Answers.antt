@@ -1,3 +1,4 @@
+-- This file proves obligations of `position_in_short`, which returns the position of the first such byte of a short text by a loop.
 use Rattle.std.proofs.Common.{◌==◌, ◌∙◌, length, rules}
 use Rattle.std.specs.List.{position_or_len}
 use Rattle.std.proofs.lemmas.Iterator.{YieldsList-from_slice}

@@ -1,3 +1,4 @@
+-- This file proves obligations of `position_of`, which returns the position of the first such byte, or the length of the text if there is none.
 use Rattle.std.proofs.Common.{◌==◌, ◌∙◌}
 use Rattle.rv_text.proofs.FirstBytes.{position-first_byte}
 use Rattle.rv_text.proofs.position.position_of.Goals as goal

@@ -1,3 +1,4 @@
+-- This file proves obligations of `blank_position`, which returns the position of the first blank, or the length of the text if there is none.
 use Rattle.std.proofs.Common.{◌∙◌, length, rules}
 use Rattle.std.specs.List.{position_or_len}
 use Rattle.std.proofs.lemmas.Iterator.{YieldsList-from_slice}
@@ -8,7 +9,7 @@ use Rattle.rv_text.proofs.FirstBytes.{position-first_byte}
 use Rattle.rv_text.proofs.Positions.{unwrap_or-position}
 use Rattle.rv_text.proofs.words.blank_position.Goals as goal
 
--- `blank_position` meets clause `value` of its contract where the test `text < LONG` holds
+-- `blank_position` meets clause `value` of its contract if `text < LONG` is true
 pub returns-then-text-lt-LONG-clause-value : goal.returns-then-text-lt-LONG-clause-value
 returns-then-text-lt-LONG-clause-value c =
     let text = c.args.text.now in

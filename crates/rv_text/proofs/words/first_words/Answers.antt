@@ -1,3 +1,4 @@
+-- This file proves obligations of `first_words`, which returns the first words of a line, at most `MOST_WORDS`.
 use Rattle.std.proofs.Common.{◌≡◌, length, map, arith}
 use Rattle.std.proofs.lemmas.List.{length-map}
 use Rattle.std.proofs.lemmas.Bool.Decides.{nat_tests}

@@ -1,3 +1,4 @@
+-- This file states the loop invariants of `next_word`, which returns the first word of a text and the text after it, or `None` if there is no word.
 use Rattle.std.proofs.Common.{◌≡◌, length}
 use Rattle.rv_text.specs.Words.{words_of}
 use Rattle.rv_text.proofs.words.next_word.Given as goal

@@ -1,3 +1,4 @@
+-- This file proves obligations of `split_blank`, which returns the text before the first blank, and the text after it.
 use Rattle.std.proofs.Common.{◌≡◌, ◌<◌, ◌+◌, ◌-◌, ◌∙◌, length, take, drop, arith, sym, append-nil}
 use Rattle.std.specs.List.{position_or_len}
 use Rattle.std.proofs.lemmas.Grind.{common_steps}
@@ -6,7 +7,7 @@ use Rattle.rv_text.specs.Words.{words_of}
 use Rattle.rv_text.proofs.WordCuts.{words-whole, words-cut}
 use Rattle.rv_text.proofs.words.split_blank.Goals as goal
 
--- `split_blank` meets clause `words` of its contract where the test `end-text` holds
+-- `split_blank` meets clause `words` of its contract if `end-text` is true
 pub returns-then-end-text-clause-words : goal.returns-then-end-text-clause-words
 unfolding words_of
 returns-then-end-text-clause-words c =

@@ -1,3 +1,4 @@
+-- This file proves obligations of `bits`, which returns bits `hi` down to `lo` of a word, as a number.
 use Rattle.rv_word.proofs.BitFieldLemmas.{bits_by_mask, bits-lt}
 use Rattle.rv_word.proofs.bit_field.bits.Goals as goal
 

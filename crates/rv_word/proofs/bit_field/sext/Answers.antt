@@ -1,3 +1,4 @@
+-- This file proves obligations of `sext`, which sign-extends the low `width` bits of `value` to 32 bits.
 use Rattle.std.proofs.Common.{◌≡◌, ◌-◌, ◌^◌, ap, ◌∙◌, arith, rules}
 use Rattle.std.specs.Prelude.{FitsSigned}
 use Rattle.std.specs.Int.{w32, cast_unsigned}

@@ -1,10 +1,11 @@
+-- This file proves obligations of `div`, which returns the signed quotient, rounded towards zero, modulo 2^32.
 use Rattle.std.proofs.Common.{◌≡◌, ◌∙◌, sym, rules}
 use Rattle.std.specs.Prelude.{int_div}
 use Rattle.rv_word.specs.Word.{signed, low_word}
 use Rattle.rv_word.proofs.DivisionLemmas.{quotient-equation, quotient-unique, quotient-word}
 use Rattle.rv_word.proofs.division.div.Goals as goal
 
--- `div` meets its contract where the test `divisor = 0` fails
+-- `div` meets its contract if `divisor = 0` is false
 pub returns-else-divisor-eq0 : goal.returns-else-divisor-eq0
 returns-else-divisor-eq0 c =
     let word : c.cast_unsigned.result ≡ low_word (int_div (signed c.args.dividend) (signed c.args.divisor)) = search rules in

@@ -1,10 +1,11 @@
+-- This file proves obligations of `rem`, which returns the remainder of the signed division, with the sign of the dividend.
 use Rattle.std.proofs.Common.{◌≡◌, ◌∙◌, sym, rules}
 use Rattle.std.specs.Prelude.{int_rem}
 use Rattle.rv_word.specs.Word.{signed, low_word}
 use Rattle.rv_word.proofs.DivisionLemmas.{remainder-equation, remainder-unique, remainder-word}
 use Rattle.rv_word.proofs.division.rem.Goals as goal
 
--- `rem` meets its contract where the test `divisor = 0` fails
+-- `rem` meets its contract if `divisor = 0` is false
 pub returns-else-divisor-eq0 : goal.returns-else-divisor-eq0
 returns-else-divisor-eq0 c =
     let word : c.cast_unsigned.result ≡ low_word (int_rem (signed c.args.dividend) (signed c.args.divisor)) = search rules in

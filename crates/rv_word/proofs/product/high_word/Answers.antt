@@ -1,3 +1,4 @@
+-- This file proves obligations of `high_word`, which returns the high word of a product of 64 bits.
 use Rattle.std.proofs.Common.{◌≡◌, ◌/◌, ◌^◌, ap, sym, ◌∙◌}
 use Rattle.std.specs.Int.{w64, cast_unsigned}
 use Rattle.std.proofs.lemmas.Int.{to_z-of_z}

@@ -1,3 +1,4 @@
+-- This file proves obligations of `mulh`, which returns the high word of the product of two signed words.
 use Rattle.std.proofs.Common.{ap, sym, subst, ◌∙◌}
 use Rattle.rv_word.specs.Products.{high_word, IsSignedHighWord}
 use Rattle.rv_word.specs.Word.{signed}

@@ -1,3 +1,4 @@
+-- This file proves obligations of `mulhsu`, which returns the high word of the product of a signed and an unsigned word.
 use Rattle.std.proofs.Common.{pos, w64, ap, sym, subst, ◌∙◌, arith}
 use Rattle.std.proofs.lemmas.Int.{to_z_pos}
 use Rattle.rv_word.specs.Products.{high_word, IsSignedHighWord}

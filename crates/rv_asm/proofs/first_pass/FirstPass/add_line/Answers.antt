@@ -1,3 +1,4 @@
+-- This file proves obligations of `FirstPass::add_line`, which adds the next line.
 use Rattle.std.proofs.Common.{◌≡◌, ◌∙◌, ◌+◌, ◌≤◌, sym, arith, inr, refl, true, false, is_some, Ok}
 use Rattle.rv_word.specs.Cases.{option_case}
 use Rattle.rv_asm.specs.LabelMap.{places_of}
@@ -17,7 +18,7 @@ returns-clause-ok c = λ before has.
     rw (said, c.optional_size.ensures.value)
     (reads_more c.args.self.now c.add_label.new.self before line has added small, own_fault-none before line c.args.self.now.words has.words small)
 
--- `FirstPass::add_line` meets clause `fault` of its contract where the test `is_err` holds
+-- `FirstPass::add_line` meets clause `fault` of its contract if `is_err` is true
 pub returns-then-is_err-clause-fault : goal.returns-then-is_err-clause-fault
 returns-then-is_err-clause-fault c = λ before has.
     let line = c.in-Ok.line in

@@ -1,3 +1,4 @@
+-- This file proves obligations of `FirstPass::add_name`, which adds the label of the next line, unless it repeats one.
 use Rattle.std.proofs.Common.{◌≡◌, ◌∙◌, sym, refl, ℕ, List, cond, Some, is_some, false}
 use Rattle.std.specs.Str.{bytes_eq}
 use Rattle.std.proofs.lemmas.Map.Text.{is_eq-slice_cmp}

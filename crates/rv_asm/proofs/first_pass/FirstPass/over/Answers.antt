@@ -1,3 +1,4 @@
+-- This file proves obligations of `FirstPass::over`, which reads all lines of a text.
 use Rattle.std.proofs.Common.{◌∷◌, [], length-append, arith}
 use Rattle.rv_asm.specs.LineReading.{line_read}
 use Rattle.rv_asm.proofs.PassLemmas.{reads_on}

@@ -1,3 +1,4 @@
+-- This file states the loop invariants of `FirstPass::over`, which reads all lines of a text.
 use Rattle.std.proofs.Common.{◌+◌, ◌≤◌, length}
 use Rattle.rv_asm.proofs.PassLemmas.{HasReadUpTo}
 use Rattle.rv_asm.proofs.first_pass.FirstPass.over.Given as goal

@@ -1,3 +1,5 @@
+-- This file proves obligations of `Pair::respond_to_line`, which executes a line on both benches, and replaces the contents of the buffer by the
+-- text for it.
 use Rattle.rv_bench.proofs.PairLemmas.{pair_line-prefix}
 use Rattle.rv_bench.proofs.pair.Pair.respond_to_line.Goals as goal
 

@@ -1,3 +1,4 @@
+-- This file proves obligations of `Addresses::finds`, which returns whether a binary search finds the address.
 use Rattle.std.proofs.Common.{◌∙◌}
 use Rattle.rv_debug.proofs.AddressLemmas.{found-is}
 use Rattle.rv_debug.proofs.addresses.Addresses.finds.Goals as goal

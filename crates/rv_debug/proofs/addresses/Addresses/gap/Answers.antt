@@ -1,10 +1,11 @@
+-- This file proves obligations of `Addresses::gap`, which returns the widest interval around an address without an address of the set.
 use Rattle.std.proofs.Common.{◌≡◌, ◌-◌, ◌<◌, length, get_or, arith}
 use Rattle.rv_debug.proofs.Prelude.{HasPlace}
 use Rattle.rv_debug.proofs.AddressLemmas.{gap-free}
 use Rattle.rv_debug.proofs.addresses.Addresses.gap.Goals as goal
 use Rattle.rv_debug.proofs.addresses.Addresses.gap.Goals.{then-place-eq0, else-place-eq0}
 
--- `Addresses::gap` meets its contract (`IsFreeOf`) where the test `place-sorted` holds
+-- `Addresses::gap` meets its contract (`IsFreeOf`) if `place-sorted` is true
 pub returns-then-place-sorted : goal.returns-then-place-sorted
 returns-then-place-sorted c = λ address low high.
     let place : HasPlace c.self.inside.sorted.items c.args.address c.in-Err.place = rw c.as_slice-sorted.ensures.value at c.in-Err.ensures in
@@ -15,7 +16,7 @@ returns-then-place-sorted c = λ address low high.
     ] in
     rw (← c.self.view_is) (gap-free _ _ _ _ _ c.self.invariant place.within below (λ some. absurd (omega arith)) low high)
 
--- `Addresses::gap` meets its contract (`IsFreeOf`) where the test `place-sorted` fails
+-- `Addresses::gap` meets its contract (`IsFreeOf`) if `place-sorted` is false
 pub returns-else-place-sorted : goal.returns-else-place-sorted
 returns-else-place-sorted c = λ address low high.
     let place : HasPlace c.self.inside.sorted.items c.args.address c.in-Err.place = rw c.as_slice-sorted.ensures.value at c.in-Err.ensures in

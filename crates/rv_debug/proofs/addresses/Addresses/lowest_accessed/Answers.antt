@@ -1,3 +1,5 @@
+-- This file proves obligations of `Addresses::lowest_accessed`, which returns the lowest address of the set that the instruction of a step loaded or
+-- stored.
 use Rattle.std.proofs.Common.{◌∙◌}
 use Rattle.rv_debug.proofs.Prelude.{lowest_accessed}
 use Rattle.rv_debug.proofs.AddressLemmas.{find-either, lowest-is}

@@ -1,3 +1,4 @@
+-- This file proves obligations of `Addresses::lowest_from`, which returns the lowest address of the set that is one of `count` from an address on.
 use Rattle.std.proofs.Common.{◌<◌, ◌≤◌, ◌+◌, length, get_or, ap, arith}
 use Rattle.rv_debug.proofs.Prelude.{HasPlace}
 use Rattle.rv_debug.proofs.AddressLemmas.{find-here, find-near, find-far}
@@ -9,12 +10,12 @@ returns-in-Ok c =
     let found = rw c.as_slice.ensures.value at c.in-Ok.ensures in
     rw (← c.self.view_is) (find-here _ _ _ _ c.self.invariant c.requires found.0 found.1)
 
--- `Addresses::lowest_from` meets its contract where the test `place ≤ n` holds
+-- `Addresses::lowest_from` meets its contract if `place ≤ n` is true
 pub returns-then-place-len : goal.returns-then-place-len
 returns-then-place-len c =
     rw (← c.self.view_is) (find-far _ _ _ _ c.self.invariant (rw c.as_slice.ensures.value at c.in-Err.ensures) (λ inside. absurd (omega arith)))
 
--- `Addresses::lowest_from` meets its contract where the test `found-address` holds
+-- `Addresses::lowest_from` meets its contract if `found-address` is true
 pub returns-then-found-address : goal.returns-then-found-address
 returns-then-found-address c =
     let same = ap (λ xs. get_or xs c.in-Err.place 0) c.as_slice-2.ensures.value in

@@ -1,3 +1,4 @@
+-- This file proves obligations of `Addresses::lowest_in`, which returns the lowest address of the set that is in a span.
 use Rattle.rv_debug.proofs.AddressLemmas.{find-no_span}
 use Rattle.rv_debug.proofs.addresses.Addresses.lowest_in.Goals as goal
 

@@ -1,3 +1,4 @@
+-- This file proves obligations of `Addresses::remove`, which removes an address, if the set has it.
 use Rattle.rv_debug.proofs.AddressLemmas.{remove-is, keep-is, sorted-filter}
 use Rattle.rv_debug.proofs.addresses.Addresses.remove.Goals as goal
 

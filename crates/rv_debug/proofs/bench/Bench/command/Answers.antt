@@ -1,3 +1,4 @@
+-- This file proves obligations of `Bench::command`, which executes one command, and replaces the contents of the buffer by its reply.
 use Rattle.std.proofs.Common.{◌<◌, ℕ, ap, subst}
 use Rattle.rv_debug.specs.Prelude.{Target}
 use Rattle.rv_debug.proofs.Prelude.{Executed, BenchState, ChangesMemory, PreservesHarts, PreservesUndisturbed, selected_of, harts_of}
@@ -5,6 +6,7 @@ use Rattle.rv_debug.proofs.OtherHarts.{integrity_harts}
 use Rattle.rv_debug.proofs.Isolation.{tells_reach, changes_memory, integrity_resting}
 use Rattle.rv_debug.proofs.bench.Bench.command.Goals as goal
 
+-- before the command, the target has the hart that is selected
 has : (c : goal.After-execute) → selected_of c.args.self.now.target < harts_of c.args.self.now.target
 has c =
     let inside = subst (λ (n : ℕ). n < harts_of c.self.inside.target) c.selected.ensures.selected c.selected.ensures.has in

@@ -1,3 +1,4 @@
+-- This file proves obligations of `Bench::scramble`, which complements the private state of the enclave of a slot.
 use Rattle.std.proofs.Common.{◌≡◌, true, sym, ◌∙◌, subst}
 use Rattle.rv_debug.proofs.Prelude.{BenchState, can_scramble}
 use Rattle.rv_debug.proofs.NotRunning.{scramble_rests}

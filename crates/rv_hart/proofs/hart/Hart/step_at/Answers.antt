@@ -1,3 +1,4 @@
+-- This file proves obligations of `Hart::step_at`, which executes one step, as `Hart::step` does.
 use Rattle.rv_hart.specs.StepLaws.{TrapKeeps, KeepsMprvClear, KeepsMachineParts, ChangesStored, TakesPending}
 use Rattle.rv_hart.specs.GuestView.{DependsBelowM}
 use Rattle.rv_hart.specs.Confinement.{IsConfined}

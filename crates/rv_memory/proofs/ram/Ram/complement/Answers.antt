@@ -1,3 +1,4 @@
+-- This file proves obligations of `Ram::complement`, which complements `size` bytes from an address on: a byte b becomes 255 - b.
 use Rattle.std.proofs.Common.{◌-◌}
 use Rattle.rv_memory.specs.Memory.{ram_base}
 use Rattle.rv_memory.proofs.Complements.{complements, length-complements, inside-index}

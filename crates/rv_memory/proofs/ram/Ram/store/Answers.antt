@@ -1,3 +1,5 @@
+-- This file proves obligations of `Ram::store`, which stores the lowest bytes of a word at an address, little-endian, and leaves every other byte
+-- unchanged (Unprivileged ISA, section 2.6).
 use Rattle.std.proofs.Common.{rules}
 use Rattle.rv_memory.proofs.MemoryLaws.{store_changes_only, store_read_back}
 use Rattle.rv_memory.proofs.ram.Ram.store.Goals as goal

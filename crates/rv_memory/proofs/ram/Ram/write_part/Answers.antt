@@ -1,3 +1,4 @@
+-- This file proves obligations of `Ram::write_part`, which writes bytes at an address.
 use Rattle.std.proofs.Common.{refl}
 use Rattle.rv_memory.proofs.MemoryLaws.{changes_only}
 use Rattle.rv_memory.proofs.ram.Ram.write_part.Goals as goal

@@ -1,3 +1,4 @@
+-- This file proves obligations of `Ram::zero`, which writes `size` zeros at an address.
 use Rattle.std.proofs.Common.{replicate}
 use Rattle.std.proofs.lemmas.List.{length-replicate}
 use Rattle.rv_memory.proofs.MemoryLaws.{changes_only}

@@ -1,3 +1,4 @@
+-- This file proves obligations of `EntryRanges::byte_match`, which returns the lowest entry whose range has a byte.
 use Rattle.std.proofs.Common.{arith, sym, ◌∙◌}
 use Rattle.rv_pmp.specs.Cache.Segments.{is_within}
 use Rattle.rv_pmp.proofs.ByteMatchLemmas.{byte_match_is}

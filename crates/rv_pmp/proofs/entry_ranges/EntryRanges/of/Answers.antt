@@ -1,3 +1,4 @@
+-- This file proves obligations of `EntryRanges::of`, which returns the ranges of the entries with these cfg bytes and pmpaddr values.
 use Rattle.std.proofs.Common.{arith, length-set, ◌∙◌}
 use Rattle.rv_pmp.proofs.BoundsLemmas.{ranges_more}
 use Rattle.rv_pmp.proofs.entry_ranges.EntryRanges.of.Goals as goal

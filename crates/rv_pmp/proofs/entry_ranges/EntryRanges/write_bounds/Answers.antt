@@ -1,3 +1,5 @@
+-- This file proves obligations of `EntryRanges::write_bounds`, which writes both ends of each nonempty range after the first of the bounds, and
+-- returns the number of bounds.
 use Rattle.std.proofs.Common.{arith}
 use Rattle.rv_pmp.proofs.BoundsLemmas.{none_more, both_more, all_written}
 use Rattle.rv_pmp.proofs.entry_ranges.EntryRanges.write_bounds.Goals as goal

@@ -1,3 +1,4 @@
+-- This file proves obligations of `Segments::divide`, which sorts the bounds, and divides the address space at them.
 use Rattle.std.proofs.Common.{arith, sym, inl, inr, ◌≤◌, slice_index}
 use Rattle.std.proofs.lemmas.List.Sorted.{IsNonDecreasingBy-from_sort}
 use Rattle.std.proofs.lemmas.Bool.{cases_eq}

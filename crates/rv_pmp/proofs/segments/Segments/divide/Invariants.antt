@@ -1,3 +1,4 @@
+-- This file states the loop invariants of `Segments::divide`, which sorts the bounds, and divides the address space at them.
 use Rattle.std.proofs.Common.{◌≡◌, ℕ, ◌<◌, ◌≤◌, length, slice_index}
 use Rattle.rv_pmp.specs.Cache.Segments.{is_within, reach_of, AreInOrder, AreMatched}
 use Rattle.rv_pmp.proofs.segments.Segments.divide.Given as goal

@@ -1,3 +1,4 @@
+-- This file proves obligations of `Segments::extend`, which extends the segments up to `end`.
 use Rattle.std.proofs.Common.{arith, sym, ◌∙◌, ◌-◌, slice_index_or, None}
 use Rattle.std.proofs.lemmas.List.{get_or_default}
 use Rattle.rv_pmp.specs.Cache.Segments.{is_within, byte_match}
@@ -5,7 +6,7 @@ use Rattle.rv_pmp.proofs.ByteMatchLemmas.{option_same}
 use Rattle.rv_pmp.proofs.SegmentLemmas.{goes_on, one_more}
 use Rattle.rv_pmp.proofs.segments.Segments.extend.Goals as goal
 
--- the last segment grows
+-- `Segments::extend` meets its contract if the last segment grows
 pub returns-then-eq : goal.returns-then-eq
 returns-then-eq c =
     let a = c.args in

@@ -1,3 +1,4 @@
+-- This file proves obligations of `Segments::rebuild`, which builds the segments of the entries with these cfg bytes and pmpaddr values.
 use Rattle.std.proofs.Common.{◌∙◌}
 use Rattle.rv_pmp.specs.Covers.{covers}
 use Rattle.rv_pmp.specs.Cache.Segments.{is_within, AreSegments}
@@ -5,7 +6,7 @@ use Rattle.rv_pmp.specs.Entries.{Entries}
 use Rattle.rv_pmp.proofs.ByteMatchLemmas.{byte_match_alike}
 use Rattle.rv_pmp.proofs.segments.Segments.rebuild.Goals as goal
 
--- the ranges are those of the entries
+-- `Segments::rebuild` meets its contract
 pub returns : goal.returns
 unfolding AreSegments
 returns c =

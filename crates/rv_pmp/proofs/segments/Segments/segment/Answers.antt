@@ -1,3 +1,4 @@
+-- This file proves obligations of `Segments::segment`, which returns the segment of an address, by binary search.
 use Rattle.std.proofs.Common.{leb, arith, rules, length, ◌≤◌}
 use Rattle.std.proofs.lemmas.List.Sorted.{IsPartitionPoint-from_clause, IsPartitionedBy-leb}
 use Rattle.rv_pmp.proofs.SegmentLemmas.{used_rise, at_segment}

@@ -1,3 +1,4 @@
+-- This file proves obligations of `Keyword::find`, which returns the keyword with this text, if there is one.
 use Rattle.std.proofs.Common.{◌∙◌}
 use Rattle.rv_script.proofs.Keywords.{keyword_of-rows}
 use Rattle.rv_script.proofs.keyword.Keyword.find.Goals as goal

@@ -1,3 +1,4 @@
+-- This file proves obligations of `Schedule::names_only`, which returns whether each step is made by a hart below this number.
 use Rattle.std.proofs.Common.{◌∙◌, sym, ap}
 use Rattle.std.proofs.lemmas.List.Folds.{list_all-map}
 use Rattle.std.specs.Prelude.{nat_lt}

@@ -1,3 +1,4 @@
+-- This file proves obligations of `Schedule::new`, which returns the schedule of a word of 1 to 64 digits, each 0 or 1.
 use Rattle.std.proofs.Common.{◌≡◌, ◌∙◌, ◌-◌, ℕ, List, ◌++◌, drop, length, replicate, Some, sym, ap, ap₂}
 use Rattle.std.proofs.lemmas.List.{drop-replicate}
 use Rattle.rv_script.specs.Schedules.{schedule_of}

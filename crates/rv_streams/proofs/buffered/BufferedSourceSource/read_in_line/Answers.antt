@@ -1,3 +1,4 @@
+-- This file proves obligations of `read_in_line` of a buffered source, which returns bytes of at most one line.
 use Rattle.std.proofs.Common.{◌∙◌, sym}
 use Rattle.rv_streams.proofs.BufferedLemmas.{line_given}
 use Rattle.rv_streams.proofs.buffered.BufferedSourceSource.read_in_line.Goals as goal

@@ -1,3 +1,4 @@
+-- This file proves obligations of `read_some` of a buffered source, which returns bytes that are read ahead.
 use Rattle.std.proofs.Common.{◌∙◌, sym}
 use Rattle.rv_streams.proofs.BufferedLemmas.{ahead_given}
 use Rattle.rv_streams.proofs.buffered.BufferedSourceSource.read_some.Goals as goal

@@ -1,3 +1,4 @@
+-- This file proves obligations of `write_some` of a buffered sink, which gathers a part of the bytes.
 use Rattle.std.proofs.Common.{rules, ◌∙◌, ◌++◌, ap, take}
 use Rattle.rv_streams.proofs.HeldLemmas.{held_more}
 use Rattle.rv_streams.proofs.held.BufferedSinkSink.write_some.Goals as goal

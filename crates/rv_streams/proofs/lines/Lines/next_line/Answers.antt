@@ -1,8 +1,10 @@
+-- This file proves obligations of `Lines::next_line`, which returns the next line, or `None` if the source has returned its end and no line is left.
 use Rattle.rv_streams.proofs.Ends.{EndsWithSource-ends}
 use Rattle.std.proofs.Common.{rules, refl, ◌≡◌, ◌<◌, ◌∙◌, ap, arith, ℕ, Bool, false, ◌==◌, Ok}
 use Rattle.rv_streams.proofs.LineTextLemmas.{TakesLine-feed, TakesLine-end}
 use Rattle.rv_streams.proofs.lines.Lines.next_line.Goals as goal
 
+-- a length is positive if the test of emptiness is false
 is_some : (n : ℕ) (empty : Bool) → empty ≡ (n == 0) → empty ≡ false → 0 < n
 is_some n empty e h = grind arith
 
@@ -22,7 +24,7 @@ returns-in-LineFeed-clause-read g c = record {
   falls = search rules;
 }
 
--- `Lines::next_line` meets clause `read` of its contract (`ReadsLine`) where the test `is_empty` fails
+-- `Lines::next_line` meets clause `read` of its contract (`ReadsLine`) if `is_empty` is false
 pub returns-else-is_empty-clause-read : goal.returns-else-is_empty-clause-read
 returns-else-is_empty-clause-read g c = record {
   line = λ follows.
@@ -41,7 +43,7 @@ returns-else-is_empty-clause-read g c = record {
   falls = search rules;
 }
 
--- `Lines::next_line` meets clause `read` of its contract (`ReadsLine`) where the test `is_empty` holds
+-- `Lines::next_line` meets clause `read` of its contract (`ReadsLine`) if `is_empty` is true
 pub returns-then-is_empty-clause-read : goal.returns-then-is_empty-clause-read
 returns-then-is_empty-clause-read g c = record {
   line = search rules;

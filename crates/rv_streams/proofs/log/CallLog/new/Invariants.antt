@@ -1,3 +1,4 @@
+-- This file chooses the ghost value of `CallLog::new`, which returns the log of a device that has not been called.
 use Rattle.std.proofs.Common.{[]}
 use Rattle.rv_streams.proofs.log.CallLog.new.Given as goal
 
