@@ -44,7 +44,8 @@ find_is p first (suc n) k at_least_first before_end below holds = elim (cases_eq
       cond-true (p first) _ _ (subst (λ (j : ℕ). p j ≡ true) equal holds) ∙ ap (λ (j : ℕ). Some j) (sym equal)
   | inr distinct ↦
       cond-false (p first) _ _ (below first (omega arith) (omega (arith, at_least_first, distinct)))
-      ∙ find_is p (first + 1) n k (omega (arith, at_least_first, distinct)) (omega (arith, before_end)) (λ j from to. below j (omega (arith, from)) to) holds
+      ∙ find_is p (first + 1) n k (omega (arith, at_least_first, distinct)) (omega (arith, before_end))
+      (λ j from to. below j (omega (arith, from)) to) holds
 ]
 
 -- if the test p fails for each entry of a list, then p holds for no entry of the list
@@ -60,7 +61,9 @@ any_of p (x ∷ xs) each =
 -- a block that the numbers of a create describe passes the test of a valid block
 block_is : (memory : List ℕ) (block : Block) → IsBlockOf memory block → is_block_of memory block ≡ true
 block_is memory block valid_block =
-    let size = any_in (λ k. block.size == 2 ^ k) 12 20 valid_block.exponent valid_block.at_least (omega (arith, valid_block.below)) (eq-eqb block.size (2 ^ valid_block.exponent) valid_block.size) in
+    let size =
+    any_in (λ k. block.size == 2 ^ k) 12 20 valid_block.exponent valid_block.at_least (omega (arith, valid_block.below))
+    (eq-eqb block.size (2 ^ valid_block.exponent) valid_block.size) in
     let multiple = eq-eqb (block.base % block.size) 0 valid_block.multiple in
     let from = le-leb 0x80000000 block.base valid_block.from in
     let to = le-leb (block.base + block.size) (0x80000000 + length memory) valid_block.to in
@@ -101,7 +104,8 @@ create_passes : (shared : Shared) (regs : List ℕ) (slot : ℕ) → IsCreatable
 unfolding create_rows
 create_passes shared regs slot creatable =
     no_row _ _ _ _ _ (block_is shared.memory (region_named regs) creatable.region) (window_is shared.memory regs creatable.window)
-    (none_of _ _ _ _ creatable.monitor creatable.monitor_too creatable.own (any_of (overlap_enclave (region_named regs) (window_named regs)) shared.table creatable.others))
+    (none_of _ _ _ _ creatable.monitor creatable.monitor_too creatable.own
+    (any_of (overlap_enclave (region_named regs) (window_named regs)) shared.table creatable.others))
     (all_of _ _ _ (eq-eqb (register regs 14 % 4) 0 creatable.aligned) (le-leb (register regs 10) (register regs 14) creatable.entry_from)
     (lt-ltb (register regs 14) (register regs 10 + register regs 11) creatable.entry_to))
     (ap (λ (o : Option ℕ). is_none o) (free_is shared regs slot creatable))
@@ -168,7 +172,8 @@ module _ (shared : Shared) (entries : Entries) (regs : List ℕ) where
       free_is shared regs slot conditions,
     );
     destroy = λ asks conditions. accepted Host Destroy (asks_host _ _ 2 Destroy asks.a7 asks.a6 refl)
-        (state_passes does_not_run shared.table (register regs 10) conditions.info conditions.held (rests conditions.info.state conditions.not_running));
+        (state_passes does_not_run shared.table (register regs 10) conditions.info conditions.held
+        (rests conditions.info.state conditions.not_running));
     run = λ asks conditions. accepted Host Run (asks_host _ _ 3 Run asks.a7 asks.a6 refl)
         (state_passes is_fresh shared.table (register regs 10) conditions.info conditions.held (ap is_fresh conditions.is));
     resume = λ asks conditions. accepted Host Resume (asks_host _ _ 4 Resume asks.a7 asks.a6 refl)

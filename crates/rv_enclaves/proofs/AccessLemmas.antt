@@ -50,13 +50,13 @@ permits-match_verdict e mode access i true = elim (cases_Bool (grants mode acces
 
 -- ---- the permissions of each entry's cfg byte
 
--- a cfg byte without permissions permits no access
+-- a cfg byte without permissions permits no access. Each case holds by computation
 no_permission_refuses : (access : Access) → has_permission access nothing_cfg ≡ false
 no_permission_refuses Fetch = refl
 no_permission_refuses Read = refl
 no_permission_refuses Write = refl
 
--- a cfg byte that switches its entry off permits no access
+-- a cfg byte that switches its entry off permits no access. Each case holds by computation
 off_refuses : (access : Access) → has_permission access 0 ≡ false
 off_refuses Fetch = refl
 off_refuses Read = refl
@@ -210,7 +210,8 @@ accessible_apart memory t w access a n k table_valid runs_other accessible b low
           elim enclave.2 [
             | inl inner ↦ apart_bytes.regions_apart j k b apart (each_from_all (has (region t j)) a n inner b low high)
             | inr outer ↦
-                false_from_ne_true _ (λ held. both_ways _ (apart_bytes.windows_apart k j b held) (each_from_all (has (window t j)) a n outer.1 b low high))
+                false_from_ne_true _
+                (λ held. both_ways _ (apart_bytes.windows_apart k j b held) (each_from_all (has (window t j)) a n outer.1 b low high))
           ]
     ]
 
@@ -327,7 +328,8 @@ module _ (memory : List ℕ) (t : Slots) (w : World) (mode : Mode) (access : Acc
   permitted_by : (i : ℕ) → i < 16 → list_all (covers entries i) bytes ≡ true → grants mode access (cfg_of entries i) ≡ true
       → ((j : ℕ) → j < i → list_any (covers entries j) bytes ≡ false) → permits (verdict entries mode access bytes) ≡ true
   permitted_by i in_range covered permission first =
-      let meets = any_at (covers entries i) a n a (omega arith) (omega arith) (each_from_all (covers entries i) a n covered a (omega arith) (omega arith)) in
+      let meets =
+      any_at (covers entries i) a n a (omega arith) (omega arith) (each_from_all (covers entries i) a n covered a (omega arith) (omega arith)) in
       ap permits (verdict_of_match entries mode access bytes i in_range meets first)
       ∙ permits-match_verdict entries mode access i _
       ∙ and_from _ _ covered permission

@@ -70,8 +70,8 @@ read_alike : (hidden : ℕ → Bool) (m n : List ℕ) (address count : ℕ) → 
 read_alike hidden m n address count equiv not_hidden = elim (cases_Bool (is_inside m address count)) [
   | inl inside ↦ same_read hidden m n address count equiv inside not_hidden
   | inr outside ↦
-      let sizes = equiv.size in
-      read-none m address count outside ∙ sym (read-none n address count (rw (← sizes) outside))
+      let same_size = equiv.size in
+      read-none m address count outside ∙ sym (read-none n address count (rw (← same_size) outside))
 ]
 
 -- ---- a live slot
@@ -101,7 +101,8 @@ module _ (e : ℕ) (table : Slots) (m n : List ℕ) (cs ds : Contexts) (equiv : 
   equiv_with_slot : (after : Slots) (m' n' : List ℕ) (cs' ds' : Contexts) → slot_at after e ≡ slot_at table e
       → EqualOutside (is_private table e) m' n' → SameContexts e cs' ds'
       → SharedEquivExcept e (record { memory = m'; table = after; contexts = cs' }) (record { memory = n'; table = after; contexts = ds' })
-  equiv_with_slot after m' n' cs' ds' same_slot = equiv_with_region after m' n' cs' ds' (ap region_of same_slot) (ap (λ (o : Option SlotInfo). is_some o) same_slot ∙ live)
+  equiv_with_slot after m' n' cs' ds' same_slot =
+      equiv_with_region after m' n' cs' ds' (ap region_of same_slot) (ap (λ (o : Option SlotInfo). is_some o) same_slot ∙ live)
 
   -- the two shared states are equivalent except e
   pub equiv_before : SharedEquivExcept e here there
@@ -129,7 +130,8 @@ module _ (e : ℕ) (table : Slots) (m n : List ℕ) (cs ds : Contexts) (equiv : 
   -- a new enclave in a free slot leaves the two shared states equivalent except e
   put_alike : (k : ℕ) (info : SlotInfo) → slot_at table k ≡ None → SharedEquivExcept e (with_enclave here k info) (with_enclave there k info)
   put_alike k info slot_is_free =
-      equiv_with_slot (with_slot table k (Some info)) m n (with_context cs k (Some (first_context info))) (with_context ds k (Some (first_context info)))
+      equiv_with_slot (with_slot table k (Some info)) m n (with_context cs k (Some (first_context info)))
+      (with_context ds k (Some (first_context info)))
       (at_other table k e (Some info) (not_free k slot_is_free)) equiv (contexts_with e cs ds k (Some (first_context info)) saved)
 
   -- a create that the monitor does not refuse leaves two equivalent shared states equivalent except e
@@ -146,13 +148,15 @@ module _ (e : ℕ) (table : Slots) (m n : List ℕ) (cs ds : Contexts) (equiv : 
   gone_alike block region_is inside =
       let at = inside-is m block.base block.size inside in
       let covers : (b : ℕ) → is_private table e b ≡ true → (block.base ≤ b) × (b < block.base + block.size) =
-      λ b hidden. let parts = and_parts (nat_le block.base b) (nat_lt b (block.base + block.size)) (sym (ap (λ (r : Block). has r b) region_is) ∙ hidden) in
+      λ b hidden. let parts =
+      and_parts (nat_le block.base b) (nat_lt b (block.base + block.size)) (sym (ap (λ (r : Block). has r b) region_is) ∙ hidden) in
       (leb-true _ _ parts.0, ltb-true _ _ parts.1) in
       let zeros : EqualOutside (λ b. false) (zeroed m block) (zeroed n block) =
       zeros-alike (is_private table e) (λ b. false) m n block.base block.size equiv at covers in
       let memories : zeroed m block ≡ zeroed n block = same_number_lists _ _ zeros.size (λ i within. zeros.bytes i refl) in
       let contexts : with_context cs e None ≡ with_context ds e None =
-      same_contexts e (with_context cs e None) (with_context ds e None) (contexts_with e cs ds e None saved) (same_at_set cs ds e None None saved.size) in
+      same_contexts e (with_context cs e None) (with_context ds e None) (contexts_with e cs ds e None saved)
+      (same_at_set cs ds e None None saved.size) in
       rw (memories, contexts) refl
 
   -- the removal of any enclave leaves the two shared states equivalent except e
@@ -176,7 +180,8 @@ module _ (e : ℕ) (table : Slots) (m n : List ℕ) (cs ds : Contexts) (equiv : 
   -- a destroy that the monitor does not refuse leaves two equivalent shared states equivalent except e
   pub destroyed_alike : (k : ℕ) → IsValid m table → IsTaken table calls.Destroy k → SharedEquivExcept e (destroyed here k) (destroyed there k)
   unfolding destroyed
-  destroyed_alike k table_valid is_taken = without_alike k (region_inside (slot_at table k) (table_valid.well_formed k) (ap (λ (o : Option SlotInfo). is_some o) is_taken.is))
+  destroyed_alike k table_valid is_taken =
+      without_alike k (region_inside (slot_at table k) (table_valid.well_formed k) (ap (λ (o : Option SlotInfo). is_some o) is_taken.is))
 
   -- ---- measure
 
@@ -185,7 +190,8 @@ module _ (e : ℕ) (table : Slots) (m n : List ℕ) (cs ds : Contexts) (equiv : 
   unfolding measured
   measured_alike k address =
       let bytes = measurement_at table k in
-      equiv_with_slot table (with_bytes_at m address bytes) (with_bytes_at n address bytes) cs ds refl (write-alike (is_private table e) m n address bytes equiv) saved
+      equiv_with_slot table (with_bytes_at m address bytes) (with_bytes_at n address bytes) cs ds refl
+      (write-alike (is_private table e) m n address bytes equiv) saved
 
   -- ---- a switch
 
@@ -203,8 +209,8 @@ module _ (e : ℕ) (table : Slots) (m n : List ℕ) (cs ds : Contexts) (equiv : 
           let new = Some (record info { state = state }) in
           elim (cases_eq e k) [
             | inl equal ↦
-                let there = at_same table k new (omega (arith, table_length, live_in_range table k info table_length slot_is)) in
-                rw equal (ap region_of there ∙ sym (ap region_of slot_is), ap (λ (o : Option SlotInfo). is_some o) there)
+                let at_k = at_same table k new (omega (arith, table_length, live_in_range table k info table_length slot_is)) in
+                rw equal (ap region_of at_k ∙ sym (ap region_of slot_is), ap (λ (o : Option SlotInfo). is_some o) at_k)
             | inr distinct ↦
                 let same = at_other table k e new distinct in (ap region_of same, ap (λ (o : Option SlotInfo). is_some o) same ∙ live)
           ]
@@ -212,7 +218,9 @@ module _ (e : ℕ) (table : Slots) (m n : List ℕ) (cs ds : Contexts) (equiv : 
   -- the same new state and saved context for slot k leave two equivalent shared states equivalent except e
   pub switched_alike : length table ≡ slot_count → (k : ℕ) (state : EnclaveState) (c : Option Context)
       → (let after = with_state table k state in
-      SharedEquivExcept e (record here { table = after; contexts = with_context cs k c }) (record there { table = after; contexts = with_context ds k c }))
+      SharedEquivExcept e (record here { table = after; contexts = with_context cs k c })
+      (record there { table = after; contexts = with_context ds k c }))
   switched_alike table_length k state c =
       let kept = state_keeps table_length k state in
-      equiv_with_region (with_state table k state) m n (with_context cs k c) (with_context ds k c) kept.0 kept.1 equiv (contexts_with e cs ds k c saved)
+      equiv_with_region (with_state table k state) m n (with_context cs k c) (with_context ds k c) kept.0 kept.1 equiv
+      (contexts_with e cs ds k c saved)

@@ -15,7 +15,9 @@ asks number regs = with_register (with_register regs 16 number) 17 0x0A454E43
 
 -- the arguments of a create: a region and an entry, without a window
 abbrev arguments : ℕ → ℕ → List ℕ
-arguments region entry = with_register (with_register (with_register (with_register (with_register (replicate 32 0) 10 region) 11 0x1000) 12 0x80030000) 13 0x1000) 14 entry
+arguments region entry =
+    with_register
+    (with_register (with_register (with_register (with_register (replicate 32 0) 10 region) 11 0x1000) 12 0x80030000) 13 0x1000) 14 entry
 
 -- a shared state without enclaves
 abbrev empty : List ℕ → Shared

@@ -63,7 +63,7 @@ requests (Enclave k) a7 a6 =
       and-true (a6 == 7),
     ) refl
 
--- no refusal has the status 0, which is the status of success
+-- no refusal has the status 0, which is the status of success. Each case holds by computation, or has a false premise
 pub no_success : (refusal : Refusal) → status_of refusal ≢ 0
 no_success refusals.NotSupported is = cc
 no_success refusals.BadRegion is = cc
@@ -100,7 +100,9 @@ creates : (shared : Shared) (regs : List ℕ) → in_numbers (create_refusals sh
 unfolding create_refusals create_rows is_valid_block overlaps is_entry free_slot
 creates shared regs =
     let window = window_by shared.memory (register regs 12) (register regs 13) (register regs 13 == 0) refl in
-    let overlap = any_same (collides (create_args_of regs)) (overlap_enclave (region_named regs) (window_named regs)) (same_overlap (create_args_of regs)) shared.table in
+    let overlap =
+    any_same (collides (create_args_of regs)) (overlap_enclave (region_named regs) (window_named regs))
+    (same_overlap (create_args_of regs)) shared.table in
     rw (window, overlap) refl
 
 -- ---- destroy, run and resume
@@ -117,21 +119,21 @@ states_by : (slots : Slots) (call : Call) (accepts : EnclaveState → Bool) (k :
 unfolding state_refusals state_rows
 states_by slots call accepts k same = let rests = in_state call accepts same (slot_at slots k) in rw rests refl
 
--- destroy accepts each state except Running
+-- destroy accepts each state except Running. Each case holds by computation
 destroy_accepts_idle : (state : EnclaveState) → takes calls.Destroy state ≡ does_not_run state
 destroy_accepts_idle states.Fresh = refl
 destroy_accepts_idle states.Running = refl
 destroy_accepts_idle states.Stopped = refl
 destroy_accepts_idle states.Exited = refl
 
--- run accepts only the state Fresh
+-- run accepts only the state Fresh. Each case holds by computation
 run_accepts_fresh : (state : EnclaveState) → takes calls.Run state ≡ is_fresh state
 run_accepts_fresh states.Fresh = refl
 run_accepts_fresh states.Running = refl
 run_accepts_fresh states.Stopped = refl
 run_accepts_fresh states.Exited = refl
 
--- resume accepts only the state Stopped
+-- resume accepts only the state Stopped. Each case holds by computation
 resume_accepts_stopped : (state : EnclaveState) → takes calls.Resume state ≡ is_stopped state
 resume_accepts_stopped states.Fresh = refl
 resume_accepts_stopped states.Running = refl
@@ -141,7 +143,8 @@ resume_accepts_stopped states.Exited = refl
 -- ---- measure
 
 -- the refusals of measure agree with the table
-measures : (shared : Shared) (entries : Entries) (k address : ℕ) → in_numbers (measure_refusals shared entries k address) ≡ measure_rows shared entries k address
+measures : (shared : Shared) (entries : Entries) (k address : ℕ)
+    → in_numbers (measure_refusals shared entries k address) ≡ measure_rows shared entries k address
 unfolding measure_refusals measure_rows may_store_all
 measures shared entries k address = refl
 

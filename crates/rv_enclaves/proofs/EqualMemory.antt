@@ -41,10 +41,10 @@ pub same_read : (hidden : ℕ → Bool) (m n : List ℕ) (address count : ℕ) �
 unfolding read
 same_read hidden m n address count equiv inside not_hidden =
     let bounds = inside-is m address count inside in
-    let place : ram_base + (address - ram_base) ≡ address = omega (arith, bounds.0) in
-    let parts = same_part hidden m n (address - ram_base) count equiv (rw place not_hidden) (omega (arith, bounds.0, bounds.1)) in
-    let sizes = equiv.size in
-    rw (← sizes, parts) refl
+    let address_is : ram_base + (address - ram_base) ≡ address = omega (arith, bounds.0) in
+    let parts = same_part hidden m n (address - ram_base) count equiv (rw address_is not_hidden) (omega (arith, bounds.0, bounds.1)) in
+    let same_size = equiv.size in
+    rw (← same_size, parts) refl
 
 -- a byte of the memory after a write, at an index inside the write, is the written byte
 index-within : (memory : List ℕ) (index : ℕ) (bytes : List ℕ) (k : ℕ) → index + length bytes ≤ length memory → index ≤ k
@@ -64,9 +64,11 @@ same_write hidden m n address bytes m' n' equiv here written =
     record {
       size = length-write m address bytes m' here ∙ equiv.size ∙ sym (length-write n address bytes n' written);
       bytes = λ i seen. rw (one.2, other.2) (elim (cases_lt i index) [
-        | inl before_start ↦ index-below m index bytes i within before_start ∙ equiv.bytes i seen ∙ sym (index-below n index bytes i within' before_start)
+        | inl before_start ↦
+            index-below m index bytes i within before_start ∙ equiv.bytes i seen ∙ sym (index-below n index bytes i within' before_start)
         | inr from_start ↦ elim (cases_lt i (index + length bytes)) [
-          | inl before_end ↦ index-within m index bytes i within from_start before_end ∙ sym (index-within n index bytes i within' from_start before_end)
+          | inl before_end ↦
+              index-within m index bytes i within from_start before_end ∙ sym (index-within n index bytes i within' from_start before_end)
           | inr after_end ↦ index-above m index bytes i within after_end ∙ equiv.bytes i seen ∙ sym (index-above n index bytes i within' after_end)
         ]
       ]);
@@ -92,15 +94,15 @@ write-some m address bytes inside = rw inside refl
 pub write-alike : (hidden : ℕ → Bool) (m n : List ℕ) (address : ℕ) (bytes : List ℕ) → EqualOutside hidden m n
     → EqualOutside hidden (or_same m (write m address bytes)) (or_same n (write n address bytes))
 write-alike hidden m n address bytes equiv =
-    let sizes = equiv.size in
+    let same_size = equiv.size in
     elim (cases_Bool (is_inside m address (length bytes))) [
       | inl inside ↦
           let one = write-some m address bytes inside in
-          let other = write-some n address bytes (rw (← sizes) inside) in
+          let other = write-some n address bytes (rw (← same_size) inside) in
           rw (one, other) (same_write hidden m n address bytes _ _ equiv one other)
       | inr outside ↦
           let one = write-none m address bytes outside in
-          let other = write-none n address bytes (rw (← sizes) outside) in
+          let other = write-none n address bytes (rw (← same_size) outside) in
           rw (one, other) equiv
     ]
 
@@ -113,13 +115,13 @@ zeros-alike hidden hidden' m n base count equiv inside covers =
     let long : length bytes ≡ count = length-replicate {A = ℕ} count 0 in
     let within : is_inside m base (length bytes) ≡ true =
     rw long (and_from _ _ (le-leb ram_base base inside.0) (le-leb (base + count) (ram_base + length m) inside.1)) in
-    let sizes = equiv.size in
+    let same_size = equiv.size in
     let one = write-some m base bytes within in
-    let other = write-some n base bytes (rw (← sizes) within) in
+    let other = write-some n base bytes (rw (← same_size) within) in
     let alike = same_write hidden m n base bytes _ _ equiv one other in
     let index = base - ram_base in
     let fits : index + length bytes ≤ length m = omega (arith, inside.0, inside.1, long) in
-    let fits' : index + length bytes ≤ length n = omega (arith, inside.0, inside.1, long, sizes) in
+    let fits' : index + length bytes ≤ length n = omega (arith, inside.0, inside.1, long, same_size) in
     rw (one, other) (record {
       size = alike.size;
       bytes = λ i seen. elim (cases_Bool (hidden (ram_base + i))) [

@@ -51,7 +51,8 @@ host_is_plain (Enclave k) = record { stored = refl; unlocked = refl }
 -- the cfg byte of each kind of entry is stored unchanged and unlocked
 plain_by : (a b c : Bool) (t : Slots) (w : World) (k : ℕ)
     → IsPlain
-    (if a then napot no_permission monitor_block else (if b then region_entry w k (slot_at t k) else (if c then window_entry t w else host_entry w))).cfg
+    (if a then napot no_permission monitor_block else
+    (if b then region_entry w k (slot_at t k) else (if c then window_entry t w else host_entry w))).cfg
 unfolding stored_cfg
 plain_by true b c t w k = record { stored = refl; unlocked = refl }
 plain_by false true c t w k = region_is_plain w k (slot_at t k)
@@ -77,7 +78,8 @@ unfolding layout
 layout_from_each t w cfgs addrs cfgs_long addrs_long each_cfg each_addr =
     entries_are (with_entries cfgs addrs) (layout t w)
     (fill_by_all (λ i. (entry_at t w i).cfg) (map stored_cfg cfgs) 16 0 (length-map cfgs stored_cfg ∙ cfgs_long)
-    (λ j below. get_or-map stored_cfg cfgs j 0 0 (omega (arith, below, cfgs_long)) ∙ ap stored_cfg (each_cfg j below) ∙ (entry_is_plain t w j).stored))
+    (λ j below. get_or-map stored_cfg cfgs j 0 0 (omega (arith, below, cfgs_long)) ∙ ap stored_cfg (each_cfg j below)
+    ∙ (entry_is_plain t w j).stored))
     (fill_by_all (λ i. (entry_at t w i).addr) addrs 16 0 addrs_long each_addr)
 
 -- mie stores the monitor's value unchanged

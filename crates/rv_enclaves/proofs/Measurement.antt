@@ -22,7 +22,8 @@ use Rattle.rv_enclaves.proofs.Owners.{valid_block}
 -- ---- the measurement depends on nothing but its input
 
 -- equal measured bytes have equal digests
-pub same_digest : (m n : List ℕ) (one other : CreateArgs) → measured_bytes m one ≡ measured_bytes n other → measurement_of m one ≡ measurement_of n other
+pub same_digest : (m n : List ℕ) (one other : CreateArgs) → measured_bytes m one ≡ measured_bytes n other
+    → measurement_of m one ≡ measurement_of n other
 unfolding measurement_of
 same_digest m n one other same = ap sha256 same
 

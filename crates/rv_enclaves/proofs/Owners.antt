@@ -108,7 +108,9 @@ window_covers : (memory : List ℕ) (o : Option SlotInfo) (before b : ℕ) → l
 window_covers memory None before b ram_size slot_valid = sym (has_nothing b)
 window_covers memory (Some info) before b ram_size slot_valid = elim (cases_eq info.window.size 0) [
   | inl window_empty ↦ rw (eq-eqb _ _ window_empty) (sym (empty_has info.window.base info.window.size b window_empty))
-  | inr window_nonempty ↦ rw (ne_eqb _ _ window_nonempty) (block_covers memory info.window before b ram_size (some_window memory info.window slot_valid.window window_nonempty))
+  | inr window_nonempty ↦
+      rw (ne_eqb _ _ window_nonempty)
+      (block_covers memory info.window before b ram_size (some_window memory info.window slot_valid.window window_nonempty))
 ]
 
 -- ---- the entries of the layout
@@ -187,7 +189,8 @@ module _ (memory : List ℕ) (t : Slots) (w : World) (ram_size : length memory �
 
   -- entry 0 of the layout covers exactly the bytes of the monitor's range
   pub covers_monitor : covers (layout t w) 0 b ≡ has monitor_block b
-  covers_monitor = at_entry 0 _ _ (lit< tt) (entry_at-monitor t w) (λ before. napot_matches ram_base 0x10000 13 before b (lit< tt) refl refl (lit≤ tt))
+  covers_monitor =
+      at_entry 0 _ _ (lit< tt) (entry_at-monitor t w) (λ before. napot_matches ram_base 0x10000 13 before b (lit< tt) refl refl (lit≤ tt))
 
   -- entry k + 1 of the layout covers exactly the bytes of the region of slot k
   pub covers_slot : (k : ℕ) → k < slot_count → covers (layout t w) (k + 1) b ≡ has (region t k) b

@@ -75,7 +75,7 @@ may_take slots call k no_refusal =
     let taken = no_row (not (has_state_for slots call k)) _ _ live.1 in
     taken_at slots call k (slot_at slots k) refl (not-false (has_state_for slots call k) taken.0)
 
--- no call accepts an enclave that runs
+-- no call accepts an enclave that runs. Each case holds by computation, or has a false premise
 pub takes_rests : (call : Call) (state : EnclaveState) → takes call state ≡ true → is_running state ≡ false
 takes_rests call states.Fresh state_accepted = refl
 takes_rests call states.Stopped state_accepted = refl

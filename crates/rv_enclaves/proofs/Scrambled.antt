@@ -32,7 +32,8 @@ inside_agrees memory block inside =
         | inr from_start ↦ elim (cases_lt i (index + block.size)) [
           | inl before_end ↦
               let from : nat_le block.base (ram_base + i) ≡ true = le-leb block.base (ram_base + i) (omega (arith, bounds.0)) in
-              let to : nat_lt (ram_base + i) (block.base + block.size) ≡ true = lt-ltb (ram_base + i) (block.base + block.size) (omega (arith, bounds.0)) in
+              let to : nat_lt (ram_base + i) (block.base + block.size) ≡ true =
+              lt-ltb (ram_base + i) (block.base + block.size) (omega (arith, bounds.0)) in
               let contradiction : true ≡ false = sym (and_from _ _ from to) ∙ seen in cc
           | inr after_end ↦ sym (above memory index block.size i fits after_end)
         ]
@@ -42,8 +43,8 @@ inside_agrees memory block inside =
 -- the complement of any block changes no byte outside the block
 block_agrees : (memory : List ℕ) (block : Block) → EqualOutside (has block) memory (complemented_block memory block)
 block_agrees memory block = elim (cases_Bool (is_inside memory block.base block.size)) [
-  | inl inside ↦ let is = complemented-is memory block.base block.size inside in rw is (inside_agrees memory block inside)
-  | inr outside ↦ let is = read-none memory block.base block.size outside in rw is (record { size = refl; bytes = λ i seen. refl })
+  | inl inside ↦ let complement_is = complemented-is memory block.base block.size inside in rw complement_is (inside_agrees memory block inside)
+  | inr outside ↦ let reads_none = read-none memory block.base block.size outside in rw reads_none (record { size = refl; bytes = λ i seen. refl })
 ]
 
 -- ---- contexts
@@ -73,11 +74,13 @@ slot_rests None held = cc
 slot_rests (Some info) held = (refl, not-true (is_running info.state) held)
 
 -- a slot with a saved context is a slot of the table
-in_range : (shared : Shared) (k : ℕ) (o : Option SlotInfo) → slot_at shared.table k ≡ o → length shared.table ≡ slot_count → is_held o ≡ true → k < slot_count
+in_range : (shared : Shared) (k : ℕ) (o : Option SlotInfo) → slot_at shared.table k ≡ o → length shared.table ≡ slot_count → is_held o ≡ true
+    → k < slot_count
 in_range shared k None slot_is table_length held = cc
 in_range shared k (Some info) slot_is table_length held = live_in_range shared.table k info table_length slot_is
 
-module _ (shared : Shared) (worlds : List World) (k : ℕ) (shared_invariant : SharedInvariant shared worlds) (may : can_scramble shared.table k ≡ true) where
+module _ (shared : Shared) (worlds : List World) (k : ℕ) (shared_invariant : SharedInvariant shared worlds)
+    (may : can_scramble shared.table k ≡ true) where
   -- a slot that may be scrambled has a live enclave that does not run
   may_be : MayScramble shared k
   may_be =
@@ -94,7 +97,9 @@ module _ (shared : Shared) (worlds : List World) (k : ℕ) (shared_invariant : S
 
   -- the context of slot k after the scramble is the complement of the old context
   context_of_k : context_at new_contexts k ≡ option_map complemented_context kept_one
-  context_of_k = at_same shared.contexts k (option_map complemented_context kept_one) (let range = may_be.in_range in omega (arith, shared_invariant.contexts.count, range))
+  context_of_k =
+      at_same shared.contexts k (option_map complemented_context kept_one)
+      (let range = may_be.in_range in omega (arith, shared_invariant.contexts.count, range))
 
   -- the scrambled shared state satisfies the invariant
   pub scrambled_sound : SharedInvariant (scrambled_shared shared k) worlds

@@ -46,10 +46,10 @@ block_twice memory block bytes = elim (cases_Bool (is_inside memory block.base b
       let fits = inside-index memory block.base block.size inside in
       let same_length = length-with_complements memory index block.size fits in
       let inside' : is_inside once block.base block.size ≡ true = rw same_length inside in
-      let is = complemented-is memory block.base block.size inside in
+      let complement_is = complemented-is memory block.base block.size inside in
       let again = complemented-is once block.base block.size inside' in
-      rw (is, again) (complemented_twice memory index block.size fits bytes)
-  | inr outside ↦ let is = read-none memory block.base block.size outside in rw (is, is) refl
+      rw (complement_is, again) (complemented_twice memory index block.size fits bytes)
+  | inr outside ↦ let reads_none = read-none memory block.base block.size outside in rw (reads_none, reads_none) refl
 ]
 
 -- proves that two scrambles restore the shared state

@@ -57,7 +57,9 @@ module _ (shared : Shared) (worlds after_worlds : List World) (k : ℕ) (o : Opt
   saved_after : (j : ℕ) → is_some (context_at (with_context shared.contexts k c) j) ≡ is_held (slot_at (with_slot shared.table k o) j)
   saved_after j = elim (cases_eq j k) [
     | inl equal ↦ rw equal (ap (λ (x : Option Context). is_some x) context_here ∙ kept ∙ ap is_held (sym table_here))
-    | inr distinct ↦ ap (λ (x : Option Context). is_some x) (context_there j distinct) ∙ shared_invariant.contexts.kept j ∙ ap is_held (sym (table_there j distinct))
+    | inr distinct ↦
+        ap (λ (x : Option Context). is_some x) (context_there j distinct) ∙ shared_invariant.contexts.kept j
+        ∙ ap is_held (sym (table_there j distinct))
   ]
 
   -- after the change, a hart can continue with each saved context
@@ -77,9 +79,12 @@ module _ (shared : Shared) (worlds after_worlds : List World) (k : ℕ) (o : Opt
   ]
 
   -- a change of the record and the saved context of slot k that agrees with the worlds preserves the invariant
-  pub sound_with : SharedInvariant (record { memory = memory; table = with_slot shared.table k o; contexts = with_context shared.contexts k c }) after_worlds
+  pub sound_with : SharedInvariant
+      (record { memory = memory; table = with_slot shared.table k o; contexts = with_context shared.contexts k c }) after_worlds
   sound_with = record {
-    valid = valid_by_size shared.memory memory (with_slot shared.table k o) same_length (valid_with shared.memory shared.table k o shared_invariant.valid inside fits);
+    valid =
+        valid_by_size shared.memory memory (with_slot shared.table k o) same_length
+        (valid_with shared.memory shared.table k o shared_invariant.valid inside fits);
     contexts = record { count = length-set shared.contexts k c ∙ shared_invariant.contexts.count; kept = saved_after; held = held_after };
     running = running_after;
     apart = apart;
@@ -136,7 +141,8 @@ length_measurement memory new = length-sha256 (measured_bytes memory new)
 -- an entry that passes the check of create is a multiple of 4
 entry_aligned : (new : CreateArgs) → is_entry new ≡ true → new.entry % 4 ≡ 0
 unfolding is_entry
-entry_aligned new entry_passes = let test : (new.entry % 4 == 0) ≡ true = (and_parts (new.entry % 4 == 0) (has new.region new.entry) entry_passes).0 in grind (arith, nat_tests)
+entry_aligned new entry_passes =
+    let test : (new.entry % 4 == 0) ≡ true = (and_parts (new.entry % 4 == 0) (has new.region new.entry) entry_passes).0 in grind (arith, nat_tests)
 
 -- an entry that passes the check of create is in the region
 entry_inside : (new : CreateArgs) → is_entry new ≡ true → has new.region new.entry ≡ true
@@ -177,7 +183,8 @@ created_at_sound shared worlds new k shared_invariant is_valid is_window_valid a
     let info = recorded shared.memory new in
     let before : false ≡ list_any (is_world_of k) worlds = sym (ap running_in slot.free) ∙ shared_invariant.running k in
     sound_with shared worlds worlds k (Some info) (Some (first_context info)) shared.memory shared_invariant slot.in_range refl
-    (new_fits shared new k is_valid is_window_valid entry_valid (free_from shared.table new apart)) refl (first_goes_on info (entry_aligned new entry_valid)) before
+    (new_fits shared new k is_valid is_window_valid entry_valid (free_from shared.table new apart)) refl
+    (first_goes_on info (entry_aligned new entry_valid)) before
     (λ j other. refl) shared_invariant.apart
 
 -- a create that the monitor does not refuse preserves the invariant
@@ -185,7 +192,8 @@ pub created_sound : (shared : Shared) (worlds : List World) (new : CreateArgs) �
     → SharedInvariant (created shared new) worlds
 unfolding created
 created_sound shared worlds new no_refusal shared_invariant =
-    created_at_sound shared worlds new (new_slot shared.table) shared_invariant no_refusal.well_formed no_refusal.window no_refusal.apart no_refusal.entry no_refusal.free
+    created_at_sound shared worlds new
+    (new_slot shared.table) shared_invariant no_refusal.well_formed no_refusal.window no_refusal.apart no_refusal.entry no_refusal.free
 
 -- ---- a live slot
 
@@ -195,7 +203,7 @@ live_in_range slots k info table_length slot_is = elim (cases_lt k slot_count) [
   | inl in_range ↦ in_range
   | inr past_last ↦
       let nothing : slot_at slots k ≡ None = get_or_past {X = Option SlotInfo} slots k None (omega (arith, table_length)) in
-      let wrong : None ≡ Some info = sym nothing ∙ slot_is in cc
+      let contradiction : None ≡ Some info = sym nothing ∙ slot_is in cc
 ]
 
 -- zeroing a block does not change the size of the memory
@@ -218,7 +226,8 @@ removed_sound : (shared : Shared) (worlds : List World) (k : ℕ) (info : SlotIn
 removed_sound shared worlds k info shared_invariant slot_is not_running =
     let before : false ≡ list_any (is_world_of k) worlds = sym not_running ∙ sym (ap running_in slot_is) ∙ shared_invariant.running k in
     let block = region shared.table k in
-    sound_with shared worlds worlds k None None (zeroed shared.memory block) shared_invariant (live_in_range shared.table k info shared_invariant.valid.count slot_is)
+    sound_with shared worlds worlds k None None (zeroed shared.memory block) shared_invariant
+    (live_in_range shared.table k info shared_invariant.valid.count slot_is)
     (size_zeroed shared.memory block (write shared.memory block.base (replicate block.size 0)) refl)
     (nothing_fits shared.memory shared.table k) refl tt before (λ j other. refl) shared_invariant.apart
 
@@ -226,7 +235,8 @@ removed_sound shared worlds k info shared_invariant slot_is not_running =
 pub destroyed_sound : (shared : Shared) (worlds : List World) (k : ℕ) → IsTaken shared.table calls.Destroy k → SharedInvariant shared worlds
     → SharedInvariant (destroyed shared k) worlds
 unfolding destroyed
-destroyed_sound shared worlds k is_taken shared_invariant = removed_sound shared worlds k is_taken.info shared_invariant is_taken.is (takes_rests calls.Destroy is_taken.info.state is_taken.taken)
+destroyed_sound shared worlds k is_taken shared_invariant =
+    removed_sound shared worlds k is_taken.info shared_invariant is_taken.is (takes_rests calls.Destroy is_taken.info.state is_taken.taken)
 
 -- ---- measure
 
@@ -259,16 +269,18 @@ module _ (beside : List World) where
   -- the entry of an enclave that does not run preserves the invariant, with this enclave as the new world of the hart
   pub entered_sound : (shared : Shared) (k : ℕ) (info : SlotInfo) → SharedInvariant shared (Host ∷ beside) → slot_at shared.table k ≡ Some info
       → is_running info.state ≡ false
-      → SharedInvariant (record shared { table = with_state shared.table k Running; contexts = with_context shared.contexts k None }) (Enclave k ∷ beside)
+      → SharedInvariant (record shared { table = with_state shared.table k Running; contexts = with_context shared.contexts k None })
+      (Enclave k ∷ beside)
   entered_sound shared k info shared_invariant slot_is not_running =
-      let own : (k == k) ≡ true = eq-eqb k k refl in
-      let here : true ≡ list_any (is_world_of k) (Enclave k ∷ beside) = rw own refl in
+      let k_is_k : (k == k) ≡ true = eq-eqb k k refl in
+      let here : true ≡ list_any (is_world_of k) (Enclave k ∷ beside) = rw k_is_k refl in
       let none : list_any (is_world_of k) beside ≡ false = sym (shared_invariant.running k) ∙ ap running_in slot_is ∙ not_running in
       rw (with_state_is shared.table k info Running slot_is)
       (sound_with shared (Host ∷ beside) (Enclave k ∷ beside) k (Some (record info { state = Running })) None shared.memory shared_invariant
-      (live_in_range shared.table k info shared_invariant.valid.count slot_is) refl (own_fits shared.memory shared.table k info Running shared_invariant.valid slot_is) refl tt here
+      (live_in_range shared.table k info shared_invariant.valid.count slot_is) refl
+      (own_fits shared.memory shared.table k info Running shared_invariant.valid slot_is) refl tt here
       (λ j other. other_worlds_unchanged j k other)
-      (λ j own. apart_from_others k j none own, shared_invariant.apart.1))
+      (λ j k_is_k. apart_from_others k j none k_is_k, shared_invariant.apart.1))
 
   -- a slot that is Running has a record
   running_live : (o : Option SlotInfo) → running_in o ≡ true → (info : SlotInfo) × (o ≡ Some info)
@@ -279,20 +291,26 @@ module _ (beside : List World) where
   pub left_sound : (shared : Shared) (world : World) (state : EnclaveState) (kept : Context) → SharedInvariant shared (world ∷ beside)
       → is_running state ≡ false → can_go_on kept ≡ true
       → (let k = running_slot world in
-      SharedInvariant (record shared { table = with_state shared.table k state; contexts = with_context shared.contexts k (Some kept) }) (Host ∷ beside))
+      SharedInvariant (record shared { table = with_state shared.table k state; contexts = with_context shared.contexts k (Some kept) })
+      (Host ∷ beside))
   left_sound shared Host state kept shared_invariant not_running can_continue =
-      rw (state_past shared.table state shared_invariant.valid.count, context_past shared.contexts (Some kept) shared_invariant.contexts.count) shared_invariant
+      rw (
+        state_past shared.table state shared_invariant.valid.count,
+        context_past shared.contexts
+            (Some kept) shared_invariant.contexts.count,
+      ) shared_invariant
   left_sound shared (Enclave k) state kept shared_invariant not_running can_continue =
-      let own : (k == k) ≡ true = eq-eqb k k refl in
-      let live = running_live (slot_at shared.table k) (shared_invariant.running k ∙ rw own refl) in
+      let k_is_k : (k == k) ≡ true = eq-eqb k k refl in
+      let live = running_live (slot_at shared.table k) (shared_invariant.running k ∙ rw k_is_k refl) in
       let info = live.0 in
       let kept_is : true ≡ is_held (Some (record info { state = state })) = rw not_running refl in
-      let none : list_any (is_world_of k) beside ≡ false = shared_invariant.apart.0 k own in
+      let none : list_any (is_world_of k) beside ≡ false = shared_invariant.apart.0 k k_is_k in
       rw (with_state_is shared.table k info state live.1)
       (sound_with shared (Enclave k ∷ beside) (Host ∷ beside) k (Some (record info { state = state })) (Some kept) shared.memory shared_invariant
-      (live_in_range shared.table k info shared_invariant.valid.count live.1) refl (own_fits shared.memory shared.table k info state shared_invariant.valid live.1) kept_is can_continue
+      (live_in_range shared.table k info shared_invariant.valid.count live.1) refl
+      (own_fits shared.memory shared.table k info state shared_invariant.valid live.1) kept_is can_continue
       (not_running ∙ sym none) (λ j other. sym (other_worlds_unchanged j k other))
-      (λ j own. let contradiction : false ≡ true = own in cc, shared_invariant.apart.1))
+      (λ j k_is_k. let contradiction : false ≡ true = k_is_k in cc, shared_invariant.apart.1))
 
 -- ---- the calls, not refused
 

@@ -52,7 +52,9 @@ module _ (memory : List ℕ) (slots : Slots) (k : ℕ) (o : Option SlotInfo) (ta
   well_formed_after : (j : ℕ) → IfSome (slot_at after j) (IsValidSlot memory)
   well_formed_after j = elim (cases_eq j k) [
     | inl equal ↦ let P : Option SlotInfo → Type 0 = λ x. IfSome x (IsValidSlot memory) in rw equal (subst P (sym slot_k_after) fits.well_formed)
-    | inr distinct ↦ let P : Option SlotInfo → Type 0 = λ x. IfSome x (IsValidSlot memory) in subst P (sym (other_slot_after j distinct)) (table_valid.well_formed j)
+    | inr distinct ↦
+        let P : Option SlotInfo → Type 0 = λ x. IfSome x (IsValidSlot memory) in
+        subst P (sym (other_slot_after j distinct)) (table_valid.well_formed j)
   ]
 
   -- no two regions of the new table meet
@@ -60,7 +62,8 @@ module _ (memory : List ℕ) (slots : Slots) (k : ℕ) (o : Option SlotInfo) (ta
   regions_after i j distinct = elim (cases_eq i k) [
     | inl equal ↦ elim (cases_eq j k) [
       | inl second ↦ absurd (distinct (equal ∙ sym second))
-      | inr distinct ↦ rw equal (ap (λ b. meets b (region after j)) region_here ∙ ap (meets (region_of o)) (region_there j distinct) ∙ fits.regions j distinct)
+      | inr distinct ↦
+          rw equal (ap (λ b. meets b (region after j)) region_here ∙ ap (meets (region_of o)) (region_there j distinct) ∙ fits.regions j distinct)
     ]
     | inr other ↦ elim (cases_eq j k) [
       | inl equal ↦
@@ -77,7 +80,8 @@ module _ (memory : List ℕ) (slots : Slots) (k : ℕ) (o : Option SlotInfo) (ta
   windows_after i j = elim (cases_eq i k) [
     | inl equal ↦ elim (cases_eq j k) [
       | inl second ↦ rw (equal, second) (ap (λ b. meets b (window after k)) region_here ∙ ap (meets (region_of o)) window_here ∙ fits.own)
-      | inr distinct ↦ rw equal (ap (λ b. meets b (window after j)) region_here ∙ ap (meets (region_of o)) (window_there j distinct) ∙ fits.windows j distinct)
+      | inr distinct ↦
+          rw equal (ap (λ b. meets b (window after j)) region_here ∙ ap (meets (region_of o)) (window_there j distinct) ∙ fits.windows j distinct)
     ]
     | inr other ↦ elim (cases_eq j k) [
       | inl equal ↦
@@ -140,7 +144,8 @@ own_fits memory slots k info state table_valid slot_is =
       regions = λ j other. ap (λ b. meets b (region slots j)) (sym region_is) ∙ table_valid.regions_apart k j (λ same. other (sym same));
       windows = λ j other. ap (λ b. meets b (window slots j)) (sym region_is) ∙ table_valid.windows_apart k j;
       window =
-          λ j other. ap (λ b. meets b (region slots j)) (sym window_is) ∙ meets_symmetric (window slots k) (region slots j) ∙ table_valid.windows_apart j k;
+          λ j other. ap (λ b. meets b (region slots j)) (sym window_is) ∙ meets_symmetric (window slots k) (region slots j)
+          ∙ table_valid.windows_apart j k;
       own = ap (λ b. meets b info.window) (sym region_is) ∙ ap (meets (region slots k)) (sym window_is) ∙ table_valid.windows_apart k k;
       region_free = ap (meets monitor_block) (sym region_is) ∙ table_valid.regions_free k;
       window_free = ap (meets monitor_block) (sym window_is) ∙ table_valid.windows_free k;

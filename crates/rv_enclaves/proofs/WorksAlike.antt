@@ -54,16 +54,18 @@ module _ (e : ℕ) (table : Slots) (m n : List ℕ) (cs ds : Contexts) (equiv : 
   }
 
 -- two equivalent shared states with the invariant stay equivalent except e after each effect of the trap handler
-pub works_alike : (e : ℕ) (one other : Shared) (worlds : List World) → SharedInvariant one worlds → SharedInvariant other worlds → SharedEquivExcept e one other
+pub works_alike : (e : ℕ) (one other : Shared) (worlds : List World) → SharedInvariant one worlds → SharedInvariant other worlds
+    → SharedEquivExcept e one other
     → WorksAlike e one other
-works_alike e one other worlds shared_invariant_one shared_invariant_other shared_equiv = elim (cases_Bool (is_live one.table e)) [
+works_alike e one other worlds one_invariant other_invariant shared_equiv = elim (cases_Bool (is_live one.table e)) [
   | inr dead ↦ subst (WorksAlike e one) (shared_equiv.gone dead) (equal_work e one)
   | inl live ↦
       let tables = shared_equiv.table in
-      let there' : SharedInvariant (over one.table other.memory other.contexts) worlds =
-      subst (λ (t : Slots). SharedInvariant (over t other.memory other.contexts) worlds) (sym tables) shared_invariant_other in
+      let invariant_over_table : SharedInvariant (over one.table other.memory other.contexts) worlds =
+      subst (λ (t : Slots). SharedInvariant (over t other.memory other.contexts) worlds) (sym tables) other_invariant in
       subst (λ (t : Slots). WorksAlike e one (over t other.memory other.contexts)) tables
-      (live_work e one.table one.memory other.memory one.contexts other.contexts shared_equiv.memory shared_equiv.contexts live worlds shared_invariant_one there')
+      (live_work e one.table one.memory other.memory one.contexts other.contexts shared_equiv.memory shared_equiv.contexts live
+      worlds one_invariant invariant_over_table)
 ]
 
 -- proves that each call leaves two equivalent shared states equivalent except e

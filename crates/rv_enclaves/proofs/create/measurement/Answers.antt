@@ -1,3 +1,4 @@
+-- The proof obligations of `measurement` (src/create.rt).
 use Rattle.std.proofs.Common.{◌≡◌, ℕ, List, ◌++◌, [], ◌∙◌, ap, append_assoc}
 use Rattle.sha2.specs.Sha256.{sha256}
 use Rattle.rv_enclaves.proofs.Prelude.{measurement_of}

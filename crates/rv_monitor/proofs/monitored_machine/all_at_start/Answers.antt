@@ -1,3 +1,4 @@
+-- The proof obligations of `all_at_start` (src/monitored_machine.rt).
 use Rattle.std.proofs.Common.{rules}
 use Rattle.rv_monitor.specs.MonitoredMachine.{numbered_hart_state_at_start}
 use Rattle.rv_monitor.proofs.Start.{made}

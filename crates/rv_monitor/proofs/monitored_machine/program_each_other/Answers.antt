@@ -1,3 +1,4 @@
+-- The proof obligations of `program_each_other` (src/monitored_machine.rt).
 use Rattle.std.proofs.Common.{◌≡◌, length, rules, subst, arith}
 use Rattle.rv_monitor.specs.declared.hart_state.TheConstants.{HARTS}
 use Rattle.rv_monitor.proofs.Programmed.{AreProgrammed, all_programmed}

@@ -1,9 +1,10 @@
+-- The proof obligations of `program_other_pmp` (src/monitored_machine.rt).
 use Rattle.std.proofs.Common.{◌≡◌, length, rules, arith}
 use Rattle.rv_monitor.specs.declared.hart_state.TheConstants.{HARTS}
 use Rattle.rv_monitor.proofs.Programmed.{single_as_is}
 use Rattle.rv_monitor.proofs.monitored_machine.program_other_pmp.Goals as goal
 
--- `program_other_pmp` meets its contract where the test `harts > 1` fails
+-- `program_other_pmp` meets its contract if the test `harts > 1` fails
 pub returns-else-harts-gt1 : goal.returns-else-harts-gt1
 returns-else-harts-gt1 c =
     let by_hart = c.args.by_hart.now in

@@ -1,3 +1,4 @@
+-- The proof obligations of `run_fast_in` (src/monitored_machine.rt).
 use Rattle.std.proofs.Common.{◌≡◌, length, rules}
 use Rattle.std.specs.Prelude.{slice_index_or}
 use Rattle.rv_monitor.specs.declared.hart_state.TheConstants.{HARTS}
