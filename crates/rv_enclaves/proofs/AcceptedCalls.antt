@@ -29,31 +29,31 @@ any_in p first (suc n) k at_least_first before_end holds = elim (cases_eq k firs
 
 -- if the test p holds for each number of a range, then p holds for all numbers of the range
 all_in : (p : ℕ → Bool) (first n : ℕ) → ((k : ℕ) → first ≤ k → k < first + n → p k ≡ true) → list_all p (range_with_len first n) ≡ true
-all_in p first zero each = refl
-all_in p first (suc n) each =
-    let here = each first (omega arith) (omega arith) in
-    let rest = all_in p (first + 1) n (λ k from to. each k (omega (arith, from)) (omega (arith, to))) in
+all_in p first zero each_holds = refl
+all_in p first (suc n) each_holds =
+    let here = each_holds first (omega arith) (omega arith) in
+    let rest = all_in p (first + 1) n (λ k from to. each_holds k (omega (arith, from)) (omega (arith, to))) in
     rw (here, rest) refl
 
 -- the search `find` returns the lowest number of a range that passes the test p
 find_is : (p : ℕ → Bool) (first n k : ℕ) → first ≤ k → k < first + n → ((j : ℕ) → first ≤ j → j < k → p j ≡ false) → p k ≡ true
     → find p (range_with_len first n) ≡ Some k
-find_is p first zero k at_least_first before_end below holds = absurd (omega (arith, at_least_first, before_end))
-find_is p first (suc n) k at_least_first before_end below holds = elim (cases_eq k first) [
+find_is p first zero k at_least_first before_end lower_fail holds = absurd (omega (arith, at_least_first, before_end))
+find_is p first (suc n) k at_least_first before_end lower_fail holds = elim (cases_eq k first) [
   | inl equal ↦
       cond-true (p first) _ _ (subst (λ (j : ℕ). p j ≡ true) equal holds) ∙ ap (λ (j : ℕ). Some j) (sym equal)
   | inr distinct ↦
-      cond-false (p first) _ _ (below first (omega arith) (omega (arith, at_least_first, distinct)))
+      cond-false (p first) _ _ (lower_fail first (omega arith) (omega (arith, at_least_first, distinct)))
       ∙ find_is p (first + 1) n k (omega (arith, at_least_first, distinct)) (omega (arith, before_end))
-      (λ j from to. below j (omega (arith, from)) to) holds
+      (λ j from to. lower_fail j (omega (arith, from)) to) holds
 ]
 
 -- if the test p fails for each entry of a list, then p holds for no entry of the list
 any_of : (p : Option SlotInfo → Bool) (xs : List (Option SlotInfo)) → ((k : ℕ) → p (slice_index_or xs k None) ≡ false) → list_any p xs ≡ false
-any_of p [] each = refl
-any_of p (x ∷ xs) each =
-    let here : p x ≡ false = each 0 in
-    let rest = any_of p xs (λ k. each (suc k)) in
+any_of p [] each_fails = refl
+any_of p (x ∷ xs) each_fails =
+    let here : p x ≡ false = each_fails 0 in
+    let rest = any_of p xs (λ k. each_fails (suc k)) in
     rw (here, rest) refl
 
 -- ---- the conditions
@@ -77,8 +77,8 @@ window_is memory regs (inr block) = let good = block_is memory (window_named reg
 
 -- a slot with a record is not free
 live : (o : Option SlotInfo) → is_some o ≡ true → is_none o ≡ false
-live None some = cc
-live (Some info) some = refl
+live None is_present = cc
+live (Some info) is_present = refl
 
 -- the slot of a create is the lowest free one
 free_is : (shared : Shared) (regs : List ℕ) (slot : ℕ) → IsCreatable shared regs slot → lowest_free shared.table ≡ Some slot
@@ -89,15 +89,15 @@ free_is shared regs slot creatable =
 -- a create has status 0 if none of its five refusals applies
 no_row : (c1 c2 c3 c4 c5 : Bool) → c1 ≡ true → c2 ≡ true → c3 ≡ false → c4 ≡ true → c5 ≡ false
     → first_status ((not c1, 0xFFFFFFFE) ∷ (not c2, 0xFFFFFFFD) ∷ (c3, 0xFFFFFFFC) ∷ (not c4, 0xFFFFFFFB) ∷ (c5, 0xFFFFFFFA) ∷ []) ≡ 0
-no_row c1 c2 c3 c4 c5 e1 e2 e3 e4 e5 = rw (e1, e2, e3, e4, e5) refl
+no_row c1 c2 c3 c4 c5 holds_1 holds_2 fails_3 holds_4 fails_5 = rw (holds_1, holds_2, fails_3, holds_4, fails_5) refl
 
 -- a disjunction of four tests fails if each of the four tests fails
 none_of : (a b c d : Bool) → a ≡ false → b ≡ false → c ≡ false → d ≡ false → (a || (b || (c || d))) ≡ false
-none_of a b c d ea eb ec ed = rw (ea, eb, ec, ed) refl
+none_of a b c d a_fails b_fails c_fails d_fails = rw (a_fails, b_fails, c_fails, d_fails) refl
 
 -- a conjunction of three tests holds if each of the three tests holds
 all_of : (a b c : Bool) → a ≡ true → b ≡ true → c ≡ true → (a && (b && c)) ≡ true
-all_of a b c ea eb ec = rw (ea, eb, ec) refl
+all_of a b c a_holds b_holds c_holds = rw (a_holds, b_holds, c_holds) refl
 
 -- a create has status 0 if its arguments meet the conditions of create
 create_passes : (shared : Shared) (regs : List ℕ) (slot : ℕ) → IsCreatable shared regs slot → first_status (create_rows shared regs) ≡ 0

@@ -80,8 +80,8 @@ slot_gives w k (Some s) access permission = elim (cases_Bool (is_world_of k w)) 
 -- the PMP entry of a slot whose region has a byte gives every permission to the enclave in this slot
 slot_gives_all : (w : World) (k : ℕ) (o : Option SlotInfo) (access : Access) (b : ℕ) → is_world_of k w ≡ true → has (region_of o) b ≡ true
     → has_permission access (region_entry w k o).cfg ≡ true
-slot_gives_all w k None access b runs_enclave held = absurd (both_ways _ (has_nothing b) held)
-slot_gives_all w k (Some s) access b runs_enclave held = rw runs_enclave (rwx_permits access)
+slot_gives_all w k None access b runs_enclave in_region = absurd (both_ways _ (has_nothing b) in_region)
+slot_gives_all w k (Some s) access b runs_enclave in_region = rw runs_enclave (rwx_permits access)
 
 -- a cfg byte with R and W permits loads and stores
 read_or_write : (access : Access) → access ≢ Fetch → has_permission access read_write ≡ true
@@ -107,9 +107,9 @@ window_gives_no_fetch (Some s) = elim (cases_Bool (s.window.size == 0)) [ inl no
 -- the PMP entry of a window that has a byte permits loads and stores
 window_gives : (o : Option SlotInfo) (access : Access) (b : ℕ) → access ≢ Fetch → has (window_of o) b ≡ true
     → has_permission access (window_entry_of o).cfg ≡ true
-window_gives None access b no_fetch held = absurd (both_ways _ (has_nothing b) held)
-window_gives (Some s) access b no_fetch held =
-    let parts = and_parts _ _ held in
+window_gives None access b no_fetch in_window = absurd (both_ways _ (has_nothing b) in_window)
+window_gives (Some s) access b no_fetch in_window =
+    let parts = and_parts _ _ in_window in
     let low = leb-true s.window.base b parts.0 in
     let high = ltb-true b (s.window.base + s.window.size) parts.1 in
     let some = ne_eqb s.window.size 0 (λ none. omega arith) in
@@ -184,11 +184,11 @@ no_window t (Enclave k) b host_runs = absurd (false≢true host_runs)
 
 -- a slot whose region has a byte is one of the slots of the table
 slot_in_range : (memory : List ℕ) (t : Slots) (w : World) (k b : ℕ) → IsValid memory t → has (region t k) b ≡ true → k < slot_count
-slot_in_range memory t w k b table_valid held = elim (cases_lt k slot_count) [
+slot_in_range memory t w k b table_valid in_region = elim (cases_lt k slot_count) [
   | inl in_range ↦ in_range
   | inr past_last ↦
       let nothing : slot_at t k ≡ None = get_or_past t k None (omega (arith, table_valid.count)) in
-      absurd (both_ways _ (has_nothing b) (sym (ap (λ o. has (region_of o) b) nothing) ∙ held))
+      absurd (both_ways _ (has_nothing b) (sym (ap (λ o. has (region_of o) b) nothing) ∙ in_region))
 ]
 
 -- bytes that are accessible to a world are in no region of another enclave
@@ -273,11 +273,11 @@ module _ (memory : List ℕ) (t : Slots) (w : World) (mode : Mode) (access : Acc
 
   -- bytes that no PMP entry before entry 15 covers belong to the host
   uncovered_is_host : ((j : ℕ) → j < 15 → list_any (covers entries j) bytes ≡ false) → list_all (host_has memory t) bytes ≡ true
-  uncovered_is_host none = all_each (host_has memory t) a n (λ b low high.
-      let no_monitor = none_from_any (has monitor_block) a n (sym any_monitor ∙ none 0 (lit< tt)) b low high in
+  uncovered_is_host none_covers = all_each (host_has memory t) a n (λ b low high.
+      let no_monitor = none_from_any (has monitor_block) a n (sym any_monitor ∙ none_covers 0 (lit< tt)) b low high in
       let no_region =
       any_none (λ k. has (region t k) b) 0 slot_count
-      (λ k k_low k_high. none_from_any (has (region t k)) a n (sym (any_slot k k_high) ∙ none (k + 1) (omega arith)) b low high) in
+      (λ k k_low k_high. none_from_any (has (region t k)) a n (sym (any_slot k k_high) ∙ none_covers (k + 1) (omega arith)) b low high) in
       let in_ram : is_inside memory b 1 ≡ true = inside_from memory b (omega (arith, inside.0)) (omega (arith, inside.1)) in
       and_from _ _ in_ram (and_from _ _ (ap not no_monitor) (ap not no_region)))
 
@@ -337,7 +337,7 @@ module _ (memory : List ℕ) (t : Slots) (w : World) (mode : Mode) (access : Acc
   -- entry 15 of the layout permits the host to access the bytes that belong to the host
   permitted_by_host : is_host w ≡ true → list_all (host_has memory t) bytes ≡ true → permits (verdict entries mode access bytes) ≡ true
   permitted_by_host host_runs all_of_host =
-      let held : (b : ℕ) → a ≤ b → b < a + n → (has monitor_block b ≡ false) × (is_in_region t b ≡ false) = λ b low high.
+      let apart_each : (b : ℕ) → a ≤ b → b < a + n → (has monitor_block b ≡ false) × (is_in_region t b ≡ false) = λ b low high.
       let parts =
       and_parts (not (has monitor_block b)) (not (is_in_region t b))
       (and_parts (is_inside memory b 1) _ (each_from_all (host_has memory t) a n all_of_host b low high)).1 in
@@ -346,10 +346,10 @@ module _ (memory : List ℕ) (t : Slots) (w : World) (mode : Mode) (access : Acc
       (all_each (covers entries 15) a n (λ b low high. covers_host memory t w ram_size table_valid b (omega (arith, inside.1, ram_size)) ∙ host_runs))
       (given_at 15 _ cfg_of-host ∙ host_gives w access host_runs)
       (λ j before. elim (place_cases j (omega arith)) [
-        | inl first ↦ rw first (any_monitor ∙ any_none (has monitor_block) a n (λ b low high. (held b low high).0))
+        | inl first ↦ rw first (any_monitor ∙ any_none (has monitor_block) a n (λ b low high. (apart_each b low high).0))
         | inr later ↦ elim later [
           | inl slot ↦ rw slot.2 (any_slot slot.0 slot.1 ∙ any_none (has (region t slot.0)) a n (λ b low high.
-              none_from_any (λ k. has (region t k) b) 0 slot_count (held b low high).1 slot.0 (omega arith) (omega (arith, slot.1))))
+              none_from_any (λ k. has (region t k) b) 0 slot_count (apart_each b low high).1 slot.0 (omega arith) (omega (arith, slot.1))))
           | inr last ↦ elim last [
             | inl window ↦ rw window (any_window ∙ any_none (has (world_window t w)) a n (λ b low high. no_window t w b host_runs))
             | inr itself ↦ absurd (omega arith)
@@ -359,22 +359,23 @@ module _ (memory : List ℕ) (t : Slots) (w : World) (mode : Mode) (access : Acc
 
   -- the PMP entry of a region permits its enclave every access to the bytes of this region
   permitted_by_region : (k : ℕ) → w ≡ Enclave k → list_all (has (region t k)) bytes ≡ true → permits (verdict entries mode access bytes) ≡ true
-  permitted_by_region k own all_in_region =
-      let held = each_from_all (has (region t k)) a n all_in_region in
-      let has_first = held a (omega arith) (omega arith) in
+  permitted_by_region k runs_k all_in_region =
+      let each_in_region = each_from_all (has (region t k)) a n all_in_region in
+      let has_first = each_in_region a (omega arith) (omega arith) in
       let in_range = slot_in_range memory t w k a table_valid has_first in
-      let is_own : is_world_of k w ≡ true = rw own (eq-eqb k k refl) in
+      let is_own : is_world_of k w ≡ true = rw runs_k (eq-eqb k k refl) in
       permitted_by (k + 1) (omega arith)
       (all_slot k in_range ∙ all_in_region)
       (given_at (k + 1) _ (cfg_of-slot k in_range) ∙ slot_gives_all w k (slot_at t k) access a is_own has_first)
       (λ j before. elim (place_cases j (omega arith)) [
-        | inl first ↦ rw first (any_monitor ∙ any_none (has monitor_block) a n (λ b low high. apart_bytes.regions_free k b (held b low high)))
+        | inl first ↦
+            rw first (any_monitor ∙ any_none (has monitor_block) a n (λ b low high. apart_bytes.regions_free k b (each_in_region b low high)))
         | inr later ↦ elim later [
           | inl slot ↦
               let other : k ≢ slot.0 = omega (arith, slot.2) in
               rw slot.2
               (any_slot slot.0 slot.1
-              ∙ any_none (has (region t slot.0)) a n (λ b low high. apart_bytes.regions_apart k slot.0 b other (held b low high)))
+              ∙ any_none (has (region t slot.0)) a n (λ b low high. apart_bytes.regions_apart k slot.0 b other (each_in_region b low high)))
           | inr last ↦ absurd (elim last [ inl window ↦ omega arith | inr host ↦ omega arith ])
         ]
       ])
@@ -382,17 +383,18 @@ module _ (memory : List ℕ) (t : Slots) (w : World) (mode : Mode) (access : Acc
   -- PMP entry 14 permits the enclave to load and store the bytes of its window
   permitted_by_window : (k : ℕ) → w ≡ Enclave k → access ≢ Fetch → list_all (has (window t k)) bytes ≡ true
       → permits (verdict entries mode access bytes) ≡ true
-  permitted_by_window k own no_fetch all =
-      let held = each_from_all (has (window t k)) a n all in
-      let has_first = held a (omega arith) (omega arith) in
+  permitted_by_window k runs_k no_fetch all =
+      let each_in_window = each_from_all (has (window t k)) a n all in
+      let has_first = each_in_window a (omega arith) (omega arith) in
       permitted_by 14 (lit< tt)
-      (all_window ∙ rw own all)
-      (given_at 14 _ cfg_of-window ∙ rw own (window_gives (slot_at t k) access a no_fetch has_first))
+      (all_window ∙ rw runs_k all)
+      (given_at 14 _ cfg_of-window ∙ rw runs_k (window_gives (slot_at t k) access a no_fetch has_first))
       (λ j before. elim (place_cases j (omega arith)) [
-        | inl first ↦ rw first (any_monitor ∙ any_none (has monitor_block) a n (λ b low high. apart_bytes.windows_free k b (held b low high)))
+        | inl first ↦
+            rw first (any_monitor ∙ any_none (has monitor_block) a n (λ b low high. apart_bytes.windows_free k b (each_in_window b low high)))
         | inr later ↦ elim later [
           | inl slot ↦ rw slot.2 (any_slot slot.0 slot.1 ∙ any_none (has (region t slot.0)) a n (λ b low high.
-              false_from_ne_true _ (λ region. both_ways _ (apart_bytes.windows_apart slot.0 k b region) (held b low high))))
+              false_from_ne_true _ (λ region. both_ways _ (apart_bytes.windows_apart slot.0 k b region) (each_in_window b low high))))
           | inr last ↦ absurd (elim last [ inl window ↦ omega arith | inr host ↦ omega arith ])
         ]
       ])

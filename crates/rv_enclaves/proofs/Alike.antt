@@ -1,4 +1,4 @@
--- Create, destroy, measure and context switches preserve equivalence except e: if two shared states differ only in what is private to enclave e, then
+-- Create, destroy, measure and context switches preserve equivalence except e. If two shared states differ only in what is private to enclave e, then
 -- so do the shared states after the call.
 use Rattle.std.proofs.Common.{◌≡◌, ◌≢◌, ℕ, ◌+◌, ◌<◌, ◌≤◌, Bool, true, false, List, length, replicate, Option, Some, None, IfSome, refl, sym, ◌∙◌, ap, subst}
 use Rattle.std.proofs.Common.{inl, inr, arith}
@@ -52,7 +52,7 @@ contexts_with : (e : ℕ) (cs ds : Contexts) (k : ℕ) (c : Option Context) → 
     → SameContexts e (with_context cs k c) (with_context ds k c)
 contexts_with e cs ds k c saved = record {
   size = length_after cs ds k c saved.size;
-  others = λ j other. same_after_set cs ds k j c None saved.size (saved.others j other);
+  others = λ j distinct. same_after_set cs ds k j c None saved.size (saved.others j distinct);
 }
 
 -- a block that does not overlap another block has none of the bytes of the other block
@@ -174,8 +174,8 @@ module _ (e : ℕ) (table : Slots) (m n : List ℕ) (cs ds : Contexts) (equiv : 
   -- the region of a valid record is inside memory
   region_inside : (o : Option SlotInfo) → IfSome o (IsValidSlot m) → is_some o ≡ true → is_inside m (region_of o).base (region_of o).size ≡ true
   unfolding is_valid_block
-  region_inside None slot_valid live = cc
-  region_inside (Some info) slot_valid live = (and_parts _ _ (and_parts (is_block_size info.region.size) _ slot_valid.region).1).1
+  region_inside None slot_valid is_present = cc
+  region_inside (Some info) slot_valid is_present = (and_parts _ _ (and_parts (is_block_size info.region.size) _ slot_valid.region).1).1
 
   -- a destroy that the monitor does not refuse leaves two equivalent shared states equivalent except e
   pub destroyed_alike : (k : ℕ) → IsValid m table → IsTaken table calls.Destroy k → SharedEquivExcept e (destroyed here k) (destroyed there k)

@@ -65,22 +65,22 @@ requests (Enclave k) a7 a6 =
 
 -- no refusal has the status 0, which is the status of success. Each case holds by computation, or has a false premise
 pub no_success : (refusal : Refusal) → status_of refusal ≢ 0
-no_success refusals.NotSupported is = cc
-no_success refusals.BadRegion is = cc
-no_success refusals.BadWindow is = cc
-no_success refusals.Overlap is = cc
-no_success refusals.BadEntry is = cc
-no_success refusals.NoSlot is = cc
-no_success refusals.NoEnclave is = cc
-no_success refusals.BadState is = cc
-no_success refusals.BadAddress is = cc
+no_success refusals.NotSupported status_is_0 = cc
+no_success refusals.BadRegion status_is_0 = cc
+no_success refusals.BadWindow status_is_0 = cc
+no_success refusals.Overlap status_is_0 = cc
+no_success refusals.BadEntry status_is_0 = cc
+no_success refusals.NoSlot status_is_0 = cc
+no_success refusals.NoEnclave status_is_0 = cc
+no_success refusals.BadState status_is_0 = cc
+no_success refusals.BadAddress status_is_0 = cc
 
 -- ---- create
 
 -- two tests that are equal for each element hold for some element of the same lists
 any_same : {X : Type 0} (f g : X → Bool) → ((x : X) → f x ≡ g x) → (xs : List X) → list_any f xs ≡ list_any g xs
-any_same f g same [] = refl
-any_same f g same (x ∷ xs) = let here = same x in let rest = any_same f g same xs in rw (here, rest) refl
+any_same f g same_tests [] = refl
+any_same f g same_tests (x ∷ xs) = let here = same_tests x in let rest = any_same f g same_tests xs in rw (here, rest) refl
 
 -- both definitions of the test for overlap agree
 same_overlap : (new : CreateArgs) (slot : Option SlotInfo) → collides new slot ≡ overlap_enclave new.region new.window slot
@@ -110,14 +110,14 @@ creates shared regs =
 -- both definitions of a test of an enclave's state agree
 in_state : (call : Call) (accepts : EnclaveState → Bool) → ((state : EnclaveState) → takes call state ≡ accepts state)
     → (o : Option SlotInfo) → option_case o false (λ info. takes call info.state) ≡ option_case o false (λ info. accepts info.state)
-in_state call accepts same None = refl
-in_state call accepts same (Some info) = same info.state
+in_state call accepts same_tests None = refl
+in_state call accepts same_tests (Some info) = same_tests info.state
 
 -- the refusals of destroy, run and resume agree with the table
 states_by : (slots : Slots) (call : Call) (accepts : EnclaveState → Bool) (k : ℕ) → ((state : EnclaveState) → takes call state ≡ accepts state)
     → in_numbers (state_refusals slots call k) ≡ state_rows accepts slots k
 unfolding state_refusals state_rows
-states_by slots call accepts k same = let rests = in_state call accepts same (slot_at slots k) in rw rests refl
+states_by slots call accepts k same_tests = let rests = in_state call accepts same_tests (slot_at slots k) in rw rests refl
 
 -- destroy accepts each state except Running. Each case holds by computation
 destroy_accepts_idle : (state : EnclaveState) → takes calls.Destroy state ≡ does_not_run state

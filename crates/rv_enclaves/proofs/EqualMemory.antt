@@ -55,21 +55,22 @@ index-within memory index bytes k within at_least_index before_end = grind (arit
 -- the same write to both memories leaves the memories equal outside the hidden bytes, even if the write covers hidden bytes
 pub same_write : (hidden : ℕ → Bool) (m n : List ℕ) (address : ℕ) (bytes m' n' : List ℕ) → EqualOutside hidden m n
     → write m address bytes ≡ Some m' → write n address bytes ≡ Some n' → EqualOutside hidden m' n'
-same_write hidden m n address bytes m' n' equiv here written =
-    let one = write-is m address bytes m' here in
-    let other = write-is n address bytes n' written in
+same_write hidden m n address bytes m' n' equiv written_m written_n =
+    let one = write-is m address bytes m' written_m in
+    let other = write-is n address bytes n' written_n in
     let index = address - ram_base in
-    let within : index + length bytes ≤ length m = omega (arith, one.0, one.1) in
-    let within' : index + length bytes ≤ length n = omega (arith, other.0, other.1) in
+    let fits_m : index + length bytes ≤ length m = omega (arith, one.0, one.1) in
+    let fits_n : index + length bytes ≤ length n = omega (arith, other.0, other.1) in
     record {
-      size = length-write m address bytes m' here ∙ equiv.size ∙ sym (length-write n address bytes n' written);
-      bytes = λ i seen. rw (one.2, other.2) (elim (cases_lt i index) [
+      size = length-write m address bytes m' written_m ∙ equiv.size ∙ sym (length-write n address bytes n' written_n);
+      bytes = λ i not_hidden. rw (one.2, other.2) (elim (cases_lt i index) [
         | inl before_start ↦
-            index-below m index bytes i within before_start ∙ equiv.bytes i seen ∙ sym (index-below n index bytes i within' before_start)
+            index-below m index bytes i fits_m before_start ∙ equiv.bytes i not_hidden ∙ sym (index-below n index bytes i fits_n before_start)
         | inr from_start ↦ elim (cases_lt i (index + length bytes)) [
           | inl before_end ↦
-              index-within m index bytes i within from_start before_end ∙ sym (index-within n index bytes i within' from_start before_end)
-          | inr after_end ↦ index-above m index bytes i within after_end ∙ equiv.bytes i seen ∙ sym (index-above n index bytes i within' after_end)
+              index-within m index bytes i fits_m from_start before_end ∙ sym (index-within n index bytes i fits_n from_start before_end)
+          | inr after_end ↦
+              index-above m index bytes i fits_m after_end ∙ equiv.bytes i not_hidden ∙ sym (index-above n index bytes i fits_n after_end)
         ]
       ]);
     }
@@ -97,38 +98,38 @@ write-alike hidden m n address bytes equiv =
     let same_size = equiv.size in
     elim (cases_Bool (is_inside m address (length bytes))) [
       | inl inside ↦
-          let one = write-some m address bytes inside in
-          let other = write-some n address bytes (rw (← same_size) inside) in
-          rw (one, other) (same_write hidden m n address bytes _ _ equiv one other)
+          let write_m = write-some m address bytes inside in
+          let write_n = write-some n address bytes (rw (← same_size) inside) in
+          rw (write_m, write_n) (same_write hidden m n address bytes _ _ equiv write_m write_n)
       | inr outside ↦
-          let one = write-none m address bytes outside in
-          let other = write-none n address bytes (rw (← same_size) outside) in
-          rw (one, other) equiv
+          let write_m = write-none m address bytes outside in
+          let write_n = write-none n address bytes (rw (← same_size) outside) in
+          rw (write_m, write_n) equiv
     ]
 
 -- zeroing a range that has all hidden bytes makes the two memories equal everywhere
 pub zeros-alike : (hidden hidden' : ℕ → Bool) (m n : List ℕ) (base count : ℕ) → EqualOutside hidden m n
     → (ram_base ≤ base) × (base + count ≤ ram_base + length m) → ((b : ℕ) → hidden b ≡ true → (base ≤ b) × (b < base + count))
     → EqualOutside hidden' (or_same m (write m base (replicate count 0))) (or_same n (write n base (replicate count 0)))
-zeros-alike hidden hidden' m n base count equiv inside covers =
+zeros-alike hidden hidden' m n base count equiv in_memory hidden_in_range =
     let bytes = replicate count 0 in
     let long : length bytes ≡ count = length-replicate {A = ℕ} count 0 in
     let within : is_inside m base (length bytes) ≡ true =
-    rw long (and_from _ _ (le-leb ram_base base inside.0) (le-leb (base + count) (ram_base + length m) inside.1)) in
+    rw long (and_from _ _ (le-leb ram_base base in_memory.0) (le-leb (base + count) (ram_base + length m) in_memory.1)) in
     let same_size = equiv.size in
     let one = write-some m base bytes within in
     let other = write-some n base bytes (rw (← same_size) within) in
     let alike = same_write hidden m n base bytes _ _ equiv one other in
     let index = base - ram_base in
-    let fits : index + length bytes ≤ length m = omega (arith, inside.0, inside.1, long) in
-    let fits' : index + length bytes ≤ length n = omega (arith, inside.0, inside.1, long, same_size) in
+    let fits : index + length bytes ≤ length m = omega (arith, in_memory.0, in_memory.1, long) in
+    let fits' : index + length bytes ≤ length n = omega (arith, in_memory.0, in_memory.1, long, same_size) in
     rw (one, other) (record {
       size = alike.size;
       bytes = λ i seen. elim (cases_Bool (hidden (ram_base + i))) [
         | inl is_hidden ↦
-            let at = covers (ram_base + i) is_hidden in
-            let low : index ≤ i = omega (arith, at.0, inside.0) in
-            let high : i < index + length bytes = omega (arith, at.1, inside.0, long) in
+            let at = hidden_in_range (ram_base + i) is_hidden in
+            let low : index ≤ i = omega (arith, at.0, in_memory.0) in
+            let high : i < index + length bytes = omega (arith, at.1, in_memory.0, long) in
             index-within m index bytes i fits low high ∙ sym (index-within n index bytes i fits' low high)
         | inr not_hidden ↦ alike.bytes i not_hidden
       ];

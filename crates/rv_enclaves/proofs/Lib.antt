@@ -6,7 +6,7 @@ pub mod InvariantLemmas
 pub mod Slots
 -- A table stays valid if the record of one slot changes to a record that fits, or if the memory changes but keeps its size
 pub mod Valid
--- What holds for a call that the monitor does not refuse
+-- The facts about a call that the monitor does not refuse
 pub mod Refusals
 -- Each call and each context switch preserves the invariant of the shared state (specs/SharedInvariant)
 pub mod SharedInvariantLemmas
@@ -16,8 +16,7 @@ pub mod Start
 pub mod SavedLists
 -- Reads and writes of two memories that are equal outside the hidden bytes
 pub mod EqualMemory
--- Create, destroy, measure and context switches preserve equivalence except e: if two shared states differ only in what is private to enclave e,
--- then so do the shared states after the call
+-- Create, destroy, measure and context switches preserve equivalence except e
 pub mod Alike
 -- The facts about two shared states that the noninterference of the trap handler needs
 pub mod WorksAlike

@@ -113,8 +113,8 @@ valid_inside m block valid_block = (and_parts (block.base % block.size == 0) _ (
 -- if a valid block has the same bytes in two memories, then the memories are equal at each address of the block
 same_bytes : (m n : List ℕ) (block : Block) (i : ℕ) → is_valid_block m block ≡ true → is_valid_block n block ≡ true
     → bytes_of_block m block ≡ bytes_of_block n block → not (has block (ram_base + i)) ≡ false → slice_index m i ≡ slice_index n i
-same_bytes m n block i is_valid valid_too same shown = elim (cases_Bool (has block (ram_base + i))) [
-  | inr outside_block ↦ let contradiction : true ≡ false = sym (ap not outside_block) ∙ shown in cc
+same_bytes m n block i is_valid valid_too same not_outside = elim (cases_Bool (has block (ram_base + i))) [
+  | inr outside_block ↦ let contradiction : true ≡ false = sym (ap not outside_block) ∙ not_outside in cc
   | inl in_block ↦
       let parts = and_parts (nat_le block.base (ram_base + i)) _ in_block in
       let low = leb-true _ _ parts.0 in
@@ -129,13 +129,14 @@ same_bytes m n block i is_valid valid_too same shown = elim (cases_Bool (has blo
 pub measurement_law : MeasurementLaw
 measurement_law m n one other ram size valid valid_too same =
     let small = small_ram m ram in
-    let a = are_words m one small valid in
-    let b = are_words n other (omega (arith, small, size)) valid_too in
-    let base = same_front one.region.base other.region.base _ _ a.base b.base same in
-    let extent = same_front one.region.size other.region.size _ _ a.size b.size base.1 in
-    let window_base = same_front one.window.base other.window.base _ _ a.window_base b.window_base extent.1 in
-    let window_size = same_front one.window.size other.window.size _ _ a.window_size b.window_size window_base.1 in
-    let entry = same_front one.entry other.entry (bytes_of_block m one.region) (bytes_of_block n other.region) a.entry b.entry window_size.1 in
+    let words_one = are_words m one small valid in
+    let words_other = are_words n other (omega (arith, small, size)) valid_too in
+    let base = same_front one.region.base other.region.base _ _ words_one.base words_other.base same in
+    let extent = same_front one.region.size other.region.size _ _ words_one.size words_other.size base.1 in
+    let window_base = same_front one.window.base other.window.base _ _ words_one.window_base words_other.window_base extent.1 in
+    let window_size = same_front one.window.size other.window.size _ _ words_one.window_size words_other.window_size window_base.1 in
+    let entry =
+    same_front one.entry other.entry (bytes_of_block m one.region) (bytes_of_block n other.region) words_one.entry words_other.entry window_size.1 in
     let block : ℕ → ℕ → Block = λ base size. record { base = base; size = size } in
     let region : one.region ≡ other.region = ap₂ block base.0 extent.0 in
     let window : one.window ≡ other.window = ap₂ block window_base.0 window_size.0 in

@@ -21,10 +21,10 @@ is_within base size b = nat_le base b && nat_lt b (base + size)
 
 -- two tests that imply each other are equal
 pub same_test : (x y : Bool) → (x ≡ true → y ≡ true) → (y ≡ true → x ≡ true) → x ≡ y
-same_test true true there back = refl
-same_test true false there back = sym (there refl)
-same_test false true there back = back refl
-same_test false false there back = refl
+same_test true true y_if_x x_if_y = refl
+same_test true false y_if_x x_if_y = sym (y_if_x refl)
+same_test false true y_if_x x_if_y = x_if_y refl
+same_test false false y_if_x x_if_y = refl
 
 -- a number that ends in a 0 and k ones has k trailing ones
 pub trailing_ones-block : (half k : ℕ) → k < 32 → 2 * half * 2 ^ k + (2 ^ k - 1) + 1 < 2 ^ 32 → trailing_ones w32 (2 * half * 2 ^ k + (2 ^ k - 1)) ≡ k

@@ -40,7 +40,7 @@ pub record IsApart (slots : Slots) : Type 0 where
 -- the regions of a valid table share no byte with each other, with a window or with the monitor's range
 pub apart : (memory : List ℕ) (slots : Slots) → IsValid memory slots → IsApart slots
 apart memory slots table_valid = record {
-  regions_apart = λ j k b other. apart_at (region slots j) (region slots k) b (table_valid.regions_apart j k other);
+  regions_apart = λ j k b distinct. apart_at (region slots j) (region slots k) b (table_valid.regions_apart j k distinct);
   windows_apart = λ j k b. apart_at (region slots j) (window slots k) b (table_valid.windows_apart j k);
   regions_free = λ k b. apart_from monitor_block (region slots k) b (table_valid.regions_free k);
   windows_free = λ k b. apart_from monitor_block (window slots k) b (table_valid.windows_free k);

@@ -1,4 +1,4 @@
--- What holds for a call that the monitor does not refuse. A call has a table of conditions, each with its refusal (specs/Create, Refusals and
+-- The facts about a call that the monitor does not refuse. A call has a table of conditions, each with its refusal (specs/Create, Refusals and
 -- Measure). The monitor refuses the call with the first refusal whose condition holds. If there is no such refusal, then every condition is false.
 use Rattle.std.proofs.Common.{◌≡◌, ℕ, Bool, true, false, List, ◌∷◌, length, Option, Some, None, refl}
 use Rattle.std.specs.Prelude.{not}

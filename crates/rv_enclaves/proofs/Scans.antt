@@ -9,18 +9,18 @@ use Rattle.rv_enclaves.proofs.Prelude.{Access, Entries, Mode, covers, verdict}
 -- two tests that are equal on the n numbers from a on hold for some of these numbers in the same cases
 pub same_any : (p q : ℕ → Bool) (a n : ℕ) → ((b : ℕ) → a ≤ b → b < a + n → p b ≡ q b)
     → list_any p (range_with_len a n) ≡ list_any q (range_with_len a n)
-same_any p q a zero same = refl
-same_any p q a (suc n) same =
-    ap₂ (λ x y. x || y) (same a (omega arith) (omega arith))
-    (same_any p q (a + 1) n (λ b low high. same b (omega arith) (omega arith)))
+same_any p q a zero same_tests = refl
+same_any p q a (suc n) same_tests =
+    ap₂ (λ x y. x || y) (same_tests a (omega arith) (omega arith))
+    (same_any p q (a + 1) n (λ b low high. same_tests b (omega arith) (omega arith)))
 
 -- two tests that are equal on the n numbers from a on hold for all of these numbers in the same cases
 pub same_all : (p q : ℕ → Bool) (a n : ℕ) → ((b : ℕ) → a ≤ b → b < a + n → p b ≡ q b)
     → list_all p (range_with_len a n) ≡ list_all q (range_with_len a n)
-same_all p q a zero same = refl
-same_all p q a (suc n) same =
-    ap₂ (λ x y. x && y) (same a (omega arith) (omega arith))
-    (same_all p q (a + 1) n (λ b low high. same b (omega arith) (omega arith)))
+same_all p q a zero same_tests = refl
+same_all p q a (suc n) same_tests =
+    ap₂ (λ x y. x && y) (same_tests a (omega arith) (omega arith))
+    (same_all p q (a + 1) n (λ b low high. same_tests b (omega arith) (omega arith)))
 
 -- the verdict is the verdict of the lowest entry that matches some byte, or the verdict for no match
 pub verdict_cases : (e : Entries) (mode : Mode) (access : Access) (bytes : List ℕ)

@@ -27,14 +27,14 @@ inside_agrees memory block inside =
     let fits = inside-index memory block.base block.size inside in
     record {
       size = sym (length-with_complements memory index block.size fits);
-      bytes = λ i seen. elim (cases_lt i index) [
+      bytes = λ i not_hidden. elim (cases_lt i index) [
         | inl before_start ↦ sym (below memory index block.size i fits before_start)
         | inr from_start ↦ elim (cases_lt i (index + block.size)) [
           | inl before_end ↦
               let from : nat_le block.base (ram_base + i) ≡ true = le-leb block.base (ram_base + i) (omega (arith, bounds.0)) in
               let to : nat_lt (ram_base + i) (block.base + block.size) ≡ true =
               lt-ltb (ram_base + i) (block.base + block.size) (omega (arith, bounds.0)) in
-              let contradiction : true ≡ false = sym (and_from _ _ from to) ∙ seen in cc
+              let contradiction : true ≡ false = sym (and_from _ _ from to) ∙ not_hidden in cc
           | inr after_end ↦ sym (above memory index block.size i fits after_end)
         ]
       ];
@@ -57,8 +57,8 @@ some_after (Some context) = refl
 -- a hart can continue with the complement of each context with which it can continue
 goes_on_after : (o : Option Context) → IfSome o (λ context. can_go_on context ≡ true)
     → IfSome (option_map complemented_context o) (λ context. can_go_on context ≡ true)
-goes_on_after None held = tt
-goes_on_after (Some context) held = held
+goes_on_after None can_continue = tt
+goes_on_after (Some context) can_continue = can_continue
 
 -- ---- the slot
 
@@ -70,22 +70,26 @@ record MayScramble (shared : Shared) (k : ℕ) : Type 0 where
 
 -- a slot with a saved context has a live enclave that does not run
 pub slot_rests : (o : Option SlotInfo) → is_held o ≡ true → (is_some o ≡ true) × (option_case o false (λ info. is_running info.state) ≡ false)
-slot_rests None held = cc
-slot_rests (Some info) held = (refl, not-true (is_running info.state) held)
+slot_rests None has_context = cc
+slot_rests (Some info) has_context = (refl, not-true (is_running info.state) has_context)
 
 -- a slot with a saved context is a slot of the table
 in_range : (shared : Shared) (k : ℕ) (o : Option SlotInfo) → slot_at shared.table k ≡ o → length shared.table ≡ slot_count → is_held o ≡ true
     → k < slot_count
-in_range shared k None slot_is table_length held = cc
-in_range shared k (Some info) slot_is table_length held = live_in_range shared.table k info table_length slot_is
+in_range shared k None slot_is table_length has_context = cc
+in_range shared k (Some info) slot_is table_length has_context = live_in_range shared.table k info table_length slot_is
 
 module _ (shared : Shared) (worlds : List World) (k : ℕ) (shared_invariant : SharedInvariant shared worlds)
-    (may : can_scramble shared.table k ≡ true) where
+    (may_scramble : can_scramble shared.table k ≡ true) where
   -- a slot that may be scrambled has a live enclave that does not run
   may_be : MayScramble shared k
   may_be =
-      let parts = slot_rests (slot_at shared.table k) may in
-      record { live = parts.0; not_running = parts.1; in_range = in_range shared k (slot_at shared.table k) refl shared_invariant.valid.count may }
+      let parts = slot_rests (slot_at shared.table k) may_scramble in
+      record {
+        live = parts.0;
+        not_running = parts.1;
+        in_range = in_range shared k (slot_at shared.table k) refl shared_invariant.valid.count may_scramble;
+      }
 
   -- the saved context of slot k before the scramble
   abbrev kept_one : Option Context
@@ -132,15 +136,15 @@ module _ (shared : Shared) (worlds : List World) (k : ℕ) (shared_invariant : S
     memory = block_agrees shared.memory (region shared.table k);
     contexts = record {
       size = sym (length-set shared.contexts k (option_map complemented_context kept_one));
-      others = λ j other. sym (at_other shared.contexts k j _ other);
+      others = λ j distinct. sym (at_other shared.contexts k j _ distinct);
     };
-    gone = λ free. let contradiction : true ≡ false = sym may_be.live ∙ free in cc;
+    gone = λ dead. let contradiction : true ≡ false = sym may_be.live ∙ dead in cc;
   }
 
 -- proves that scramble preserves the invariant and changes only what is private to slot k
 pub scrambled_law : ScrambledLaw
-scrambled_law shared worlds k sound may = record {
-  not_running = (slot_rests (slot_at shared.table k) may).1;
-  sound = scrambled_sound shared worlds k sound may;
-  equivalent = scrambled_agrees shared worlds k sound may;
+scrambled_law shared worlds k shared_invariant may_scramble = record {
+  not_running = (slot_rests (slot_at shared.table k) may_scramble).1;
+  sound = scrambled_sound shared worlds k shared_invariant may_scramble;
+  equivalent = scrambled_agrees shared worlds k shared_invariant may_scramble;
 }

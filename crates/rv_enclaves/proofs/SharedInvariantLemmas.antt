@@ -32,11 +32,12 @@ running_in o = option_case o false (λ info. is_running info.state)
 -- ---- a change of one slot and its context, and of a memory of the same size
 
 module _ (shared : Shared) (worlds after_worlds : List World) (k : ℕ) (o : Option SlotInfo) (c : Option Context) (memory : List ℕ)
-    (shared_invariant : SharedInvariant shared worlds) (inside : k < slot_count) (same_length : length shared.memory ≡ length memory)
-    (fits : Fits shared.memory shared.table k o) (kept : is_some c ≡ is_held o) (held : IfSome c (λ context. can_go_on context ≡ true))
+    (shared_invariant : SharedInvariant shared worlds) (in_range : k < slot_count) (same_length : length shared.memory ≡ length memory)
+    (fits : Fits shared.memory shared.table k o) (saved_if_held : is_some c ≡ is_held o)
+    (can_continue : IfSome c (λ context. can_go_on context ≡ true))
     (here_runs : running_in o ≡ list_any (is_world_of k) after_worlds)
     (others_run : (j : ℕ) → j ≢ k → list_any (is_world_of j) worlds ≡ list_any (is_world_of j) after_worlds)
-    (apart : AreApart after_worlds) where
+    (worlds_apart : AreApart after_worlds) where
   -- slot k of the new table has the new record
   table_here : slot_at (with_slot shared.table k o) k ≡ o
   table_here = at_same shared.table k o (omega (arith, shared_invariant.valid.count))
@@ -56,7 +57,7 @@ module _ (shared : Shared) (worlds after_worlds : List World) (k : ℕ) (o : Opt
   -- after the change, a slot has a saved context if and only if its enclave is live and does not run
   saved_after : (j : ℕ) → is_some (context_at (with_context shared.contexts k c) j) ≡ is_held (slot_at (with_slot shared.table k o) j)
   saved_after j = elim (cases_eq j k) [
-    | inl equal ↦ rw equal (ap (λ (x : Option Context). is_some x) context_here ∙ kept ∙ ap is_held (sym table_here))
+    | inl equal ↦ rw equal (ap (λ (x : Option Context). is_some x) context_here ∙ saved_if_held ∙ ap is_held (sym table_here))
     | inr distinct ↦
         ap (λ (x : Option Context). is_some x) (context_there j distinct) ∙ shared_invariant.contexts.kept j
         ∙ ap is_held (sym (table_there j distinct))
@@ -67,7 +68,7 @@ module _ (shared : Shared) (worlds after_worlds : List World) (k : ℕ) (o : Opt
   held_after j =
       let P : Option Context → Type 0 = λ x. IfSome x (λ context. can_go_on context ≡ true) in
       elim (cases_eq j k) [
-        | inl equal ↦ rw equal (subst P (sym context_here) held)
+        | inl equal ↦ rw equal (subst P (sym context_here) can_continue)
         | inr distinct ↦ subst P (sym (context_there j distinct)) (shared_invariant.contexts.held j)
       ]
 
@@ -84,10 +85,10 @@ module _ (shared : Shared) (worlds after_worlds : List World) (k : ℕ) (o : Opt
   sound_with = record {
     valid =
         valid_by_size shared.memory memory (with_slot shared.table k o) same_length
-        (valid_with shared.memory shared.table k o shared_invariant.valid inside fits);
+        (valid_with shared.memory shared.table k o shared_invariant.valid in_range fits);
     contexts = record { count = length-set shared.contexts k c ∙ shared_invariant.contexts.count; kept = saved_after; held = held_after };
     running = running_after;
-    apart = apart;
+    apart = worlds_apart;
   }
 
 -- a change of the memory that keeps its size preserves the invariant
@@ -109,20 +110,20 @@ pub record IsFreeSlot (slots : Slots) (k : ℕ) : Type 0 where
 
 -- an option that passes the test `is_none` is None
 none_from : {A : Type 0} (o : Option A) → is_none o ≡ true → o ≡ None
-none_from None none = refl
-none_from (Some x) none = cc
+none_from None no_value = refl
+none_from (Some x) no_value = cc
 
 -- the number that a search of a range finds is in the range, and passes the test
 found-by : (p : ℕ → Bool) (first n k : ℕ) → find p (range_with_len first n) ≡ Some k → (k < first + n) × (p k ≡ true)
 found-by p first zero k found = cc
 found-by p first (suc n) k found = elim (cases_Bool (p first)) [
   | inl holds ↦
-      let e : Some first ≡ Some k = sym (cond-true (p first) _ _ holds) ∙ found in
+      let found_here : Some first ≡ Some k = sym (cond-true (p first) _ _ holds) ∙ found in
       let same : first ≡ k = cc in
       (omega arith, rw same at holds)
   | inr fails ↦
-      let e : find p (range_with_len (first + 1) n) ≡ Some k = sym (cond-false (p first) _ _ fails) ∙ found in
-      let rest = found-by p (first + 1) n k e in
+      let found_here : find p (range_with_len (first + 1) n) ≡ Some k = sym (cond-false (p first) _ _ fails) ∙ found in
+      let rest = found-by p (first + 1) n k found_here in
       (omega (arith, rest.0), rest.1)
 ]
 
@@ -160,9 +161,9 @@ new_fits shared new k is_valid is_window_valid entry_valid free = record {
     entry = entry_inside new entry_valid;
     measured = length_measurement shared.memory new;
   };
-  regions = λ j other. (free.others j).regions;
-  windows = λ j other. (free.others j).window;
-  window = λ j other. (free.others j).own;
+  regions = λ j distinct. (free.others j).regions;
+  windows = λ j distinct. (free.others j).window;
+  window = λ j distinct. (free.others j).own;
   own = free.own;
   region_free = free.region;
   window_free = free.window;
@@ -316,8 +317,8 @@ module _ (beside : List World) where
 
 -- proves that each call that the monitor does not refuse preserves the invariant
 pub calls_keep : CallsKeepLaw
-calls_keep shared worlds sound = record {
-  creates = λ new none. created_sound shared worlds new (may_create shared new none) sound;
-  destroys = λ k none. destroyed_sound shared worlds k (may_take shared.table calls.Destroy k none) sound;
-  measures = λ k address. measured_sound shared worlds k address sound;
+calls_keep shared worlds shared_invariant = record {
+  creates = λ new none. created_sound shared worlds new (may_create shared new none) shared_invariant;
+  destroys = λ k none. destroyed_sound shared worlds k (may_take shared.table calls.Destroy k none) shared_invariant;
+  measures = λ k address. measured_sound shared worlds k address shared_invariant;
 }

@@ -33,17 +33,17 @@ context_past contexts c contexts_length = set_past {X = Option Context} contexts
 
 -- a number that is not the number of a slot has no record
 pub none_past : (slots : Slots) (number : ℕ) → length slots ≡ slot_count → slot_numbered number ≡ None → slot_at slots number ≡ None
-none_past slots number table_length none = elim (cases_lt number slot_count) [
-  | inl in_range ↦ let is = rw (lt-ltb number slot_count in_range) at none in cc
+none_past slots number table_length not_a_slot = elim (cases_lt number slot_count) [
+  | inl in_range ↦ let is = rw (lt-ltb number slot_count in_range) at not_a_slot in cc
   | inr past_last ↦ get_or_past {X = Option SlotInfo} slots number None (omega (arith, table_length, past_last))
 ]
 
 -- if a test holds for no entry of a list, then it fails for the entry at each index, and for None after the end of the list
 pub none_at : {A : Type 0} (p : Option A → Bool) (xs : List (Option A)) (k : ℕ) → p None ≡ false → list_any p xs ≡ false
     → p (slice_index_or xs k None) ≡ false
-none_at p [] k nothing none_holds = nothing
-none_at p (x ∷ xs) zero nothing none_holds = (or_parts (p x) (list_any p xs) none_holds).0
-none_at p (x ∷ xs) (suc k) nothing none_holds = none_at p xs k nothing (or_parts (p x) (list_any p xs) none_holds).1
+none_at p [] k none_fails none_holds = none_fails
+none_at p (x ∷ xs) zero none_fails none_holds = (or_parts (p x) (list_any p xs) none_holds).0
+none_at p (x ∷ xs) (suc k) none_fails none_holds = none_at p xs k none_fails (or_parts (p x) (list_any p xs) none_holds).1
 
 -- ---- the checks of create
 
@@ -55,9 +55,9 @@ pub record AreApart (new : CreateArgs) (o : Option SlotInfo) : Type 0 where
 
 -- a create that does not collide with a slot is apart from the blocks of this slot
 pub apart_from : (new : CreateArgs) (o : Option SlotInfo) → collides new o ≡ false → AreApart new o
-apart_from new None none = record { regions = meets_nothing new.region; window = meets_nothing new.region; own = meets_nothing new.window }
-apart_from new (Some info) none =
-    let regions = or_parts (meets new.region info.region) _ none in
+apart_from new None no_collision = record { regions = meets_nothing new.region; window = meets_nothing new.region; own = meets_nothing new.window }
+apart_from new (Some info) no_collision =
+    let regions = or_parts (meets new.region info.region) _ no_collision in
     let windows = or_parts (meets new.region info.window) (meets new.window info.region) regions.1 in
     record { regions = regions.0; window = windows.0; own = windows.1 }
 
@@ -71,8 +71,8 @@ pub record IsFree (slots : Slots) (new : CreateArgs) : Type 0 where
 -- a create that overlaps no block meets no other block, as `IsFree` says
 pub free_from : (slots : Slots) (new : CreateArgs) → overlaps slots new ≡ false → IsFree slots new
 unfolding overlaps
-free_from slots new none =
-    let region = or_parts (meets monitor_block new.region) _ none in
+free_from slots new no_overlap =
+    let region = or_parts (meets monitor_block new.region) _ no_overlap in
     let window = or_parts (meets monitor_block new.window) _ region.1 in
     let own = or_parts (meets new.region new.window) (list_any (collides new) slots) window.1 in
     record {

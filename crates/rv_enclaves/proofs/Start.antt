@@ -41,7 +41,7 @@ no_slots_valid memory ram_size_valid = record {
   ram = ram_size_valid;
   count = refl;
   well_formed = λ k. let P : Option SlotInfo → Type 0 = λ o. IfSome o (IsValidSlot memory) in subst P (sym (no_slot k)) tt;
-  regions_apart = λ j k apart. ap (λ b. meets b (region no_slots k)) (no_region j);
+  regions_apart = λ j k distinct. ap (λ b. meets b (region no_slots k)) (no_region j);
   windows_apart = λ j k. ap (λ b. meets b (window no_slots k)) (no_region j);
   regions_free = λ k. ap (meets monitor_block) (no_region k) ∙ meets_nothing monitor_block;
   windows_free = λ k. ap (meets monitor_block) (no_window k) ∙ meets_nothing monitor_block;

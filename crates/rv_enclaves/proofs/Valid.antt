@@ -61,7 +61,7 @@ module _ (memory : List ℕ) (slots : Slots) (k : ℕ) (o : Option SlotInfo) (ta
   regions_after : (i j : ℕ) → i ≢ j → meets (region after i) (region after j) ≡ false
   regions_after i j distinct = elim (cases_eq i k) [
     | inl equal ↦ elim (cases_eq j k) [
-      | inl second ↦ absurd (distinct (equal ∙ sym second))
+      | inl j_is_k ↦ absurd (distinct (equal ∙ sym j_is_k))
       | inr distinct ↦
           rw equal (ap (λ b. meets b (region after j)) region_here ∙ ap (meets (region_of o)) (region_there j distinct) ∙ fits.regions j distinct)
     ]
@@ -70,7 +70,7 @@ module _ (memory : List ℕ) (slots : Slots) (k : ℕ) (o : Option SlotInfo) (ta
           rw equal
           (ap (λ b. meets b (region after k)) (region_there i other) ∙ ap (meets (region slots i)) region_here
           ∙ meets_symmetric (region slots i) (region_of o) ∙ fits.regions i other)
-      | inr both ↦ ap (λ b. meets b (region after j)) (region_there i other) ∙ ap (meets (region slots i)) (region_there j both)
+      | inr j_is_not_k ↦ ap (λ b. meets b (region after j)) (region_there i other) ∙ ap (meets (region slots i)) (region_there j j_is_not_k)
           ∙ table_valid.regions_apart i j distinct
     ]
   ]
@@ -79,7 +79,7 @@ module _ (memory : List ℕ) (slots : Slots) (k : ℕ) (o : Option SlotInfo) (ta
   windows_after : (i j : ℕ) → meets (region after i) (window after j) ≡ false
   windows_after i j = elim (cases_eq i k) [
     | inl equal ↦ elim (cases_eq j k) [
-      | inl second ↦ rw (equal, second) (ap (λ b. meets b (window after k)) region_here ∙ ap (meets (region_of o)) window_here ∙ fits.own)
+      | inl j_is_k ↦ rw (equal, j_is_k) (ap (λ b. meets b (window after k)) region_here ∙ ap (meets (region_of o)) window_here ∙ fits.own)
       | inr distinct ↦
           rw equal (ap (λ b. meets b (window after j)) region_here ∙ ap (meets (region_of o)) (window_there j distinct) ∙ fits.windows j distinct)
     ]
@@ -123,9 +123,9 @@ module _ (memory : List ℕ) (slots : Slots) (k : ℕ) (o : Option SlotInfo) (ta
 pub nothing_fits : (memory : List ℕ) (slots : Slots) (k : ℕ) → Fits memory slots k None
 nothing_fits memory slots k = record {
   well_formed = tt;
-  regions = λ j other. nothing_meets (region slots j);
-  windows = λ j other. nothing_meets (window slots j);
-  window = λ j other. nothing_meets (region slots j);
+  regions = λ j distinct. nothing_meets (region slots j);
+  windows = λ j distinct. nothing_meets (window slots j);
+  window = λ j distinct. nothing_meets (region slots j);
   own = refl;
   region_free = meets_nothing monitor_block;
   window_free = meets_nothing monitor_block;
@@ -138,11 +138,17 @@ own_fits memory slots k info state table_valid slot_is =
     let region_is : region slots k ≡ info.region = ap region_of slot_is in
     let window_is : window slots k ≡ info.window = ap window_of slot_is in
     let P : Option SlotInfo → Type 0 = λ x. IfSome x (IsValidSlot memory) in
-    let law = subst P slot_is (table_valid.well_formed k) in
+    let slot_valid = subst P slot_is (table_valid.well_formed k) in
     record {
-      well_formed = record { region = law.region; window = law.window; aligned = law.aligned; entry = law.entry; measured = law.measured };
-      regions = λ j other. ap (λ b. meets b (region slots j)) (sym region_is) ∙ table_valid.regions_apart k j (λ same. other (sym same));
-      windows = λ j other. ap (λ b. meets b (window slots j)) (sym region_is) ∙ table_valid.windows_apart k j;
+      well_formed = record {
+        region = slot_valid.region;
+        window = slot_valid.window;
+        aligned = slot_valid.aligned;
+        entry = slot_valid.entry;
+        measured = slot_valid.measured;
+      };
+      regions = λ j distinct. ap (λ b. meets b (region slots j)) (sym region_is) ∙ table_valid.regions_apart k j (λ same. distinct (sym same));
+      windows = λ j distinct. ap (λ b. meets b (window slots j)) (sym region_is) ∙ table_valid.windows_apart k j;
       window =
           λ j other. ap (λ b. meets b (region slots j)) (sym window_is) ∙ meets_symmetric (window slots k) (region slots j)
           ∙ table_valid.windows_apart j k;

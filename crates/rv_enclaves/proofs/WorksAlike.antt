@@ -34,7 +34,7 @@ equal_work e shared = record {
   creates = λ new no_refusal. itself e _;
   destroys = λ k is_taken. itself e _;
   measures = λ k address. itself e _;
-  contexts = λ k other. refl;
+  contexts = λ k distinct. refl;
   switches = λ k state c. itself e _;
 }
 
@@ -49,7 +49,7 @@ module _ (e : ℕ) (table : Slots) (m n : List ℕ) (cs ds : Contexts) (equiv : 
     creates = created_alike e table m n cs ds equiv saved live;
     destroys = λ k is_taken. destroyed_alike e table m n cs ds equiv saved live k one.valid is_taken;
     measures = measured_alike e table m n cs ds equiv saved live;
-    contexts = λ k other. let same = saved.others k other in rw same refl;
+    contexts = λ k distinct. let same = saved.others k distinct in rw same refl;
     switches = switched_alike e table m n cs ds equiv saved live one.valid.count;
   }
 

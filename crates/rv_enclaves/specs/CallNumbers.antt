@@ -63,8 +63,8 @@ slot_named (Enclave k) regs = k
 
 -- ---- the conditions
 
--- whether a block may be a region: its size is a power of two from 4096 on, its base is a multiple of the size, and it is inside memory, which begins
--- at 80000000
+-- whether a block may be a region. Its size is a power of two from 4096 on, and its base is a multiple of the size. The block is inside memory, which
+-- begins at 80000000
 abbrev pub is_block_of : List ℕ → Block → Bool
 is_block_of memory block =
     list_any (λ k. block.size == 2 ^ k) (range_with_len 12 20) && (block.base % block.size == 0
@@ -120,8 +120,8 @@ create_rows shared regs =
     (not (is_block_of shared.memory region), 0xFFFFFFFE)
     ∷ (not (register regs 13 == 0 || is_block_of shared.memory window), 0xFFFFFFFD)
     ∷ (
-      meets monitor_range region || (meets monitor_range window ||
-          (meets region window || list_any (overlap_enclave region window) shared.table)),
+      meets monitor_range region
+          || (meets monitor_range window || (meets region window || list_any (overlap_enclave region window) shared.table)),
       0xFFFFFFFC,
     )
     ∷ (not (entry % 4 == 0 && (nat_le region.base entry && nat_lt entry (region.base + region.size))), 0xFFFFFFFB)

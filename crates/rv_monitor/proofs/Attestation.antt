@@ -146,7 +146,7 @@ same_block m n block same_length inside same =
     ap (λ (o : Option (List ℕ)). option_case o [] (λ bytes. bytes))
     (same_read (λ byte. not (has block byte)) m n block.base block.size (record {
       size = sym same_length;
-      bytes = λ i shown. index_same m n i (sym same_length) (same (ram_base + i) (not-false (has block (ram_base + i)) shown));
+      bytes = λ i not_hidden. index_same m n i (sym same_length) (same (ram_base + i) (not-false (has block (ram_base + i)) not_hidden));
     }) inside (λ byte low high. in_block block byte low high))
 
 module _ (k : ℕ) (machine : MonitoredMachine) (invariant : Invariant machine) (as_created : IsAsCreated k machine.shared) where

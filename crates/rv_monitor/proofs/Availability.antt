@@ -1,4 +1,4 @@
--- Availability: if the timer line of a hart is set, then the next step of an enclave on this hart exits to the host, and the host can destroy the
+-- Availability: if the timer line of a hart is set, then the next step of an enclave on this hart exits to the host. The host can then destroy the
 -- enclave.
 use Rattle.std.proofs.Common.{◌≡◌, ℕ, true, length, Option, Some, None, refl, ◌∙◌, ap, arith}
 use Rattle.std.specs.Prelude.{is_some}
@@ -35,8 +35,8 @@ host_is (Enclave k) host_runs = cc
 stopped_ends : (slots : Slots) (k : ℕ) (o : Option SlotInfo) → length slots ≡ slot_count → slot_at slots k ≡ o → is_some o ≡ true
     → first_refusal (state_refusals (option_case o slots (λ info. with_slot slots k (Some (record info { state = Stopped })))) Destroy k) ≡ None
 unfolding state_refusals
-stopped_ends slots k None table_length slot_is live = cc
-stopped_ends slots k (Some info) table_length slot_is live =
+stopped_ends slots k None table_length slot_is is_present = cc
+stopped_ends slots k (Some info) table_length slot_is is_present =
     let slot_in_range = live_in_range slots k info table_length slot_is in
     let at_k = at_same slots k (Some (record info { state = Stopped })) (omega (arith, table_length, slot_in_range)) in
     rw at_k refl

@@ -1,5 +1,5 @@
--- A bare step (a step of the hart without the monitor), in a state that satisfies the invariant, neither reads nor writes the region of an enclave
--- other than the running world.
+-- A bare step neither reads nor writes the region of an enclave other than the running world, in a state that satisfies the invariant. A bare step is
+-- a step of the hart without the monitor.
 use Rattle.std.proofs.Common.{◌≡◌, ℕ, Bool, false, List, Option, Some, None}
 use Rattle.rv_enclaves.proofs.EqualMemory.{IsSeen, same_read, same_write}
 use Rattle.rv_memory.specs.declared.touched.Touched.{Touched}

@@ -53,7 +53,7 @@ module _ (e : ℕ) (one other : MonitoredMachine) where
     table = sym related.table;
     memory = record {
       size = sym related.memory.size;
-      bytes = λ i shown. sym (related.memory.bytes i (ap (λ (t : Slots). may_differ t e (ram_base + i)) related.table ∙ shown));
+      bytes = λ i not_hidden. sym (related.memory.bytes i (ap (λ (t : Slots). may_differ t e (ram_base + i)) related.table ∙ not_hidden));
     };
     contexts = record { size = sym related.contexts.size; others = λ k apart. sym (related.contexts.others k apart) };
     gone = λ dead. sym (related.gone (ap (λ (t : Slots). is_live t e) related.table ∙ dead));
@@ -113,8 +113,8 @@ module _ (e hart : ℕ) (one other : MonitoredMachine) (invariant_one : Invarian
         table = sym unchanged.table ∙ related.table;
         memory = record {
           size = sym unchanged.size ∙ related.memory.size;
-          bytes = λ i shown.
-              let shown_before = ap (λ (t : Slots). may_differ t e (ram_base + i)) unchanged.table ∙ shown in
+          bytes = λ i not_hidden.
+              let shown_before = ap (λ (t : Slots). may_differ t e (ram_base + i)) unchanged.table ∙ not_hidden in
               let running = invariant_one.shared.running e ∙ runs_among e hart one inside.before in
               let beyond = beyond_by (has (region one.shared.table e) (ram_base + i)) (runs one.shared.table e)
               (has (window one.shared.table e) (ram_base + i)) running shown_before in
@@ -123,7 +123,7 @@ module _ (e hart : ℕ) (one other : MonitoredMachine) (invariant_one : Invarian
         };
         contexts = record {
           size = ap (λ (c : Contexts). length c) (sym unchanged.contexts) ∙ related.contexts.size;
-          others = λ k apart. ap (λ (c : Contexts). context_at c k) (sym unchanged.contexts) ∙ related.contexts.others k apart;
+          others = λ k distinct. ap (λ (c : Contexts). context_at c k) (sym unchanged.contexts) ∙ related.contexts.others k distinct;
         };
         gone = λ dead. absurd (both_ways _ dead (running_is_live e hart after (invariant_law hart one invariant_one) inside.after));
       }

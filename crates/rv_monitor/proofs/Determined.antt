@@ -72,16 +72,17 @@ module _ (hart : ℕ) (machine : MonitoredMachine) (invariant : Invariant machin
     -- two results of an interrupt of an enclave are equal, because the interrupt exits the enclave
     by_interrupt_of : (interrupt : Interrupt) → trap.cause ≡ causes.Interrupt interrupt → (world : World) → own_state.world ≡ world → Same
     by_interrupt_of interrupt cause_is Host host_runs = absurd ((a_obeys.host host_runs).uninterrupted trap interrupt traps cause_is)
-    by_interrupt_of interrupt cause_is (Enclave k) runs = with_saved_host k Same runs (λ host_runs waiting.
-        same_by (a_obeys.interrupts k host_runs trap interrupt runs waiting traps cause_is)
-        (b_obeys.interrupts k host_runs trap interrupt runs waiting traps_too cause_is))
+    by_interrupt_of interrupt cause_is (Enclave k) world_is_own = with_saved_host k Same world_is_own (λ host_runs waiting.
+        same_by (a_obeys.interrupts k host_runs trap interrupt world_is_own waiting traps cause_is)
+        (b_obeys.interrupts k host_runs trap interrupt world_is_own waiting traps_too cause_is))
 
     -- two results of a redirected exception are equal
     by_redirection : is_redirected trap.cause ≡ true → (world : World) → own_state.world ≡ world → Same
     by_redirection is_redirection Host host_runs =
         same_by ((a_obeys.host host_runs).redirects trap traps is_redirection) ((b_obeys.host host_runs).redirects trap traps_too is_redirection)
-    by_redirection is_redirection (Enclave k) runs =
-        same_by ((a_obeys.exits k runs).redirects trap traps is_redirection) ((b_obeys.exits k runs).redirects trap traps_too is_redirection)
+    by_redirection is_redirection (Enclave k) world_is_own =
+        same_by ((a_obeys.exits k world_is_own).redirects trap traps is_redirection)
+        ((b_obeys.exits k world_is_own).redirects trap traps_too is_redirection)
 
     module _ (answers_a : AnswersInNumbers hart machine a trap) (answers_b : AnswersInNumbers hart machine b trap) where
       -- a call that `call_at` finds is offered to the running world
@@ -93,10 +94,10 @@ module _ (hart : ℕ) (machine : MonitoredMachine) (invariant : Invariant machin
           → (own_state.world ≡ Host → EntersByCall hart machine a trap (register own_state.hart.regs 10))
           → (own_state.world ≡ Host → EntersByCall hart machine b trap (register own_state.hart.regs 10))
           → ((k : ℕ) → is_offered (Enclave k) call ≡ false) → Same
-      by_entry call Host host is_allowed a_enters b_enters not_for_enclaves =
-          same_entry trap (register own_state.hart.regs 10) (a_enters host) (b_enters host)
-      by_entry call (Enclave k) runs is_allowed a_enters b_enters not_for_enclaves =
-          let contradiction : true ≡ false = sym is_allowed ∙ ap (λ (w : World). is_offered w call) runs ∙ not_for_enclaves k in
+      by_entry call Host world_is_own is_allowed a_enters b_enters not_for_enclaves =
+          same_entry trap (register own_state.hart.regs 10) (a_enters world_is_own) (b_enters world_is_own)
+      by_entry call (Enclave k) world_is_own is_allowed a_enters b_enters not_for_enclaves =
+          let contradiction : true ≡ false = sym is_allowed ∙ ap (λ (w : World). is_offered w call) world_is_own ∙ not_for_enclaves k in
           cc
 
       -- two results of a stop are equal
@@ -104,18 +105,19 @@ module _ (hart : ℕ) (machine : MonitoredMachine) (invariant : Invariant machin
       by_stop Host host_runs requested =
           let contradiction : true ≡ false = sym (offered Stop requested) ∙ ap (λ (w : World). is_offered w Stop) host_runs in
           cc
-      by_stop (Enclave k) runs requested =
-          with_saved_host k Same runs
-          (λ host_runs waiting. same_by (answers_a.stops k host_runs runs waiting requested) (answers_b.stops k host_runs runs waiting requested))
+      by_stop (Enclave k) world_is_own requested =
+          with_saved_host k Same world_is_own
+          (λ host_runs waiting. same_by (answers_a.stops k host_runs world_is_own waiting requested)
+          (answers_b.stops k host_runs world_is_own waiting requested))
 
       -- two results of an exit are equal
       by_exit : (world : World) → own_state.world ≡ world → call_at hart machine ≡ Some Exit → Same
-      by_exit Host host requested =
-          let contradiction : true ≡ false = sym (offered Exit requested) ∙ ap (λ (w : World). is_offered w Exit) host in
+      by_exit Host world_is_own requested =
+          let contradiction : true ≡ false = sym (offered Exit requested) ∙ ap (λ (w : World). is_offered w Exit) world_is_own in
           cc
-      by_exit (Enclave k) runs requested =
-          with_saved_host k Same runs
-          (λ host waiting. same_by (answers_a.exits k host runs waiting requested) (answers_b.exits k host runs waiting requested))
+      by_exit (Enclave k) world_is_own requested =
+          with_saved_host k Same world_is_own
+          (λ host waiting. same_by (answers_a.exits k host world_is_own waiting requested) (answers_b.exits k host world_is_own waiting requested))
 
       -- a call that the monitor does not offer to the running world has the status of an unknown call
       no_call : call_at hart machine ≡ None → status_at hart machine ≡ 0xFFFFFFFF

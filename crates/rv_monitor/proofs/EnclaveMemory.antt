@@ -50,14 +50,14 @@ own_reach memory t k Write bytes reached = elim (or_cases _ _ reached) [
 -- each byte that is accessible to an enclave is in its region or window
 pub own_seen : (memory : List ℕ) (t : Slots) (k : ℕ) (access : Access) (a n : ℕ) → is_accessible memory t (Enclave k) access (bytes_from a n) ≡ true
     → IsSeen (is_beyond t k) a n
-own_seen memory t k access a n reached b low high = elim (own_reach memory t k access (bytes_from a n) reached) [
+own_seen memory t k access a n is_accessible_to_k b low high = elim (own_reach memory t k access (bytes_from a n) is_accessible_to_k) [
   | inl all_in_region ↦ not_from_true _ (or_left _ (has (window t k) b) (each_from_all (has (region t k)) a n all_in_region b low high))
   | inr all_in_window ↦ not_from_true _ (or_right (has (region t k) b) _ (each_from_all (has (window t k)) a n all_in_window b low high))
 ]
 
 -- ---- the bare step
 
-module _ (k : ℕ) (state : HartView) (view_invariant : HartViewInvariant state) (runs : state.hart_state.world ≡ Enclave k) where
+module _ (k : ℕ) (state : HartView) (view_invariant : HartViewInvariant state) (runs_enclave : state.hart_state.world ≡ Enclave k) where
   -- each byte of a permitted access of the enclave is in its region or window
   accesses_own : (mode : Mode) (access : Access) (span : Span) → is_machine mode ≡ false → MayTouch (bare_machine state) mode access (Some span)
       → IsSeen (is_beyond state.shared.table k) span.addr (bytes_in span.len)
@@ -66,7 +66,7 @@ module _ (k : ℕ) (state : HartView) (view_invariant : HartViewInvariant state)
       sym (access_control_law state mode access span.addr span.len view_invariant (below_M mode mode_below_m) may_touch.0) ∙ may_touch.1 in
       own_seen state.shared.memory state.shared.table k access span.addr (bytes_in span.len)
       (subst (λ (w : World). is_accessible state.shared.memory state.shared.table w access
-      (bytes_from span.addr (bytes_in span.len)) ≡ true) runs reached)
+      (bytes_from span.addr (bytes_in span.len)) ≡ true) runs_enclave reached)
 
   -- the bare step of the enclave has the same result over each memory with equal bytes in its region and window
   memory_step : (n : List ℕ) → EqualOutside (is_beyond state.shared.table k) state.shared.memory n
@@ -99,9 +99,9 @@ no_destroy P k world runs offered = let contradiction : false ≡ true = rw runs
 no_entering : (P : Type 0) (k : ℕ) (cause : Cause) (hart_state : HartState) (o : Option Call) → hart_state.world ≡ Enclave k
     → requested_by cause hart_state ≡ o
     → is_entering o ≡ true → P
-no_entering P k cause hart_state None runs requested is_entry_call = cc
-no_entering P k cause hart_state (Some call) runs requested is_entry_call =
-    not_host P k hart_state.world runs
+no_entering P k cause hart_state None runs_enclave requested is_entry_call = cc
+no_entering P k cause hart_state (Some call) runs_enclave requested is_entry_call =
+    not_host P k hart_state.world runs_enclave
     (entered-by-host hart_state.world call is_entry_call (asked_offered cause hart_state (is_call cause) call refl requested))
 
 -- slot k has the same region and the same window in both tables
@@ -133,7 +133,7 @@ pub put_size : (m : List ℕ) (address : ℕ) (bytes : List ℕ) (o : Option (Li
 put_size m address bytes None written = refl
 put_size m address bytes (Some after) written = length-write m address bytes after written
 
-module _ (k : ℕ) (hart_state : HartState) (runs : hart_state.world ≡ Enclave k) (trap : Trap) where
+module _ (k : ℕ) (hart_state : HartState) (runs_enclave : hart_state.world ≡ Enclave k) (trap : Trap) where
   module _ (shared : Shared) (table_length : length shared.table ≡ slot_count) where
     -- the trap handler keeps the region and the window of slot k, and the size of the memory
     abbrev Keeps : Handled → Type 0
@@ -144,12 +144,14 @@ module _ (k : ℕ) (hart_state : HartState) (runs : hart_state.world ≡ Enclave
     unfolding measured left
     handled_keeps = handler_cases hart_state trap shared Keeps (record {
       answers = λ status result. (record { region = refl; window = refl }, refl);
-      creates = λ requests no_refusal. no_create _ k hart_state.world runs (asked-is hart_state.world hart_state.hart.regs Create requests.asked).1;
-      destroys = λ requests is_taken. no_destroy _ k hart_state.world runs (asked-is hart_state.world hart_state.hart.regs Destroy requests.asked).1;
+      creates =
+          λ requests no_refusal. no_create _ k hart_state.world runs_enclave (asked-is hart_state.world hart_state.hart.regs Create requests.asked).1;
+      destroys =
+          λ requests is_taken. no_destroy _ k hart_state.world runs_enclave (asked-is hart_state.world hart_state.hart.regs Destroy requests.asked).1;
       measures = λ requests no_refusal. (record { region = refl; window = refl }, put_size shared.memory _ _ (write shared.memory _ _) refl);
-      enters = λ call requests is_entry_call from_host is_taken. not_host _ k hart_state.world runs from_host;
+      enters = λ call requests is_entry_call from_host is_taken. not_host _ k hart_state.world runs_enclave from_host;
       leaves =
-          let own : running_slot hart_state.world ≡ k = rw runs refl in
+          let own : running_slot hart_state.world ≡ k = rw runs_enclave refl in
           rw own (state_extent shared.table k (slot_at shared.table k) (enclave_state_after trap.cause hart_state.hart.regs) table_length refl, refl);
       redirects = (record { region = refl; window = refl }, refl);
     })
@@ -157,12 +159,12 @@ module _ (k : ℕ) (hart_state : HartState) (runs : hart_state.world ≡ Enclave
   -- the trap handler on a hart that runs enclave k reads the same from two shared states that are equal for k
   handled_asked : (one other : Shared) → length one.contexts ≡ length other.contexts → SharedFor k one other
       → SameRead hart_state trap.cause one other
-  handled_asked one other slots same = record {
-    table = same.table;
-    size = same.memory.size;
+  handled_asked one other slots same_for_k = record {
+    table = same_for_k.table;
+    size = same_for_k.memory.size;
     slots = slots;
-    measured = λ asked. no_create _ k hart_state.world runs (asked_offered trap.cause hart_state (is_call trap.cause) Create refl asked);
-    entered = λ enters. no_entering _ k trap.cause hart_state (requested_by trap.cause hart_state) runs refl enters;
+    measured = λ asked. no_create _ k hart_state.world runs_enclave (asked_offered trap.cause hart_state (is_call trap.cause) Create refl asked);
+    entered = λ enters. no_entering _ k trap.cause hart_state (requested_by trap.cause hart_state) runs_enclave refl enters;
   }
 
 -- ---- the step
@@ -183,11 +185,15 @@ trapped_own : (k : ℕ) (outcome : StepOutcome) (o : Option Trap) (hart_state : 
     → length one.table ≡ slot_count → length one.contexts ≡ length other.contexts → SharedFor k one other
     → OwnAlike k (option_case o (unhandled outcome hart_state one) (λ trap. returned outcome (handled hart_state one trap)))
     (option_case o (unhandled outcome hart_state other) (λ trap. returned outcome (handled hart_state other trap)))
-trapped_own k outcome None hart_state one other runs count slots same = record { outcome = refl; hart_state = refl; shared = same }
-trapped_own k outcome (Some trap) hart_state one other runs count slots same =
-    let work = handler_reads_law hart_state trap one other (handled_asked k hart_state runs trap one other slots same) in
-    let here = handled_keeps k hart_state runs trap one count in
-    let there = handled_keeps k hart_state runs trap other (ap (λ (t : Slots). length t) (sym same.table) ∙ count) in
+trapped_own k outcome None hart_state one other runs_enclave count slots same_for_k = record {
+  outcome = refl;
+  hart_state = refl;
+  shared = same_for_k;
+}
+trapped_own k outcome (Some trap) hart_state one other runs_enclave count slots same_for_k =
+    let work = handler_reads_law hart_state trap one other (handled_asked k hart_state runs_enclave trap one other slots same_for_k) in
+    let here = handled_keeps k hart_state runs_enclave trap one count in
+    let there = handled_keeps k hart_state runs_enclave trap other (ap (λ (t : Slots). length t) (sym same_for_k.table) ∙ count) in
     let back : HartState → Next → HartState = λ hart_state next. record hart_state { hart = returned_to hart_state.hart next.pc next.mode } in
     let shows : Next → Outcome = λ next. record { step = outcome; entered = next.entered } in
     record {
@@ -196,10 +202,10 @@ trapped_own k outcome (Some trap) hart_state one other runs count slots same =
       shared = record {
         table = work.shared.table;
         memory = record {
-          size = here.1 ∙ same.memory.size ∙ sym there.1;
-          bytes = λ i shown. work.shared.bytes i (same.memory.bytes i (beyond_again k one.table _ _ here.0 shown));
+          size = here.1 ∙ same_for_k.memory.size ∙ sym there.1;
+          bytes = λ i not_hidden. work.shared.bytes i (same_for_k.memory.bytes i (beyond_again k one.table _ _ here.0 not_hidden));
         };
-        context = work.shared.contexts k same.context;
+        context = work.shared.contexts k same_for_k.context;
       };
     }
 
@@ -225,14 +231,14 @@ pub step_own : (k : ℕ) (hart_state : HartState) (one other : Shared) → HartV
     → length one.contexts ≡ length other.contexts → SharedFor k one other
     → OwnAlike k (monitored_step (on hart_state one)) (monitored_step (on hart_state other))
 unfolding monitored_step
-step_own k hart_state one other view_invariant_one runs slots same =
+step_own k hart_state one other view_invariant_one runs_enclave slots same_for_k =
     let a = stepped hart_state one in
     let b = stepped hart_state other in
-    let alike = memory_step k (on hart_state one) view_invariant_one runs other.memory same.memory in
+    let alike = memory_step k (on hart_state one) view_invariant_one runs_enclave other.memory same_for_k.memory in
     let shared : SharedFor k (stored hart_state one) (stored hart_state other) =
-    record { table = same.table; memory = alike.memory; context = same.context } in
+    record { table = same_for_k.table; memory = alike.memory; context = same_for_k.context } in
     let base =
-    trapped_own k a.outcome a.outcome.trap (record hart_state { hart = a.state.hart }) (stored hart_state one) (stored hart_state other) runs
+    trapped_own k a.outcome a.outcome.trap (record hart_state { hart = a.state.hart }) (stored hart_state one) (stored hart_state other) runs_enclave
     view_invariant_one.valid.count slots shared in
     let P : Hart → StepOutcome → Type 0 = λ hart outcome. OwnAlike k
     (after_bare a.outcome (record hart_state { hart = a.state.hart }) (stored hart_state one))

@@ -45,7 +45,7 @@ rest_parts : (c : CsrState) → rest (machine_parts c) ≡ rest c
 unfolding machine_parts
 rest_parts c = refl
 
-module _ (k : ℕ) (state : HartView) (view_invariant : HartViewInvariant state) (runs : state.hart_state.world ≡ Enclave k) where
+module _ (k : ℕ) (state : HartView) (view_invariant : HartViewInvariant state) (runs_enclave : state.hart_state.world ≡ Enclave k) where
   -- a step of an enclave without a trap leaves unchanged what `StaysBehind` names
   quiet_stays : (step (bare_machine state)).outcome.trap ≡ None → StaysBehind state (untrapped state)
   quiet_stays none =
@@ -79,10 +79,12 @@ module _ (k : ℕ) (state : HartView) (view_invariant : HartViewInvariant state)
         let mprv = view_invariant.hart.layout.mprv in
         handler_cases hart_state trap state.shared Stays (record {
           answers = λ status result stays. (refl, rw mprv refl, refl, refl);
-          creates = λ requests no_refusal. no_create _ k hart_state.world runs (asked-is hart_state.world hart_state.hart.regs _ requests.asked).1;
-          destroys = λ requests is_taken. no_destroy _ k hart_state.world runs (asked-is hart_state.world hart_state.hart.regs _ requests.asked).1;
+          creates =
+              λ requests no_refusal. no_create _ k hart_state.world runs_enclave (asked-is hart_state.world hart_state.hart.regs _ requests.asked).1;
+          destroys =
+              λ requests is_taken. no_destroy _ k hart_state.world runs_enclave (asked-is hart_state.world hart_state.hart.regs _ requests.asked).1;
           measures = λ requests no_refusal stays. (refl, rw mprv refl, refl, refl);
-          enters = λ call requests is_entry_call from_host is_taken. not_host _ k hart_state.world runs from_host;
+          enters = λ call requests is_entry_call from_host is_taken. not_host _ k hart_state.world runs_enclave from_host;
           leaves = λ stays. cc;
           redirects = λ stays. (refl, rw mprv refl, refl, refl);
         })
@@ -97,7 +99,7 @@ module _ (k : ℕ) (state : HartView) (view_invariant : HartViewInvariant state)
           rest = all.1;
           table = all.2;
           contexts = all.3;
-          size = sym (handled_keeps k hart_state runs trap state.shared view_invariant.valid.count).1;
+          size = sym (handled_keeps k hart_state runs_enclave trap state.shared view_invariant.valid.count).1;
         }
 
   -- each step after which an enclave still runs leaves unchanged what `StaysBehind` names
@@ -116,7 +118,7 @@ module _ (k : ℕ) (state : HartView) (view_invariant : HartViewInvariant state)
   writes_within address n byte may_write from_start before_end =
       own_seen state.shared.memory state.shared.table k Write address n
       (subst (λ (w : World). is_accessible state.shared.memory state.shared.table w Write
-      (bytes_from address n) ≡ true) runs may_write) byte from_start before_end
+      (bytes_from address n) ≡ true) runs_enclave may_write) byte from_start before_end
 
   -- a byte that the step leaves unchanged, or changes as the enclave may, is unchanged if it is beyond the enclave's memory
   unchanged_beyond : (byte : ℕ) → is_beyond state.shared.table k byte ≡ true
@@ -127,7 +129,7 @@ module _ (k : ℕ) (state : HartView) (view_invariant : HartViewInvariant state)
       not_within_and_beyond byte
       (writes_within stored.span.addr (bytes_in stored.span.len) byte stored.accessible stored.low stored.high) byte_beyond _
   unchanged_beyond byte byte_beyond (inr (inr call)) = elim call.change [
-    | inl cleared ↦ no_destroy _ k state.hart_state.world runs (asked-is state.hart_state.world state.hart_state.hart.regs _ cleared.asked).1
+    | inl cleared ↦ no_destroy _ k state.hart_state.world runs_enclave (asked-is state.hart_state.world state.hart_state.hart.regs _ cleared.asked).1
     | inr put ↦ not_within_and_beyond byte (writes_within byte 1 byte put.accessible (omega arith) (omega arith)) byte_beyond _
   ]
 
@@ -152,11 +154,11 @@ pub record Unchanged (e hart : ℕ) (before after : MonitoredMachine) : Type 0 w
 pub one_unchanged : (e hart : ℕ) (machine : MonitoredMachine) → Invariant machine → runs_on e hart machine ≡ true
     → runs_on e hart (step_of hart machine).state ≡ true
     → Unchanged e hart machine (step_of hart machine).state
-one_unchanged e hart machine invariant runs runs_after =
-    let in_range = runs_inside e hart machine runs in
+one_unchanged e hart machine invariant runs_on_hart runs_after =
+    let in_range = runs_inside e hart machine runs_on_hart in
     let state = hart_view hart machine in
     let view_invariant = hart_view_invariant hart machine invariant in_range in
-    let world = world_is e state.hart_state.world runs in
+    let world = world_is e state.hart_state.world runs_on_hart in
     let step_is = step_seen hart machine in_range in
     let after = monitored_step state in
     let enclave_runs_after : is_host after.state.hart_state.world ≡ false =

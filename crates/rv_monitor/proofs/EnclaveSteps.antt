@@ -66,8 +66,8 @@ reach_same memory t s i j Write bytes same_slot = rw same_slot refl
 
 -- two tests that are equal for each number hold for all numbers of the same lists
 list_all_same : (p q : ℕ → Bool) (xs : List ℕ) → ((x : ℕ) → p x ≡ q x) → list_all p xs ≡ list_all q xs
-list_all_same p q [] same = refl
-list_all_same p q (x ∷ xs) same = ap₂ (λ (a b : Bool). a && b) (same x) (list_all_same p q xs same)
+list_all_same p q [] same_tests = refl
+list_all_same p q (x ∷ xs) same_tests = ap₂ (λ (a b : Bool). a && b) (same_tests x) (list_all_same p q xs same_tests)
 
 -- a read that returns bytes reads only bytes inside memory
 some_inside : (m : List ℕ) (address count : ℕ) → is_some (read m address count) ≡ true → is_inside m address count ≡ true
@@ -423,8 +423,8 @@ pub record HasExited (p : Place) (cause : Cause) (before after : MonitoredMachin
 
 -- the slot of a live enclave is a slot of the table
 live_slot : (slots : Slots) (k : ℕ) (o : Option SlotInfo) → length slots ≡ slot_count → slot_at slots k ≡ o → is_some o ≡ true → k < slot_count
-live_slot slots k None table_length slot_is live = absurd (false≢true live)
-live_slot slots k (Some info) table_length slot_is live = live_in_range slots k info table_length slot_is
+live_slot slots k None table_length slot_is is_present = absurd (false≢true is_present)
+live_slot slots k (Some info) table_length slot_is is_present = live_in_range slots k info table_length slot_is
 
 -- after a trap of an enclave after which the host runs, the enclave has exited
 pub exited : (p : Place) (machine : MonitoredMachine) (trap : Trap) → Invariant machine → runs_at p machine ≡ true
@@ -548,9 +548,9 @@ module _ (p q : Place) (one other : MonitoredMachine) (invariant_one : Invariant
       let bytes : EqualOutside (is_beyond a.shared.table p.slot) a.shared.memory (monitored_step (hart_view q.hart other)).state.shared.memory =
       record {
         size = ap (λ (m : List ℕ). length m) is.memory ∙ own.shared.memory.size;
-        bytes = λ n shown.
+        bytes = λ n not_hidden.
             ap (λ (m : List ℕ). slice_index m n) is.memory
-            ∙ own.shared.memory.bytes n (sym (beyond_same a.shared.table c.shared.table p.slot q.slot (ram_base + n) is.slot) ∙ shown);
+            ∙ own.shared.memory.bytes n (sym (beyond_same a.shared.table c.shared.table p.slot q.slot (ram_base + n) is.slot) ∙ not_hidden);
       } in
       record {
         first = runs_after;

@@ -26,18 +26,18 @@ use Rattle.rv_monitor.proofs.HandlerCases.{asked-is}
 
 -- ---- the world after the trap handler
 
-module _ (k : ℕ) (hart_state : HartState) (shared : Shared) (runs : hart_state.world ≡ Enclave k) where
+module _ (k : ℕ) (hart_state : HartState) (shared : Shared) (runs_enclave : hart_state.world ≡ Enclave k) where
   -- an enclave still runs after a measure, refused or not
   measure_stays : (o : Option Refusal) (call : Call)
       → is_host (option_case o (performed hart_state shared Measure) (refused hart_state shared)).hart_state.world ≡ false
   unfolding performed
-  measure_stays None call = ap is_host runs
-  measure_stays (Some refusal) call = ap is_host runs
+  measure_stays None call = ap is_host runs_enclave
+  measure_stays (Some refusal) call = ap is_host runs_enclave
 
   -- a claim about a call that is not offered to the enclave holds, because such a call is not requested
   not_offered : (P : Type 0) (call : Call) → is_offered (Enclave k) call ≡ false → is_offered hart_state.world call ≡ true → P
   not_offered P call not_offered_here offered =
-      let offered_here : is_offered (Enclave k) call ≡ true = sym (ap (λ (w : World). is_offered w call) runs) ∙ offered in
+      let offered_here : is_offered (Enclave k) call ≡ true = sym (ap (λ (w : World). is_offered w call) runs_enclave) ∙ offered in
       let contradiction : false ≡ true = sym not_offered_here ∙ offered_here in
       cc
 
@@ -56,7 +56,7 @@ module _ (k : ℕ) (hart_state : HartState) (shared : Shared) (runs : hart_state
   -- after the requested call, if there is one, the host runs if and only if the call is stop or exit
   by_asked : (o : Option Call) → requested_call hart_state.world hart_state.hart.regs ≡ o
       → is_host (option_case o (refused hart_state shared NotSupported) (called hart_state shared)).hart_state.world ≡ is_exit_call o
-  by_asked None requested = ap is_host runs
+  by_asked None requested = ap is_host runs_enclave
   by_asked (Some call) requested = by_call call (asked-is hart_state.world hart_state.hart.regs call requested).1
 
   -- after an exception, the host runs if and only if the exception is an ecall that requests stop or exit
@@ -65,7 +65,7 @@ module _ (k : ℕ) (hart_state : HartState) (shared : Shared) (runs : hart_state
       ≡ causes_exit hart_state (causes.Exception exception)
   unfolding call_handled
   by_exception trap EnvironmentCallFromS = by_asked (requested_call hart_state.world hart_state.hart.regs) refl
-  by_exception trap _ = ap is_host runs
+  by_exception trap _ = ap is_host runs_enclave
 
   -- after a trap, the host runs if and only if the cause is one that exits
   by_cause : (trap : Trap) (cause : Cause) → is_host (handled_cause hart_state shared trap cause).hart_state.world ≡ causes_exit hart_state cause
@@ -142,13 +142,13 @@ redirects_step hart machine invariant trap trapped is_redirection =
       ap (λ (outcome : Outcome). outcome.entered) trapping.outcome ∙ view_is.1,
     )
 
-module _ (k : ℕ) (state : HartView) (runs : state.hart_state.world ≡ Enclave k) (trap : Trap) where
+module _ (k : ℕ) (state : HartView) (runs_enclave : state.hart_state.world ≡ Enclave k) (trap : Trap) where
   -- after a step with a trap, the host runs if and only if the cause is one that exits
   exits_by_cause : (monitored_step state).outcome.step.trap ≡ Some trap
       → is_host (monitored_step state).state.hart_state.world ≡ causes_exit state.hart_state trap.cause
   unfolding handled
   exits_by_cause trapped = subst (λ (after : HartViewStepped). is_host after.state.hart_state.world ≡ causes_exit state.hart_state trap.cause)
-      (sym (trapped_step state trap trapped)) (by_cause k (hart_state_after state.hart_state trap) state.shared runs trap trap.cause)
+      (sym (trapped_step state trap trapped)) (by_cause k (hart_state_after state.hart_state trap) state.shared runs_enclave trap trap.cause)
 
 -- ---- the interrupt that the hart of an enclave takes
 

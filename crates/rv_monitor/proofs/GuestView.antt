@@ -1,5 +1,5 @@
--- No world reads a counter, or a register that a trap to M-mode writes: a step of a machine and a step of its guest view have the same outcome and
--- the same guest view after the step.
+-- No world reads a counter, or a register that a trap to M-mode writes. A step of a machine and a step of its guest view have the same outcome, and
+-- leave the same guest view.
 use Rattle.std.proofs.Common.{◌≡◌, ℕ, List, Option, Some, None, refl, sym, ◌∙◌, ap, ap₂, subst, inl, inr, arith}
 use Rattle.std.proofs.lemmas.Simd.{map-map}
 use Rattle.std.specs.Prelude.{Bool, map, slice_set}

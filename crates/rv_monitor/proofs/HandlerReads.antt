@@ -1,5 +1,5 @@
--- The trap handler depends only on what it reads from memory and from the saved contexts. If two shared states have equal tables and are equal where
--- the trap handler reads, then the results are equal, and bytes and contexts that were equal before are equal after.
+-- The trap handler depends only on what it reads from memory and from the saved contexts. Let two shared states have equal tables, and be equal where
+-- the trap handler reads. Then the results are equal, and bytes and contexts that were equal before are equal after.
 use Rattle.std.proofs.Common.{◌≡◌, ℕ, ◌+◌, ◌==◌, Bool, true, false, List, length, replicate, Option, Some, None, refl, sym, ◌∙◌, ap, ap₂}
 use Rattle.std.proofs.Common.{subst, inl, inr, arith}
 use Rattle.std.specs.Prelude.{map, not, slice_index, slice_index_or, slice_set}

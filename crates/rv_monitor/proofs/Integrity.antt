@@ -54,8 +54,8 @@ module _ (k : ℕ) (hart_state : HartState) (shared : Shared) (valid : IsValid s
     (live : is_live shared.table k ≡ true) where
   -- the slot of a live enclave is a slot of the table
   live_below : (o : Option SlotInfo) → slot_at shared.table k ≡ o → is_some o ≡ true → k < slot_count
-  live_below None slot_is lives = cc
-  live_below (Some info) slot_is lives = live_in_range shared.table k info valid.count slot_is
+  live_below None slot_is is_present = cc
+  live_below (Some info) slot_is is_present = live_in_range shared.table k info valid.count slot_is
 
   -- a create leaves the live slot k unchanged
   created_keeps : (new : CreateArgs) → MayCreate shared new → KeepsSlot k shared (created shared new)

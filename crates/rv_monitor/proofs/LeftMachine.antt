@@ -40,8 +40,8 @@ abbrev pub line_after : Cause → Bool → Bool
 line_after (causes.Interrupt interrupt) raised = false
 line_after (causes.Exception exception) raised = raised
 
--- the CSRs after an exit: the S-mode CSRs of the host, the PMP entries and mie of the host for the table, and the other CSRs as after a trap and its
--- return
+-- The CSRs after an exit. The S-mode CSRs are those of the host. The PMP entries and mie are those of the host for the new table. The other CSRs are
+-- as after a trap and its return.
 abbrev pub left_csrs : CsrState → Slots → Trap → Context → CsrState
 left_csrs csrs slots trap host = record (with_s_context (passed_csrs csrs trap host.pc) host.supervisor) {
   timer = line_after trap.cause csrs.timer;

@@ -29,8 +29,7 @@ pub mod MonitoredAlike
 pub mod HartCases
 -- In every state that satisfies the invariant, the PMP entries permit S and U exactly the accessible bytes
 pub mod AccessControlLemmas
--- A bare step (a step of the hart without the monitor), in a state that satisfies the invariant, neither reads nor writes the region of an enclave
--- other than the running world
+-- A bare step neither reads nor writes the region of an enclave other than the running world, in a state that satisfies the invariant
 pub mod BareStepNoninterference
 -- Every step of a hart, and every change by the debugger, preserves the invariant of the machine
 pub mod InvariantLemmas
@@ -42,8 +41,7 @@ pub mod SchedNoninterference
 pub mod SchedIntegrity
 -- The trap handler depends only on what it reads from memory and from the saved contexts
 pub mod HandlerReads
--- The effect of a step on the world of the hart and on the saved context of the host: the step continues the world, enters an enclave, or exits to
--- the host
+-- The effect of a step on the world of the hart and on the saved context of the host
 pub mod Switched
 -- The host gets its own context back when an enclave exits
 pub mod Returned
@@ -75,8 +73,7 @@ pub mod Entering
 pub mod Records
 -- An enclave exits only by the calls stop and exit, or by the timer interrupt
 pub mod Exits
--- Availability: if the timer line of a hart is set, then the next step of an enclave on this hart exits to the host, and the host can destroy the
--- enclave
+-- Availability: if the timer line of a hart is set, then the next step of an enclave on this hart exits to the host
 pub mod Availability
 -- The monitor answers each call with the result, the status and the effect that the call's table in numbers gives (specs/NumberedCalls)
 pub mod NumberedCalls
@@ -84,8 +81,7 @@ pub mod NumberedCalls
 pub mod PlainSteps
 -- The laws of a step determine the step: two results of one step that both obey the laws are equal
 pub mod Determined
--- No world reads a counter, or a register that a trap to M-mode writes: a step of a machine and a step of its guest view have the same outcome and
--- the same guest view after the step
+-- No world reads a counter, or a register that a trap to M-mode writes
 pub mod GuestView
 -- A step of an enclave over two shared states with equal tables, whose memories have equal bytes in the region and the window of the enclave, has
 -- the same result

@@ -1,5 +1,6 @@
 -- The whole life of an enclave: two enclaves at one point of life take the same own steps. Steps of others, timer interrupts and changes of timer
--- lines leave an enclave at its point of life: its registers, its record without the state, and the bytes of its region.
+-- lines leave an enclave at its point of life. The point consists of the registers of the enclave, its record without the state, and the bytes of its
+-- region.
 use Rattle.std.proofs.Common.{◌≡◌, ◌<◌, ℕ, zero, suc, ◌+◌, Bool, true, false, List, [], ◌∷◌, length, Option, Some, None, IfSome, refl, sym, ◌∙◌, ap, ap₂, subst}
 use Rattle.std.proofs.Common.{inl, inr, arith}
 use Rattle.std.proofs.lemmas.List.Folds.{list_any_at}
@@ -91,13 +92,13 @@ is_running_at k hart machine invariant runs_on_hart = invariant.shared.running k
 
 -- an enclave with a saved context does not have the state Running
 held_idle : (o : Option SlotInfo) → is_held o ≡ true → option_case o false (λ info. is_running info.state) ≡ false
-held_idle None held = cc
-held_idle (Some info) held = not-true (is_running info.state) held
+held_idle None has_context = cc
+held_idle (Some info) has_context = not-true (is_running info.state) has_context
 
 -- a slot with a saved context is live
 held_live : (o : Option SlotInfo) → is_held o ≡ true → is_some o ≡ true
-held_live None held = cc
-held_live (Some info) held = refl
+held_live None has_context = cc
+held_live (Some info) has_context = refl
 
 module _ (k : ℕ) (machine : MonitoredMachine) (context : Context) (invariant : Invariant machine)
     (saves : context_at machine.shared.contexts k ≡ Some context) where

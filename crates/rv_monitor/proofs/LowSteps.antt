@@ -1,5 +1,5 @@
--- A low step of two related machines while the enclave runs on another hart has equal outcomes, and leaves the machines related. Of the enclave's
--- window, only the bytes that the step reads need to be equal in both machines.
+-- A low step of two related machines while the enclave runs on another hart has equal outcomes, and leaves the machines related. The machines need
+-- equal bytes in the window of the enclave only where the step reads.
 use Rattle.std.proofs.Common.{◌≡◌, ◌<◌, ℕ, zero, suc, ◌+◌, ◌-◌, ◌==◌, Bool, true, false, List, [], ◌∷◌, length, Option, Some, None, refl, sym, ◌∙◌, ap, subst}
 use Rattle.std.proofs.Common.{inl, inr, arith}
 use Rattle.std.specs.Prelude.{◌&&◌, ◌||◌, not, map, slice_index}
@@ -214,16 +214,16 @@ module _ (e hart : ℕ) (one other : MonitoredMachine) (invariant_one : Invarian
           table = first_after.table ∙ last_step.shared.table;
           memory = record {
             size = first_after.memory.size ∙ last_step.shared.size;
-            bytes = λ i shown. elim (last_step.shared.changes i) [
-              | inr same ↦ first_after.memory.bytes i shown ∙ same
+            bytes = λ i not_hidden. elim (last_step.shared.changes i) [
+              | inr same ↦ first_after.memory.bytes i not_hidden ∙ same
               | inl unchanged ↦
-                  let before = ap (λ (o : Option SlotInfo). differ o (ram_base + i)) (sym slot_kept.0) ∙ shown in
-                  first_after.memory.bytes i shown ∙ unchanged.0 ∙ related.memory.bytes i before ∙ sym unchanged.1
+                  let before = ap (λ (o : Option SlotInfo). differ o (ram_base + i)) (sym slot_kept.0) ∙ not_hidden in
+                  first_after.memory.bytes i not_hidden ∙ unchanged.0 ∙ related.memory.bytes i before ∙ sym unchanged.1
             ];
           };
           contexts = record {
             size = first_after.contexts.size ∙ ap (λ (c : Contexts). length c) last_step.shared.contexts;
-            others = λ k apart. first_after.contexts.others k apart ∙ ap (λ (c : Contexts). context_at c k) last_step.shared.contexts;
+            others = λ k distinct. first_after.contexts.others k distinct ∙ ap (λ (c : Contexts). context_at c k) last_step.shared.contexts;
           };
           gone = λ dead. absurd (both_ways _ dead slot_kept.1);
         },

@@ -47,7 +47,7 @@ module _ (e : ℕ) (one other : MonitoredMachine) where
     table = equiv.shared.table;
     memory = record {
       size = equiv.shared.memory.size;
-      bytes = λ i shown. equiv.shared.memory.bytes i (or_parts (has (region one.shared.table e) (ram_base + i)) _ shown).0;
+      bytes = λ i not_hidden. equiv.shared.memory.bytes i (or_parts (has (region one.shared.table e) (ram_base + i)) _ not_hidden).0;
     };
     contexts = equiv.shared.contexts;
     gone = equiv.shared.gone;

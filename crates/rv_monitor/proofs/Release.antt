@@ -142,11 +142,11 @@ module _ (e hart : ℕ) (one other : MonitoredMachine) (trap : Trap) (host : Con
           table = tables;
           memory = record {
             size = equiv.shared.memory.size;
-            bytes = λ i shown. equiv.shared.memory.bytes i (ap (λ (r : Block). has r (ram_base + i)) (sym extent.region) ∙ shown);
+            bytes = λ i not_hidden. equiv.shared.memory.bytes i (ap (λ (r : Block). has r (ram_base + i)) (sym extent.region) ∙ not_hidden);
           };
           contexts = record {
             size = length-set cs1 e c1 ∙ equiv.shared.contexts.size ∙ sym (length-set cs2 e c2);
-            others = λ k apart. at_other cs1 e k c1 apart ∙ equiv.shared.contexts.others k apart ∙ sym (at_other cs2 e k c2 apart);
+            others = λ k distinct. at_other cs1 e k c1 distinct ∙ equiv.shared.contexts.others k distinct ∙ sym (at_other cs2 e k c2 distinct);
           };
           gone = λ dead. absurd (both_ways _ dead (state_live one.shared.table e (slot_at one.shared.table e) state_after table_length refl ∙ live));
         };
@@ -161,21 +161,21 @@ with_host : (e hart : ℕ) (one other : MonitoredMachine) (trap : Trap) (o : Opt
     → (step_of hart one).outcome.step.trap ≡ Some trap → (step_of hart other).outcome.step.trap ≡ Some trap
     → (hart_state_of hart (step_of hart one).state).world ≡ Host → (hart_state_of hart (step_of hart other).state).world ≡ Host
     → EquivExcept e (step_of hart one).state (step_of hart other).state
-with_host e hart one other trap None host_context_is invariant_one invariant_other equiv runs same_host same_handed trapped traps_too one_exits other_exits =
-    let in_range = runs_inside e hart one runs in
-    let world = world_is e (hart_state_of hart one).world runs in
+with_host e hart one other trap None saved_is invariant_one invariant_other equiv runs_on_hart same_host handed trapped traps_too one_exits other_exits =
+    let in_range = runs_inside e hart one runs_on_hart in
+    let world = world_is e (hart_state_of hart one).world runs_on_hart in
     let kept = (invariant_one.hart_states hart in_range).host.kept in
-    let contradiction : false ≡ true = ap (λ (o : Option Context). is_some o) (sym host_context_is) ∙ kept ∙ ap (λ w. not (is_host w)) world in
+    let contradiction : false ≡ true = ap (λ (o : Option Context). is_some o) (sym saved_is) ∙ kept ∙ ap (λ w. not (is_host w)) world in
     cc
-with_host e hart one other trap (Some host) host_context_is invariant_one invariant_other equiv runs same_host same_handed trapped traps_too one_exits other_exits =
-    let in_range = runs_inside e hart one runs in
-    let world = world_is e (hart_state_of hart one).world runs in
-    let a = (leave_law hart one invariant_one e host trap world host_context_is trapped one_exits).0 in
+with_host e hart one other trap (Some host) saved_is invariant_one invariant_other equiv runs_on_hart same_host handed trapped traps_too one_exits other_exits =
+    let in_range = runs_inside e hart one runs_on_hart in
+    let world = world_is e (hart_state_of hart one).world runs_on_hart in
+    let a = (leave_law hart one invariant_one e host trap world saved_is trapped one_exits).0 in
     let b =
     (leave_law hart other invariant_other e host trap (sym (equiv.hart_states hart).world ∙ world)
-    (sym same_host.host ∙ host_context_is) traps_too other_exits).0 in
-    let live = running_is_live e hart one invariant_one runs in
-    rw (a, b) (left_agree e hart one other trap host invariant_one.shared.valid.count live equiv in_range same_host same_handed)
+    (sym same_host.host ∙ saved_is) traps_too other_exits).0 in
+    let live = running_is_live e hart one invariant_one runs_on_hart in
+    rw (a, b) (left_agree e hart one other trap host invariant_one.shared.valid.count live equiv in_range same_host handed)
 
 -- an exit from both machines to the same host that hands over the same leaves the machines equivalent except e
 pub release : (e hart : ℕ) (one other : MonitoredMachine) (trap : Trap) → Invariant one → Invariant other

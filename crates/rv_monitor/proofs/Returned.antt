@@ -1,5 +1,5 @@
--- The host gets its own context back when an enclave exits. The step that enters the enclave saves the context of the host, no step changes this
--- saved context while an enclave runs on the hart, and the step with which the enclave exits restores it. The harts may take any steps in between.
+-- The host gets its own context back when an enclave exits. The step that enters the enclave saves the context of the host. No step changes this
+-- saved context while an enclave runs on the hart. The step with which the enclave exits restores it. The harts may take any steps in between.
 use Rattle.std.proofs.Common.{◌≡◌, ◌<◌, ℕ, true, false, List, [], ◌∷◌, Option, Some, None, refl, sym, ap, ◌∙◌, subst, inl, inr}
 use Rattle.std.specs.Prelude.{not, is_some}
 use Rattle.rv_monitor.specs.Prelude.{Context, S, HartState, is_host, with_return_values}
@@ -93,22 +93,22 @@ step_keeps hart named machine enclave_runs enclave_runs_after = elim (cases_eq h
 -- a hart that runs an enclave through a list of steps runs an enclave before the first step
 pub first_runs : (hart : ℕ) (harts : List ℕ) (machine : MonitoredMachine) → RunsThrough hart harts machine
     → is_host (hart_state_of hart machine).world ≡ false
-first_runs hart [] machine runs = runs
-first_runs hart (named ∷ harts) machine runs = runs.0
+first_runs hart [] machine runs_through = runs_through
+first_runs hart (named ∷ harts) machine runs_through = runs_through.0
 
 -- the saved context of the host on a hart does not change while the hart runs an enclave
 pub steps_keep : (hart : ℕ) (harts : List ℕ) (machine : MonitoredMachine) → RunsThrough hart harts machine
     → host_on hart (sched harts machine).state ≡ host_on hart machine
-steps_keep hart [] machine runs = refl
-steps_keep hart (named ∷ harts) machine runs =
+steps_keep hart [] machine runs_through = refl
+steps_keep hart (named ∷ harts) machine runs_through =
     let after = (step_of named machine).state in
-    steps_keep hart harts after runs.1 ∙ step_keeps hart named machine runs.0 (first_runs hart harts after runs.1)
+    steps_keep hart harts after runs_through.1 ∙ step_keeps hart named machine runs_through.0 (first_runs hart harts after runs_through.1)
 
 -- a hart that runs an enclave through a list of steps runs an enclave after the last step
 pub last_runs : (hart : ℕ) (harts : List ℕ) (machine : MonitoredMachine) → RunsThrough hart harts machine
     → is_host (hart_state_of hart (sched harts machine).state).world ≡ false
-last_runs hart [] machine runs = runs
-last_runs hart (named ∷ harts) machine runs = last_runs hart harts (step_of named machine).state runs.1
+last_runs hart [] machine runs_through = runs_through
+last_runs hart (named ∷ harts) machine runs_through = last_runs hart harts (step_of named machine).state runs_through.1
 
 -- ---- from entry to exit
 

@@ -89,7 +89,8 @@ own_still e hart machine not_running not_entered = elim (cases_lt hart (count_of
   | inl in_range ↦
       let step_is = step_seen hart machine in_range in
       ap (λ (after : HartViewStepped). is_world_of e after.state.hart_state.world) step_is
-      ∙ own_apart e (hart_view hart machine) not_running (sym (ap (λ (after : HartViewStepped). enters e after.outcome.entered) step_is) ∙ not_entered)
+      ∙ own_apart e (hart_view hart machine) not_running
+      (sym (ap (λ (after : HartViewStepped). enters e after.outcome.entered) step_is) ∙ not_entered)
 ]
 
 -- proves that a hart runs the enclave after a step only if it did before, or the step entered the enclave

@@ -80,8 +80,8 @@ pub equal_after : (hidden : ℕ → Bool) (m n m1 n1 : List ℕ) → EqualOutsid
     → EqualOutside hidden m1 n1
 equal_after hidden m n m1 n1 equal changes same_length = record {
   size = same_length;
-  bytes = λ i shown. elim (changes i) [
-    | inl unchanged_both ↦ unchanged_both.0 ∙ equal.bytes i shown ∙ sym unchanged_both.1
+  bytes = λ i not_hidden. elim (changes i) [
+    | inl unchanged_both ↦ unchanged_both.0 ∙ equal.bytes i not_hidden ∙ sym unchanged_both.1
     | inr same ↦ same
   ];
 }

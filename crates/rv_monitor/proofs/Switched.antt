@@ -1,4 +1,4 @@
--- The effect of a step on the world of the hart and on the saved context of the host: the step continues the world, enters an enclave, or exits to
+-- The effect of a step on the world of the hart and on the saved context of the host. The step continues the world, enters an enclave, or exits to
 -- the host.
 use Rattle.std.proofs.Common.{◌≡◌, ℕ, ◌==◌, ◌⊎◌, true, false, List, Option, Some, None, IfSome, refl, sym, ap, ◌∙◌, subst, inl, inr, arith}
 use Rattle.std.specs.Prelude.{◌%◌, ◌&&◌, is_some, not}
@@ -71,15 +71,15 @@ KeptStored o = IfSome o (λ context. IsLegal context.supervisor)
 stored_by : (hart_state : HartState) (trap : Trap) (h : Handled) → Turns hart_state trap h → HostContextIsLegal hart_state
     → KeepsOwn hart_state.hart.csrs
     → HostContextIsLegal h.hart_state
-stored_by hart_state trap h (inl stays) legal own = subst KeptStored (sym stays.host) legal
-stored_by hart_state trap h (inr (inl enters)) legal own = subst KeptStored (sym enters.host) (own_stored hart_state.hart.csrs own)
-stored_by hart_state trap h (inr (inr leaves)) legal own = subst KeptStored (sym leaves.forgotten) tt
+stored_by hart_state trap h (inl stays) legal keeps_own = subst KeptStored (sym stays.host) legal
+stored_by hart_state trap h (inr (inl enters)) legal keeps_own = subst KeptStored (sym enters.host) (own_stored hart_state.hart.csrs keeps_own)
+stored_by hart_state trap h (inr (inr leaves)) legal keeps_own = subst KeptStored (sym leaves.forgotten) tt
 
 -- the trap handler leaves a legal saved context of the host
 pub handled_stored : (hart_state : HartState) (shared : Shared) (trap : Trap) → HostContextIsLegal hart_state → KeepsOwn hart_state.hart.csrs
     → HostContextIsLegal (handled hart_state shared trap).hart_state
-handled_stored hart_state shared trap legal own =
-    stored_by hart_state trap (handled hart_state shared trap) (handled_turns hart_state shared trap) legal own
+handled_stored hart_state shared trap legal keeps_own =
+    stored_by hart_state trap (handled hart_state shared trap) (handled_turns hart_state shared trap) legal keeps_own
 
 -- ---- if an enclave runs before and after, the host's saved context is unchanged
 
@@ -126,11 +126,11 @@ module _ (state : HartView) (host_invariant : HostContextInvariant state.hart_st
   returned_leaves : (outcome : StepOutcome) (h : Handled) → outcome.trap ≡ Some trap → LeavesFor (hart_state_after state.hart_state trap) trap h
       → (world : World) (o : Option Context) → state.hart_state.world ≡ world → state.hart_state.host_context ≡ o → is_some o ≡ not (is_host world)
       → StaysOrSwitches state (returned outcome h)
-  returned_leaves outcome h trapped_is leaves Host None runs kept_is same =
+  returned_leaves outcome h trapped_is leaves Host None runs kept_is saved_if_enclave =
       inl (record { world = leaves.world ∙ sym runs; host = leaves.forgotten ∙ sym kept_is; entered = leaves.entered })
-  returned_leaves outcome h trapped_is leaves Host (Some host) runs kept_is same = cc
-  returned_leaves outcome h trapped_is leaves (Enclave k) None runs kept_is same = cc
-  returned_leaves outcome h trapped_is leaves (Enclave k) (Some host) runs kept_is same =
+  returned_leaves outcome h trapped_is leaves Host (Some host) runs kept_is saved_if_enclave = cc
+  returned_leaves outcome h trapped_is leaves (Enclave k) None runs kept_is saved_if_enclave = cc
+  returned_leaves outcome h trapped_is leaves (Enclave k) (Some host) runs kept_is saved_if_enclave =
       let P : Option Context → Type 0 = λ o. IfSome o (λ c. can_go_on c ≡ true) in
       let can_continue : can_go_on host ≡ true = subst P kept_is host_invariant.held in
       let host_stored : IsLegal host.supervisor = subst KeptStored kept_is legal in

@@ -14,8 +14,8 @@ use Rattle.rv_monitor.specs.Step.{MonitoredStepped}
 
 -- ---- an enclave between create and its first entry
 
--- the enclave in slot k is as create made it: it is Fresh, its saved context is the first one, and its measurement is that of its record and of the
--- bytes in its region
+-- The enclave in slot k is as create made it. It is Fresh, and its saved context is the first one. Its measurement is that of its record and of the
+-- bytes in its region.
 pub record IsAsCreated (k : ℕ) (shared : Shared) : Type 0 where
   pub info : SlotInfo
   pub is : slot_at shared.table k ≡ Some info

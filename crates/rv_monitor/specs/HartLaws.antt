@@ -53,8 +53,8 @@ EntryLaw =
 -- steps of harts that did not run the enclave at first are low steps, up to and including the step that enters the enclave
 abbrev pub LowStepsLaw : Type 0
 LowStepsLaw =
-    (e : ℕ) (harts : List ℕ)
-    (machine : MonitoredMachine) → RunsOnNone e harts machine → IsNotEnteredBefore e harts machine → AreLowSteps e harts machine
+    (e : ℕ) (harts : List ℕ) (machine : MonitoredMachine) → RunsOnNone e harts machine → IsNotEnteredBefore e harts machine
+    → AreLowSteps e harts machine
 
 -- ---- noninterference
 
@@ -72,8 +72,8 @@ SchedLaw =
 
 -- ---- integrity
 
--- a list of steps leaves an enclave undisturbed: the enclave is live before, between and after the steps, and each step is a low step that does not
--- enter the enclave
+-- A list of steps leaves an enclave undisturbed. The enclave is live before, between and after the steps, and each step is a low step that does not
+-- enter the enclave.
 abbrev pub IsUndisturbed : ℕ → List ℕ → MonitoredMachine → Type 0
 IsUndisturbed k [] machine = is_live machine.shared.table k ≡ true
 IsUndisturbed k (hart ∷ harts) machine =

@@ -35,8 +35,8 @@ pub record AreAtOnePoint (i j : ℕ) (one other : MonitoredMachine) : Type 0 whe
 
 -- ---- events that are foreign to the enclave
 
--- The event is foreign to enclave k: a step of another world, which may enter the enclave but not destroy it; or the timer interrupt, which takes the
--- enclave off its hart; or a change of any timer line.
+-- The event is foreign to enclave k. It is a step of another world, which may enter the enclave but not destroy it. Or it is the timer interrupt,
+-- which takes the enclave off its hart, or a change of any timer line.
 abbrev pub IsForeign : ℕ → Event → MonitoredMachine → Type 0
 IsForeign k (StepOf hart) machine =
     ((runs_on k hart machine ≡ false) ⊎ ((hart_state_of hart machine).hart.csrs.timer ≡ true))
@@ -45,8 +45,8 @@ IsForeign k (LineOf hart raised) machine = Unit {0}
 
 -- ---- own steps of the enclave
 
--- the step is an own step of the enclave: the enclave runs in both machines, no timer line is set on its harts, and the bytes of its window that the
--- step reads are equal
+-- The step is an own step of the enclave. The enclave runs in both machines, and no timer line is set on its harts. The bytes of its window that the
+-- step reads are equal.
 pub record IsOwnStep (p q : Place) (one other : MonitoredMachine) : Type 0 where
   pub first : runs_at p one ≡ true
   pub second : runs_at q other ≡ true

@@ -23,8 +23,8 @@ pub record HandledAlike (e : ℕ) (one other : Handled) : Type 0 where
 -- the trap handler of a world other than e has equivalent results on two shared states that are equivalent except e
 abbrev pub HandlerLaw : Type 0
 HandlerLaw =
-    (e : ℕ) (worlds : List World) (hart_state : HartState) (one other : Shared)
-    (trap : Trap) → SharedInvariant one worlds → SharedInvariant other worlds
+    (e : ℕ) (worlds : List World) (hart_state : HartState) (one other : Shared) (trap : Trap) → SharedInvariant one worlds
+    → SharedInvariant other worlds
     → is_world_of e hart_state.world ≡ false → SharedEquivExcept e one other
     → HandledAlike e (handled hart_state one trap) (handled hart_state other trap)
 

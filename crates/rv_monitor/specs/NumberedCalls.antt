@@ -77,8 +77,8 @@ supervisor_at csrs = record {
   mxr = csrs.mstatus.mxr;
 }
 
--- the hart after a context switch to a saved context: each S-mode CSR has the value that a write would store, and the PMP entries and mie are those
--- of the new world
+-- The hart after a context switch to a saved context. Each S-mode CSR has the value that a write would store, and the PMP entries and mie are those
+-- of the new world.
 abbrev pub switched_hart : Hart → Trap → Context → Slots → World → Hart
 switched_hart hart trap context slots world =
     let passed = passed_csrs hart.csrs trap context.pc in
