@@ -40,19 +40,20 @@ pub equal_agree : (e : ℕ) (one other : Shared) → one ≡ other → SharedEqu
 equal_agree e one other same = subst (SharedEquivExcept e one) same (itself e one)
 
 -- two lists of contexts that are equal except e, and also equal at e, are equal
-same_contexts : (e : ℕ) (cs ds : Contexts) → SameContexts e cs ds → context_at cs e ≡ context_at ds e → cs ≡ ds
-same_contexts e cs ds saved own = same_lists cs ds saved.size (λ k d inside.
-    let inside' : k < length ds = omega (arith, saved.size) in
-    get_or_default cs k d None inside
+same_contexts : (e : ℕ) (contexts_m contexts_n : Contexts) → SameContexts e contexts_m contexts_n → context_at contexts_m e ≡ context_at contexts_n e
+    → contexts_m ≡ contexts_n
+same_contexts e contexts_m contexts_n saved own = same_lists contexts_m contexts_n saved.size (λ k d inside.
+    let inside' : k < length contexts_n = omega (arith, saved.size) in
+    get_or_default contexts_m k d None inside
     ∙ elim (cases_eq k e) [ inl is ↦ rw is own | inr other ↦ saved.others k other ]
-    ∙ sym (get_or_default ds k d None inside'))
+    ∙ sym (get_or_default contexts_n k d None inside'))
 
 -- two lists of contexts that are equal except e stay equal except e after the same write to slot k
-contexts_with : (e : ℕ) (cs ds : Contexts) (k : ℕ) (c : Option Context) → SameContexts e cs ds
-    → SameContexts e (with_context cs k c) (with_context ds k c)
-contexts_with e cs ds k c saved = record {
-  size = length_after cs ds k c saved.size;
-  others = λ j distinct. same_after_set cs ds k j c None saved.size (saved.others j distinct);
+contexts_with : (e : ℕ) (contexts_m contexts_n : Contexts) (k : ℕ) (c : Option Context) → SameContexts e contexts_m contexts_n
+    → SameContexts e (with_context contexts_m k c) (with_context contexts_n k c)
+contexts_with e contexts_m contexts_n k c saved = record {
+  size = length_after contexts_m contexts_n k c saved.size;
+  others = λ j distinct. same_after_set contexts_m contexts_n k j c None saved.size (saved.others j distinct);
 }
 
 -- a block that does not overlap another block has none of the bytes of the other block
@@ -76,21 +77,23 @@ read_alike hidden m n address count equiv not_hidden = elim (cases_Bool (is_insi
 
 -- ---- a live slot
 
-module _ (e : ℕ) (table : Slots) (m n : List ℕ) (cs ds : Contexts) (equiv : EqualOutside (is_private table e) m n) (saved : SameContexts e cs ds)
+module _ (e : ℕ) (table : Slots) (m n : List ℕ) (contexts_m contexts_n : Contexts) (equiv : EqualOutside (is_private table e) m n)
+    (saved : SameContexts e contexts_m contexts_n)
     (live : is_live table e ≡ true) where
-  -- the shared state with the memory m and the contexts cs
+  -- the shared state with the memory m and the saved contexts `contexts_m`
   abbrev here : Shared
-  here = record { memory = m; table = table; contexts = cs }
+  here = record { memory = m; table = table; contexts = contexts_m }
 
-  -- the shared state with the memory n and the contexts ds
+  -- the shared state with the memory n and the saved contexts `contexts_n`
   abbrev there : Shared
-  there = record { memory = n; table = table; contexts = ds }
+  there = record { memory = n; table = table; contexts = contexts_n }
 
   -- two shared states with a new table, in which e is live and has its old region, are equivalent except e if their memories and contexts are
-  equiv_with_region : (after : Slots) (m' n' : List ℕ) (cs' ds' : Contexts) → region after e ≡ region table e → is_live after e ≡ true
-      → EqualOutside (is_private table e) m' n' → SameContexts e cs' ds'
-      → SharedEquivExcept e (record { memory = m'; table = after; contexts = cs' }) (record { memory = n'; table = after; contexts = ds' })
-  equiv_with_region after m' n' cs' ds' same lives equiv' saved' = record {
+  equiv_with_region : (after : Slots) (m' n' : List ℕ) (contexts_m' contexts_n' : Contexts) → region after e ≡ region table e → is_live after e ≡ true
+      → EqualOutside (is_private table e) m' n' → SameContexts e contexts_m' contexts_n'
+      → SharedEquivExcept e (record { memory = m'; table = after; contexts = contexts_m' })
+      (record { memory = n'; table = after; contexts = contexts_n' })
+  equiv_with_region after m' n' contexts_m' contexts_n' same lives equiv' saved' = record {
     table = refl;
     memory = subst (λ (b : Block). EqualOutside (has b) m' n') (sym same) equiv';
     contexts = saved';
@@ -98,15 +101,16 @@ module _ (e : ℕ) (table : Slots) (m n : List ℕ) (cs ds : Contexts) (equiv : 
   }
 
   -- two shared states with a new table, in which e has its old record, are equivalent except e if their memories and contexts are
-  equiv_with_slot : (after : Slots) (m' n' : List ℕ) (cs' ds' : Contexts) → slot_at after e ≡ slot_at table e
-      → EqualOutside (is_private table e) m' n' → SameContexts e cs' ds'
-      → SharedEquivExcept e (record { memory = m'; table = after; contexts = cs' }) (record { memory = n'; table = after; contexts = ds' })
-  equiv_with_slot after m' n' cs' ds' same_slot =
-      equiv_with_region after m' n' cs' ds' (ap region_of same_slot) (ap (λ (o : Option SlotInfo). is_some o) same_slot ∙ live)
+  equiv_with_slot : (after : Slots) (m' n' : List ℕ) (contexts_m' contexts_n' : Contexts) → slot_at after e ≡ slot_at table e
+      → EqualOutside (is_private table e) m' n' → SameContexts e contexts_m' contexts_n'
+      → SharedEquivExcept e (record { memory = m'; table = after; contexts = contexts_m' })
+      (record { memory = n'; table = after; contexts = contexts_n' })
+  equiv_with_slot after m' n' contexts_m' contexts_n' same_slot =
+      equiv_with_region after m' n' contexts_m' contexts_n' (ap region_of same_slot) (ap (λ (o : Option SlotInfo). is_some o) same_slot ∙ live)
 
   -- the two shared states are equivalent except e
   pub equiv_before : SharedEquivExcept e here there
-  equiv_before = equiv_with_slot table m n cs ds refl equiv saved
+  equiv_before = equiv_with_slot table m n contexts_m contexts_n refl equiv saved
 
   -- ---- create
 
@@ -130,9 +134,9 @@ module _ (e : ℕ) (table : Slots) (m n : List ℕ) (cs ds : Contexts) (equiv : 
   -- a new enclave in a free slot leaves the two shared states equivalent except e
   put_alike : (k : ℕ) (info : SlotInfo) → slot_at table k ≡ None → SharedEquivExcept e (with_enclave here k info) (with_enclave there k info)
   put_alike k info slot_is_free =
-      equiv_with_slot (with_slot table k (Some info)) m n (with_context cs k (Some (first_context info)))
-      (with_context ds k (Some (first_context info)))
-      (at_other table k e (Some info) (not_free k slot_is_free)) equiv (contexts_with e cs ds k (Some (first_context info)) saved)
+      equiv_with_slot (with_slot table k (Some info)) m n (with_context contexts_m k (Some (first_context info)))
+      (with_context contexts_n k (Some (first_context info)))
+      (at_other table k e (Some info) (not_free k slot_is_free)) equiv (contexts_with e contexts_m contexts_n k (Some (first_context info)) saved)
 
   -- a create that the monitor does not refuse leaves two equivalent shared states equivalent except e
   pub created_alike : (new : CreateArgs) → MayCreate here new → SharedEquivExcept e (created here new) (created there new)
@@ -154,9 +158,9 @@ module _ (e : ℕ) (table : Slots) (m n : List ℕ) (cs ds : Contexts) (equiv : 
       let zeros : EqualOutside (λ b. false) (zeroed m block) (zeroed n block) =
       zeros-alike (is_private table e) (λ b. false) m n block.base block.size equiv at covers in
       let memories : zeroed m block ≡ zeroed n block = same_number_lists _ _ zeros.size (λ i within. zeros.bytes i refl) in
-      let contexts : with_context cs e None ≡ with_context ds e None =
-      same_contexts e (with_context cs e None) (with_context ds e None) (contexts_with e cs ds e None saved)
-      (same_at_set cs ds e None None saved.size) in
+      let contexts : with_context contexts_m e None ≡ with_context contexts_n e None =
+      same_contexts e (with_context contexts_m e None) (with_context contexts_n e None) (contexts_with e contexts_m contexts_n e None saved)
+      (same_at_set contexts_m contexts_n e None None saved.size) in
       rw (memories, contexts) refl
 
   -- the removal of any enclave leaves the two shared states equivalent except e
@@ -166,9 +170,9 @@ module _ (e : ℕ) (table : Slots) (m n : List ℕ) (cs ds : Contexts) (equiv : 
     | inl equal ↦ rw equal (equal_agree e _ _ (gone_alike (region table e) refl (rw equal at inside)))
     | inr distinct ↦
         let block = region table k in
-        equiv_with_slot (with_slot table k None) (zeroed m block) (zeroed n block) (with_context cs k None) (with_context ds k None)
+        equiv_with_slot (with_slot table k None) (zeroed m block) (zeroed n block) (with_context contexts_m k None) (with_context contexts_n k None)
         (at_other table k e None (λ same. distinct (sym same))) (write-alike (is_private table e) m n block.base (replicate block.size 0) equiv)
-        (contexts_with e cs ds k None saved)
+        (contexts_with e contexts_m contexts_n k None saved)
   ]
 
   -- the region of a valid record is inside memory
@@ -190,7 +194,7 @@ module _ (e : ℕ) (table : Slots) (m n : List ℕ) (cs ds : Contexts) (equiv : 
   unfolding measured
   measured_alike k address =
       let bytes = measurement_at table k in
-      equiv_with_slot table (with_bytes_at m address bytes) (with_bytes_at n address bytes) cs ds refl
+      equiv_with_slot table (with_bytes_at m address bytes) (with_bytes_at n address bytes) contexts_m contexts_n refl
       (write-alike (is_private table e) m n address bytes equiv) saved
 
   -- ---- a switch
@@ -218,9 +222,9 @@ module _ (e : ℕ) (table : Slots) (m n : List ℕ) (cs ds : Contexts) (equiv : 
   -- the same new state and saved context for slot k leave two equivalent shared states equivalent except e
   pub switched_alike : length table ≡ slot_count → (k : ℕ) (state : EnclaveState) (c : Option Context)
       → (let after = with_state table k state in
-      SharedEquivExcept e (record here { table = after; contexts = with_context cs k c })
-      (record there { table = after; contexts = with_context ds k c }))
+      SharedEquivExcept e (record here { table = after; contexts = with_context contexts_m k c })
+      (record there { table = after; contexts = with_context contexts_n k c }))
   switched_alike table_length k state c =
       let kept = state_keeps table_length k state in
-      equiv_with_region (with_state table k state) m n (with_context cs k c) (with_context ds k c) kept.0 kept.1 equiv
-      (contexts_with e cs ds k c saved)
+      equiv_with_region (with_state table k state) m n (with_context contexts_m k c) (with_context contexts_n k c) kept.0 kept.1 equiv
+      (contexts_with e contexts_m contexts_n k c saved)

@@ -100,14 +100,14 @@ may_measure shared entries k address no_refusal =
 
 -- ---- the rows depend on memory only by its size
 
-module _ (table : Slots) (m n : List ℕ) (cs ds : Contexts) where
-  -- the shared state with the memory m and the contexts cs
+module _ (table : Slots) (m n : List ℕ) (contexts_m contexts_n : Contexts) where
+  -- the shared state with the memory m and the saved contexts `contexts_m`
   abbrev here : Shared
-  here = record { memory = m; table = table; contexts = cs }
+  here = record { memory = m; table = table; contexts = contexts_m }
 
-  -- the shared state with the memory n and the contexts ds
+  -- the shared state with the memory n and the saved contexts `contexts_n`
   abbrev there : Shared
-  there = record { memory = n; table = table; contexts = ds }
+  there = record { memory = n; table = table; contexts = contexts_n }
 
   -- the refusals of create do not depend on the bytes of the memory or on the saved contexts, only on the size of the memory
   pub same_create_refusals : (new : CreateArgs) → length m ≡ length n → create_refusals here new ≡ create_refusals there new

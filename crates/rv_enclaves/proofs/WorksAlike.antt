@@ -39,18 +39,19 @@ equal_work e shared = record {
 }
 
 -- enclave e is live in both shared states
-module _ (e : ℕ) (table : Slots) (m n : List ℕ) (cs ds : Contexts) (equiv : EqualOutside (is_private table e) m n) (saved : SameContexts e cs ds)
+module _ (e : ℕ) (table : Slots) (m n : List ℕ) (contexts_m contexts_n : Contexts) (equiv : EqualOutside (is_private table e) m n)
+    (saved : SameContexts e contexts_m contexts_n)
     (live : is_live table e ≡ true) where
   -- each effect of the trap handler leaves the two shared states equivalent except e, which is live
-  live_work : (worlds : List World) → SharedInvariant (over table m cs) worlds → SharedInvariant (over table n ds) worlds
-      → WorksAlike e (over table m cs) (over table n ds)
+  live_work : (worlds : List World) → SharedInvariant (over table m contexts_m) worlds → SharedInvariant (over table n contexts_n) worlds
+      → WorksAlike e (over table m contexts_m) (over table n contexts_n)
   live_work worlds one other = record {
-    before = equiv_before e table m n cs ds equiv saved live;
-    creates = created_alike e table m n cs ds equiv saved live;
-    destroys = λ k is_taken. destroyed_alike e table m n cs ds equiv saved live k one.valid is_taken;
-    measures = measured_alike e table m n cs ds equiv saved live;
+    before = equiv_before e table m n contexts_m contexts_n equiv saved live;
+    creates = created_alike e table m n contexts_m contexts_n equiv saved live;
+    destroys = λ k is_taken. destroyed_alike e table m n contexts_m contexts_n equiv saved live k one.valid is_taken;
+    measures = measured_alike e table m n contexts_m contexts_n equiv saved live;
     contexts = λ k distinct. let same = saved.others k distinct in rw same refl;
-    switches = switched_alike e table m n cs ds equiv saved live one.valid.count;
+    switches = switched_alike e table m n contexts_m contexts_n equiv saved live one.valid.count;
   }
 
 -- two equivalent shared states with the invariant stay equivalent except e after each effect of the trap handler

@@ -113,18 +113,19 @@ SameHostHandled a b = SameHost (guest_state (continuing_from a)) (guest_state (c
 
 module _ (hart_state : HartState) (mprv : hart_state.hart.csrs.mstatus.mprv ≡ false) where
   -- the trap handler on two shared states with equal tables gives results with the same host
-  handled_host : (trap : Trap) (table : Slots) (m n : List ℕ) (cs ds : Contexts) → length m ≡ length n
-      → SameHostHandled (handled hart_state (over table m cs) trap) (handled hart_state (over table n ds) trap)
+  handled_host : (trap : Trap) (table : Slots) (m n : List ℕ) (contexts_m contexts_n : Contexts) → length m ≡ length n
+      → SameHostHandled (handled hart_state (over table m contexts_m) trap) (handled hart_state (over table n contexts_n) trap)
   unfolding measured entered_slot left with_redirected_trap
-  handled_host trap table m n cs ds same_length = handler_cases_of_both hart_state trap table m n cs ds SameHostHandled (record {
-    answers = λ status result. record { host = refl; rest = rw mprv refl };
-    creates = λ requests no_refusal. record { host = refl; rest = rw mprv refl };
-    destroys = λ requests is_taken. record { host = refl; rest = rw mprv refl };
-    measures = λ requests no_refusal. record { host = refl; rest = rw mprv refl };
-    enters = λ call requests is_entry_call from_host is_taken. record { host = refl; rest = rw mprv refl };
-    leaves = record { host = refl; rest = rw mprv refl };
-    redirects = record { host = refl; rest = rw mprv refl };
-  }) same_length
+  handled_host trap table m n contexts_m contexts_n same_length =
+      handler_cases_of_both hart_state trap table m n contexts_m contexts_n SameHostHandled (record {
+        answers = λ status result. record { host = refl; rest = rw mprv refl };
+        creates = λ requests no_refusal. record { host = refl; rest = rw mprv refl };
+        destroys = λ requests is_taken. record { host = refl; rest = rw mprv refl };
+        measures = λ requests no_refusal. record { host = refl; rest = rw mprv refl };
+        enters = λ call requests is_entry_call from_host is_taken. record { host = refl; rest = rw mprv refl };
+        leaves = record { host = refl; rest = rw mprv refl };
+        redirects = record { host = refl; rest = rw mprv refl };
+      }) same_length
 
 -- the view with this hart state and this shared state
 abbrev on : HartState → Shared → HartView

@@ -11,15 +11,16 @@ use Rattle.rv_monitor.proofs.HandlerCases.{handler_cases_of_both, entering, save
 
 -- ---- the trap handler
 
-module _ (e : ℕ) (table : Slots) (m n : List ℕ) (cs ds : Contexts) (cases : WorksAlike e (over table m cs) (over table n ds))
+module _ (e : ℕ) (table : Slots) (m n : List ℕ) (contexts_m contexts_n : Contexts)
+    (cases : WorksAlike e (over table m contexts_m) (over table n contexts_n))
     (hart_state : HartState) (trap : Trap) where
-  -- the shared state with the memory m and the contexts cs
+  -- the shared state with the memory m and the saved contexts `contexts_m`
   abbrev here : Shared
-  here = over table m cs
+  here = over table m contexts_m
 
-  -- the shared state with the memory n and the contexts ds
+  -- the shared state with the memory n and the saved contexts `contexts_n`
   abbrev there : Shared
-  there = over table n ds
+  there = over table n contexts_n
 
   -- a return to the caller gives equivalent results, if the shared states after the call are equivalent except e
   returned_alike : (one other : Shared) (status result : ℕ) → SharedEquivExcept e one other
@@ -75,7 +76,7 @@ module _ (e : ℕ) (table : Slots) (m n : List ℕ) (cs ds : Contexts) (cases : 
 
   -- the trap handler gives equivalent results over both shared states
   handled_alike : length m ≡ length n → HandledAlike e (handled hart_state here trap) (handled hart_state there trap)
-  handled_alike = handler_cases_of_both hart_state trap table m n cs ds (HandledAlike e) (record {
+  handled_alike = handler_cases_of_both hart_state trap table m n contexts_m contexts_n (HandledAlike e) (record {
     answers = λ status result. returned_alike here there status result cases.before;
     creates = λ requests no_refusal. returned_alike _ _ 0 (new_slot table) (cases.creates (create_args_of hart_state.hart.regs) no_refusal);
     destroys = λ requests is_taken. returned_alike _ _ 0 0 (cases.destroys (a0 hart_state) is_taken);

@@ -98,14 +98,15 @@ leaving cause hart_state shared = left (lowered_by cause hart_state) shared (enc
 abbrev pub entering : HartState → Shared → Handled
 entering hart_state shared = entered_slot hart_state shared (a0 hart_state) (saved_context shared.contexts (a0 hart_state)) (past_call hart_state)
 
-module _ (hart_state : HartState) (trap : Trap) (table : Slots) (m n : List ℕ) (cs ds : Contexts) (P : Handled → Handled → Type 0) where
-  -- the shared state with the memory m and the contexts cs
+module _ (hart_state : HartState) (trap : Trap) (table : Slots) (m n : List ℕ) (contexts_m contexts_n : Contexts)
+    (P : Handled → Handled → Type 0) where
+  -- the shared state with the memory m and the saved contexts `contexts_m`
   abbrev here : Shared
-  here = over table m cs
+  here = over table m contexts_m
 
-  -- the shared state with the memory n and the contexts ds
+  -- the shared state with the memory n and the saved contexts `contexts_n`
   abbrev there : Shared
-  there = over table n ds
+  there = over table n contexts_n
 
   -- the claim P about one case, for both shared states
   abbrev Both : (Shared → Handled) → Type 0
@@ -157,9 +158,10 @@ module _ (hart_state : HartState) (trap : Trap) (table : Slots) (m n : List ℕ)
 
     -- a call has the same refusals in both shared states
     same-refusals : (call : Call) → call_refusals hart_state here call ≡ call_refusals hart_state there call
-    same-refusals Create = same_create_refusals table m n cs ds (create_args_of hart_state.hart.regs) same_length
+    same-refusals Create = same_create_refusals table m n contexts_m contexts_n (create_args_of hart_state.hart.regs) same_length
     same-refusals Measure =
-        same_measure_refusals table m n cs ds hart_state.hart.csrs.pmp (measured_slot hart_state.world (a0 hart_state)) (a1 hart_state) same_length
+        same_measure_refusals table m n contexts_m contexts_n hart_state.hart.csrs.pmp (measured_slot hart_state.world (a0 hart_state))
+        (a1 hart_state) same_length
     same-refusals _ = refl
 
     -- the claim holds for a call, refused or not
@@ -202,16 +204,18 @@ module _ (hart_state : HartState) (trap : Trap) (table : Slots) (m n : List ℕ)
 
 -- the proof obligations for a claim about the trap handler on two shared states, with the PMP entries and mie reprogrammed at the end
 abbrev pub HandlerCasesOfBoth : HartState → Trap → Slots → List ℕ → List ℕ → Contexts → Contexts → (Handled → Handled → Type 0) → Type 0
-HandlerCasesOfBoth hart_state trap table m n cs ds P =
-    Pieces hart_state trap table m n cs ds (λ one other. P (with_reprogrammed_hart one) (with_reprogrammed_hart other))
+HandlerCasesOfBoth hart_state trap table m n contexts_m contexts_n P =
+    Pieces hart_state trap table m n contexts_m contexts_n (λ one other. P (with_reprogrammed_hart one) (with_reprogrammed_hart other))
 
 -- a claim about the trap handler on two shared states with one table holds if it holds in each case
-pub handler_cases_of_both : (hart_state : HartState) (trap : Trap) (table : Slots) (m n : List ℕ) (cs ds : Contexts) (P : Handled → Handled → Type 0)
-    → HandlerCasesOfBoth hart_state trap table m n cs ds P → length m ≡ length n
-    → P (handled hart_state (over table m cs) trap) (handled hart_state (over table n ds) trap)
+pub handler_cases_of_both : (hart_state : HartState) (trap : Trap) (table : Slots) (m n : List ℕ) (contexts_m contexts_n : Contexts)
+    (P : Handled → Handled → Type 0)
+    → HandlerCasesOfBoth hart_state trap table m n contexts_m contexts_n P → length m ≡ length n
+    → P (handled hart_state (over table m contexts_m) trap) (handled hart_state (over table n contexts_n) trap)
 unfolding handled
-handler_cases_of_both hart_state trap table m n cs ds P pieces same_length =
-    by_pieces hart_state trap table m n cs ds (λ one other. P (with_reprogrammed_hart one) (with_reprogrammed_hart other)) pieces same_length
+handler_cases_of_both hart_state trap table m n contexts_m contexts_n P pieces same_length =
+    by_pieces hart_state trap table m n contexts_m contexts_n
+    (λ one other. P (with_reprogrammed_hart one) (with_reprogrammed_hart other)) pieces same_length
 
 -- the proof obligations for a claim about the trap handler on one shared state
 abbrev pub OneHandlerCases : HartState → Trap → Shared → (Handled → Type 0) → Type 0

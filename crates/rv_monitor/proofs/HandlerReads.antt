@@ -38,14 +38,15 @@ same_byte m n address bytes i same_length same_element =
     let same_address : (ram_base + i == ram_base + i) ≡ true = eq-eqb (ram_base + i) (ram_base + i) refl in
     (write-alike other m n address bytes equiv).bytes i (rw same_address refl)
 
-module _ (table : Slots) (m n : List ℕ) (cs ds : Contexts) (same_length : length m ≡ length n) (contexts_length : length cs ≡ length ds) where
-  -- the shared state with the memory m and the contexts cs
+module _ (table : Slots) (m n : List ℕ) (contexts_m contexts_n : Contexts) (same_length : length m ≡ length n)
+    (contexts_length : length contexts_m ≡ length contexts_n) where
+  -- the shared state with the memory m and the saved contexts `contexts_m`
   abbrev here : Shared
-  here = over table m cs
+  here = over table m contexts_m
 
-  -- the shared state with the memory n and the contexts ds
+  -- the shared state with the memory n and the saved contexts `contexts_n`
   abbrev there : Shared
-  there = over table n ds
+  there = over table n contexts_n
 
   -- bytes and contexts that are equal in `here` and `there` are equal in the two shared states after the trap handler
   abbrev Same : Shared → Shared → Type 0
@@ -57,12 +58,17 @@ module _ (table : Slots) (m n : List ℕ) (cs ds : Contexts) (same_length : leng
 
   -- equal bytes and contexts stay equal after the same write to both memories
   with_put : (after : Slots) (address : ℕ) (bytes : List ℕ)
-      → Same (over after (or_same m (write m address bytes)) cs) (over after (or_same n (write n address bytes)) ds)
+      → Same (over after (or_same m (write m address bytes)) contexts_m) (over after (or_same n (write n address bytes)) contexts_n)
   with_put after address bytes = record { table = refl; bytes = λ i same. same_byte m n address bytes i same_length same; contexts = λ k same. same }
 
   -- equal bytes and contexts stay equal after the same new context in both lists
-  with_kept : (after : Slots) (j : ℕ) (c : Option Context) → Same (over after m (with_context cs j c)) (over after n (with_context ds j c))
-  with_kept after j c = record { table = refl; bytes = λ i same. same; contexts = λ k same. same_after_set cs ds j k c None contexts_length same }
+  with_kept : (after : Slots) (j : ℕ) (c : Option Context)
+      → Same (over after m (with_context contexts_m j c)) (over after n (with_context contexts_n j c))
+  with_kept after j c = record {
+    table = refl;
+    bytes = λ i same. same;
+    contexts = λ k same. same_after_set contexts_m contexts_n j k c None contexts_length same;
+  }
 
   -- a create makes the same record from both memories, if the bytes of the region are equal
   same_record : (new : CreateArgs) → bytes_of_block m new.region ≡ bytes_of_block n new.region → recorded m new ≡ recorded n new
@@ -113,11 +119,11 @@ module _ (table : Slots) (m n : List ℕ) (cs ds : Contexts) (same_length : leng
         }
 
     -- an entry gives equal results, if both saved contexts of the slot are equal
-    enters_same : context_at cs (a0 hart_state) ≡ context_at ds (a0 hart_state)
+    enters_same : context_at contexts_m (a0 hart_state) ≡ context_at contexts_n (a0 hart_state)
         → HandlerCases (with_reprogrammed_hart (entering hart_state here)) (with_reprogrammed_hart (entering hart_state there))
     unfolding entered_slot
     enters_same own =
-        let contexts : saved_context cs (a0 hart_state) ≡ saved_context ds (a0 hart_state) =
+        let contexts : saved_context contexts_m (a0 hart_state) ≡ saved_context contexts_n (a0 hart_state) =
         ap (λ (o : Option Context). option_case o exited_context (λ context. context)) own in
         rw (← contexts)
         (record { hart_state = refl; next = refl; shared = with_kept (with_state table (a0 hart_state) Running) (a0 hart_state) None })
@@ -130,7 +136,7 @@ module _ (table : Slots) (m n : List ℕ) (cs ds : Contexts) (same_length : leng
     -- the trap handler gives equal results
     handled_same : HandlerCases (handled hart_state here trap) (handled hart_state there trap)
     unfolding left
-    handled_same = handler_cases_of_both hart_state trap table m n cs ds HandlerCases (record {
+    handled_same = handler_cases_of_both hart_state trap table m n contexts_m contexts_n HandlerCases (record {
       answers = λ status result. caller_same here there status result same_if_unchanged;
       creates =
           λ requests no_refusal. caller_same _ _ 0 (new_slot table)

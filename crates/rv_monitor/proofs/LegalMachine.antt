@@ -41,18 +41,20 @@ if_none (Some trap) P no_trap holds = cc
 
 -- every saved context is legal
 abbrev AllLegal : Contexts → Type 0
-AllLegal cs = (k : ℕ) → IfSome (context_at cs k) (λ context. IsLegal context.supervisor)
+AllLegal saved_contexts = (k : ℕ) → IfSome (context_at saved_contexts k) (λ context. IsLegal context.supervisor)
 
 -- every saved context stays legal after a write of a legal context to one slot
-legal_set : (cs : Contexts) (j : ℕ) (o : Option Context) → AllLegal cs → IfSome o (λ context. IsLegal context.supervisor)
-    → AllLegal (with_context cs j o)
-legal_set cs j o all_legal legal k =
+legal_set : (saved_contexts : Contexts) (j : ℕ) (o : Option Context) → AllLegal saved_contexts → IfSome o (λ context. IsLegal context.supervisor)
+    → AllLegal (with_context saved_contexts j o)
+legal_set saved_contexts j o all_legal legal k =
     let P : Option Context → Type 0 = λ x. IfSome x (λ context. IsLegal context.supervisor) in
-    elim (cases_lt j (length cs)) [
-      | inr past_last ↦ subst (λ (x : Contexts). P (context_at x k)) (sym (set_past cs j o past_last)) (all_legal k)
+    elim (cases_lt j (length saved_contexts)) [
+      | inr past_last ↦ subst (λ (x : Contexts). P (context_at x k)) (sym (set_past saved_contexts j o past_last)) (all_legal k)
       | inl in_range ↦ elim (cases_eq k j) [
-        | inl equal ↦ subst (λ (i : ℕ). P (context_at (with_context cs j o) i)) (sym equal) (subst P (sym (at_same cs j o in_range)) legal)
-        | inr distinct ↦ subst P (sym (at_other cs j k o distinct)) (all_legal k)
+        | inl equal ↦
+            subst (λ (i : ℕ). P (context_at (with_context saved_contexts j o) i)) (sym equal)
+            (subst P (sym (at_same saved_contexts j o in_range)) legal)
+        | inr distinct ↦ subst P (sym (at_other saved_contexts j k o distinct)) (all_legal k)
       ]
     ]
 

@@ -161,20 +161,20 @@ with_host : (e hart : ℕ) (one other : MonitoredMachine) (trap : Trap) (o : Opt
     → (step_of hart one).outcome.step.trap ≡ Some trap → (step_of hart other).outcome.step.trap ≡ Some trap
     → (hart_state_of hart (step_of hart one).state).world ≡ Host → (hart_state_of hart (step_of hart other).state).world ≡ Host
     → EquivExcept e (step_of hart one).state (step_of hart other).state
-with_host e hart one other trap None saved_is invariant_one invariant_other equiv runs_on_hart same_host handed trapped traps_too one_exits other_exits =
-    let in_range = runs_inside e hart one runs_on_hart in
-    let world = world_is e (hart_state_of hart one).world runs_on_hart in
+with_host e hart one other trap None saved invariant_one invariant_other equiv runs_e same_host handed traps traps_too one_exits other_exits =
+    let in_range = runs_inside e hart one runs_e in
+    let world = world_is e (hart_state_of hart one).world runs_e in
     let kept = (invariant_one.hart_states hart in_range).host.kept in
-    let contradiction : false ≡ true = ap (λ (o : Option Context). is_some o) (sym saved_is) ∙ kept ∙ ap (λ w. not (is_host w)) world in
+    let contradiction : false ≡ true = ap (λ (o : Option Context). is_some o) (sym saved) ∙ kept ∙ ap (λ w. not (is_host w)) world in
     cc
-with_host e hart one other trap (Some host) saved_is invariant_one invariant_other equiv runs_on_hart same_host handed trapped traps_too one_exits other_exits =
-    let in_range = runs_inside e hart one runs_on_hart in
-    let world = world_is e (hart_state_of hart one).world runs_on_hart in
-    let a = (leave_law hart one invariant_one e host trap world saved_is trapped one_exits).0 in
+with_host e hart one other trap (Some host) saved invariant_one invariant_other equiv runs_e same_host handed traps traps_too one_exits other_exits =
+    let in_range = runs_inside e hart one runs_e in
+    let world = world_is e (hart_state_of hart one).world runs_e in
+    let a = (leave_law hart one invariant_one e host trap world saved traps one_exits).0 in
     let b =
     (leave_law hart other invariant_other e host trap (sym (equiv.hart_states hart).world ∙ world)
-    (sym same_host.host ∙ saved_is) traps_too other_exits).0 in
-    let live = running_is_live e hart one invariant_one runs_on_hart in
+    (sym same_host.host ∙ saved) traps_too other_exits).0 in
+    let live = running_is_live e hart one invariant_one runs_e in
     rw (a, b) (left_agree e hart one other trap host invariant_one.shared.valid.count live equiv in_range same_host handed)
 
 -- an exit from both machines to the same host that hands over the same leaves the machines equivalent except e

@@ -122,19 +122,20 @@ offered_host (Enclave k) offered = cc
 
 -- the region of a create by the host has no hidden byte
 abbrev pub MeasuresSeen : (ℕ → Bool) → World → Slots → Contexts → Type 0
-MeasuresSeen hidden world table cs =
-    is_host world ≡ true → (memory : List ℕ) (new : CreateArgs) → MayCreate (over table memory cs) new → (i : ℕ)
+MeasuresSeen hidden world table saved_contexts =
+    is_host world ≡ true → (memory : List ℕ) (new : CreateArgs) → MayCreate (over table memory saved_contexts) new → (i : ℕ)
     → has new.region (ram_base + i) ≡ true → hidden (ram_base + i) ≡ false
 
-module _ (hidden : ℕ → Bool) (hart_state : HartState) (trap : Trap) (table : Slots) (m n : List ℕ) (cs : Contexts) (equal : EqualOutside hidden m n)
-    (measures_seen : MeasuresSeen hidden hart_state.world table cs) where
+module _ (hidden : ℕ → Bool) (hart_state : HartState) (trap : Trap) (table : Slots) (m n : List ℕ) (saved_contexts : Contexts)
+    (equal : EqualOutside hidden m n)
+    (measures_seen : MeasuresSeen hidden hart_state.world table saved_contexts) where
   -- the shared state with the memory m
   abbrev here : Shared
-  here = over table m cs
+  here = over table m saved_contexts
 
   -- the shared state with the memory n
   abbrev there : Shared
-  there = over table n cs
+  there = over table n saved_contexts
 
   -- two results of the trap handler are equal, except that their memories are changed alike from m and n
   abbrev Over : Handled → Handled → Type 0
@@ -185,7 +186,7 @@ module _ (hidden : ℕ → Bool) (hart_state : HartState) (trap : Trap) (table :
       let k = new_slot table in
       record {
         table = ap (λ (x : SlotInfo). with_slot table k (Some x)) info;
-        contexts = ap (λ (x : SlotInfo). with_context cs k (Some (first_context x))) info;
+        contexts = ap (λ (x : SlotInfo). with_context saved_contexts k (Some (first_context x))) info;
         size = equal.size;
         changes = unchanged m n;
       }
@@ -195,17 +196,17 @@ module _ (hidden : ℕ → Bool) (hart_state : HartState) (trap : Trap) (table :
   unfolding destroyed
   destroyed_over k =
       let block = region table k in
-      put_over (with_slot table k None) (with_context cs k None) block.base (replicate block.size 0)
+      put_over (with_slot table k None) (with_context saved_contexts k None) block.base (replicate block.size 0)
 
   -- a measure gives shared states that satisfy `SharedOver`
   measured_over : (k address : ℕ) → SharedOver m n (measured here k address) (measured there k address)
   unfolding measured
-  measured_over k address = put_over table cs address (measurement_at table k)
+  measured_over k address = put_over table saved_contexts address (measurement_at table k)
 
   -- the results of the trap handler satisfy `HandledOver`
   handled_over : HandledOver m n (handled hart_state here trap) (handled hart_state there trap)
   unfolding left entered_slot
-  handled_over = handler_cases_of_both hart_state trap table m n cs cs Over (record {
+  handled_over = handler_cases_of_both hart_state trap table m n saved_contexts saved_contexts Over (record {
     answers = λ status result. caller_over here there status result same_shared;
     creates = λ requests no_refusal.
         let host = offered_host hart_state.world (asked-is hart_state.world hart_state.hart.regs Create requests.asked).1 in
