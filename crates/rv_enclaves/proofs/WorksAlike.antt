@@ -45,13 +45,13 @@ module _ (e : ℕ) (table : Slots) (m n : List ℕ) (contexts_m contexts_n : Con
   -- each effect of the trap handler leaves the two shared states equivalent except e, which is live
   live_work : (worlds : List World) → SharedInvariant (over table m contexts_m) worlds → SharedInvariant (over table n contexts_n) worlds
       → WorksAlike e (over table m contexts_m) (over table n contexts_n)
-  live_work worlds one other = record {
+  live_work worlds shared_invariant_m shared_invariant_n = record {
     before = equiv_before e table m n contexts_m contexts_n equiv saved live;
     creates = created_alike e table m n contexts_m contexts_n equiv saved live;
-    destroys = λ k is_taken. destroyed_alike e table m n contexts_m contexts_n equiv saved live k one.valid is_taken;
+    destroys = λ k is_taken. destroyed_alike e table m n contexts_m contexts_n equiv saved live k shared_invariant_m.valid is_taken;
     measures = measured_alike e table m n contexts_m contexts_n equiv saved live;
     contexts = λ k distinct. let same = saved.others k distinct in rw same refl;
-    switches = switched_alike e table m n contexts_m contexts_n equiv saved live one.valid.count;
+    switches = switched_alike e table m n contexts_m contexts_n equiv saved live shared_invariant_m.valid.count;
   }
 
 -- two equivalent shared states with the invariant stay equivalent except e after each effect of the trap handler

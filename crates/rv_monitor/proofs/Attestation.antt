@@ -58,7 +58,7 @@ handled_size hart_state shared trap = handler_cases hart_state trap shared (λ h
 
 -- a step does not change the size of the memory
 pub same_size : (hart : ℕ) (machine : MonitoredMachine) → length (step_of hart machine).state.shared.memory ≡ length machine.shared.memory
-same_size hart machine = by_hart hart machine (λ after. length after.state.shared.memory ≡ length machine.shared.memory) refl (λ has.
+same_size hart machine = by_hart hart machine (λ after. length after.state.shared.memory ≡ length machine.shared.memory) refl (λ in_range.
     let state : HartView = hart_view hart machine in
     step_cases state (λ after. length after.state.shared.memory ≡ length state.shared.memory)
     (λ none. sym (step_size (bare_machine state) (step (bare_machine state)) (confined (bare_machine state))))
@@ -189,7 +189,7 @@ pub as_created_law : (hart : ℕ) (machine : MonitoredMachine) → Invariant mac
 as_created_law hart machine invariant = record {
   creates = λ k dead.
       by_hart hart machine (λ after. is_live after.state.shared.table k ≡ true → IsAsCreated k after.state.shared)
-      (λ live_here. absurd (both_ways _ dead live_here)) (λ has.
+      (λ live_here. absurd (both_ways _ dead live_here)) (λ in_range.
       let state : HartView = hart_view hart machine in
       step_cases state (λ after. is_live after.state.shared.table k ≡ true → IsAsCreated k after.state.shared)
       (λ none live_here. absurd (both_ways _ dead live_here))

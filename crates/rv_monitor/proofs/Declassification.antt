@@ -69,13 +69,13 @@ relation_law = record {
 
 -- ---- a step of the enclave in one machine
 
--- a byte that may not differ between two machines while the enclave runs is outside the region and the window. Each case holds by computation, or has
--- a false premise
-beyond_by : (a b c : Bool) → b ≡ true → (a || (b && c)) ≡ false → not (a || c) ≡ true
+-- while the enclave runs, a byte that passes the test `may_differ` with false is outside the region and the window
+beyond_by : (in_region runs_now in_window : Bool) → runs_now ≡ true → (in_region || (runs_now && in_window)) ≡ false
+    → not (in_region || in_window) ≡ true
 beyond_by false true false running shown = refl
 beyond_by false true true running shown = cc
-beyond_by true b c running shown = cc
-beyond_by a false c running shown = cc
+beyond_by true runs_now in_window running shown = cc
+beyond_by in_region false in_window running shown = cc
 
 module _ (e hart : ℕ) (one other : MonitoredMachine) (invariant_one : Invariant one) (related : AreRelated e one other)
     (inside : IsInside e hart one) where

@@ -17,7 +17,7 @@ use Rattle.rv_monitor.proofs.PlainSteps.{host_continues, steps_plainly}
 
 -- the status of an unknown call is not 0
 unknown_status_not_zero : (n : ℕ) → n ≡ 0xFFFFFFFF → n ≢ 0
-unknown_status_not_zero n all_ones none = cc
+unknown_status_not_zero n all_ones is_zero = cc
 
 -- two results are equal if their states, their step outcomes and their entered slots are equal
 agree : (a b : MonitoredStepped) → a.state ≡ b.state → a.outcome.step ≡ b.outcome.step → a.outcome.entered ≡ b.outcome.entered → a ≡ b

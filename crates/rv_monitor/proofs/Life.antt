@@ -500,14 +500,14 @@ module _ (p q : Place) (one other : MonitoredMachine) (invariant_one : Invariant
   -- both harts are equal before the step, as S and U see them
   hart_same : below_m_hart (hart_state_of p.hart one).hart ≡ below_m_hart (hart_state_of q.hart other).hart
   hart_same =
-      let a =
+      let below_one =
       below_is one.shared.table (hart_state_of p.hart one) (invariant_one.hart_states p.hart (runs_inside i p.hart one own_step_premises.first)) in
-      let b =
+      let below_other =
       below_is other.shared.table (hart_state_of q.hart other)
       (invariant_other.hart_states q.hart (runs_inside j q.hart other own_step_premises.second)) in
-      a
+      below_one
       ∙ ap₂ plain_hart (own_step_premises.line ∙ sym own_step_premises.line_too)
-      (point.first.running p.hart own_step_premises.first ∙ sym (point.second.running q.hart own_step_premises.second)) ∙ sym b
+      (point.first.running p.hart own_step_premises.first ∙ sym (point.second.running q.hart own_step_premises.second)) ∙ sym below_other
 
   -- the enclave has the same state in the first machine and in the machine in between
   enclave : SameEnclave p q one mid
@@ -550,52 +550,53 @@ module _ (p q : Place) (one other : MonitoredMachine) (invariant_one : Invariant
       (equal_outside_differing one.shared.memory other.shared.memory point.memory.size) reads measures_seen
 
   -- the first machine after the step
-  abbrev a : MonitoredMachine
-  a = (step_at p one).state
+  abbrev after_one : MonitoredMachine
+  after_one = (step_at p one).state
 
   -- the machine in between after the step
-  abbrev m : MonitoredMachine
-  m = (step_at q mid).state
+  abbrev after_mid : MonitoredMachine
+  after_mid = (step_at q mid).state
 
   -- the second machine after the step
-  abbrev b : MonitoredMachine
-  b = (step_at q other).state
+  abbrev after_other : MonitoredMachine
+  after_other = (step_at q other).state
 
   -- the first machine after the step has the invariant
-  a_kept : Invariant (step_at p one).state
-  a_kept = invariant_law p.hart one invariant_one
+  after_one_kept : Invariant (step_at p one).state
+  after_one_kept = invariant_law p.hart one invariant_one
 
   -- the second machine after the step has the invariant
-  b_kept : Invariant (step_at q other).state
-  b_kept = invariant_law q.hart other invariant_other
+  after_other_kept : Invariant (step_at q other).state
+  after_other_kept = invariant_law q.hart other invariant_other
 
   -- the first enclave is live after the step
-  a_live : is_live a.shared.table i ≡ true
-  a_live = elim (cases_Bool (runs_at p a)) [
-    | inl runs_still ↦ running_is_live i p.hart a a_kept runs_still
-    | inr has_left ↦ saved_live i a (own.state.exits has_left).saved.context a_kept (own.state.exits has_left).saved.first
+  a_live : is_live after_one.shared.table i ≡ true
+  a_live = elim (cases_Bool (runs_at p after_one)) [
+    | inl runs_still ↦ running_is_live i p.hart after_one after_one_kept runs_still
+    | inr has_left ↦ saved_live i after_one (own.state.exits has_left).saved.context after_one_kept (own.state.exits has_left).saved.first
   ]
 
   -- the first enclave keeps its identity
-  a_identity : identity_at a.shared.table i ≡ identity_at one.shared.table i
-  a_identity = record_law p.hart one invariant_one i point.live a_live
+  identity_kept : identity_at after_one.shared.table i ≡ identity_at one.shared.table i
+  identity_kept = record_law p.hart one invariant_one i point.live a_live
 
   -- after the step, each byte within the enclave's region and window is equal in the first machine and in the machine in between
-  own_same : (n : ℕ) → is_beyond a.shared.table i (ram_base + n) ≡ false → slice_index a.shared.memory n ≡ slice_index m.shared.memory n
-  own_same n byte_within = elim (cases_Bool (runs_at p a)) [
+  own_same : (n : ℕ) → is_beyond after_one.shared.table i (ram_base + n) ≡ false
+      → slice_index after_one.shared.memory n ≡ slice_index after_mid.shared.memory n
+  own_same n byte_within = elim (cases_Bool (runs_at p after_one)) [
     | inl runs_still ↦ (own.state.runs runs_still).memory.bytes n byte_within
     | inr has_left ↦ (own.state.exits has_left).saved.memory.bytes n byte_within
   ]
 
   -- each byte that the step changes in a machine is equal in both machines after the step
-  changes : ChangeAlike one.shared.memory other.shared.memory a.shared.memory b.shared.memory
+  changes : ChangeAlike one.shared.memory other.shared.memory after_one.shared.memory after_other.shared.memory
   changes n = elim (cases_Bool (is_beyond one.shared.table i (ram_base + n))) [
     | inl byte_beyond ↦
         let beyond_other = sym (same_beyond one.shared.table other.shared.table i j (ram_base + n) point.identity) ∙ byte_beyond in
         inl
         (own_only p one invariant_one own_step_premises.first n byte_beyond, own_only q other invariant_other own_step_premises.second n beyond_other)
     | inr byte_within ↦
-        let same = own_same n (same_beyond a.shared.table one.shared.table i i (ram_base + n) a_identity ∙ byte_within) in
+        let same = own_same n (same_beyond after_one.shared.table one.shared.table i i (ram_base + n) identity_kept ∙ byte_within) in
         elim (same_over_memory.shared.changes n) [
           | inl unchanged ↦ inl (same ∙ unchanged.0, unchanged.1)
           | inr changed_alike ↦ inr (same ∙ changed_alike)
@@ -603,16 +604,16 @@ module _ (p q : Place) (one other : MonitoredMachine) (invariant_one : Invariant
   ]
 
   -- both slots have the same record after the step
-  slot_after : slot_at a.shared.table i ≡ slot_at b.shared.table j
+  slot_after : slot_at after_one.shared.table i ≡ slot_at after_other.shared.table j
   slot_after =
       let table = ap (λ (t : Slots). slot_at t j) same_over_memory.shared.table in
-      elim (cases_Bool (runs_at p a)) [
+      elim (cases_Bool (runs_at p after_one)) [
         | inl runs_still ↦ (own.state.runs runs_still).slot ∙ table
         | inr has_left ↦ (own.state.exits has_left).saved.slot ∙ table
       ]
 
   -- the hart has the same state after the step in the machine in between and in the second machine
-  hart_after : hart_state_of q.hart m ≡ hart_state_of q.hart b
+  hart_after : hart_state_of q.hart after_mid ≡ hart_state_of q.hart after_other
   hart_after = ap (λ (hs : List HartState). hart_state_in hs q.hart) same_over_memory.hart_states
 
   -- both enclaves continue with this context after the step
@@ -623,34 +624,34 @@ module _ (p q : Place) (one other : MonitoredMachine) (invariant_one : Invariant
 
   -- both enclaves continue with the same context after the step
   continue_alike : ContinueAlike
-  continue_alike = elim (cases_Bool (runs_at p a)) [
+  continue_alike = elim (cases_Bool (runs_at p after_one)) [
     | inl runs_still ↦
         let same = own.state.runs runs_still in
-        let runs_too : runs_at q b ≡ true = ap (λ (s : HartState). is_world_of j s.world) (sym hart_after) ∙ same.second in
-        let below : continuation (hart_state_of p.hart a).hart ≡ continuation (hart_state_of q.hart m).hart =
+        let runs_too : runs_at q after_other ≡ true = ap (λ (s : HartState). is_world_of j s.world) (sym hart_after) ∙ same.second in
+        let below : continuation (hart_state_of p.hart after_one).hart ≡ continuation (hart_state_of q.hart after_mid).hart =
         ap (λ (h : Hart). continuation h) same.hart in
         record {
-          context = continuation (hart_state_of p.hart a).hart;
-          first = running_continues i p.hart a _ a_kept runs_still refl;
-          second = running_continues j q.hart b _ b_kept runs_too
+          context = continuation (hart_state_of p.hart after_one).hart;
+          first = running_continues i p.hart after_one _ after_one_kept runs_still refl;
+          second = running_continues j q.hart after_other _ after_other_kept runs_too
               (ap (λ (s : HartState). continuation s.hart) (sym hart_after) ∙ sym below);
         }
     | inr has_left ↦
         let saves = (own.state.exits has_left).saved in
         record {
           context = saves.context;
-          first = saved_continues i a saves.context a_kept saves.first;
+          first = saved_continues i after_one saves.context after_one_kept saves.first;
           second =
-              saved_continues j b saves.context b_kept
+              saved_continues j after_other saves.context after_other_kept
               (ap (λ (cs : Contexts). context_at cs j) (sym same_over_memory.shared.contexts) ∙ saves.second);
         }
   ]
 
   -- both enclaves are at one point after the step
-  own_point : AreAtOnePoint i j a b
+  own_point : AreAtOnePoint i j after_one after_other
   own_point =
       let alike_after = continue_alike in
-      let block = same_region a.shared.table one.shared.table i i a_identity in
+      let block = same_region after_one.shared.table one.shared.table i i identity_kept in
       record {
         context = alike_after.context;
         first = alike_after.first;

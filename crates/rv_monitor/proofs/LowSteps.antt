@@ -108,10 +108,11 @@ reads_apart e hart machine invariant not_running byte byte_read = elim (cases_lt
 
 -- ---- the step
 
--- a byte that is not in the region, and is outside the window while the enclave runs, may not differ
-may_not_differ : (a b c : Bool) → a ≡ false → (b ≡ true → c ≡ false) → (a || (b && c)) ≡ false
-may_not_differ a true c outside_region outside_window = rw (outside_region, outside_window refl) refl
-may_not_differ a false c outside_region outside_window = rw outside_region refl
+-- a byte that is not in the region, and is outside the window if the enclave runs now, passes the test `may_differ` with false
+may_not_differ : (in_region runs_now in_window : Bool) → in_region ≡ false → (runs_now ≡ true → in_window ≡ false)
+    → (in_region || (runs_now && in_window)) ≡ false
+may_not_differ in_region true in_window outside_region outside_window = rw (outside_region, outside_window refl) refl
+may_not_differ in_region false in_window outside_region outside_window = rw outside_region refl
 
 module _ (e hart : ℕ) (one other : MonitoredMachine) (invariant_one : Invariant one) (invariant_other : Invariant other)
     (related : AreRelated e one other)
@@ -198,18 +199,19 @@ module _ (e hart : ℕ) (one other : MonitoredMachine) (invariant_one : Invarian
   pub low_while_running : ((step_of hart one).outcome ≡ (step_of hart other).outcome)
       × AreRelated e (step_of hart one).state (step_of hart other).state
   low_while_running =
-      let a = (step_of hart one).state in
+      let after_one = (step_of hart one).state in
       let states = last_step.hart_states in
-      let differ : Option SlotInfo → ℕ → Bool = λ o byte.
+      let may_differ_by : Option SlotInfo → ℕ → Bool = λ o byte.
       has (region_of o) byte || (option_case o false (λ info. is_running info.state) && has (window_of o) byte) in (
         first_step.outcome ∙ last_step.outcome,
         record {
           harts = first_after.harts ∙ ap (λ (hs : List HartState). length hs) states;
           hart_states = λ j.
-              subst (λ (hs : List HartState). HartStatesEquivExcept e (guest_state (hart_state_of j a)) (guest_state (hart_state_in hs j))) states
+              subst
+              (λ (hs : List HartState). HartStatesEquivExcept e (guest_state (hart_state_of j after_one)) (guest_state (hart_state_in hs j))) states
               (first_after.hart_states j);
           hosts = λ j runs_there.
-              subst (λ (hs : List HartState). SameHost (guest_state (hart_state_of j a)) (guest_state (hart_state_in hs j))) states
+              subst (λ (hs : List HartState). SameHost (guest_state (hart_state_of j after_one)) (guest_state (hart_state_in hs j))) states
               (first_after.hosts j runs_there);
           table = first_after.table ∙ last_step.shared.table;
           memory = record {
@@ -217,7 +219,7 @@ module _ (e hart : ℕ) (one other : MonitoredMachine) (invariant_one : Invarian
             bytes = λ i not_hidden. elim (last_step.shared.changes i) [
               | inr same ↦ first_after.memory.bytes i not_hidden ∙ same
               | inl unchanged ↦
-                  let before = ap (λ (o : Option SlotInfo). differ o (ram_base + i)) (sym slot_kept.0) ∙ not_hidden in
+                  let before = ap (λ (o : Option SlotInfo). may_differ_by o (ram_base + i)) (sym slot_kept.0) ∙ not_hidden in
                   first_after.memory.bytes i not_hidden ∙ unchanged.0 ∙ related.memory.bytes i before ∙ sym unchanged.1
             ];
           };

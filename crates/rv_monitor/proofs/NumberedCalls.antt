@@ -247,25 +247,25 @@ module _ (hart : ℕ) (machine : MonitoredMachine) (invariant : Invariant machin
 
 -- ---- exit
 
--- if the numbers in a7 and a6 name exit, then a6 has the number 7. Each case holds by computation, or has a false premise
-exit_numbered : (key b5 b6 b7 : Bool)
-    → (if key then (if b5 then Some Measure else (if b6 then Some Stop else (if b7 then Some Exit else None))) else None) ≡ Some Exit
-    → b7 ≡ true
+-- if an enclave requests exit, then a6 has the number 7. The four tests say whether a7 has the key, and whether a6 has 5, 6 or 7
+exit_numbered : (is_key is_5 is_6 is_7 : Bool)
+    → (if is_key then (if is_5 then Some Measure else (if is_6 then Some Stop else (if is_7 then Some Exit else None))) else None) ≡ Some Exit
+    → is_7 ≡ true
 exit_numbered true false false true is_exit = refl
-exit_numbered true true b6 b7 is_exit = cc
-exit_numbered true false true b7 is_exit = cc
+exit_numbered true true is_6 is_7 is_exit = cc
+exit_numbered true false true is_7 is_exit = cc
 exit_numbered true false false false is_exit = cc
-exit_numbered false b5 b6 b7 is_exit = cc
+exit_numbered false is_5 is_6 is_7 is_exit = cc
 
--- if the numbers in a7 and a6 name stop, then a6 has the number 6. Each case holds by computation, or has a false premise
-stop_numbered : (key b5 b6 b7 : Bool)
-    → (if key then (if b5 then Some Measure else (if b6 then Some Stop else (if b7 then Some Exit else None))) else None) ≡ Some Stop
-    → b6 ≡ true
-stop_numbered true false true b7 is_stop = refl
-stop_numbered true true b6 b7 is_stop = cc
+-- if an enclave requests stop, then a6 has the number 6. The four tests say whether a7 has the key, and whether a6 has 5, 6 or 7
+stop_numbered : (is_key is_5 is_6 is_7 : Bool)
+    → (if is_key then (if is_5 then Some Measure else (if is_6 then Some Stop else (if is_7 then Some Exit else None))) else None) ≡ Some Stop
+    → is_6 ≡ true
+stop_numbered true false true is_7 is_stop = refl
+stop_numbered true true is_6 is_7 is_stop = cc
 stop_numbered true false false true is_stop = cc
 stop_numbered true false false false is_stop = cc
-stop_numbered false b5 b6 b7 is_stop = cc
+stop_numbered false is_5 is_6 is_7 is_stop = cc
 
 -- a register with the number of stop (6) does not have the number of exit (7)
 six_not_seven : (a6 : ℕ) → (a6 == 6) ≡ true → (a6 == 7) ≡ false

@@ -30,15 +30,15 @@ apart_prefix : (ws : List World) (i : ℕ) (w : World) → i < length ws → Are
 apart_prefix [] i w in_range worlds_apart = absurd (omega (arith, in_range))
 apart_prefix (x ∷ xs) zero w in_range worlds_apart = worlds_apart
 apart_prefix (x ∷ xs) (suc i) w in_range worlds_apart =
-    let has' : i < length xs = omega (arith, in_range) in
-    let rest = apart_prefix xs i w has' worlds_apart.1 in
+    let in_tail : i < length xs = omega (arith, in_range) in
+    let rest = apart_prefix xs i w in_tail worlds_apart.1 in
     let both : (k : ℕ) → is_world_of k x ≡ true → (is_world_of k w ≡ false) × (list_any (is_world_of k) (without xs i) ≡ false) =
-    λ k own. or_parts _ _ (sym (any_prefix (is_world_of k) xs i w has') ∙ worlds_apart.0 k own) in (
-      λ k own. elim (cases_Bool (is_world_of k x)) [
-        | inl runs_enclave ↦ absurd (both_ways _ (both k runs_enclave).0 own)
-        | inr runs_other ↦ or_from (is_world_of k x) _ runs_other (rest.0 k own)
+    λ k world_is_x. or_parts _ _ (sym (any_prefix (is_world_of k) xs i w in_tail) ∙ worlds_apart.0 k world_is_x) in (
+      λ k world_is_x. elim (cases_Bool (is_world_of k x)) [
+        | inl runs_enclave ↦ absurd (both_ways _ (both k runs_enclave).0 world_is_x)
+        | inr runs_other ↦ or_from (is_world_of k x) _ runs_other (rest.0 k world_is_x)
       ],
-      (λ k own. (both k own).1, rest.1),
+      (λ k world_is_x. (both k world_is_x).1, rest.1),
     )
 
 -- worlds that are apart stay apart if the first world moves to index i
@@ -46,12 +46,12 @@ apart_back : (ws : List World) (i : ℕ) (w : World) → i < length ws → AreAp
 apart_back [] i w in_range worlds_apart = absurd (omega (arith, in_range))
 apart_back (x ∷ xs) zero w in_range worlds_apart = worlds_apart
 apart_back (x ∷ xs) (suc i) w in_range worlds_apart =
-    let has' : i < length xs = omega (arith, in_range) in (
-      λ k own. any_prefix (is_world_of k) xs i w has' ∙ elim (cases_Bool (is_world_of k w)) [
+    let in_tail : i < length xs = omega (arith, in_range) in (
+      λ k own. any_prefix (is_world_of k) xs i w in_tail ∙ elim (cases_Bool (is_world_of k w)) [
         | inl runs_enclave ↦ absurd (both_ways _ (or_parts _ _ (worlds_apart.0 k runs_enclave)).0 own)
         | inr runs_other ↦ or_from (is_world_of k w) _ runs_other (worlds_apart.1.0 k own)
       ],
-      apart_back xs i w has' (λ k own. (or_parts _ _ (worlds_apart.0 k own)).1, worlds_apart.1.1),
+      apart_back xs i w in_tail (λ k own. (or_parts _ _ (worlds_apart.0 k own)).1, worlds_apart.1.1),
     )
 
 -- the shared invariant for a list of worlds holds for the list with the world at index i moved to the front

@@ -69,7 +69,7 @@ same_in m (Some span) = refl
 pub equiv_itself : (m : List ℕ) (touched : Touched) → EqualOn m m touched
 equiv_itself m touched = record { size = refl; fetched = same_in m touched.fetched; loaded = same_in m touched.loaded }
 
--- a bare step keeps the size of the memory
+-- a step whose stores are confined keeps the size of the memory
 pub step_size : (before : Machine) (after : Stepped) → IsConfined before after → length before.memory ≡ length after.state.memory
 step_size before after confined =
     let equiv = equiv_itself before.memory after.outcome.touched in

@@ -87,19 +87,21 @@ handled_stored hart_state shared trap legal keeps_own =
 runs_on : (hart_state : HartState) (trap : Trap) (h : Handled) → Turns hart_state trap h → is_host hart_state.world ≡ false
     → is_host h.hart_state.world ≡ false
     → h.hart_state.host_context ≡ hart_state.host_context
-runs_on hart_state trap h (inl stays) enclave_runs after = stays.host
-runs_on hart_state trap h (inr (inl enters)) enclave_runs after = absurd (both_ways _ enclave_runs (ap is_host enters.from_host))
-runs_on hart_state trap h (inr (inr leaves)) enclave_runs after = absurd (both_ways _ after (ap is_host leaves.world))
+runs_on hart_state trap h (inl stays) enclave_runs enclave_runs_after = stays.host
+runs_on hart_state trap h (inr (inl enters)) enclave_runs enclave_runs_after = absurd (both_ways _ enclave_runs (ap is_host enters.from_host))
+runs_on hart_state trap h (inr (inr leaves)) enclave_runs enclave_runs_after = absurd (both_ways _ enclave_runs_after (ap is_host leaves.world))
 
 -- a step before and after which an enclave runs keeps the saved context of the host
 pub kept_between : (state : HartView) → is_host state.hart_state.world ≡ false → is_host (monitored_step state).state.hart_state.world ≡ false
     → (monitored_step state).state.hart_state.host_context ≡ state.hart_state.host_context
 kept_between state enclave_runs =
-    step_cases state (λ after. is_host after.state.hart_state.world ≡ false → after.state.hart_state.host_context ≡ state.hart_state.host_context)
-    (λ none after. refl)
-    (λ trap is after.
+    step_cases state
+    (λ enclave_runs_after. is_host enclave_runs_after.state.hart_state.world ≡ false → enclave_runs_after.state.hart_state.host_context
+    ≡ state.hart_state.host_context)
+    (λ none enclave_runs_after. refl)
+    (λ trap trapped enclave_runs_after.
     let hart_state = hart_state_after state.hart_state trap in
-    runs_on hart_state trap (handled hart_state state.shared trap) (handled_turns hart_state state.shared trap) enclave_runs after)
+    runs_on hart_state trap (handled hart_state state.shared trap) (handled_turns hart_state state.shared trap) enclave_runs enclave_runs_after)
 
 -- ---- the step
 
